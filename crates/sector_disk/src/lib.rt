@@ -1,0 +1,9 @@
+//! A disk of sectors of 512 bytes: what its calls may fail with, what it tells of its content, and one in memory.
+//!
+//! A contract sees a disk as the contents of all its moments (`disk_model`, `specs/Disk.antt` first). Every crate
+//! above is proved over any `Disk`, so over one that a cut may stop at any moment.
+#![tactic(auto)]
+
+mod disk;
+
+pub use disk::{Counted, Disk, Failed, Named};
