@@ -1,0 +1,5 @@
+pub mod BelowLemmas
+pub mod NumberLemmas
+pub mod CommitIdLemmas
+pub mod WorkedCommitId
+pub mod WorkedWalk

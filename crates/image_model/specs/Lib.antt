@@ -1,0 +1,3 @@
+pub mod CommitId
+pub mod Below
+pub mod Walk
