@@ -1,3 +1,4 @@
 pub mod CommitId
 pub mod Below
 pub mod Walk
+pub mod Tables

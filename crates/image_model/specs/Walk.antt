@@ -1,8 +1,8 @@
 -- The replay walk: in which state a journal is, and which of its sections count, in order.
 -- Source: Linux, Documentation/admin-guide/device-mapper/dm-integrity.rst, a section counts where its commit id is on all its sectors.
 -- Own: the order of the sections, the states and the refusals.
-use Rattle.std.specs.Prelude.{ℕ, ◌+◌, ◌*◌, ◌-◌, ◌/◌, ◌%◌, ◌==◌, nat_lt, Bool, true, false, not, ◌&&◌, ◌||◌, if◌then◌else◌, Option, Some, None, is_some, is_none, ok_or, option_map, option_and_then, find, Result, List, [], ◌∷◌, ◌++◌, length, map, take, drop, slice_get, slice_index_or}
-use Rattle.std.specs.List.{range_with_len, list_any, list_all, position_or_len}
+use Rattle.std.specs.Prelude.{◌≡◌, ℕ, ◌+◌, ◌*◌, ◌-◌, ◌/◌, ◌%◌, ◌<◌, ◌≤◌, ◌==◌, nat_lt, Bool, true, false, not, ◌&&◌, ◌||◌, if◌then◌else◌, Option, Some, None, is_some, is_none, ok_or, option_map, find, Result, List, [], ◌∷◌, ◌++◌, length, map, slice_index_or}
+use Rattle.std.specs.List.{range_with_len, position_or_len}
 use Rattle.std.specs.Option.{option_or}
 use Rattle.image_model.specs.CommitId.{commit_numbers}
 use Rattle.image_model.specs.Below.{any_below, all_below, past_last, front_length}
@@ -40,19 +40,31 @@ pub record Grid : Type 0 where
   pub bitmap : ℕ
   pub used_outside : Bool
 
--- ---- the numbers of a journal
-
--- The commit number that each sector of each section bears, if any.
-abbrev pub Numbers : Type 0
-Numbers = ℕ → ℕ → Option ℕ
+-- The cell of sector k of the journal.
+abbrev pub cell_at : Grid → ℕ → Cell
+cell_at grid k = slice_index_or grid.cells k Zero
 
 abbrev pub cell_number : Cell → Option ℕ
 cell_number (Number number) = Some number
 cell_number Zero = None
 cell_number (Other found) = None
 
+-- A grid has a cell for each sector, at least one, the bitmap is no longer than these, and each number is a commit number.
+pub record IsGrid (grid : Grid) : Type 0 where
+  pub has_sections : 0 < grid.sections
+  pub has_sectors : 0 < grid.sectors
+  pub cells : length grid.cells ≡ grid.sections * grid.sectors
+  pub bitmap : grid.bitmap ≤ length grid.cells
+  pub numbers : (k number : ℕ) → cell_number (cell_at grid k) ≡ Some number → number < 4
+
+-- ---- the numbers of a journal
+
+-- The commit number that each sector of each section bears, if any.
+abbrev pub Numbers : Type 0
+Numbers = ℕ → ℕ → Option ℕ
+
 abbrev pub numbers_of : Grid → Numbers
-numbers_of grid section sector = option_and_then cell_number (slice_get grid.cells (section * grid.sectors + sector))
+numbers_of grid section sector = cell_number (cell_at grid (section * grid.sectors + sector))
 
 abbrev pub bears : Option ℕ → ℕ → Bool
 bears None number = false
@@ -135,33 +147,40 @@ abbrev pub sections_of : List (ℕ × ℕ) → List ℕ
 sections_of [] = []
 sections_of (range ∷ ranges) = range_with_len range.0 (range.1 - range.0) ++ sections_of ranges
 
--- ---- blanks
+-- The sections in the order of writing, the oldest first, where `next` is written next.
+abbrev pub ring : ℕ → ℕ → List ℕ
+ring sections next = range_with_len next (sections - next) ++ range_with_len 0 next
+
+-- ---- the blank rule
 
 abbrev pub is_zero : Cell → Bool
 is_zero (Number number) = false
 is_zero Zero = true
 is_zero (Other found) = false
 
-abbrev pub is_of : ℕ → Cell → Bool
-is_of number cell = bears (cell_number cell) number
+-- Sector k of the journal is a zero one among the bitmap's.
+abbrev pub is_blank_sector : Grid → ℕ → Bool
+is_blank_sector grid k = nat_lt k grid.bitmap && is_zero (cell_at grid k)
 
--- Each sector bears the number, but for zero ones among the bitmap's.
-abbrev pub is_even : Grid → ℕ → Bool
-is_even grid number =
-    list_all (λ cell. is_zero cell || is_of number cell) (take grid.bitmap grid.cells) && list_all (is_of number) (drop grid.bitmap grid.cells)
+-- Each sector but the blank ones bears the number.
+abbrev pub is_blank_with : Grid → ℕ → Bool
+is_blank_with grid number =
+    all_below (length grid.cells) (λ k. is_blank_sector grid k || bears (cell_number (cell_at grid k)) number)
 
--- The number of a blank journal: some of the bitmap's sectors are zero, all others bear it, and no entry in these is used.
--- It is 0 where all are zero.
+-- The number of a blank journal: some sectors are blank, all others bear it, and no entry in these is used. It is 0 where
+-- all are blank.
 abbrev pub blank_number : Grid → Option ℕ
 blank_number grid =
-    if list_any is_zero (take grid.bitmap grid.cells) && not grid.used_outside then find (is_even grid) commit_numbers else None
+    if any_below (length grid.cells) (is_blank_sector grid) && not grid.used_outside
+    then find (is_blank_with grid) commit_numbers
+    else None
 
 abbrev pub blank_plan : ℕ → Plan
 blank_plan number = record { state = Blank number; walk = no_section }
 
 -- ---- the whole rule
 
--- The section, and the sector in it, of a sector of the journal.
+-- The section of sector k of the journal, and the sector in it.
 abbrev pub place_of : Grid → ℕ → ℕ × ℕ
 place_of grid k = (k / grid.sectors, k % grid.sectors)
 
@@ -171,15 +190,19 @@ found_in (Number number) = 0
 found_in Zero = 0
 found_in (Other found) = found
 
-abbrev pub fault_at : Grid → ℕ → ScanFault
-fault_at grid k =
-    if nat_lt k (length grid.cells)
-    then NoNumber (k / grid.sectors) (k % grid.sectors) (found_in (slice_index_or grid.cells k Zero))
-    else FourNumbers (map (λ number. place_of grid (position_or_len (is_of number) grid.cells)) commit_numbers)
+abbrev pub first_without : Grid → ℕ
+first_without grid = position_or_len (λ cell. is_none (cell_number cell)) grid.cells
+
+abbrev pub first_of : Grid → ℕ → ℕ
+first_of grid number = position_or_len (λ cell. bears (cell_number cell) number) grid.cells
 
 -- Why a journal that is not blank has no plan.
 abbrev pub scan_fault_of : Grid → ScanFault
-scan_fault_of grid = fault_at grid (position_or_len (λ cell. is_none (cell_number cell)) grid.cells)
+scan_fault_of grid =
+    let k = first_without grid in
+    if nat_lt k (length grid.cells)
+    then NoNumber (k / grid.sectors) (k % grid.sectors) (found_in (cell_at grid k))
+    else FourNumbers (map (λ number. place_of grid (first_of grid number)) commit_numbers)
 
 -- The plan of a journal: that of a blank one, else that by its numbers, else the fault.
 unfoldable pub walk_of_grid : Grid → Result Plan ScanFault
