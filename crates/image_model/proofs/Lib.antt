@@ -1,3 +1,4 @@
+pub mod WorkedGeometry
 pub mod BelowLemmas
 pub mod NumberLemmas
 pub mod CommitIdLemmas

@@ -5,5 +5,7 @@
 #![tactic(auto)]
 
 mod disk;
+mod fault_plan;
 
-pub use disk::{Counted, Disk, Failed, Named};
+pub use disk::{Counted, Disk, Failed, Memory, Named};
+pub use fault_plan::{FaultPlan, MOST_FAILING};
