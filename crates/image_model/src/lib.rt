@@ -1,0 +1,2 @@
+//! Definitions alone: what the bytes of a dm-integrity image mean.
+#![tactic(auto)]
