@@ -1,9 +1,11 @@
 pub mod WorkedGeometry
+pub mod TagLemmas
+mod WorkedTag
 pub mod BelowLemmas
 pub mod NumberLemmas
 pub mod CommitIdLemmas
 pub mod WalkLemmas
 pub mod TablesLemmas
 pub mod ScanLemmas
-pub mod WorkedCommitId
-pub mod WorkedWalk
+mod WorkedCommitId
+mod WorkedWalk

@@ -2,6 +2,7 @@ pub mod Faults
 pub mod Geometry
 pub mod Sectors
 pub mod Superblock
+pub mod Tag
 pub mod CommitId
 pub mod Below
 pub mod Walk

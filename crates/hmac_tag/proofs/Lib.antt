@@ -1,0 +1,2 @@
+pub mod PaddedLemmas
+pub mod PreparedLemmas

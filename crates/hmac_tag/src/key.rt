@@ -1,0 +1,84 @@
+//! The key of a keyed hash, and the hash that tags are made by.
+ghost use Rattle.std.specs.Prelude.{◌≡◌, ◌↔◌, ◌<◌, ℕ, length, IfOk, IsErrOf};
+
+use std::alloc::Global;
+use std::marker::Model;
+
+/// How many bytes a key may have.
+///
+/// Own: `docs/DECISIONS.md`.
+const LONGEST_KEY: usize = 4096;
+
+/// Why some bytes are no key. The first that holds is told.
+#[derive(Clone, Copy, Debug, PartialEq, Eq)]
+pub enum KeyFault {
+    /// There are none.
+    Empty,
+    /// There are more than 4096: there are `len`.
+    TooLong { len: u64 },
+    /// Memory ran out.
+    Memory,
+}
+
+/// A key of 1 to 4096 bytes. It leaves no text: it has no `Debug`.
+#[derive(Drop)]
+pub struct Key {
+    bytes: Vec<u8>,
+}
+
+impl Model for Key {
+    ghost use Rattle.std.specs.Prelude.{List, ℕ};
+
+    ghost Value = { List ℕ };
+
+    ghost view = { λ key. key.bytes.items };
+}
+
+impl Key {
+    /// A key of these bytes.
+    ///
+    /// # Errors
+    ///
+    /// - `Empty`: there are none.
+    /// - `TooLong`: there are more than 4096.
+    /// - `Memory`: memory ran out.
+    pub fn from_bytes(alloc: Global, bytes: &[u8]) -> Result<Key, KeyFault>
+        ensures key { IfOk result (λ key. key ≡ bytes.now) }
+
+        ensures empty { IsErrOf result KeyFault.Empty ↔ (length bytes.now ≡ 0) }
+        ensures too_long { (len : ℕ) → IsErrOf result (KeyFault.TooLong len)
+            ↔ ((4096 < length bytes.now) × (len ≡ length bytes.now)) }
+    {
+        if bytes.is_empty() {
+            return Err(KeyFault::Empty);
+        }
+        if bytes.len() > LONGEST_KEY {
+            return Err(KeyFault::TooLong {
+                len: bytes.len() as u64,
+            });
+        }
+        match Vec::from_slice(alloc, bytes) {
+            Ok(bytes) => Ok(Key { bytes }),
+            Err(_) => Err(KeyFault::Memory),
+        }
+    }
+
+    pub(crate) fn bytes(&self) -> &[u8]
+        ensures { result.now ≡ self.now }
+    {
+        self.bytes.as_slice()
+    }
+}
+
+/// The hash that tags are made by.
+#[derive(Drop)]
+pub enum Hash {
+    /// SHA-256.
+    ///
+    /// Source: FIPS 180-4.
+    Sha256,
+    /// HMAC-SHA-256 under a key.
+    ///
+    /// Source: FIPS 198-1.
+    Hmac(Key),
+}
