@@ -7,5 +7,6 @@ pub mod CommitIdLemmas
 pub mod WalkLemmas
 pub mod TablesLemmas
 pub mod ScanLemmas
+pub mod OpenableLemmas
 mod WorkedCommitId
 mod WorkedWalk

@@ -1,9 +1,9 @@
 -- Commit numbers: the first that passes a test, laps modulo 4, and which number is the newest.
-use Rattle.std.proofs.Common.{◌≡◌, ◌≢◌, ◌⊎◌, inl, inr, ℕ, zero, suc, ◌<◌, min, Bool, true, false, not, refl, sym, ◌∙◌, ap, subst, arith, find, Option, Some, None}
+use Rattle.std.proofs.Common.{◌≡◌, ◌≢◌, ◌⊎◌, inl, inr, ℕ, zero, suc, ◌<◌, min, Bool, true, false, not, ◌&&◌, refl, sym, ◌∙◌, ap, subst, arith, find, Option, Some, None}
 use Rattle.std.proofs.lemmas.Bool.{cases_Bool, cases_eq, true≢false, and_right, and_from, and_parts, not-true, not_from_false, true_from_ne_false}
 use Rattle.std.proofs.lemmas.Option.{none-some, same_Some}
 use Rattle.image_model.specs.CommitId.{commit_numbers}
-use Rattle.image_model.specs.Walk.{later, is_leading, newest}
+use Rattle.image_model.specs.Walk.{later, newest}
 
 -- What holds of 0 to 3 holds of each commit number.
 pub four_numbers : (P : ℕ → Type 0) → P 0 → P 1 → P 2 → P 3 → (q : ℕ) → q < 4 → P q
@@ -101,6 +101,10 @@ only_three k q low_k low_q a b c = omega arith
 
 -- ---- the newest number
 
+-- The number occurs, and the next one does not.
+abbrev leads : (ℕ → Bool) → ℕ → Bool
+leads has number = has number && not (has (later 1 number))
+
 -- The newest is q where q occurs, and neither of the next two does.
 pub newest_is : (has : ℕ → Bool) (q : ℕ) → q < 4 → has q ≡ true → has (later 1 q) ≡ false → has (later 2 q) ≡ false → newest has ≡ Some q
 newest_is has =
@@ -140,7 +144,7 @@ newest_four has =
 -- What the newest number tells.
 pub newest_tells : (has : ℕ → Bool) (q : ℕ) → newest has ≡ Some q → (q < 4) × (has q ≡ true) × (has (later 1 q) ≡ false)
 newest_tells has q e =
-    let found = first_of_four_tells (is_leading has) q e in
+    let found = first_of_four_tells (leads has) q e in
     let parts = and_parts (has q) (not (has (later 1 q))) found.1 in
     (found.0, parts.0, not-true (has (later 1 q)) parts.1)
 
@@ -148,7 +152,7 @@ newest_tells has q e =
 pub newest_none : (has : ℕ → Bool) (q : ℕ) → q < 4 → has q ≡ true → newest has ≡ None → (k : ℕ) → k < 4 → has k ≡ true
 newest_none has q low is none =
     let next : (k : ℕ) → k < 4 → has k ≡ true → has (later 1 k) ≡ true =
-    λ k low_k is_k. true_from_ne_false (has (later 1 k)) (λ lacks. true≢false (sym (and_from (has k) (not (has (later 1 k))) is_k (not_from_false (has (later 1 k)) lacks)) ∙ first_of_four_none (is_leading has) none k low_k)) in
+    λ k low_k is_k. true_from_ne_false (has (later 1 k)) (λ lacks. true≢false (sym (and_from (has k) (not (has (later 1 k))) is_k (not_from_false (has (later 1 k)) lacks)) ∙ first_of_four_none (leads has) none k low_k)) in
     let one = next q low is in
     let two = next (later 1 q) (later_low 1 q) one in
     let three = next (later 1 (later 1 q)) (later_low 1 (later 1 q)) two in

@@ -8,7 +8,8 @@ use Rattle.std.proofs.lemmas.Nat.{div-add-mod', mod_below, div_below, mul-add-lt
 use Rattle.std.proofs.lemmas.Option.{none-some, same_Some}
 use Rattle.image_model.specs.CommitId.{commit_numbers}
 use Rattle.image_model.specs.Below.{any_below, all_below}
-use Rattle.image_model.specs.Walk.{Cell, Number, Zero, Other, State, Rest, Mixed, Erasing, Blank, Plan, ScanFault, NoNumber, FourNumbers, Grid, IsGrid, cell_at, cell_number, numbers_of, bears, holds, is_numbered, occurs, later, newest, reach, whole_sections, state_at, range, no_section, plan_at, plan_of, sections_of, ring, is_zero, is_blank_sector, is_blank_with, blank_number, blank_plan, place_of, found_in, first_without, first_of, scan_fault_of, walk_of_grid}
+use Rattle.image_model.specs.Walk.{State, Rest, Mixed, Erasing, Plan, bears, is_numbered, occurs, later, newest, reach, whole_sections, state_at, range, plan_at, plan_of, sections_of}
+use Rattle.image_model.specs.Scan.{SectorCell, Number, Zero, Other, Grid, IsGrid, cell_at, cell_number, found_in, is_zero, numbers_of, is_blank_sector, is_blank_with, blank_number, first_place, scan_fault_of, walk_of_grid}
 use Rattle.image_model.specs.Tables.{IsAtRest, IsWalkOfTwo, IsBlankSector, IsBlank, has_number, IsPlanOf, IsFirstOf, IsFaultOf, FollowsRules, ScanLaw}
 use Rattle.image_model.proofs.BelowLemmas.{any_at, any_found, all_from, all_at, all_or_some}
 use Rattle.image_model.proofs.NumberLemmas.{four_numbers, first_of_four, first_of_four_tells, cases_option, newest_none}
@@ -25,7 +26,7 @@ place_inside n s k wide low = (div_below k s n wide low, mod_below k s wide, div
 pub place_low : (sections sectors section sector : ℕ) → section < sections → sector < sectors → section * sectors + sector < sections * sectors
 place_low n s i j low narrow = omega (arith, mul-add-lt i s j n low narrow)
 
-is_zero_tells : (cell : Cell) → is_zero cell ≡ true → cell ≡ Zero
+is_zero_tells : (cell : SectorCell) → is_zero cell ≡ true → cell ≡ Zero
 is_zero_tells (Number number) e = absurd (true≢false (sym e))
 is_zero_tells Zero e = refl
 is_zero_tells (Other found) e = absurd (true≢false (sym e))
@@ -127,7 +128,7 @@ plan_says grid is_grid plan planned =
     let wide = is_grid.has_sectors in
     elim (cases_Bool (occurs n s g (later 2 q))) [
       | inl two ↦
-          let at : plan_at n s g q ≡ record { state = Erasing q; walk = no_section } = rw two refl in
+          let at : plan_at n s g q ≡ record { state = Erasing q; walk = (0, 0) ∷ (0, 0) ∷ [] } = rw two refl in
           subst (λ (x : Plan). IsPlanOf grid (sections_of x.walk) x.state) (sym at ∙ from.1.2) (new, two, refl)
       | inr lacks ↦
           let at = plan_at_two n s g q lacks in
@@ -164,7 +165,7 @@ plan_says grid is_grid plan planned =
 
 -- ---- faults
 
-abbrev unnumbered : Cell → Bool
+abbrev unnumbered : SectorCell → Bool
 unnumbered cell = is_none (cell_number cell)
 
 -- Where each cell has a number, all sectors do.
@@ -172,10 +173,16 @@ pub grid_numbered : (grid : Grid) → IsGrid grid → ((k : ℕ) → k < length 
 grid_numbered grid is_grid each = numbered_from grid.sections grid.sectors (numbers_of grid) (λ i j low narrow.
     some_from (numbers_of grid i j) (each (i * grid.sectors + j) (subst (λ m. i * grid.sectors + j < m) (sym is_grid.cells) (place_low grid.sections grid.sectors i j low narrow))))
 
+abbrev first_without : Grid → ℕ
+first_without grid = position_or_len unnumbered grid.cells
+
+abbrev first_of : Grid → ℕ → ℕ
+first_of grid number = position_or_len (λ cell. bears (cell_number cell) number) grid.cells
+
 -- The first sector of a number that occurs is on the journal, and the first.
 first_of_is : (grid : Grid) (number k : ℕ) → k < length grid.cells → cell_number (cell_at grid k) ≡ Some number → IsFirstOf grid number (first_of grid number)
 first_of_is grid number k low is =
-    let test = λ (cell : Cell). bears (cell_number cell) number in
+    let test = λ (cell : SectorCell). bears (cell_number cell) number in
     let here : bears (cell_number (cell_at grid k)) number ≡ true = bears_it (cell_number (cell_at grid k)) number is in
     let inside : first_of grid number < length grid.cells = elim (cases_lt k (first_of grid number)) [
       | inl before ↦ absurd (true≢false (sym here ∙ fails_before_first test grid.cells k Zero before))
@@ -233,7 +240,7 @@ fault_says grid is_grid none =
                 let low_k : k < length grid.cells = subst (λ m. k < m) (sym total) (place_low n s found.0 found.1 found.2 found.3) in
                 let is = first_of_is grid number k low_k found.4 in
                 let place = place_inside n s (first_of grid number) is_grid.has_sectors (subst (λ m. first_of grid number < m) total is.0) in
-                subst (IsPlaceOf grid number) (sym (place_by (λ number. place_of grid (first_of grid number)) number low))
+                subst (IsPlaceOf grid number) (sym (place_by (λ number. first_place (λ cell. bears (cell_number cell) number) grid) number low))
                 (place.1, subst (λ x. IsFirstOf grid number x) (sym place.2) is),
             all,
           )

@@ -1,18 +1,19 @@
 -- Walks at values from outside, by computing.
 use Rattle.std.proofs.Common.{◌≡◌, ℕ, ◌*◌, refl, Bool, true, false, List, [], ◌∷◌, replicate, Result, Ok, Err, flat_map}
-use Rattle.image_model.specs.Walk.{Cell, Number, Zero, Other, Grid, State, Rest, Mixed, Erasing, Blank, Plan, ScanFault, NoNumber, FourNumbers, plan_of, sections_of, walk_of_grid}
+use Rattle.image_model.specs.Walk.{State, Rest, Mixed, Erasing, Blank, Plan, plan_of, sections_of}
+use Rattle.image_model.specs.Scan.{SectorCell, Number, Zero, Other, ScanFault, NoNumber, FourNumbers, walk_of_grid}
 
 -- Sectors in order, so many of each cell.
-abbrev sectors_in : List (ℕ × Cell) → List Cell
-sectors_in pieces = flat_map (λ (piece : ℕ × Cell). replicate piece.0 piece.1) pieces
+abbrev sectors_in : List (ℕ × SectorCell) → List SectorCell
+sectors_in pieces = flat_map (λ (piece : ℕ × SectorCell). replicate piece.0 piece.1) pieces
 
 -- The scan of sections of so many sectors, of which `bitmap` are a bitmap's.
-abbrev scan : ℕ → ℕ → List (ℕ × Cell) → ℕ → Bool → Result Plan ScanFault
+abbrev scan : ℕ → ℕ → List (ℕ × SectorCell) → ℕ → Bool → Result Plan ScanFault
 scan sections sectors pieces bitmap used_outside =
     walk_of_grid (record { sections = sections; sectors = sectors; cells = sectors_in pieces; bitmap = bitmap; used_outside = used_outside })
 
 -- The scan of a journal of which no part is a bitmap's.
-abbrev scan_numbers : ℕ → ℕ → List (ℕ × Cell) → Result Plan ScanFault
+abbrev scan_numbers : ℕ → ℕ → List (ℕ × SectorCell) → Result Plan ScanFault
 scan_numbers sections sectors pieces = scan sections sectors pieces 0 false
 
 abbrev plan : State → ℕ × ℕ → ℕ × ℕ → Result Plan ScanFault

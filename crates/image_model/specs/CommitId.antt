@@ -1,6 +1,6 @@
 -- The commit id that marks a journal sector, and the commit number that a sector bears.
-use Rattle.std.specs.Prelude.{◌≡◌, ℕ, ◌+◌, ◌*◌, ◌^◌, ◌<◌, ◌==◌, bit_xor, List, [], ◌∷◌, drop, find, Option}
-use Rattle.std.specs.Int.{w64, from_le_bytes}
+use Rattle.std.specs.Prelude.{◌≡◌, ℕ, ◌+◌, ◌*◌, ◌^◌, ◌<◌, ◌==◌, bit_xor, List, [], ◌∷◌, find, Option}
+use Rattle.image_model.specs.Sectors.{number_in}
 
 -- The bits that stand for a commit number: 1 to 4 in each half byte.
 -- Source: Linux, drivers/md/dm-integrity.c, create_journal.
@@ -24,7 +24,7 @@ number_of section sector id = find (λ number. commit_id section sector number =
 -- What stands in the place of a sector's commit id: its last 8 bytes, the lowest first.
 -- Source: Linux, drivers/md/dm-integrity.c, struct journal_sector.
 abbrev pub id_in : List ℕ → ℕ
-id_in bytes = from_le_bytes w64 (drop 504 bytes)
+id_in bytes = number_in bytes 504 8
 
 -- The commit number that the bytes of a sector bear, if they bear one.
 abbrev pub commit_number : ℕ → ℕ → List ℕ → Option ℕ

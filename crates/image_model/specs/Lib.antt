@@ -6,4 +6,10 @@ pub mod Tag
 pub mod CommitId
 pub mod Below
 pub mod Walk
+pub mod Scan
 pub mod Tables
+pub mod Section
+pub mod Grid
+pub mod Bitmap
+pub mod Cells
+pub mod Openable

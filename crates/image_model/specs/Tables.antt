@@ -2,7 +2,8 @@
 -- Own: as the walk.
 use Rattle.std.specs.Prelude.{◌≡◌, ◌≢◌, ℕ, ◌+◌, ◌*◌, ◌-◌, ◌<◌, ◌≤◌, min, Bool, true, false, Option, Some, None, Result, Ok, IfOk, IfErr, List, [], ◌++◌, length, slice_index_or}
 use Rattle.std.specs.List.{range_with_len}
-use Rattle.image_model.specs.Walk.{State, Rest, Mixed, Erasing, Blank, ScanFault, NoNumber, FourNumbers, Cell, Zero, Grid, IsGrid, cell_at, cell_number, found_in, Numbers, numbers_of, occurs, later, newest, sections_of, ring, blank_plan, walk_of_grid}
+use Rattle.image_model.specs.Walk.{State, Rest, Mixed, Erasing, Blank, Numbers, occurs, later, newest, sections_of, ring}
+use Rattle.image_model.specs.Scan.{Zero, ScanFault, NoNumber, FourNumbers, Grid, IsGrid, cell_at, cell_number, found_in, numbers_of, blank_plan, walk_of_grid}
 
 -- Which of a number and of those one, two and three laps on occur.
 pub record Occur (has : ℕ → Bool) (number : ℕ) (now one_on two_on three_on : Bool) : Type 0 where

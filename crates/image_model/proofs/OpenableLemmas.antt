@@ -1,0 +1,78 @@
+-- A journal is refused exactly where it has no walk or an entry that cannot be replayed.
+use Rattle.std.proofs.Common.{◌≡◌, ◌↔◌, ⊎_elim, inl, inr, ℕ, ◌*◌, ◌%◌, ◌<◌, ◌==◌, nat_lt, Bool, true, false, not, refl, sym, ◌∙◌, ap, Option, Some, None, option_and_then, Result, Ok, Err, IsOk, List, [], ◌∷◌, filter_map, slice_get, bytes_eq}
+use Rattle.std.specs.List.{AllByRecursion}
+use Rattle.std.specs.Option.{option_map, option_or}
+use Rattle.std.specs.Result.{result_err}
+use Rattle.std.proofs.lemmas.Bool.{cases_Bool, and_parts, and_from, eqb-true, eq-eqb, ltb-true, lt-ltb, not_from_true, true≢false}
+use Rattle.std.proofs.lemmas.Option.{none-some}
+use Rattle.std.proofs.lemmas.Slice.Eq.{bytes_eq-Decides}
+use Rattle.disk_model.specs.Disk.{Image}
+use Rattle.image_model.specs.Cells.{block_tag, entry_of, entry_places, counted_sections, replayed_entries}
+use Rattle.image_model.specs.Geometry.{Geometry}
+use Rattle.image_model.specs.Grid.{walk_of}
+use Rattle.image_model.specs.Openable.{is_block_start, IsReplayable, JournalFault, Scan, entry_fault, entry_faults, journal_fault_of, JournalFaultLaw}
+use Rattle.image_model.specs.Section.{Entry}
+use Rattle.image_model.specs.Scan.{ScanFault}
+use Rattle.image_model.specs.Walk.{Plan}
+use Rattle.image_model.proofs.NumberLemmas.{cases_option}
+
+-- An entry that can be replayed has no fault,
+pub entry_fault-replayable : (key salt : Option (List ℕ)) (g : Geometry) (place : ℕ × ℕ) (entry : Entry) → IsReplayable key salt g entry → entry_fault key salt g place entry ≡ None
+unfolding entry_fault
+entry_fault-replayable key salt g place entry is =
+    let starts : is_block_start g entry.sector ≡ true = and_from _ _ (eq-eqb (entry.sector % g.shape.spb) 0 is.whole) (lt-ltb entry.sector (g.blocks * g.shape.spb) is.inside) in
+    let same : bytes_eq entry.tag (block_tag key salt g entry.sector entry.bytes) ≡ true = (bytes_eq-Decides entry.tag (block_tag key salt g entry.sector entry.bytes)).1 is.tag in
+    rw (starts, same) refl
+
+-- and one that has none can be replayed.
+pub entry_fault_none : (key salt : Option (List ℕ)) (g : Geometry) (place : ℕ × ℕ) (entry : Entry) → entry_fault key salt g place entry ≡ None → IsReplayable key salt g entry
+unfolding entry_fault
+entry_fault_none key salt g place entry none = elim (cases_Bool (is_block_start g entry.sector)) [
+  | inr fails ↦ absurd (none-some _ (sym (rw fails at none)))
+  | inl starts ↦ elim (cases_Bool (bytes_eq entry.tag (block_tag key salt g entry.sector entry.bytes))) [
+    | inr differ ↦ absurd (none-some _ (sym (rw (starts, differ) at none)))
+    | inl same ↦
+        let parts = and_parts (entry.sector % g.shape.spb == 0) (nat_lt entry.sector (g.blocks * g.shape.spb)) starts in
+        record {
+          whole = eqb-true _ _ parts.0;
+          inside = ltb-true _ _ parts.1;
+          tag = (bytes_eq-Decides entry.tag (block_tag key salt g entry.sector entry.bytes)).0 same;
+        }
+  ]
+]
+
+-- Over some places, no used entry has a fault exactly where each can be replayed.
+module _ (key salt : Option (List ℕ)) (g : Geometry) (image : Image) where
+  abbrev fault_of : ℕ × ℕ → Option JournalFault
+  fault_of place = option_and_then (entry_fault key salt g place) (entry_of g image place)
+
+  no_faults : (places : List (ℕ × ℕ)) → slice_get (filter_map fault_of places) 0 ≡ None → AllByRecursion (IsReplayable key salt g) (filter_map (entry_of g image) places)
+  no_faults [] none = tt
+  no_faults (place ∷ places) none = elim (cases_option (entry_of g image place)) [
+    | inl unused ↦ rw unused (no_faults places (rw unused at none))
+    | inr used ↦ elim (cases_option (entry_fault key salt g place used.0)) [
+      | inl right ↦ rw used.1 (entry_fault_none key salt g place used.0 right, no_faults places (rw (used.1, right) at none))
+      | inr fault ↦ absurd (none-some fault.0 (sym (rw (used.1, fault.1) at none)))
+    ]
+  ]
+
+  faults_none : (places : List (ℕ × ℕ)) → AllByRecursion (IsReplayable key salt g) (filter_map (entry_of g image) places) → slice_get (filter_map fault_of places) 0 ≡ None
+  faults_none [] each = refl
+  faults_none (place ∷ places) each = elim (cases_option (entry_of g image place)) [
+    | inl unused ↦ rw unused (faults_none places (rw unused at each))
+    | inr used ↦
+        let parts = rw used.1 at each in
+        let right = entry_fault-replayable key salt g place used.0 parts.0 in
+        rw (used.1, right) (faults_none places parts.1)
+  ]
+
+  law_at : (walk : Result Plan ScanFault)
+      → (option_or (option_map Scan (result_err walk)) (slice_get (filter_map fault_of (entry_places g (counted_sections walk))) 0) ≡ None)
+      ↔ (IsOk walk × AllByRecursion (IsReplayable key salt g) (filter_map (entry_of g image) (entry_places g (counted_sections walk))))
+  law_at (Ok plan) = (λ none. (refl, no_faults _ none), λ both. faults_none _ both.1)
+  law_at (Err fault) = (λ none. absurd (none-some _ (sym none)), λ both. absurd (true≢false (sym both.0)))
+
+-- A journal has no fault exactly where it has a walk whose used entries can be replayed.
+pub journal_fault_law : JournalFaultLaw
+unfolding journal_fault_of replayed_entries
+journal_fault_law key salt g image = law_at key salt g image (walk_of g image)

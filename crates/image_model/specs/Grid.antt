@@ -1,0 +1,50 @@
+-- The grid of an image's journal, and its replay walk.
+use Rattle.std.specs.Prelude.{ℕ, ◌+◌, ◌*◌, ◌/◌, ◌%◌, ◌==◌, nat_lt, Bool, not, ◌&&◌, if◌then◌else◌, Option, Some, None, Result, List, map}
+use Rattle.std.specs.List.{range_with_len, list_all}
+use Rattle.disk_model.specs.Disk.{Image}
+use Rattle.image_model.specs.declared.blanks.TheConstants.{BLANKS_COUNT}
+use Rattle.image_model.specs.Below.{any_below}
+use Rattle.image_model.specs.CommitId.{id_in, commit_number}
+use Rattle.image_model.specs.Geometry.{Geometry, section_at, section_sectors, section_entries, journal_sectors, bitmap_sectors_for, fitting_log2_region}
+use Rattle.image_model.specs.Sectors.{bytes_at}
+use Rattle.image_model.specs.Section.{is_used}
+use Rattle.image_model.specs.Scan.{SectorCell, Number, Zero, Other, ScanFault, Grid, walk_of_grid}
+use Rattle.image_model.specs.Walk.{Plan}
+
+abbrev pub is_zero_sector : List ℕ → Bool
+is_zero_sector bytes = list_all (λ byte. byte == 0) bytes
+
+-- What the bytes of a sector have in the place of its commit id.
+abbrev pub cell_by : Option ℕ → List ℕ → SectorCell
+cell_by (Some number) bytes = Number number
+cell_by None bytes = if is_zero_sector bytes then Zero else Other (id_in bytes)
+
+-- Sector k of the journal is sector 8 + k of the disk.
+abbrev pub sector_cell : Geometry → Image → ℕ → SectorCell
+sector_cell g image k =
+    let sectors = section_sectors g.shape in
+    cell_by (commit_number (k / sectors) (k % sectors) (image (8 + k))) (image (8 + k))
+
+-- How many of the journal's sectors the bitmap would have: none where blanks do not count.
+abbrev pub blank_bound : Geometry → ℕ
+blank_bound g = if BLANKS_COUNT then bitmap_sectors_for g.blocks (fitting_log2_region g) else 0
+
+-- Entry n of the section is used, and its sector is no zero one of the bitmap's.
+abbrev pub is_used_outside : Geometry → Image → ℕ → ℕ → Bool
+is_used_outside g image section n =
+    let k = section * section_sectors g.shape + n % 8 in
+    is_used g.shape (bytes_at image (section_at g section) 8) n
+    && not (nat_lt k (blank_bound g) && is_zero_sector (image (8 + k)))
+
+unfoldable pub grid_of : Geometry → Image → Grid
+grid_of g image = record {
+  sections = g.sections;
+  sectors = section_sectors g.shape;
+  cells = map (sector_cell g image) (range_with_len 0 (journal_sectors g));
+  bitmap = blank_bound g;
+  used_outside = any_below g.sections (λ section. any_below (section_entries g.shape) (is_used_outside g image section));
+}
+
+-- The plan of an image's journal, or why it is refused.
+abbrev pub walk_of : Geometry → Image → Result Plan ScanFault
+walk_of g image = walk_of_grid (grid_of g image)
