@@ -1,4 +1,6 @@
 pub mod Faults
 pub mod Geometry
+pub mod GeometryLaws
 pub mod Sectors
 pub mod Superblock
+pub mod SuperblockLaws
