@@ -18,6 +18,36 @@ sector_of_block b spb blocks j some inside =
     (ap (λ n. n / (blocks * spb)) split ∙ div-mul-add (b / blocks) (blocks * spb) (b % blocks * spb + j) (omega arith),
      ap (λ n. n % (blocks * spb)) split ∙ mod-mul-add (b / blocks) (blocks * spb) (b % blocks * spb + j) (omega arith))
 
+-- Where sector j of a block lies, if an area has so many whole blocks.
+sector_at-is : (g : Geometry) (b blocks j : ℕ) → 0 < blocks → g.interleave ≡ blocks * g.shape.spb → j < g.shape.spb → sector_at g (b * g.shape.spb + j) ≡ area_at g (b / blocks) + g.tag_run + (b % blocks * g.shape.spb + j)
+unfolding sector_at
+sector_at-is g b blocks j some whole inside =
+    let at = sector_of_block b g.shape.spb blocks j some inside in
+    let area_is : (b * g.shape.spb + j) / g.interleave ≡ b / blocks = ap (λ n. (b * g.shape.spb + j) / n) whole ∙ at.0 in
+    let offset_is : (b * g.shape.spb + j) % g.interleave ≡ b % blocks * g.shape.spb + j = ap (λ n. (b * g.shape.spb + j) % n) whole ∙ at.1 in
+    rw (area_is, offset_is) refl
+
+data_at-is : (g : Geometry) (b blocks : ℕ) → 0 < blocks → g.interleave ≡ blocks * g.shape.spb → 0 < g.shape.spb → data_at g b ≡ area_at g (b / blocks) + g.tag_run + b % blocks * g.shape.spb
+unfolding data_at
+data_at-is g b blocks some whole positive =
+    let here : b * g.shape.spb ≡ b * g.shape.spb + 0 = omega arith in
+    ap (sector_at g) here ∙ sector_at-is g b blocks 0 some whole positive ∙ omega arith
+
+-- Sector j of a block lies j sectors behind the block's first.
+pub sector_at-block : (g : Geometry) (b blocks j : ℕ) → 0 < blocks → g.interleave ≡ blocks * g.shape.spb → j < g.shape.spb → sector_at g (b * g.shape.spb + j) ≡ data_at g b + j
+sector_at-block g b blocks j some whole inside =
+    omega (arith, sector_at-is g b blocks j some whole inside, data_at-is g b blocks some whole (omega arith))
+
+tag_at-is : (g : Geometry) (b blocks : ℕ) → 0 < blocks → g.interleave ≡ blocks * g.shape.spb → 0 < g.shape.spb → 512 * (tag_at g b).0 + (tag_at g b).1 ≡ 512 * area_at g (b / blocks) + b % blocks * g.shape.tag_size
+unfolding tag_at tag_offset
+tag_at-is g b blocks some whole positive =
+    let at = sector_of_block b g.shape.spb blocks 0 some positive in
+    let here : b * g.shape.spb ≡ b * g.shape.spb + 0 = omega arith in
+    let area_is : b * g.shape.spb / g.interleave ≡ b / blocks = ap (λ n. n / g.interleave) here ∙ ap (λ n. (b * g.shape.spb + 0) / n) whole ∙ at.0 in
+    let offset_is : b * g.shape.spb % g.interleave ≡ b % blocks * g.shape.spb = ap (λ n. n % g.interleave) here ∙ ap (λ n. (b * g.shape.spb + 0) % n) whole ∙ at.1 ∙ omega arith in
+    let place_is : b * g.shape.spb % g.interleave / g.shape.spb ≡ b % blocks = ap (λ n. n / g.shape.spb) offset_is ∙ mul-div_cancel (b % blocks) positive in
+    rw (area_is, place_is) (omega arith)
+
 -- Where a block lies: the area, its place among the area's blocks, and what follows for its data and its tag.
 pub record IsPlaced (g : Geometry) (b : ℕ) : Type 0 where
   pub area : ℕ
@@ -29,29 +59,18 @@ pub record IsPlaced (g : Geometry) (b : ℕ) : Type 0 where
   pub tag_is : 512 * (tag_at g b).0 + (tag_at g b).1 ≡ 512 * area_at g area + place * g.shape.tag_size
   pub tag_ends : place * g.shape.tag_size + g.shape.tag_size ≤ 512 * g.tag_run
 
-blocks_some : (g : Geometry) (sectors : ℕ) → IsGeometry g sectors → 0 < g.interleave / g.shape.spb
-blocks_some g sectors h = cases g (g.interleave / g.shape.spb) h.whole_blocks h.interleave
-  where
-    cases : (g : Geometry) (blocks : ℕ) → g.interleave ≡ blocks * g.shape.spb → 8 ≤ g.interleave → 0 < blocks
-    cases g zero is some = absurd (omega arith)
-    cases g (suc blocks) is some = omega arith
+-- An area has a block.
+pub area_blocks_some : (blocks spb interleave : ℕ) → interleave ≡ blocks * spb → 8 ≤ interleave → 0 < blocks
+area_blocks_some zero spb interleave is some = absurd (omega arith)
+area_blocks_some (suc blocks) spb interleave is some = omega arith
 
 pub placed : (g : Geometry) (sectors b : ℕ) → IsGeometry g sectors → IsPlaced g b
-unfolding data_at sector_at tag_at tag_offset
 placed g sectors b h =
     let blocks = g.interleave / g.shape.spb in
-    let whole = h.whole_blocks in
-    let spb = h.spb in
-    let some = blocks_some g sectors h in
+    let some = area_blocks_some blocks g.shape.spb g.interleave h.whole_blocks h.interleave in
     let low = mod_below b blocks some in
-    let at = sector_of_block b g.shape.spb blocks 0 some (omega arith) in
-    let here : b * g.shape.spb + 0 ≡ b * g.shape.spb = omega arith in
-    let area_is : b * g.shape.spb / g.interleave ≡ b / blocks =
-        ap (λ n. n / g.interleave) (sym here) ∙ ap (λ n. (b * g.shape.spb + 0) / n) whole ∙ at.0 in
-    let offset_is : b * g.shape.spb % g.interleave ≡ b % blocks * g.shape.spb =
-        ap (λ n. n % g.interleave) (sym here) ∙ ap (λ n. (b * g.shape.spb + 0) % n) whole ∙ at.1 ∙ omega arith in
-    let place_is : b * g.shape.spb % g.interleave / g.shape.spb ≡ b % blocks =
-        ap (λ n. n / g.shape.spb) offset_is ∙ mul-div_cancel (b % blocks) (omega arith) in
+    let whole = h.whole_blocks in
+    let tags = h.tags in
     let data_fits : b % blocks * g.shape.spb + g.shape.spb ≤ blocks * g.shape.spb = row_fits (b % blocks) g.shape.spb blocks g.shape.spb low (omega arith) in
     let tag_fits : b % blocks * g.shape.tag_size + g.shape.tag_size ≤ blocks * g.shape.tag_size = row_fits (b % blocks) g.shape.tag_size blocks g.shape.tag_size low (omega arith) in
     record {
@@ -59,10 +78,10 @@ placed g sectors b h =
       place = b % blocks;
       block_is = sym (div-add-mod' b blocks);
       place_low = low;
-      data_is = rw (area_is, offset_is) refl;
+      data_is = data_at-is g b blocks some whole h.spb.0;
       data_ends = omega arith;
-      tag_is = rw (area_is, place_is) (omega arith);
-      tag_ends = let tags = h.tags in omega arith
+      tag_is = tag_at-is g b blocks some whole h.spb.0;
+      tag_ends = omega arith
     }
 
 -- Of two places in rows of the same length the later one lies in a later row, or further on in the same.

@@ -1,7 +1,19 @@
 -- What holds of every geometry that the fields give on a disk.
-use Rattle.std.specs.Prelude.{◌≡◌, ◌≢◌, ◌⊎◌, ℕ, ◌+◌, ◌-◌, ◌*◌, ◌/◌, ◌%◌, ◌^◌, ◌<◌, ◌≤◌, ⊤, Ok, max}
-use Rattle.image_model.specs.Superblock.{Superblock, HasLayout, IsAccepted}
-use Rattle.image_model.specs.Geometry.{Geometry, section_sectors, layout_of, section_at, journal_sectors, sector_at, data_at, tag_at, bitmap_sectors_for, fitting_log2_region, geometry_of, best_provided_of, IsGeometry}
+use Rattle.std.specs.Prelude.{◌≡◌, ◌≢◌, ◌⊎◌, ℕ, ◌+◌, ◌-◌, ◌*◌, ◌/◌, ◌%◌, ◌^◌, ◌<◌, ◌≤◌, ⊤, IsTrue, ◌↔◌, Ok}
+use Rattle.image_model.specs.declared.flags.TheConstants.{DIRTY_BITMAP}
+use Rattle.image_model.specs.Superblock.{Superblock, has_flag, HasLayout, IsAccepted}
+use Rattle.image_model.specs.Geometry.{Geometry, section_sectors, layout_of, section_at, journal_sectors, sector_at, data_at, tag_at, bitmap_sectors, bitmap_sectors_for, fitting_log2_region, geometry_of, best_provided_of, IsGeometry}
+
+-- The geometry of the fields has room on a disk of so many sectors.
+pub record FitsDisk (s : Superblock) (sectors : ℕ) : Type 0 where
+  pub device : sectors ≤ 2 ^ 48
+  pub journal : journal_sectors (layout_of s) ≤ 2 ^ 20
+  pub last : sector_at (layout_of s) (s.provided - 1) < sectors
+  pub bitmap : IsTrue (has_flag DIRTY_BITMAP s.flags) → bitmap_sectors (layout_of s) ≤ journal_sectors (layout_of s)
+
+-- It is given exactly where it has.
+abbrev pub GivenLaw : Type 0
+GivenLaw = (s : Superblock) (sectors : ℕ) (g : Geometry) → (geometry_of s sectors ≡ Ok g) ↔ ((g ≡ layout_of s) × FitsDisk s sectors)
 
 -- What takes bytes of the disk: the superblock, a section of the journal, and of each block its tag and its data.
 pub data Part : Type 0 where
@@ -36,10 +48,10 @@ pub record LiesApart (g : Geometry) (sectors : ℕ) : Type 0 where
   pub inside : (p : Part) → IsPart g p → end_byte g p ≤ 512 * sectors
   pub apart : (p q : Part) → IsPart g p → IsPart g q → p ≢ q → (end_byte g p ≤ first_byte g q) ⊎ (end_byte g q ≤ first_byte g p)
 
--- The geometry of accepted fields: it is the fields' own, and its parts lie apart.
+-- Accepted fields give a geometry whose parts lie apart.
 abbrev pub ApartLaw : Type 0
 ApartLaw = (s : Superblock) (sectors : ℕ) (g : Geometry) → IsAccepted s → geometry_of s sectors ≡ Ok g
-    → (g ≡ layout_of s) × IsGeometry g sectors × LiesApart g sectors
+    → IsGeometry g sectors × LiesApart g sectors
 
 -- The least log2_region, not below the geometry's, whose bitmap fits the journal's sectors.
 pub record IsFitting (g : Geometry) (log2_region : ℕ) : Type 0 where
