@@ -1,8 +1,8 @@
 -- What holds of every geometry that the fields give on a disk.
-use Rattle.std.specs.Prelude.{◌≡◌, ◌≢◌, ◌⊎◌, ℕ, ◌+◌, ◌-◌, ◌*◌, ◌/◌, ◌%◌, ◌^◌, ◌<◌, ◌≤◌, ⊤, IsTrue, ◌↔◌, Ok}
+use Rattle.std.specs.Prelude.{◌≡◌, ◌≢◌, ◌⊎◌, ℕ, ◌+◌, ◌-◌, ◌*◌, ◌/◌, ◌%◌, ◌^◌, ◌<◌, ◌≤◌, ⊤, IsTrue, ◌↔◌, Ok, Err}
 use Rattle.image_model.specs.declared.flags.TheConstants.{DIRTY_BITMAP}
 use Rattle.image_model.specs.Superblock.{Superblock, has_flag, HasLayout, IsAccepted}
-use Rattle.image_model.specs.Geometry.{Geometry, section_sectors, layout_of, section_at, journal_sectors, sector_at, data_at, tag_at, bitmap_sectors, bitmap_sectors_for, fitting_log2_region, geometry_of, best_provided_of, IsGeometry}
+use Rattle.image_model.specs.Geometry.{Geometry, section_sectors, layout_of, section_at, journal_sectors, sector_at, data_at, tag_at, bitmap_sectors, bitmap_sectors_for, fitting_log2_region, geometry_of, best_provided_of, IsGeometry, TooSmall}
 
 -- The geometry of the fields has room on a disk of so many sectors.
 pub record FitsDisk (s : Superblock) (sectors : ℕ) : Type 0 where
@@ -72,3 +72,8 @@ pub record IsBestProvided (s : Superblock) (sectors best : ℕ) : Type 0 where
 
 abbrev pub BestProvidedLaw : Type 0
 BestProvidedLaw = (s : Superblock) (sectors best : ℕ) → HasLayout s → best_provided_of s sectors ≡ Ok best → IsBestProvided s sectors best
+
+-- Where the disk is told to be too small, none does.
+abbrev pub NoneProvidedLaw : Type 0
+NoneProvidedLaw = (s : Superblock) (sectors have need : ℕ) → HasLayout s → best_provided_of s sectors ≡ Err (TooSmall have need)
+    → (n : ℕ) → 1 ≤ n → n % 8 ≡ 0 → sectors ≤ sector_at (layout_of s) (n - 1)
