@@ -6,6 +6,9 @@
 
 mod disk;
 mod fault_plan;
+mod mem_disk;
+mod record;
 
 pub use disk::{Counted, Disk, Failed, Memory, Named};
 pub use fault_plan::{FaultPlan, MOST_FAILING};
+pub use mem_disk::MemDisk;
