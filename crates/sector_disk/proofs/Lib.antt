@@ -1,2 +1,3 @@
-mod Recorded
-mod RecordLoops
+mod RecordLemmas
+mod LatestLemmas
+mod CandidateLemmas

@@ -10,10 +10,10 @@ ghost use Rattle.disk_model.specs.Moments.{content_now, EachMoment, FromStart};
 ghost use Rattle.sector_disk.specs.Faults.{FailsNext, with_call, with_fault};
 ghost use Rattle.sector_disk.specs.Record.{IsLatest};
 
-use crate::record::{
-    Event, append_writes, copy_choice, count_writes_left, has_each, is_at_stop, read_latest,
-    stop_after_writes, write_latest,
-};
+use crate::candidates::{copy_choice, has_each};
+use crate::latest::{read_latest, write_latest};
+use crate::record::{Event, append_writes};
+use crate::stop::{count_writes_left, is_at_stop, stop_after_writes};
 use crate::{Counted, Disk, Failed, FaultPlan, MOST_FAILING, Memory, Named};
 use std::alloc::Global;
 
@@ -116,7 +116,7 @@ impl MemDisk {
         requires { length calls.now ≤ MOST_FAILING }
 
         ensures { record_of self.new ≡ record (record_of self.old) {
-          plan = record self.old.plan { failing = record { items = calls.now } };
+          plan = record (record_of self.old).plan { failing = record { items = calls.now } };
         } }
     {
         self.plan.fail_at(calls);

@@ -1,5 +1,5 @@
 use Rattle.std.proofs.Common.{rules, arith}
-use Rattle.sector_disk.proofs.RecordLoops.{one_write_more, length_so_far}
+use Rattle.sector_disk.proofs.RecordLemmas.{one_write_more, length_so_far}
 use Rattle.sector_disk.proofs.record.append_writes.Goals as goal
 
 pub push_reserved-requires : goal.push_reserved-requires

@@ -1,6 +1,6 @@
 use Rattle.std.proofs.Common.{arith}
-use Rattle.sector_disk.proofs.Recorded.{reads_of_record}
-use Rattle.sector_disk.proofs.RecordLoops.{Reads-latest}
+use Rattle.sector_disk.proofs.RecordLemmas.{reads_of_record}
+use Rattle.sector_disk.proofs.LatestLemmas.{Reads-latest}
 use Rattle.sector_disk.proofs.mem_disk.MemDiskDisk.read_run.Goals as goal
 
 pub returns-clause-read : goal.returns-clause-read

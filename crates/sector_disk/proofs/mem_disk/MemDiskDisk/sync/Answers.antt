@@ -1,5 +1,5 @@
-use Rattle.sector_disk.proofs.Recorded.{sync_is_recorded, moments_of_sync}
-use Rattle.sector_disk.proofs.RecordLoops.{IsLatest-sync}
+use Rattle.sector_disk.proofs.RecordLemmas.{sync_is_recorded, moments_of_sync}
+use Rattle.sector_disk.proofs.LatestLemmas.{IsLatest-sync}
 use Rattle.sector_disk.proofs.mem_disk.MemDiskDisk.sync.Goals as goal
 
 pub invariant_of-self-2-clause-is_latest : goal.invariant_of-self-2-clause-is_latest

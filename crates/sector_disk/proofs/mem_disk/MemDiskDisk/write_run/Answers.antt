@@ -1,7 +1,7 @@
 use Rattle.std.proofs.Common.{◌≡◌, ◌/◌, length, arith, sym, ◌∙◌, ap}
 use Rattle.std.specs.List.{length_refill}
-use Rattle.sector_disk.proofs.Recorded.{write_is_recorded, moments_of_write}
-use Rattle.sector_disk.proofs.RecordLoops.{IsLatest-writes, IsLatest-refilled}
+use Rattle.sector_disk.proofs.RecordLemmas.{write_is_recorded, moments_of_write}
+use Rattle.sector_disk.proofs.LatestLemmas.{IsLatest-writes, IsLatest-refilled}
 use Rattle.sector_disk.proofs.mem_disk.MemDiskDisk.write_run.Goals as goal
 
 pub invariant_of-self-then-size-bytes-clause-is_latest : goal.invariant_of-self-then-size-bytes-clause-is_latest

@@ -1,6 +1,6 @@
 use Rattle.std.proofs.Common.{◌≤◌, ◌+◌, take}
 use Rattle.sector_disk.specs.Record.{content_after, content_of_bytes, IsNoted}
-use Rattle.sector_disk.proofs.record.copy_candidate.Given as goal
+use Rattle.sector_disk.proofs.candidates.copy_candidate.Given as goal
 
 abbrev pub invariant-loop-event : goal.invariant-loop-event
 invariant-loop-event l = record {

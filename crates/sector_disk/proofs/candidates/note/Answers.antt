@@ -1,7 +1,7 @@
 use Rattle.std.proofs.Common.{◌∙◌}
-use Rattle.sector_disk.proofs.RecordLoops.{noted_write}
-use Rattle.sector_disk.proofs.record.note.Goals.{then-count-index, else-count-index}
-use Rattle.sector_disk.proofs.record.note.Goals as goal
+use Rattle.sector_disk.proofs.CandidateLemmas.{noted_write}
+use Rattle.sector_disk.proofs.candidates.note.Goals.{then-count-index, else-count-index}
+use Rattle.sector_disk.proofs.candidates.note.Goals as goal
 
 pub returns-after-count-index-clause-noted : goal.returns-after-count-index-clause-noted
 returns-after-count-index-clause-noted c content noted =

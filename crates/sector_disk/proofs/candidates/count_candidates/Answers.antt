@@ -1,8 +1,8 @@
 use Rattle.std.proofs.Common.{rules, take, length, sym, ◌∙◌, ap}
 use Rattle.disk_model.specs.Disk.{Content}
 use Rattle.sector_disk.specs.Record.{content_after, content_of_bytes}
-use Rattle.sector_disk.proofs.RecordLoops.{content_after-next}
-use Rattle.sector_disk.proofs.record.count_candidates.Goals as goal
+use Rattle.sector_disk.proofs.CandidateLemmas.{content_after-next}
+use Rattle.sector_disk.proofs.candidates.count_candidates.Goals as goal
 
 pub loop-event-preserved : goal.loop-event-preserved
 loop-event-preserved c = record {

@@ -1,7 +1,7 @@
 use Rattle.std.proofs.Common.{ℕ, [], slice_index, slice_index_or, arith}
 use Rattle.sector_disk.specs.Record.{content_after, content_of_bytes}
-use Rattle.sector_disk.proofs.RecordLoops.{one_sector_more}
-use Rattle.sector_disk.proofs.record.copy_choice.Goals as goal
+use Rattle.sector_disk.proofs.LatestLemmas.{one_sector_more}
+use Rattle.sector_disk.proofs.candidates.copy_choice.Goals as goal
 
 pub loop-s-preserved : goal.loop-s-preserved
 loop-s-preserved c =

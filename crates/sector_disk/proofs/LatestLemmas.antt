@@ -1,35 +1,15 @@
--- What the loops over a record keep, and what the bytes beside it have in each sector.
-use Rattle.std.proofs.Common.{◌≡◌, ◌≢◌, inl, inr, ⊎_elim, ℕ, zero, suc, ◌+◌, ◌-◌, ◌*◌, ◌/◌, ◌<◌, ◌≤◌, Bool, List, [], ◌∷◌, ◌++◌, length, take, drop, get_or, refl, sym, ◌∙◌, ap, subst, arith, append_assoc, if◌then◌else◌, add-one, eq-eqb, drop_at, below_more, length-take, length-drop, length-append}
-use Rattle.std.proofs.lemmas.Bool.{cases_eq, cases_lt}
-use Rattle.std.proofs.Math.Seq.{get_or-append_seam}
-use Rattle.std.proofs.lemmas.List.{drop-take, take-take, drop-drop, drop-append-le, take-append-le, length-take-le, take_all, take_more, get_or_append_left}
+-- Runs of sectors that are copied in a buffer, and what the bytes beside a record have in each sector.
+use Rattle.std.proofs.Common.{◌≡◌, inl, inr, ℕ, ◌+◌, ◌-◌, ◌*◌, ◌/◌, ◌<◌, ◌≤◌, List, [], ◌∷◌, ◌++◌, length, take, drop, sym, ◌∙◌, ap, subst, arith, drop_at, below_more, length-take, length-drop}
+use Rattle.std.proofs.lemmas.Bool.{cases_lt}
+use Rattle.std.proofs.lemmas.List.{drop-take, take-take, drop-drop, drop-append-le, take-append-le, length-take-le, take_all}
 use Rattle.std.proofs.lemmas.Slice.{take-put_mid, take-put_mid_below, drop-put_mid}
 use borrow.Rule.Slice.PartMut.{put_mid, post_of}
 use Rattle.disk_model.specs.Disk.{Content, Image, Reads, last_candidate, last_image, sector_in, with_sectors, with_run}
-use Rattle.disk_model.proofs.DiskLemmas.{last_candidate-push, last_image-with_run, last_image-with_run_out, with_sectors-in, with_sectors-out}
+use Rattle.disk_model.proofs.DiskLemmas.{last_image-with_run, last_image-with_run_out, with_sectors-in, with_sectors-out}
 use Rattle.sector_disk.specs.declared.record.Event.{Event}
-use Rattle.sector_disk.specs.declared.record.Event.TheVariants.{Write, Sync}
-use Rattle.sector_disk.specs.Record.{after_event, content_after, content_of_bytes, sector_writes, IsLatest, IsNoted}
-use Rattle.sector_disk.proofs.Recorded.{content_after-push, content_after-writes}
-
--- ---- sector writes, one after the other
-
-pub length-sector_writes : (at : ℕ) (bytes : List ℕ) (count : ℕ) → length (sector_writes at bytes count) ≡ count
-length-sector_writes at bytes zero = refl
-length-sector_writes at bytes (suc n) =
-    length-append (sector_writes at bytes n) (Write (at + n) (sector_in bytes n) ∷ []) ∙ ap (λ (k : ℕ). k + 1) (length-sector_writes at bytes n) ∙ add-one n
-
--- One sector more was written.
-pub one_write_more : (old so_far new : List Event) (at : ℕ) (bytes : List ℕ) (k : ℕ) (sector : List ℕ) → so_far ≡ old ++ sector_writes at bytes k → new ≡ so_far ++ Write (at + k) sector ∷ []
-    → sector ≡ take (512 * k + 512 - 512 * k) (drop (512 * k) bytes) → new ≡ old ++ sector_writes at bytes (k + 1)
-one_write_more old so_far new at bytes k sector e pushed copied =
-    let size : 512 * k + 512 - 512 * k ≡ 512 = omega arith in
-    let is : sector ≡ sector_in bytes k = copied ∙ ap (λ (n : ℕ). take n (drop (512 * k) bytes)) size in
-    rw add-one (pushed ∙ ap (λ (xs : List Event). xs ++ Write (at + k) sector ∷ []) e ∙ append_assoc old (sector_writes at bytes k) (Write (at + k) sector ∷ []) ∙ ap (λ (x : List ℕ). old ++ (sector_writes at bytes k ++ Write (at + k) x ∷ [])) is)
-
--- So many events there are then.
-pub length_so_far : (old so_far : List Event) (at : ℕ) (bytes : List ℕ) (k : ℕ) → so_far ≡ old ++ sector_writes at bytes k → length so_far ≡ length old + k
-length_so_far old so_far at bytes k e = ap length e ∙ length-append old (sector_writes at bytes k) ∙ ap (λ (n : ℕ). length old + n) (length-sector_writes at bytes k)
+use Rattle.sector_disk.specs.declared.record.Event.TheVariants.{Sync}
+use Rattle.sector_disk.specs.Record.{content_after, content_of_bytes, sector_writes, IsLatest}
+use Rattle.sector_disk.proofs.RecordLemmas.{content_after-push, content_after-writes}
 
 -- ---- the sectors of a buffer, one part after the other
 
@@ -136,27 +116,3 @@ IsLatest-sync sectors latest base es fs was e s below =
 pub Reads-latest : (sectors : ℕ) (latest base : List ℕ) (es : List Event) (at : ℕ) (buffer : List ℕ) → IsLatest sectors latest base es → at + length buffer / 512 ≤ sectors
     → ((k : ℕ) → k < length buffer / 512 → sector_in buffer k ≡ sector_in latest (at + k)) → Reads at buffer (content_after (content_of_bytes base) es)
 Reads-latest sectors latest base es at buffer was inside copied k below = copied k below ∙ was (at + k) (omega (arith, inside, below))
-
--- ---- a look at the events, one after the other
-
--- What the next event leaves.
-pub content_after-next : (c : Content) (es : List Event) (k : ℕ) (d : Event) → k < length es → content_after c (take (k + 1) es) ≡ after_event (get_or es k d) (content_after c (take k es))
-content_after-next c es k d within = ap (content_after c) (take_more es k d within) ∙ content_after-push c (take k es) (get_or es k d)
-
--- A write of the sector is taken note of.
-pub noted_write : (c : Content) (at p index : ℕ) (last bytes : List ℕ) (count : ℕ) (out new : List ℕ) → IsNoted c at index last count out → p ≡ at → (count ≡ index → new ≡ bytes) → (count ≢ index → new ≡ out)
-    → IsNoted (after_event (Write p bytes) c) at index bytes (count + 1) new
-noted_write c at p index last bytes count out new noted same there other =
-    let now : after_event (Write p bytes) c at ≡ c at ++ bytes ∷ [] = ap (λ (b : Bool). if b then c at ++ bytes ∷ [] else c at) (eq-eqb at p (sym same)) in
-    record {
-      last_is = sym (ap last_candidate now ∙ last_candidate-push (c at) bytes);
-      count_is = ap (λ (n : ℕ). n + 1) noted.count_is ∙ sym (ap length now ∙ length-append (c at) (bytes ∷ []));
-      chosen = λ below. ⊎_elim
-          (λ e. there e ∙ sym (ap (λ (xs : List (List ℕ)). get_or xs index []) now ∙ ap (λ (k : ℕ). get_or (c at ++ bytes ∷ []) k []) (sym e ∙ noted.count_is) ∙ get_or-append_seam (c at) bytes [] []))
-          (λ ne. other ne ∙ noted.chosen (omega (arith, below, ne)) ∙ sym (ap (λ (xs : List (List ℕ)). get_or xs index []) now ∙ get_or_append_left (c at) (bytes ∷ []) [] index (omega (arith, below, ne, noted.count_is))))
-          (cases_eq count index);
-    }
-
-pub noted_next : (c : Content) (es : List Event) (k : ℕ) → k < length es → (d : Event) (at index : ℕ) (last : List ℕ) (count : ℕ) (out : List ℕ)
-    → IsNoted (after_event (get_or es k d) (content_after c (take k es))) at index last count out → IsNoted (content_after c (take (k + 1) es)) at index last count out
-noted_next c es k within d at index last count out noted = subst (λ (x : Content). IsNoted x at index last count out) (sym (content_after-next c es k d within)) noted

@@ -1,6 +1,6 @@
 use Rattle.std.proofs.Common.{arith}
-use Rattle.sector_disk.proofs.RecordLoops.{write_sectors}
-use Rattle.sector_disk.proofs.record.write_latest.Goals as goal
+use Rattle.sector_disk.proofs.LatestLemmas.{write_sectors}
+use Rattle.sector_disk.proofs.latest.write_latest.Goals as goal
 
 pub returns : goal.returns
 returns c content s was =

@@ -1,6 +1,6 @@
 use Rattle.std.proofs.Common.{length, arith}
-use Rattle.sector_disk.proofs.RecordLoops.{read_sectors}
-use Rattle.sector_disk.proofs.record.read_latest.Goals as goal
+use Rattle.sector_disk.proofs.LatestLemmas.{read_sectors}
+use Rattle.sector_disk.proofs.latest.read_latest.Goals as goal
 
 pub returns : goal.returns
 returns c =

@@ -1,5 +1,5 @@
--- A record grows by an event: the contents, the moments and the last candidates after it.
-use Rattle.std.proofs.Common.{◌≡◌, ◌≢◌, inl, inr, ℕ, zero, suc, ◌+◌, ◌-◌, ◌/◌, ◌≤◌, Bool, List, [], ◌∷◌, ◌++◌, length, refl, sym, ◌∙◌, ap, subst, arith, append_assoc, append-nil, eq-eqb, Option, Some, IsSomeAnd, if◌then◌else◌, ◌==◌}
+-- A record grows by an event: the contents and the moments after it.
+use Rattle.std.proofs.Common.{◌≡◌, ◌≢◌, inl, inr, ℕ, zero, suc, ◌+◌, ◌-◌, ◌/◌, ◌≤◌, Bool, List, [], ◌∷◌, ◌++◌, length, refl, sym, ◌∙◌, ap, subst, arith, append_assoc, append-nil, add-one, length-append, take, drop, ◌*◌, eq-eqb, Option, Some, IsSomeAnd, if◌then◌else◌, ◌==◌}
 use Rattle.std.specs.Option.{option_map, ForSome}
 use Rattle.std.proofs.lemmas.Option.{same_Some}
 use Rattle.std.proofs.lemmas.Bool.{cases_Bool, eqb-true}
@@ -79,6 +79,25 @@ moments_of-writes base es at bytes (suc n) le =
     (subst (λ (c : Content). AddsSome at bytes start c) (sym leaves ∙ content_after-push (content_of_bytes base) done e) (with_sectors-adds at (suc n) bytes start le)) in
     let next = one_event base done e (FromStart (moments_of base es) (AddsSome at bytes)) now in
     subst (λ (fs : List Event). EachMoment (moments_of base es) (moments_of base fs) (FromStart (moments_of base es) (AddsSome at bytes))) (append_assoc es (sector_writes at bytes n) (e ∷ [])) (EachMoment-then so_far next)
+
+-- ---- sector writes, one after the other
+
+pub length-sector_writes : (at : ℕ) (bytes : List ℕ) (count : ℕ) → length (sector_writes at bytes count) ≡ count
+length-sector_writes at bytes zero = refl
+length-sector_writes at bytes (suc n) =
+    length-append (sector_writes at bytes n) (Write (at + n) (sector_in bytes n) ∷ []) ∙ ap (λ (k : ℕ). k + 1) (length-sector_writes at bytes n) ∙ add-one n
+
+-- One sector more was written.
+pub one_write_more : (old so_far new : List Event) (at : ℕ) (bytes : List ℕ) (k : ℕ) (sector : List ℕ) → so_far ≡ old ++ sector_writes at bytes k → new ≡ so_far ++ Write (at + k) sector ∷ []
+    → sector ≡ take (512 * k + 512 - 512 * k) (drop (512 * k) bytes) → new ≡ old ++ sector_writes at bytes (k + 1)
+one_write_more old so_far new at bytes k sector e pushed copied =
+    let size : 512 * k + 512 - 512 * k ≡ 512 = omega arith in
+    let is : sector ≡ sector_in bytes k = copied ∙ ap (λ (n : ℕ). take n (drop (512 * k) bytes)) size in
+    rw add-one (pushed ∙ ap (λ (xs : List Event). xs ++ Write (at + k) sector ∷ []) e ∙ append_assoc old (sector_writes at bytes k) (Write (at + k) sector ∷ []) ∙ ap (λ (x : List ℕ). old ++ (sector_writes at bytes k ++ Write (at + k) x ∷ [])) is)
+
+-- So many events there are then.
+pub length_so_far : (old so_far : List Event) (at : ℕ) (bytes : List ℕ) (k : ℕ) → so_far ≡ old ++ sector_writes at bytes k → length so_far ≡ length old + k
+length_so_far old so_far at bytes k e = ap length e ∙ length-append old (sector_writes at bytes k) ∙ ap (λ (n : ℕ). length old + n) (length-sector_writes at bytes k)
 
 -- ---- for callers: the clauses of a disk
 

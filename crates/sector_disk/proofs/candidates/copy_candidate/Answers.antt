@@ -1,7 +1,7 @@
 use Rattle.std.proofs.Common.{rules, take}
 use Rattle.sector_disk.specs.Record.{content_after, content_of_bytes}
-use Rattle.sector_disk.proofs.RecordLoops.{noted_next}
-use Rattle.sector_disk.proofs.record.copy_candidate.Goals as goal
+use Rattle.sector_disk.proofs.CandidateLemmas.{noted_next}
+use Rattle.sector_disk.proofs.candidates.copy_candidate.Goals as goal
 
 pub loop-event-preserved : goal.loop-event-preserved
 loop-event-preserved c = record {
