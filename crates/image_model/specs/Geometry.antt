@@ -135,19 +135,20 @@ size_faults g sectors =
     ∷ (nat_lt (2 ^ 20) (journal_sectors g), JournalTooLarge (journal_sectors g))
     ∷ []
 
--- The geometry of the fields on a disk of so many sectors, or the first fault.
-unfoldable pub geometry_of : Superblock → ℕ → Result Geometry GeometryFault
-geometry_of s sectors =
+-- Those and the faults by where the data and the bitmap end.
+abbrev pub geometry_faults : Superblock → ℕ → List (Bool × GeometryFault)
+geometry_faults s sectors =
     let g = layout_of s in
     let need = sector_at g (s.provided - 1) + 1 in
-    ok_unless
-    (size_faults g sectors
+    size_faults g sectors
     ++ (nat_lt sectors need, TooSmall sectors need)
-    ∷ (
-      has_flag DIRTY_BITMAP s.flags && nat_lt (journal_sectors g) (bitmap_sectors g),
-      BitmapTooLarge (bitmap_sectors g) (journal_sectors g),
-    )
-    ∷ []) g
+    ∷ (has_flag DIRTY_BITMAP s.flags && nat_lt (journal_sectors g) (bitmap_sectors g),
+       BitmapTooLarge (bitmap_sectors g) (journal_sectors g))
+    ∷ []
+
+-- The geometry of the fields on a disk of so many sectors, or the first fault.
+unfoldable pub geometry_of : Superblock → ℕ → Result Geometry GeometryFault
+geometry_of s sectors = ok_unless (geometry_faults s sectors) (layout_of s)
 
 -- The most sectors, a multiple of 8, whose data lie on a disk of so many sectors: those of whole areas, then of one cut short.
 unfoldable pub best_provided : Geometry → ℕ → ℕ

@@ -1,7 +1,9 @@
 pub mod Faults
 pub mod Geometry
+pub mod GeometryLaws
 pub mod Sectors
 pub mod Superblock
+pub mod SuperblockLaws
 pub mod Tag
 pub mod CommitId
 pub mod Below

@@ -3,10 +3,16 @@
 
 mod blanks;
 mod flags;
+mod geometry_laws;
+mod superblock_laws;
 mod walk_laws;
 
 pub use blanks::BLANKS_COUNT;
 pub use flags::{
     DIRTY_BITMAP, FIXED_HMAC, FIXED_PADDING, HAVE_JOURNAL_MAC, INLINE, KNOWN_FLAGS, RECALCULATING,
 };
+pub use geometry_laws::{
+    best_provided_is_greatest, fitting_log2_region_is_least, geometry_is_given, parts_lie_apart,
+};
+pub use superblock_laws::{superblock_is_told, superblock_reads_back};
 pub use walk_laws::{commit_ids_differ, scan_follows_the_rules};
