@@ -16,6 +16,13 @@ pub mod CommitIdLemmas
 pub mod WalkLemmas
 pub mod TablesLemmas
 pub mod ScanLemmas
+pub mod GridLemmas
+pub mod SectionLemmas
+pub mod BitmapLemmas
+pub mod CellsLemmas
 pub mod OpenableLemmas
 mod WorkedCommitId
 mod WorkedWalk
+mod WorkedSection
+mod WorkedBitmap
+mod WorkedCells

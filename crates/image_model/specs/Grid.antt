@@ -1,14 +1,14 @@
 -- The grid of an image's journal, and its replay walk.
-use Rattle.std.specs.Prelude.{ℕ, ◌+◌, ◌*◌, ◌/◌, ◌%◌, ◌==◌, nat_lt, Bool, not, ◌&&◌, if◌then◌else◌, Option, Some, None, Result, List, map}
+use Rattle.std.specs.Prelude.{◌≡◌, ℕ, ◌<◌, ◌+◌, ◌*◌, ◌/◌, ◌%◌, ◌==◌, nat_lt, Bool, not, ◌&&◌, if◌then◌else◌, Option, Some, None, Result, List, map}
 use Rattle.std.specs.List.{range_with_len, list_all}
 use Rattle.disk_model.specs.Disk.{Image}
 use Rattle.image_model.specs.declared.blanks.TheConstants.{BLANKS_COUNT}
 use Rattle.image_model.specs.Below.{any_below}
 use Rattle.image_model.specs.CommitId.{id_in, commit_number}
-use Rattle.image_model.specs.Geometry.{Geometry, section_at, section_sectors, section_entries, journal_sectors, bitmap_sectors_for, fitting_log2_region}
+use Rattle.image_model.specs.Geometry.{Geometry, section_at, section_sectors, section_entries, journal_sectors, bitmap_sectors_for, fitting_log2_region, IsGeometry}
 use Rattle.image_model.specs.Sectors.{bytes_at}
 use Rattle.image_model.specs.Section.{is_used}
-use Rattle.image_model.specs.Scan.{SectorCell, Number, Zero, Other, ScanFault, Grid, walk_of_grid}
+use Rattle.image_model.specs.Scan.{SectorCell, Number, Zero, Other, ScanFault, Grid, IsGrid, numbers_of, walk_of_grid}
 use Rattle.image_model.specs.Walk.{Plan}
 
 abbrev pub is_zero_sector : List ℕ → Bool
@@ -48,3 +48,10 @@ grid_of g image = record {
 -- The plan of an image's journal, or why it is refused.
 abbrev pub walk_of : Geometry → Image → Result Plan ScanFault
 walk_of g image = walk_of_grid (grid_of g image)
+
+-- The grid of an image has a cell for each sector of each section, by the number that this one bears at its place.
+abbrev pub GridLaw : Type 0
+GridLaw = (g : Geometry) (sectors : ℕ) (image : Image) → IsGeometry g sectors
+    → IsGrid (grid_of g image)
+    × ((section sector : ℕ) → section < g.sections → sector < section_sectors g.shape
+        → numbers_of (grid_of g image) section sector ≡ commit_number section sector (image (section_at g section + sector)))

@@ -15,4 +15,6 @@ pub use geometry_laws::{
     best_provided_is_greatest, fitting_log2_region_is_least, geometry_is_given, parts_lie_apart,
 };
 pub use superblock_laws::{superblock_is_told, superblock_reads_back};
-pub use walk_laws::{commit_ids_differ, scan_follows_the_rules};
+pub use walk_laws::{
+    commit_ids_differ, grid_is_of_the_image, journal_faults_are_told, scan_follows_the_rules,
+};

@@ -1,6 +1,9 @@
-//! What holds of commit ids and of the scan: each law is the contract of a function that does nothing.
+//! What holds of commit ids, of the scan and of a journal's faults: each law is the contract of a
+//! function that does nothing.
 
 ghost use Rattle.image_model.specs.CommitId.{CommitIdsDiffer};
+ghost use Rattle.image_model.specs.Grid.{GridLaw};
+ghost use Rattle.image_model.specs.Openable.{JournalFaultLaw};
 ghost use Rattle.image_model.specs.Tables.{NewestLaw, ScanLaw};
 
 /// Commit ids of different places or numbers differ, sections and sectors being below 2^20.
@@ -13,4 +16,14 @@ pub fn commit_ids_differ()
 pub fn scan_follows_the_rules()
     ensures newest { NewestLaw }
     ensures scan { ScanLaw }
+{}
+
+/// The grid of an image has a cell for each sector of each section, by the number that this one bears.
+pub fn grid_is_of_the_image()
+    ensures { GridLaw }
+{}
+
+/// A journal has no fault exactly where it has a walk whose used entries can be replayed.
+pub fn journal_faults_are_told()
+    ensures { JournalFaultLaw }
 {}
