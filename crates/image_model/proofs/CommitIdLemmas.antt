@@ -3,7 +3,7 @@ use Rattle.std.proofs.Common.{◌≡◌, ◌≢◌, inl, inr, ℕ, ◌+◌, ◌*
 use Rattle.std.proofs.lemmas.Bool.{true≢false, eqb-true, eq-eqb, ne_eqb}
 use Rattle.std.proofs.lemmas.Nat.{xor_shr, xor_lt, same_from_place}
 use lib.Bits.{xor_assoc, xor_self, xor_zero_l, xor_zero_r, xor_shifted}
-use Rattle.image_model.specs.CommitId.{pattern_of, commit_id, commit_numbers, number_of, CommitIdsDiffer}
+use Rattle.image_model.specs.CommitId.{pattern_of, commit_id, commit_numbers, number_of, CommitNumberLaw, CommitIdsDiffer}
 use Rattle.image_model.proofs.NumberLemmas.{four_numbers, first_of_four, first_of_four_tells, first_of_four_none, cases_option}
 
 xor_back : (p x : ℕ) → bit_xor p (bit_xor p x) ≡ x
@@ -36,7 +36,7 @@ pub commit_ids_differ : CommitIdsDiffer
 commit_ids_differ i j k other_i other_j other_k low_i low_j low_k low_other_i low_other_j low_other_k same =
     let number : k ≡ other_k = let tops = sym (commit_id-top i j k low_i low_j low_k) ∙ ap (λ a. a / 2 ^ 52) same ∙ commit_id-top other_i other_j other_k low_other_i low_other_j low_other_k in omega arith in
     let places : i * 2 ^ 32 + j ≡ other_i * 2 ^ 32 + other_j = xor_cancel (pattern_of k) _ _
-        (sym (commit_id-place i j k (omega arith)) ∙ same ∙ commit_id-place other_i other_j other_k (omega arith) ∙ ap (λ a. bit_xor (pattern_of a) (other_i * 2 ^ 32 + other_j)) (sym number)) in
+    (sym (commit_id-place i j k (omega arith)) ∙ same ∙ commit_id-place other_i other_j other_k (omega arith) ∙ ap (λ a. bit_xor (pattern_of a) (other_i * 2 ^ 32 + other_j)) (sym number)) in
     let parts = same_from_place i j other_i other_j (2 ^ 32) (omega arith) (omega arith) places in
     (parts.0, parts.1, number)
 
@@ -81,3 +81,10 @@ number_of-zero i j low_i low_j = elim (cases_option (number_of i j 0)) [
   | inl none ↦ none
   | inr some ↦ let found = number_of_tells i j 0 some.0 some.1 in absurd (commit_id-some i j some.0 low_i low_j found.0 found.1)
 ]
+
+-- The number of an id is the one whose id it is.
+pub commit_number_law : CommitNumberLaw
+commit_number_law i j id k low_i low_j = (
+  number_of_tells i j id k,
+  λ is. ap (number_of i j) (sym is.1) ∙ number_of-commit_id i j k low_i low_j is.0,
+)

@@ -35,6 +35,7 @@ zero_sector-at (b ∷ bytes) zero e = eqb-true b 0 (and_parts (b == 0) (list_all
 zero_sector-at (b ∷ bytes) (suc k) e = zero_sector-at bytes k (and_parts (b == 0) (list_all (λ byte. byte == 0) bytes) e).1
 
 zero_id : (bytes : List ℕ) → is_zero_sector bytes ≡ true → id_in bytes ≡ 0
+unfolding id_in
 zero_id bytes e = rw (zero_sector-at bytes 504 e, zero_sector-at bytes 505 e, zero_sector-at bytes 506 e, zero_sector-at bytes 507 e, zero_sector-at bytes 508 e, zero_sector-at bytes 509 e, zero_sector-at bytes 510 e, zero_sector-at bytes 511 e) refl
 
 -- A zero sector bears no number, so its cell is Zero.

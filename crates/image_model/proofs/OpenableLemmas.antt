@@ -1,19 +1,23 @@
 -- A journal is refused exactly where it has no walk or an entry that cannot be replayed.
-use Rattle.std.proofs.Common.{◌≡◌, ◌↔◌, ⊎_elim, inl, inr, ℕ, ◌*◌, ◌%◌, ◌<◌, ◌==◌, nat_lt, Bool, true, false, not, refl, sym, ◌∙◌, ap, Option, Some, None, option_and_then, Result, Ok, Err, IsOk, List, [], ◌∷◌, filter_map, slice_get, bytes_eq}
+use Rattle.std.proofs.Common.{◌≡◌, ◌↔◌, ⊎_elim, inl, inr, ℕ, ◌+◌, ◌*◌, ◌/◌, ◌%◌, ◌^◌, ◌<◌, ◌==◌, nat_lt, Bool, true, false, not, refl, sym, ◌∙◌, ap, arith, Option, Some, None, option_and_then, Result, Ok, Err, IsOk, List, [], ◌∷◌, filter_map, slice_get, bytes_eq}
 use Rattle.std.specs.List.{AllByRecursion}
 use Rattle.std.specs.Option.{option_map, option_or}
 use Rattle.std.specs.Result.{result_err}
 use Rattle.std.proofs.lemmas.Bool.{cases_Bool, and_parts, and_from, eqb-true, eq-eqb, ltb-true, lt-ltb, not_from_true, true≢false}
+use Rattle.std.proofs.lemmas.Nat.{div-add-mod'}
 use Rattle.std.proofs.lemmas.Option.{none-some}
 use Rattle.std.proofs.lemmas.Slice.Eq.{bytes_eq-Decides}
 use Rattle.disk_model.specs.Disk.{Image}
 use Rattle.image_model.specs.Cells.{block_tag, entry_of, entry_places, counted_sections, replayed_entries}
-use Rattle.image_model.specs.Geometry.{Geometry}
+use Rattle.image_model.specs.Geometry.{Geometry, layout_of, IsGeometry}
 use Rattle.image_model.specs.Grid.{walk_of}
-use Rattle.image_model.specs.Openable.{is_block_start, IsReplayable, JournalFault, Scan, entry_fault, entry_faults, journal_fault_of, JournalFaultLaw}
+use Rattle.image_model.specs.Openable.{first_sector, IsReadable, is_block_start, IsReplayable, JournalFault, Scan, entry_fault, entry_faults, journal_fault_of, JournalFaultLaw}
 use Rattle.image_model.specs.Section.{Entry}
 use Rattle.image_model.specs.Scan.{ScanFault}
 use Rattle.image_model.specs.Walk.{Plan}
+use Rattle.image_model.specs.Superblock.{Superblock, IsAccepted}
+use Rattle.image_model.proofs.GeometryOf.{geometry_given, geometry_apart}
+use Rattle.image_model.proofs.SuperblockLemmas.{superblock_told}
 use Rattle.image_model.proofs.NumberLemmas.{cases_option}
 
 -- An entry that can be replayed has no fault,
@@ -76,3 +80,31 @@ module _ (key salt : Option (List ℕ)) (g : Geometry) (image : Image) where
 pub journal_fault_law : JournalFaultLaw
 unfolding journal_fault_of replayed_entries
 journal_fault_law key salt g image = law_at key salt g image (walk_of g image)
+
+-- ---- for callers
+
+-- The fields of a readable image are accepted,
+pub IsReadable-accepted : (sectors : ℕ) (image : Image) (readable : IsReadable sectors image) → IsAccepted readable.superblock
+IsReadable-accepted sectors image readable = ((superblock_told (first_sector sectors image) readable.superblock).0 readable.has_superblock).2
+
+-- its geometry is theirs, and one,
+pub IsReadable-geometry : (sectors : ℕ) (image : Image) (readable : IsReadable sectors image) → (readable.geometry ≡ layout_of readable.superblock) × IsGeometry readable.geometry sectors
+IsReadable-geometry sectors image readable = (
+  ((geometry_given readable.superblock sectors readable.geometry).0 readable.has_geometry).0,
+  (geometry_apart readable.superblock sectors readable.geometry (IsReadable-accepted sectors image readable) readable.has_geometry).0,
+)
+
+-- and the sectors of its blocks are those that are provided.
+pub IsReadable-provided : (sectors : ℕ) (image : Image) (readable : IsReadable sectors image) → readable.geometry.blocks * readable.geometry.shape.spb ≡ readable.superblock.provided
+IsReadable-provided sectors image readable =
+    let s = readable.superblock in
+    let accepted = IsReadable-accepted sectors image readable in
+    let split : s.provided / 2 ^ s.log2_spb * 2 ^ s.log2_spb + s.provided % 2 ^ s.log2_spb ≡ s.provided = div-add-mod' s.provided (2 ^ s.log2_spb) in
+    let whole : s.provided % 2 ^ s.log2_spb ≡ 0 = accepted.whole_blocks in
+    ap (λ (g : Geometry). g.blocks * g.shape.spb) (IsReadable-geometry sectors image readable).0 ∙ omega arith
+
+-- An image has one superblock and one geometry.
+pub IsReadable-same : (sectors : ℕ) (image : Image) (one other : IsReadable sectors image) → (one.superblock ≡ other.superblock) × (one.geometry ≡ other.geometry)
+IsReadable-same sectors image one other =
+    let fields : one.superblock ≡ other.superblock = let e = sym one.has_superblock ∙ other.has_superblock in cc in
+    (fields, (IsReadable-geometry sectors image one).0 ∙ ap layout_of fields ∙ sym (IsReadable-geometry sectors image other).0)

@@ -134,33 +134,33 @@ plan_says grid is_grid plan planned =
           let at = plan_at_two n s g q lacks in
           let runs = walk_runs (reach n s g q) n (whole_sections n s g q) in
           subst (λ (x : Plan). IsPlanOf grid (sections_of x.walk) x.state) (sym at ∙ from.1.2) (
-            elim (cases_eq (whole_sections n s g q) (reach n s g q)) [
-              | inr torn ↦
-                  let mixed : state_at n (reach n s g q) (whole_sections n s g q) q ≡ Mixed q = rw (ne_eqb _ _ torn) refl in
-                  let state : plan.state ≡ Mixed q = ap (λ (x : Plan). x.state) (sym from.1.2 ∙ at) ∙ mixed in
-                  subst (λ (x : State). IsPlanOf grid (sections_of (range (reach n s g q) n ∷ range 0 (whole_sections n s g q) ∷ [])) x) (sym mixed) (
-                    new,
-                    lacks,
-                    λ next other rest. let other_plan = rest_plan n s next other g wide rest in
-                        let same : plan ≡ other_plan.0 = same_Some _ _ (sym planned ∙ other_plan.1) in
-                        let apart : Mixed q ≡ Rest next other = sym state ∙ ap (λ (x : Plan). x.state) same ∙ other_plan.2 in cc,
-                    subst (λ (x : List ℕ). IsWalkOfTwo n s q g x) (sym runs) (walk_of_two n s q g wide low from.0 new lacks),
+          elim (cases_eq (whole_sections n s g q) (reach n s g q)) [
+            | inr torn ↦
+                let mixed : state_at n (reach n s g q) (whole_sections n s g q) q ≡ Mixed q = rw (ne_eqb _ _ torn) refl in
+                let state : plan.state ≡ Mixed q = ap (λ (x : Plan). x.state) (sym from.1.2 ∙ at) ∙ mixed in
+                subst (λ (x : State). IsPlanOf grid (sections_of (range (reach n s g q) n ∷ range 0 (whole_sections n s g q) ∷ [])) x) (sym mixed) (
+                  new,
+                  lacks,
+                  λ next other rest. let other_plan = rest_plan n s next other g wide rest in
+                      let same : plan ≡ other_plan.0 = same_Some _ _ (sym planned ∙ other_plan.1) in
+                      let apart : Mixed q ≡ Rest next other = sym state ∙ ap (λ (x : Plan). x.state) same ∙ other_plan.2 in cc,
+                  subst (λ (x : List ℕ). IsWalkOfTwo n s q g x) (sym runs) (walk_of_two n s q g wide low from.0 new lacks),
+                )
+            | inl whole ↦ elim (cases_eq (reach n s g q) n) [
+              | inl full ↦
+                  let rest : state_at n (reach n s g q) (whole_sections n s g q) q ≡ Rest 0 (later 1 q) = rw (eq-eqb _ _ whole, eq-eqb _ _ full) refl in
+                  subst (λ (x : State). IsPlanOf grid (sections_of (range (reach n s g q) n ∷ range 0 (whole_sections n s g q) ∷ [])) x) (sym rest) (
+                    rests_at_start n s q g wide low from.0 new lacks whole full,
+                    runs ∙ (let none : n - n ≡ 0 = omega arith in let all : n - 0 ≡ n = omega arith in rw (whole, full, none, all) (sym (append-nil _))),
                   )
-              | inl whole ↦ elim (cases_eq (reach n s g q) n) [
-                | inl full ↦
-                    let rest : state_at n (reach n s g q) (whole_sections n s g q) q ≡ Rest 0 (later 1 q) = rw (eq-eqb _ _ whole, eq-eqb _ _ full) refl in
-                    subst (λ (x : State). IsPlanOf grid (sections_of (range (reach n s g q) n ∷ range 0 (whole_sections n s g q) ∷ [])) x) (sym rest) (
-                      rests_at_start n s q g wide low from.0 new lacks whole full,
-                      runs ∙ (let none : n - n ≡ 0 = omega arith in let all : n - 0 ≡ n = omega arith in rw (whole, full, none, all) (sym (append-nil _))),
-                    )
-                | inr inside ↦
-                    let rest : state_at n (reach n s g q) (whole_sections n s g q) q ≡ Rest (reach n s g q) q = rw (eq-eqb _ _ whole, ne_eqb _ _ inside) refl in
-                    subst (λ (x : State). IsPlanOf grid (sections_of (range (reach n s g q) n ∷ range 0 (whole_sections n s g q) ∷ [])) x) (sym rest) (
-                      rests_inside n s q g wide low from.0 new lacks whole inside,
-                      runs ∙ rw whole refl,
-                    )
-              ]
-            ])
+              | inr inside ↦
+                  let rest : state_at n (reach n s g q) (whole_sections n s g q) q ≡ Rest (reach n s g q) q = rw (eq-eqb _ _ whole, ne_eqb _ _ inside) refl in
+                  subst (λ (x : State). IsPlanOf grid (sections_of (range (reach n s g q) n ∷ range 0 (whole_sections n s g q) ∷ [])) x) (sym rest) (
+                    rests_inside n s q g wide low from.0 new lacks whole inside,
+                    runs ∙ rw whole refl,
+                  )
+            ]
+          ])
     ]
 
 -- ---- faults
@@ -187,8 +187,7 @@ first_of_is grid number k low is =
     let inside : first_of grid number < length grid.cells = elim (cases_lt k (first_of grid number)) [
       | inl before ↦ absurd (true≢false (sym here ∙ fails_before_first test grid.cells k Zero before))
       | inr within ↦ omega arith
-    ] in
-    (
+    ] in (
       inside,
       bears_is (cell_number (cell_at grid (first_of grid number))) number (passes_at_first test grid.cells Zero inside),
       λ before under same. true≢false (sym (bears_it (cell_number (cell_at grid before)) number same) ∙ fails_before_first test grid.cells before Zero under),
@@ -231,7 +230,7 @@ fault_says grid is_grid none =
           ] in
           let first = some_is (g 0 0) (numbered_at n s g numbered 0 0 is_grid.has_sections is_grid.has_sectors) in
           let each = newest_none (occurs n s g) first.0 (numbers_low grid is_grid 0 0 first.0 is_grid.has_sections is_grid.has_sectors first.1)
-              (occurs_at n s g first.0 0 0 is_grid.has_sections is_grid.has_sectors first.1) no_newest in
+          (occurs_at n s g first.0 0 0 is_grid.has_sections is_grid.has_sectors first.1) no_newest in
           rw past (
             refl,
             λ number low.

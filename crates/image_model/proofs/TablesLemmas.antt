@@ -1,5 +1,5 @@
 -- The plan by the numbers follows the tables.
-use Rattle.std.proofs.Common.{◌≡◌, ◌≢◌, inl, inr, ℕ, suc, ◌+◌, ◌-◌, ◌<◌, ◌≤◌, Bool, true, false, refl, sym, ◌∙◌, ap, subst, arith, eqb, Some, None, [], ◌++◌, append-nil}
+use Rattle.std.proofs.Common.{◌≡◌, ◌≢◌, inl, inr, ℕ, suc, ◌+◌, ◌-◌, ◌<◌, ◌≤◌, Bool, true, false, refl, sym, ◌∙◌, ap, subst, arith, eqb, Some, None, List, [], ◌∷◌, ◌++◌, append-nil}
 use Rattle.std.specs.List.{range_with_len}
 use Rattle.std.specs.Prelude.{is_some}
 use Rattle.std.proofs.lemmas.Bool.{cases_Bool, cases_eq, cases_lt, eqb-true, eqb-false, eq-eqb, ne_eqb, false_from_ne_true, true≢false}
@@ -10,15 +10,20 @@ use Rattle.image_model.proofs.BelowLemmas.{last_le, last_above, last_below, last
 use Rattle.image_model.proofs.NumberLemmas.{newest_is, newest_apart, newest_three, newest_four, newest_tells, later_low, later_back, later_forth, later_twice, later_two, later_three, later_differs, only_three}
 use Rattle.image_model.proofs.WalkLemmas.{plan_is, plan_at_two, holds_at, holds_found, holds_none, wholly_at, wholly_each, wholly_holds, numbered_from, numbered_at, occurs_at, occurs_found, lacks_from, absent_at, some_is, walk_runs}
 
+same_four : (a b c d a' b' c' d' : Bool) → ◌≡◌ {A = List Bool} (a ∷ b ∷ c ∷ d ∷ []) (a' ∷ b' ∷ c' ∷ d' ∷ []) → (a ≡ a') × (b ≡ b') × (c ≡ c') × (d ≡ d')
+same_four a b c d a' b' c' d' e = (cc, cc, cc, cc)
+
 -- The newest number is that of the table.
 pub newest_law : NewestLaw
-newest_law has a = record {
-  one = λ o. newest_is has a o.low o.now_is o.one_on_is o.two_on_is;
-  neighbours = λ o. newest_is has (later 1 a) (later_low 1 a) o.one_on_is (rw (later_two a o.low) o.two_on_is) (rw (later_three a o.low) o.three_on_is);
-  apart = λ o. newest_apart has a o.low o.now_is o.one_on_is o.two_on_is o.three_on_is;
-  three = λ o. newest_three has a o.low o.now_is o.one_on_is o.two_on_is o.three_on_is;
-  four = λ o. newest_four has a o.low o.now_is o.one_on_is o.two_on_is o.three_on_is;
-}
+newest_law has a low =
+    let parts = same_four (has a) (has (later 1 a)) (has (later 2 a)) (has (later 3 a)) in
+    record {
+      one = λ e. let o = parts true false false false e in newest_is has a low o.0 o.1 o.2;
+      neighbours = λ e. let o = parts true true false false e in newest_is has (later 1 a) (later_low 1 a) o.1 (rw (later_two a low) o.2) (rw (later_three a low) o.3);
+      apart = λ e. let o = parts true false true false e in newest_apart has a low o.0 o.1 o.2 o.3;
+      three = λ e. let o = parts false true true true e in newest_three has a low o.0 o.1 o.2 o.3;
+      four = λ e. let o = parts true true true true e in newest_four has a low o.0 o.1 o.2 o.3;
+    }
 
 -- ---- one or two numbers
 
@@ -122,8 +127,7 @@ module _ (n s next b : ℕ) (g : Numbers) (wide : 0 < s) (rest : IsAtRest n s ne
         let new : newest (occurs n s g) ≡ Some q = newest_is (occurs n s g) q low (occurs_at n s g q 0 0 some wide (wholly 0 some 0 wide)) next_lacks lacks in
         let whole : whole_sections n s g q ≡ n = let most = front_le n (is_wholly s g q) in let least = front_above n (is_wholly s g q) n (omega arith) (λ i low_i. wholly_at s g q i (wholly i low_i)) in omega arith in
         let reached : reach n s g q ≡ n = let most = last_le n (holds s g q) in let least = last_above n (holds s g q) (n - 1) (omega arith) (holds_at s g q (n - 1) 0 wide (wholly (n - 1) (omega arith) 0 wide)) in omega arith in
-        let at = plan_at_two n s g q lacks in
-        (
+        let at = plan_at_two n s g q lacks in (
           plan_at n s g q,
           plan_is n s g q rest_numbered new,
           ap (λ (x : Plan). x.state) at ∙ rw (whole, reached, eq-eqb n n refl, later_back b rest.low, start) refl,
@@ -138,14 +142,13 @@ module _ (n s next b : ℕ) (g : Numbers) (wide : 0 < s) (rest : IsAtRest n s ne
         let differs : later 3 b ≢ b = λ e. omega (arith, rest.low) in
         let old_lacks : (i : ℕ) → next ≤ i → i < n → holds s g b i ≡ false = λ i above low_i. holds_none s g b i (λ j narrow is. differs (same_Some _ _ (sym (rest.old i above low_i j narrow) ∙ is))) in
         let whole : whole_sections n s g b ≡ next =
-            let least = front_above n (is_wholly s g b) next (omega (arith, rest.inside)) (λ i under. wholly_at s g b i (rest.new i under)) in
-            let most = front_below n (is_wholly s g b) next (false_from_ne_true _ (λ is. differs (same_Some _ _ (sym (rest.old next (omega arith) rest.inside 0 wide) ∙ wholly_each s g b next is 0 wide)))) in omega arith in
+        let least = front_above n (is_wholly s g b) next (omega (arith, rest.inside)) (λ i under. wholly_at s g b i (rest.new i under)) in
+        let most = front_below n (is_wholly s g b) next (false_from_ne_true _ (λ is. differs (same_Some _ _ (sym (rest.old next (omega arith) rest.inside 0 wide) ∙ wholly_each s g b next is 0 wide)))) in omega arith in
         let reached : reach n s g b ≡ next =
-            let most = last_below n (holds s g b) next old_lacks in
-            let least = last_above n (holds s g b) (next - 1) (omega (arith, rest.inside)) (holds_at s g b (next - 1) 0 wide (rest.new (next - 1) (omega arith) 0 wide)) in omega arith in
+        let most = last_below n (holds s g b) next old_lacks in
+        let least = last_above n (holds s g b) (next - 1) (omega (arith, rest.inside)) (holds_at s g b (next - 1) 0 wide (rest.new (next - 1) (omega arith) 0 wide)) in omega arith in
         let at = plan_at_two n s g b lacks in
-        let before : next ≢ n = λ e. omega (arith, rest.inside) in
-        (
+        let before : next ≢ n = λ e. omega (arith, rest.inside) in (
           plan_at n s g b,
           plan_is n s g b rest_numbered new,
           ap (λ (x : Plan). x.state) at ∙ rw (whole, reached, eq-eqb next next refl, ne_eqb next n before) refl,

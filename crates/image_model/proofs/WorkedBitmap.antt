@@ -8,19 +8,30 @@ use Rattle.image_model.specs.Superblock.{Superblock}
 
 -- One block of 80 written, in regions of one block: byte 0 of the bitmap is 08.
 is_bit_set-third : is_bit_set (0x08 ∷ replicate 9 0) 3 ≡ true
+unfolding is_bit_set
 is_bit_set-third = refl
 
 is_bit_set-eleventh : is_bit_set (0 ∷ 0x08 ∷ []) 11 ≡ true
+unfolding is_bit_set
 is_bit_set-eleventh = refl
 
 is_bit_set-other : is_bit_set (0x08 ∷ replicate 9 0) 2 ≡ false
+unfolding is_bit_set
 is_bit_set-other = refl
 
 -- The small image with regions of so many blocks, flags and a sector from which tags are recalculated.
 abbrev small : ℕ → ℕ → ℕ → Superblock
 small log2_region flags recalc_sector = record {
-  version = 4; log2_interleave = 3; tag_size = 32; sections = 1; provided = 80; flags = flags;
-  log2_spb = 0; log2_region = log2_region; recalc_sector = recalc_sector; salt = replicate 16 0;
+  version = 4;
+  log2_interleave = 3;
+  tag_size = 32;
+  sections = 1;
+  provided = 80;
+  flags = flags;
+  log2_spb = 0;
+  log2_region = log2_region;
+  recalc_sector = recalc_sector;
+  salt = replicate 16 0;
 }
 
 -- The first byte of sector 8 is 08, and all others are 0.
@@ -28,7 +39,7 @@ abbrev marked : Image
 marked sector = if sector == 8 then 0x08 ∷ replicate 511 0 else replicate 512 0
 
 dirty_regions-third : dirty_regions (layout_of (small 0 0xc 0)) marked ≡ 3 ∷ []
-unfolding regions_for bitmap_sectors_for
+unfolding is_bit_set regions_for bitmap_sectors_for
 dirty_regions-third = refl
 
 -- The blocks that await.
@@ -37,12 +48,12 @@ awaiting s = filter (awaits s (layout_of s) marked) (range_with_len 0 80)
 
 -- With a bitmap the bits alone decide, also where tags are to be recalculated.
 awaiting-bitmap : awaiting (small 0 0xe 0) ≡ 3 ∷ []
-unfolding awaits bitmap_sectors_for regions_for
+unfolding awaits is_bit_set bitmap_sectors_for regions_for
 awaiting-bitmap = refl
 
 -- In regions of 16 blocks the bit is that of blocks 48 to 63.
 awaiting-bitmap_of_16 : awaiting (small 4 0xe 0) ≡ range_with_len 48 16
-unfolding awaits bitmap_sectors_for regions_for
+unfolding awaits is_bit_set bitmap_sectors_for regions_for
 awaiting-bitmap_of_16 = refl
 
 -- With a journal all 80 blocks await, where tags are to be recalculated from sector 0 on,

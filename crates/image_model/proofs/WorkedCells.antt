@@ -4,12 +4,12 @@ use Rattle.std.specs.List.{repeat}
 use Rattle.disk_model.specs.Disk.{Image}
 use Rattle.image_model.specs.Bitmap.{awaits}
 use Rattle.image_model.specs.Cells.{placed_cells_of, replayed_entries, cells_of}
-use Rattle.image_model.specs.CommitId.{commit_id, number_of}
+use Rattle.image_model.specs.CommitId.{commit_id, number_of, id_in}
 use Rattle.image_model.specs.Geometry.{Geometry, layout_of, entry_size, entries_per_sector, section_entries, section_sectors, tag_run_of, sector_at, data_at, tag_offset, tag_at}
 use Rattle.image_model.specs.Grid.{grid_of, walk_of}
 use Rattle.image_model.specs.Openable.{Scan, JournalBlock, entry_fault, journal_fault_of}
 use Rattle.image_model.specs.Scan.{NoNumber, walk_of_grid}
-use Rattle.image_model.specs.Section.{entry_at}
+use Rattle.image_model.specs.Section.{is_used, entry_at}
 use Rattle.image_model.specs.Sectors.{bytes_of}
 use Rattle.image_model.specs.Superblock.{Superblock}
 use Rattle.image_model.specs.Walk.{Rest, Mixed, plan_of}
@@ -17,8 +17,16 @@ use Rattle.image_model.specs.Walk.{Rest, Mixed, plan_of}
 -- Fields with blocks of one sector and one section.
 abbrev fields : ℕ → ℕ → ℕ → Superblock
 fields log2_interleave tag_size provided = record {
-  version = 4; log2_interleave = log2_interleave; tag_size = tag_size; sections = 1; provided = provided; flags = 0x8;
-  log2_spb = 0; log2_region = 15; recalc_sector = 0; salt = replicate 16 0;
+  version = 4;
+  log2_interleave = log2_interleave;
+  tag_size = tag_size;
+  sections = 1;
+  provided = provided;
+  flags = 0x8;
+  log2_spb = 0;
+  log2_region = 15;
+  recalc_sector = 0;
+  salt = replicate 16 0;
 }
 
 -- The small image: 80 blocks, whose journal has sectors 8 to 95 of the disk.
@@ -53,15 +61,15 @@ abbrev fresh : Image
 fresh = image_with unused (replicate 504 0) 0 88
 
 walk_of-fresh : walk_of g fresh ≡ Ok (record { state = Rest 0 1; walk = (0, 0) ∷ (0, 1) ∷ [] })
-unfolding walk_of_grid plan_of grid_of number_of entry_size entries_per_sector section_entries section_sectors
+unfolding walk_of_grid plan_of grid_of is_used number_of id_in entry_size entries_per_sector section_entries section_sectors
 walk_of-fresh = refl
 
 replayed_entries-fresh : replayed_entries g fresh ≡ []
-unfolding replayed_entries entry_at walk_of_grid plan_of grid_of number_of entry_size entries_per_sector section_entries section_sectors
+unfolding replayed_entries entry_at walk_of_grid plan_of grid_of is_used number_of id_in entry_size entries_per_sector section_entries section_sectors
 replayed_entries-fresh = refl
 
 journal_fault_of-fresh : journal_fault_of None None g fresh ≡ None
-unfolding journal_fault_of entry_at walk_of_grid plan_of grid_of number_of entry_size entries_per_sector section_entries section_sectors
+unfolding journal_fault_of entry_at walk_of_grid plan_of grid_of is_used number_of id_in entry_size entries_per_sector section_entries section_sectors
 journal_fault_of-fresh = refl
 
 -- After the commit of a write to block 5: the next number is 2, and the entry is replayed.
@@ -69,20 +77,20 @@ abbrev committed : Image
 committed = image_with (used 5) (replicate 504 0xaa) 1 88
 
 walk_of-committed : walk_of g committed ≡ Ok (record { state = Rest 0 2; walk = (0, 0) ∷ (0, 1) ∷ [] })
-unfolding walk_of_grid plan_of grid_of number_of entry_size entries_per_sector section_entries section_sectors
+unfolding walk_of_grid plan_of grid_of is_used number_of id_in entry_size entries_per_sector section_entries section_sectors
 walk_of-committed = refl
 
 replayed_entries-committed : replayed_entries g committed ≡ record { sector = 5; bytes = replicate 512 0xaa; tag = replicate 32 0x7e } ∷ []
-unfolding replayed_entries entry_at walk_of_grid plan_of grid_of number_of entry_size entries_per_sector section_entries section_sectors
+unfolding replayed_entries entry_at walk_of_grid plan_of grid_of is_used number_of id_in entry_size entries_per_sector section_entries section_sectors
 replayed_entries-committed = refl
 
 -- Block 5 reads as the entry, and block 6 as what is placed.
 cells_of-committed_5 : cells_of None small g committed 5 ≡ record { bytes = replicate 512 0xaa; tag = replicate 32 0x7e }
-unfolding cells_of placed_cells_of awaits replayed_entries entry_at walk_of_grid plan_of grid_of number_of data_at sector_at tag_at tag_offset tag_run_of entry_size entries_per_sector section_entries section_sectors
+unfolding cells_of placed_cells_of awaits replayed_entries entry_at walk_of_grid plan_of grid_of is_used number_of id_in data_at sector_at tag_at tag_offset tag_run_of entry_size entries_per_sector section_entries section_sectors
 cells_of-committed_5 = refl
 
 cells_of-committed_6 : cells_of None small g committed 6 ≡ record { bytes = replicate 512 0; tag = replicate 32 0 }
-unfolding cells_of placed_cells_of awaits replayed_entries entry_at walk_of_grid plan_of grid_of number_of data_at sector_at tag_at tag_offset tag_run_of entry_size entries_per_sector section_entries section_sectors
+unfolding cells_of placed_cells_of awaits replayed_entries entry_at walk_of_grid plan_of grid_of is_used number_of id_in data_at sector_at tag_at tag_offset tag_run_of entry_size entries_per_sector section_entries section_sectors
 cells_of-committed_6 = refl
 
 -- The same commit cut after 40 sectors: nothing is replayed.
@@ -90,21 +98,21 @@ abbrev cut : Image
 cut = image_with (used 5) (replicate 504 0xaa) 1 40
 
 walk_of-cut : walk_of g cut ≡ Ok (record { state = Mixed 1; walk = (0, 0) ∷ (0, 0) ∷ [] })
-unfolding walk_of_grid plan_of grid_of number_of entry_size entries_per_sector section_entries section_sectors
+unfolding walk_of_grid plan_of grid_of is_used number_of id_in entry_size entries_per_sector section_entries section_sectors
 walk_of-cut = refl
 
 cells_of-cut_5 : cells_of None small g cut 5 ≡ record { bytes = replicate 512 0; tag = replicate 32 0 }
-unfolding cells_of placed_cells_of awaits replayed_entries entry_at walk_of_grid plan_of grid_of number_of data_at sector_at tag_at tag_offset tag_run_of entry_size entries_per_sector section_entries section_sectors
+unfolding cells_of placed_cells_of awaits replayed_entries entry_at walk_of_grid plan_of grid_of is_used number_of id_in data_at sector_at tag_at tag_offset tag_run_of entry_size entries_per_sector section_entries section_sectors
 cells_of-cut_5 = refl
 
 -- An entry of sector 80, which is behind the last block.
 journal_fault_of-behind : journal_fault_of None None g (image_with (used 80) (replicate 504 0xaa) 1 88) ≡ Some (JournalBlock 0 0 80)
-unfolding journal_fault_of entry_fault entry_at walk_of_grid plan_of grid_of number_of entry_size entries_per_sector section_entries section_sectors
+unfolding journal_fault_of entry_fault entry_at walk_of_grid plan_of grid_of is_used number_of id_in entry_size entries_per_sector section_entries section_sectors
 journal_fault_of-behind = refl
 
 -- A journal whose sectors bear the ids of another place.
 journal_fault_of-foreign : journal_fault_of None None g (λ sector. fresh (sector + 1)) ≡ Some (Scan (NoNumber 0 0 0x1111_1111_1111_1110))
-unfolding journal_fault_of entry_fault entry_at walk_of_grid plan_of grid_of number_of entry_size entries_per_sector section_entries section_sectors
+unfolding journal_fault_of entry_fault entry_at walk_of_grid plan_of grid_of is_used number_of id_in entry_size entries_per_sector section_entries section_sectors
 journal_fault_of-foreign = refl
 
 -- Areas of 32 data sectors and tags of 20 bytes: block 25 lies at sector 145, and its tag begins at byte 500 of sector 112 and

@@ -2,7 +2,7 @@
 use Rattle.std.proofs.Common.{◌≡◌, ℕ, refl, Some, None, List, [], ◌∷◌, ◌++◌, replicate}
 use Rattle.std.specs.List.{repeat}
 use Rattle.image_model.specs.Geometry.{Shape, entry_size, entries_per_sector, section_entries}
-use Rattle.image_model.specs.Section.{Entry, entry_at}
+use Rattle.image_model.specs.Section.{Entry, is_used, entry_at}
 
 abbrev shape : Shape
 shape = record { spb = 1; tag_size = 32 }
@@ -24,19 +24,19 @@ section =
     ++ (replicate 504 0xaa ++ 0x2a ∷ replicate 7 0x22)
 
 entry_at-first : entry_at shape section 0 ≡ Some (record { sector = 5; bytes = replicate 512 0xaa; tag = replicate 32 0x7e })
-unfolding entry_at entry_size
+unfolding entry_at is_used entry_size
 entry_at-first = refl
 
 -- Entry 8 stands behind it in the same sector, and entry 1 in the next.
 entry_at-behind : entry_at shape section 8 ≡ None
-unfolding entry_at entry_size
+unfolding entry_at is_used entry_size
 entry_at-behind = refl
 
 entry_at-next : entry_at shape section 1 ≡ None
-unfolding entry_at entry_size
+unfolding entry_at is_used entry_size
 entry_at-next = refl
 
 -- The last of its 80 entries.
 entry_at-last : entry_at shape section 79 ≡ None
-unfolding entry_at entry_size
+unfolding entry_at is_used entry_size
 entry_at-last = refl

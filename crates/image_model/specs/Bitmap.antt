@@ -11,17 +11,13 @@ use Rattle.image_model.specs.Sectors.{bytes_at}
 use Rattle.image_model.specs.Superblock.{Superblock, has_flag}
 
 -- Bit r of some bytes: bit r mod 8 of byte r div 8.
-abbrev pub is_bit_set : List ℕ → ℕ → Bool
+unfoldable pub is_bit_set : List ℕ → ℕ → Bool
 is_bit_set bytes r = bit_at (slice_index bytes (r / 8)) (r % 8) == 1
 
--- The bytes of the bitmap, which stands in the journal's place.
-abbrev pub bitmap_bytes : Geometry → Image → List ℕ
-bitmap_bytes g image = bytes_at image 8 (bitmap_sectors g)
-
+-- The region's bit is set in the bitmap, which stands in the journal's place.
 abbrev pub is_dirty : Geometry → Image → ℕ → Bool
-is_dirty g image region = is_bit_set (bitmap_bytes g image) region
+is_dirty g image region = is_bit_set (bytes_at image 8 (bitmap_sectors g)) region
 
--- The regions whose bit is set.
 abbrev pub dirty_regions : Geometry → Image → List ℕ
 dirty_regions g image = filter (is_dirty g image) (range_with_len 0 (regions g))
 

@@ -1,5 +1,5 @@
 -- The commit id that marks a journal sector, and the commit number that a sector bears.
-use Rattle.std.specs.Prelude.{◌≡◌, ℕ, ◌+◌, ◌*◌, ◌^◌, ◌<◌, ◌==◌, bit_xor, List, [], ◌∷◌, find, Option}
+use Rattle.std.specs.Prelude.{◌≡◌, ◌↔◌, ℕ, ◌+◌, ◌*◌, ◌^◌, ◌<◌, ◌==◌, bit_xor, List, [], ◌∷◌, find, Option, Some}
 use Rattle.image_model.specs.Sectors.{number_in}
 
 -- The bits that stand for a commit number: 1 to 4 in each half byte.
@@ -23,12 +23,17 @@ number_of section sector id = find (λ number. commit_id section sector number =
 
 -- What stands in the place of a sector's commit id: its last 8 bytes, the lowest first.
 -- Source: Linux, drivers/md/dm-integrity.c, struct journal_sector.
-abbrev pub id_in : List ℕ → ℕ
+unfoldable pub id_in : List ℕ → ℕ
 id_in bytes = number_in bytes 504 8
 
 -- The commit number that the bytes of a sector bear, if they bear one.
 abbrev pub commit_number : ℕ → ℕ → List ℕ → Option ℕ
 commit_number section sector bytes = number_of section sector (id_in bytes)
+
+-- The number of an id is the one whose id it is.
+abbrev pub CommitNumberLaw : Type 0
+CommitNumberLaw = (section sector id number : ℕ) → section < 2 ^ 20 → sector < 2 ^ 20
+    → (number_of section sector id ≡ Some number) ↔ ((number < 4) × (commit_id section sector number ≡ id))
 
 -- Ids of different places or numbers differ.
 abbrev pub CommitIdsDiffer : Type 0

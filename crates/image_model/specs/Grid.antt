@@ -54,4 +54,4 @@ abbrev pub GridLaw : Type 0
 GridLaw = (g : Geometry) (sectors : ℕ) (image : Image) → IsGeometry g sectors
     → IsGrid (grid_of g image)
     × ((section sector : ℕ) → section < g.sections → sector < section_sectors g.shape
-        → numbers_of (grid_of g image) section sector ≡ commit_number section sector (image (section_at g section + sector)))
+    → numbers_of (grid_of g image) section sector ≡ commit_number section sector (image (section_at g section + sector)))

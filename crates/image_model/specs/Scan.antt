@@ -33,19 +33,16 @@ cell_at grid k = slice_index_or grid.cells k Zero
 
 abbrev pub cell_number : SectorCell → Option ℕ
 cell_number (Number number) = Some number
-cell_number Zero = None
-cell_number (Other found) = None
-
--- The id found in a cell that bears no number.
-abbrev pub found_in : SectorCell → ℕ
-found_in (Number number) = 0
-found_in Zero = 0
-found_in (Other found) = found
+cell_number other = None
 
 abbrev pub is_zero : SectorCell → Bool
-is_zero (Number number) = false
 is_zero Zero = true
-is_zero (Other found) = false
+is_zero other = false
+
+-- The id found in a cell that bears no number: 0 in a zero sector.
+abbrev pub found_in : SectorCell → ℕ
+found_in (Other found) = found
+found_in other = 0
 
 -- A grid has at least one sector, a cell for each, no longer bitmap than these, and commit numbers alone.
 pub record IsGrid (grid : Grid) : Type 0 where

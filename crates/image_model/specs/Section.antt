@@ -16,7 +16,7 @@ abbrev pub entry_from : Shape → ℕ → ℕ
 entry_from shape n = 512 * (n % 8) + n / 8 * entry_size shape
 
 -- An entry is used but where the higher half of its sector's number is all ones.
-abbrev pub is_used : Shape → List ℕ → ℕ → Bool
+unfoldable pub is_used : Shape → List ℕ → ℕ → Bool
 is_used shape bytes n = not (number_in bytes (entry_from shape n + 4) 4 == 2 ^ 32 - 1)
 
 -- The data sectors of entry n.

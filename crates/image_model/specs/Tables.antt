@@ -1,25 +1,21 @@
 -- The scan in words, as laws that hold of its definitions: the newest number, the states, the walks and the refusals.
 -- Own: as the walk.
-use Rattle.std.specs.Prelude.{◌≡◌, ◌≢◌, ℕ, ◌+◌, ◌*◌, ◌-◌, ◌<◌, ◌≤◌, min, Bool, true, false, Option, Some, None, Result, Ok, IfOk, IfErr, List, [], ◌++◌, length, slice_index_or}
+use Rattle.std.specs.Prelude.{◌≡◌, ◌≢◌, ℕ, ◌+◌, ◌*◌, ◌-◌, ◌<◌, ◌≤◌, min, Bool, true, false, Option, Some, None, Result, Ok, IfOk, IfErr, List, [], ◌∷◌, ◌++◌, map, length, slice_index_or}
 use Rattle.std.specs.List.{range_with_len}
 use Rattle.image_model.specs.Walk.{State, Rest, Mixed, Erasing, Blank, Numbers, occurs, later, newest, sections_of, ring}
 use Rattle.image_model.specs.Scan.{Zero, ScanFault, NoNumber, FourNumbers, Grid, IsGrid, cell_at, cell_number, found_in, numbers_of, blank_plan, walk_of_grid}
 
--- Which of a number and of those one, two and three laps on occur.
-pub record Occur (has : ℕ → Bool) (number : ℕ) (now one_on two_on three_on : Bool) : Type 0 where
-  pub low : number < 4
-  pub now_is : has number ≡ now
-  pub one_on_is : has (later 1 number) ≡ one_on
-  pub two_on_is : has (later 2 number) ≡ two_on
-  pub three_on_is : has (later 3 number) ≡ three_on
+-- Whether a number occurs, and those one, two and three laps on.
+abbrev pub laps_of : (ℕ → Bool) → ℕ → List Bool
+laps_of has number = map has (number ∷ later 1 number ∷ later 2 number ∷ later 3 number ∷ [])
 
 -- The newest of one number, of two neighbours, of two that are two apart, of three, and of four.
 pub record NewestTable (has : ℕ → Bool) (number : ℕ) : Type 0 where
-  pub one : Occur has number true false false false → newest has ≡ Some number
-  pub neighbours : Occur has number true true false false → newest has ≡ Some (later 1 number)
-  pub apart : Occur has number true false true false → newest has ≡ Some (min number (later 2 number))
-  pub three : Occur has number false true true true → newest has ≡ Some (later 3 number)
-  pub four : Occur has number true true true true → newest has ≡ None
+  pub one : laps_of has number ≡ true ∷ false ∷ false ∷ false ∷ [] → newest has ≡ Some number
+  pub neighbours : laps_of has number ≡ true ∷ true ∷ false ∷ false ∷ [] → newest has ≡ Some (later 1 number)
+  pub apart : laps_of has number ≡ true ∷ false ∷ true ∷ false ∷ [] → newest has ≡ Some (min number (later 2 number))
+  pub three : laps_of has number ≡ false ∷ true ∷ true ∷ true ∷ [] → newest has ≡ Some (later 3 number)
+  pub four : laps_of has number ≡ true ∷ true ∷ true ∷ true ∷ [] → newest has ≡ None
 
 -- Each sector of the section bears the number.
 abbrev pub IsWholly : ℕ → Numbers → ℕ → ℕ → Type 0
@@ -89,7 +85,7 @@ IsFaultOf grid (NoNumber section sector found) =
 IsFaultOf grid (FourNumbers places) =
     (length places ≡ 4)
     × ((number : ℕ) → number < 4 → let place = slice_index_or places number (0, 0) in
-        (place.1 < grid.sectors) × IsFirstOf grid number (place.0 * grid.sectors + place.1))
+    (place.1 < grid.sectors) × IsFirstOf grid number (place.0 * grid.sectors + place.1))
     × ((k : ℕ) → k < length grid.cells → cell_number (cell_at grid k) ≢ None)
 
 -- The scan follows the rules: each plan and each fault says what holds, and a blank journal is seen as one.
@@ -99,7 +95,7 @@ pub record FollowsRules (grid : Grid) : Type 0 where
   pub blank : (number : ℕ) → IsBlank grid number → walk_of_grid grid ≡ Ok (blank_plan number)
 
 abbrev pub NewestLaw : Type 0
-NewestLaw = (has : ℕ → Bool) (number : ℕ) → NewestTable has number
+NewestLaw = (has : ℕ → Bool) (number : ℕ) → number < 4 → NewestTable has number
 
 abbrev pub ScanLaw : Type 0
 ScanLaw = (grid : Grid) → IsGrid grid → FollowsRules grid

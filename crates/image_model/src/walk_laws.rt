@@ -1,14 +1,16 @@
 //! What holds of commit ids, of the scan and of a journal's faults: each law is the contract of a
 //! function that does nothing.
 
-ghost use Rattle.image_model.specs.CommitId.{CommitIdsDiffer};
+ghost use Rattle.image_model.specs.CommitId.{CommitIdsDiffer, CommitNumberLaw};
 ghost use Rattle.image_model.specs.Grid.{GridLaw};
 ghost use Rattle.image_model.specs.Openable.{JournalFaultLaw};
 ghost use Rattle.image_model.specs.Tables.{NewestLaw, ScanLaw};
 
-/// Commit ids of different places or numbers differ, sections and sectors being below 2^20.
+/// Commit ids of different places or numbers differ, sections and sectors being below 2^20, and the
+/// number of an id is the one whose id it is.
 pub fn commit_ids_differ()
-    ensures { CommitIdsDiffer }
+    ensures differ { CommitIdsDiffer }
+    ensures number { CommitNumberLaw }
 {}
 
 /// The newest number is that of the table, and each plan and each refusal of a scan says what holds of
