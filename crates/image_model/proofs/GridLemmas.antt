@@ -10,7 +10,7 @@ use Rattle.disk_model.specs.Disk.{Image}
 use Rattle.image_model.specs.declared.blanks.TheConstants.{BLANKS_COUNT}
 use Rattle.image_model.specs.CommitId.{id_in, number_of, commit_number}
 use Rattle.image_model.specs.Geometry.{Geometry, section_at, section_sectors, journal_sectors, bitmap_sectors_for, fitting_log2_region, IsGeometry}
-use Rattle.image_model.specs.Grid.{is_zero_sector, cell_by, sector_cell, blank_bound, grid_of, GridLaw}
+use Rattle.image_model.specs.Grid.{is_zero_sector, cell_by, sector_cell, grid_with, blank_bound, GridLaw}
 use Rattle.image_model.specs.Scan.{SectorCell, Number, Zero, Other, IsGrid, cell_at, cell_number, numbers_of}
 use Rattle.image_model.specs.Sectors.{number_in}
 use Rattle.image_model.proofs.Bounds.{has_entries}
@@ -44,37 +44,37 @@ commit_number-zero i j bytes low_i low_j zeros = ap (number_of i j) (zero_id byt
 
 -- ---- the grid
 
-module _ (g : Geometry) (image : Image) where
+module _ (bitmap : ℕ) (g : Geometry) (image : Image) where
   length-cells : length (map (sector_cell g image) (range_with_len 0 (journal_sectors g))) ≡ journal_sectors g
   length-cells = length-map-range_with_len (sector_cell g image) 0 (journal_sectors g)
 
   -- Cell k is that of the journal's sector k,
-  pub cell_at-grid_of : (k : ℕ) → k < journal_sectors g → cell_at (grid_of g image) k ≡ sector_cell g image k
-  unfolding grid_of
-  cell_at-grid_of k low = get_or-map-range_with_len (sector_cell g image) 0 (journal_sectors g) k k Zero low (omega arith)
+  pub cell_at-grid_with : (k : ℕ) → k < journal_sectors g → cell_at (grid_with bitmap g image) k ≡ sector_cell g image k
+  unfolding grid_with
+  cell_at-grid_with k low = get_or-map-range_with_len (sector_cell g image) 0 (journal_sectors g) k k Zero low (omega arith)
 
   -- and behind the journal there is none.
-  cell_at-past : (k : ℕ) → journal_sectors g ≤ k → cell_at (grid_of g image) k ≡ Zero
-  unfolding grid_of
+  cell_at-past : (k : ℕ) → journal_sectors g ≤ k → cell_at (grid_with bitmap g image) k ≡ Zero
+  unfolding grid_with
   cell_at-past k past = get_or_past _ k Zero (rw length-cells past)
 
-  cell_low : (k number : ℕ) → cell_number (cell_at (grid_of g image) k) ≡ Some number → number < 4
+  cell_low : (k number : ℕ) → cell_number (cell_at (grid_with bitmap g image) k) ≡ Some number → number < 4
   cell_low k number e = elim (cases_lt k (journal_sectors g)) [
     | inl low ↦
         let sectors = section_sectors g.shape in
-        let is : commit_number (k / sectors) (k % sectors) (image (8 + k)) ≡ Some number = sym (cell_number-cell_by _ (image (8 + k))) ∙ ap cell_number (sym (cell_at-grid_of k low)) ∙ e in
+        let is : commit_number (k / sectors) (k % sectors) (image (8 + k)) ≡ Some number = sym (cell_number-cell_by _ (image (8 + k))) ∙ ap cell_number (sym (cell_at-grid_with k low)) ∙ e in
         (number_of_tells (k / sectors) (k % sectors) (id_in (image (8 + k))) number is).0
     | inr past ↦ absurd (none-some number (ap cell_number (sym (cell_at-past k past)) ∙ e))
   ]
 
   -- The number of each sector of each section is the one that it bears.
-  pub numbers_of-grid_of : (i j : ℕ) → i < g.sections → j < section_sectors g.shape → numbers_of (grid_of g image) i j ≡ commit_number i j (image (section_at g i + j))
-  unfolding grid_of
-  numbers_of-grid_of i j low narrow =
+  pub numbers_of-grid_with : (i j : ℕ) → i < g.sections → j < section_sectors g.shape → numbers_of (grid_with bitmap g image) i j ≡ commit_number i j (image (section_at g i + j))
+  unfolding grid_with
+  numbers_of-grid_with i j low narrow =
       let sectors = section_sectors g.shape in
       let k = i * sectors + j in
       let at : 8 + k ≡ section_at g i + j = omega arith in
-      ap cell_number (cell_at-grid_of k (place_low g.sections sectors i j low narrow))
+      ap cell_number (cell_at-grid_with k (place_low g.sections sectors i j low narrow))
       ∙ cell_number-cell_by (commit_number (k / sectors) (k % sectors) (image (8 + k))) (image (8 + k))
       ∙ ap (λ (x : ℕ). commit_number x (k % sectors) (image (8 + k))) (div-mul-add i sectors j narrow)
       ∙ ap (λ (x : ℕ). commit_number i x (image (8 + k))) (mod-mul-add i sectors j narrow)
@@ -86,18 +86,19 @@ if_then_zero true x n le = le
 if_then_zero false x n le = omega arith
 
 blank_bound-le : (g : Geometry) (sectors : ℕ) → IsGeometry g sectors → blank_bound g ≤ journal_sectors g
+unfolding blank_bound
 blank_bound-le g sectors is = if_then_zero BLANKS_COUNT (bitmap_sectors_for g.blocks (fitting_log2_region g)) (journal_sectors g) (fitting_log2_region_is g sectors is).fits
 
 -- The grid of an image is a grid, by the numbers of its sectors.
 pub grid_law : GridLaw
-unfolding grid_of
+unfolding grid_with
 grid_law g sectors image is = (
   record {
     has_sections = omega (arith, is.sections);
     has_sectors = let entries = has_entries g.shape is.spb.0 is.spb.1 is.tag_size.0 is.tag_size.1 in omega (arith, entries.sectors_low);
-    cells = length-cells g image;
-    bitmap = rw (length-cells g image) (blank_bound-le g sectors is);
-    numbers = cell_low g image;
+    cells = length-cells (blank_bound g) g image;
+    bitmap = rw (length-cells (blank_bound g) g image) (blank_bound-le g sectors is);
+    numbers = cell_low (blank_bound g) g image;
   },
-  numbers_of-grid_of g image,
+  numbers_of-grid_with (blank_bound g) g image,
 )

@@ -25,25 +25,28 @@ sector_cell g image k =
     let sectors = section_sectors g.shape in
     cell_by (commit_number (k / sectors) (k % sectors) (image (8 + k))) (image (8 + k))
 
--- How many of the journal's sectors the bitmap would have: none where blanks do not count.
-abbrev pub blank_bound : Geometry → ℕ
-blank_bound g = if BLANKS_COUNT then bitmap_sectors_for g.blocks (fitting_log2_region g) else 0
-
--- Entry n of the section is used, and its sector is no zero one of the bitmap's.
-abbrev pub is_used_outside : Geometry → Image → ℕ → ℕ → Bool
-is_used_outside g image section n =
+-- Entry n of a section is used, and its sector is no zero one among the first `bitmap` of the journal.
+abbrev pub is_used_outside : ℕ → Geometry → Image → ℕ → ℕ → Bool
+is_used_outside bitmap g image section n =
     let k = section * section_sectors g.shape + n % 8 in
-    is_used g.shape (bytes_at image (section_at g section) 8) n
-    && not (nat_lt k (blank_bound g) && is_zero_sector (image (8 + k)))
+    is_used g.shape (bytes_at image (section_at g section) 8) n && not (nat_lt k bitmap && is_zero_sector (image (8 + k)))
 
-unfoldable pub grid_of : Geometry → Image → Grid
-grid_of g image = record {
+-- The grid of an image's journal, where a bitmap would have so many of its sectors.
+unfoldable pub grid_with : ℕ → Geometry → Image → Grid
+grid_with bitmap g image = record {
   sections = g.sections;
   sectors = section_sectors g.shape;
   cells = map (sector_cell g image) (range_with_len 0 (journal_sectors g));
-  bitmap = blank_bound g;
-  used_outside = any_below g.sections (λ section. any_below (section_entries g.shape) (is_used_outside g image section));
+  bitmap = bitmap;
+  used_outside = any_below g.sections (λ section. any_below (section_entries g.shape) (is_used_outside bitmap g image section));
 }
+
+-- How many sectors a bitmap would have: none where blanks do not count.
+unfoldable pub blank_bound : Geometry → ℕ
+blank_bound g = if BLANKS_COUNT then bitmap_sectors_for g.blocks (fitting_log2_region g) else 0
+
+abbrev pub grid_of : Geometry → Image → Grid
+grid_of g image = grid_with (blank_bound g) g image
 
 -- The plan of an image's journal, or why it is refused.
 abbrev pub walk_of : Geometry → Image → Result Plan ScanFault
