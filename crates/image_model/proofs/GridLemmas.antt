@@ -92,13 +92,15 @@ blank_bound-le g sectors is = if_then_zero BLANKS_COUNT (bitmap_sectors_for g.bl
 -- The grid of an image is a grid, by the numbers of its sectors.
 pub grid_law : GridLaw
 unfolding grid_with
-grid_law g sectors image is = (
-  record {
+grid_law g sectors image is = record {
+  is_grid = record {
     has_sections = omega (arith, is.sections);
     has_sectors = let entries = has_entries g.shape is.spb.0 is.spb.1 is.tag_size.0 is.tag_size.1 in omega (arith, entries.sectors_low);
     cells = length-cells (blank_bound g) g image;
     bitmap = rw (length-cells (blank_bound g) g image) (blank_bound-le g sectors is);
     numbers = cell_low (blank_bound g) g image;
-  },
-  numbers_of-grid_with (blank_bound g) g image,
-)
+  };
+  sections = refl;
+  sectors = refl;
+  numbers = numbers_of-grid_with (blank_bound g) g image;
+}

@@ -69,6 +69,7 @@ cases_option (Some x) = inr (x, refl)
 
 -- ---- laps
 
+-- A number some laps on is a commit number.
 pub later_low : (laps q : ℕ) → later laps q < 4
 later_low laps q = omega arith
 
@@ -76,18 +77,23 @@ later_low laps q = omega arith
 pub later_back : (q : ℕ) → q < 4 → later 1 (later 3 q) ≡ q
 later_back q low = omega arith
 
+-- One lap on and three more is so too.
 pub later_forth : (q : ℕ) → q < 4 → later 3 (later 1 q) ≡ q
 later_forth q low = omega arith
 
+-- Three laps on and two more are one.
 pub later_twice : (q : ℕ) → q < 4 → later 2 (later 3 q) ≡ later 1 q
 later_twice q low = omega arith
 
+-- Three laps on and three more are two.
 pub later_half : (q : ℕ) → q < 4 → later 3 (later 3 q) ≡ later 2 q
 later_half q low = omega arith
 
+-- One lap on and one more are two,
 pub later_two : (q : ℕ) → q < 4 → later 1 (later 1 q) ≡ later 2 q
 later_two q low = omega arith
 
+-- and two more are three.
 pub later_three : (q : ℕ) → q < 4 → later 2 (later 1 q) ≡ later 3 q
 later_three q low = omega arith
 

@@ -9,8 +9,8 @@ use Rattle.std.proofs.lemmas.Option.{none-some, same_Some}
 use Rattle.image_model.specs.CommitId.{commit_numbers}
 use Rattle.image_model.specs.Below.{any_below, all_below}
 use Rattle.image_model.specs.Walk.{State, Rest, Mixed, Erasing, Plan, bears, is_numbered, occurs, later, newest, reach, whole_sections, state_at, range, plan_at, plan_of, sections_of}
-use Rattle.image_model.specs.Scan.{SectorCell, Number, Zero, Other, Grid, IsGrid, cell_at, cell_number, found_in, is_zero, numbers_of, is_blank_sector, is_blank_with, blank_number, first_place, scan_fault_of, walk_of_grid}
-use Rattle.image_model.specs.Tables.{IsAtRest, IsWalkOfTwo, IsBlankSector, IsBlank, has_number, IsPlanOf, IsFirstOf, IsFaultOf, FollowsRules, ScanLaw}
+use Rattle.image_model.specs.Scan.{SectorCell, Number, Zero, Other, Grid, IsGrid, cell_at, cell_number, number_at, found_in, is_zero, numbers_of, is_blank_sector, is_blank_with, blank_number, first_place, scan_fault_of, walk_of_grid}
+use Rattle.image_model.specs.Tables.{IsAtRest, IsWalkOfTwo, IsBlankSector, IsBlank, has_number, IsPlanOf, IsFirstPlace, IsFaultOf, FollowsRules, ScanLaw}
 use Rattle.image_model.proofs.BelowLemmas.{any_at, any_found, all_from, all_at, all_or_some}
 use Rattle.image_model.proofs.NumberLemmas.{four_numbers, first_of_four, first_of_four_tells, cases_option, newest_none}
 use Rattle.image_model.proofs.WalkLemmas.{bears_it, bears_is, some_is, numbered_from, numbered_at, occurs_at, occurs_found, plan_is, plan_at_two, plan_newest, walk_runs}
@@ -54,16 +54,16 @@ blank_sector_at grid k is = and_from (nat_lt k grid.bitmap) (is_zero (cell_at gr
 -- ---- blanks
 
 module _ (grid : Grid) (is_grid : IsGrid grid) where
-  is_blank_with_at : (number k : ℕ) → is_blank_with grid number ≡ true → k < length grid.cells → (IsBlankSector grid k → ⊥) → cell_number (cell_at grid k) ≡ Some number
-  is_blank_with_at number k e low other = elim (or_cases _ _ (all_at (length grid.cells) (λ k. is_blank_sector grid k || bears (cell_number (cell_at grid k)) number) e k low)) [
+  is_blank_with_at : (number k : ℕ) → is_blank_with grid number ≡ true → k < length grid.cells → (IsBlankSector grid k → ⊥) → number_at grid k ≡ Some number
+  is_blank_with_at number k e low other = elim (or_cases _ _ (all_at (length grid.cells) (λ k. is_blank_sector grid k || bears (number_at grid k) number) e k low)) [
     | inl blank ↦ absurd (other (blank_sector_is grid k blank))
-    | inr has ↦ bears_is (cell_number (cell_at grid k)) number has
+    | inr has ↦ bears_is (number_at grid k) number has
   ]
 
-  is_blank_with_from : (number : ℕ) → ((k : ℕ) → k < length grid.cells → (IsBlankSector grid k → ⊥) → cell_number (cell_at grid k) ≡ Some number) → is_blank_with grid number ≡ true
-  is_blank_with_from number each = all_from (length grid.cells) (λ k. is_blank_sector grid k || bears (cell_number (cell_at grid k)) number) (λ k low. elim (cases_Bool (is_blank_sector grid k)) [
+  is_blank_with_from : (number : ℕ) → ((k : ℕ) → k < length grid.cells → (IsBlankSector grid k → ⊥) → number_at grid k ≡ Some number) → is_blank_with grid number ≡ true
+  is_blank_with_from number each = all_from (length grid.cells) (λ k. is_blank_sector grid k || bears (number_at grid k) number) (λ k low. elim (cases_Bool (is_blank_sector grid k)) [
     | inl blank ↦ or_left _ _ blank
-    | inr other ↦ or_right _ _ (bears_it (cell_number (cell_at grid k)) number (each k low (λ is. true≢false (sym (blank_sector_at grid k is) ∙ other))))
+    | inr other ↦ or_right _ _ (bears_it (number_at grid k) number (each k low (λ is. true≢false (sym (blank_sector_at grid k is) ∙ other))))
   ])
 
   -- Where all sectors are blank the first number is 0.
@@ -71,7 +71,7 @@ module _ (grid : Grid) (is_grid : IsGrid grid) where
   all_blank each = let zero : is_blank_with grid 0 ≡ true = is_blank_with_from 0 (λ k low other. absurd (other (each k low))) in rw zero refl
 
   -- Where one is not, it is the number that is borne.
-  some_number : (number k : ℕ) → k < length grid.cells → (IsBlankSector grid k → ⊥) → ((k : ℕ) → k < length grid.cells → (IsBlankSector grid k → ⊥) → cell_number (cell_at grid k) ≡ Some number)
+  some_number : (number k : ℕ) → k < length grid.cells → (IsBlankSector grid k → ⊥) → ((k : ℕ) → k < length grid.cells → (IsBlankSector grid k → ⊥) → number_at grid k ≡ Some number)
       → find (is_blank_with grid) commit_numbers ≡ Some number
   some_number number k low other each =
       first_of_four (is_blank_with grid) number (is_grid.numbers k number (each k low other)) (is_blank_with_from number each)
@@ -169,7 +169,7 @@ abbrev unnumbered : SectorCell → Bool
 unnumbered cell = is_none (cell_number cell)
 
 -- Where each cell has a number, all sectors do.
-pub grid_numbered : (grid : Grid) → IsGrid grid → ((k : ℕ) → k < length grid.cells → cell_number (cell_at grid k) ≢ None) → is_numbered grid.sections grid.sectors (numbers_of grid) ≡ true
+pub grid_numbered : (grid : Grid) → IsGrid grid → ((k : ℕ) → k < length grid.cells → number_at grid k ≢ None) → is_numbered grid.sections grid.sectors (numbers_of grid) ≡ true
 grid_numbered grid is_grid each = numbered_from grid.sections grid.sectors (numbers_of grid) (λ i j low narrow.
     some_from (numbers_of grid i j) (each (i * grid.sectors + j) (subst (λ m. i * grid.sectors + j < m) (sym is_grid.cells) (place_low grid.sections grid.sectors i j low narrow))))
 
@@ -179,26 +179,29 @@ first_without grid = position_or_len unnumbered grid.cells
 abbrev first_of : Grid → ℕ → ℕ
 first_of grid number = position_or_len (λ cell. bears (cell_number cell) number) grid.cells
 
+-- Sector k is the first that bears the number.
+abbrev IsFirstOf : Grid → ℕ → ℕ → Type 0
+IsFirstOf grid number k =
+    (k < length grid.cells) × (number_at grid k ≡ Some number)
+    × ((before : ℕ) → before < k → number_at grid before ≢ Some number)
+
 -- The first sector of a number that occurs is on the journal, and the first.
-first_of_is : (grid : Grid) (number k : ℕ) → k < length grid.cells → cell_number (cell_at grid k) ≡ Some number → IsFirstOf grid number (first_of grid number)
+first_of_is : (grid : Grid) (number k : ℕ) → k < length grid.cells → number_at grid k ≡ Some number → IsFirstOf grid number (first_of grid number)
 first_of_is grid number k low is =
     let test = λ (cell : SectorCell). bears (cell_number cell) number in
-    let here : bears (cell_number (cell_at grid k)) number ≡ true = bears_it (cell_number (cell_at grid k)) number is in
+    let here : bears (number_at grid k) number ≡ true = bears_it (number_at grid k) number is in
     let inside : first_of grid number < length grid.cells = elim (cases_lt k (first_of grid number)) [
       | inl before ↦ absurd (true≢false (sym here ∙ fails_before_first test grid.cells k Zero before))
       | inr within ↦ omega arith
     ] in (
       inside,
       bears_is (cell_number (cell_at grid (first_of grid number))) number (passes_at_first test grid.cells Zero inside),
-      λ before under same. true≢false (sym (bears_it (cell_number (cell_at grid before)) number same) ∙ fails_before_first test grid.cells before Zero under),
+      λ before under same. true≢false (sym (bears_it (number_at grid before) number same) ∙ fails_before_first test grid.cells before Zero under),
     )
 
 -- Four places, by their number.
 place_by : (f : ℕ → ℕ × ℕ) (number : ℕ) → number < 4 → slice_index_or (map f commit_numbers) number (0, 0) ≡ f number
 place_by f = four_numbers (λ number. slice_index_or (map f commit_numbers) number (0, 0) ≡ f number) refl refl refl refl
-
-abbrev IsPlaceOf : Grid → ℕ → ℕ × ℕ → Type 0
-IsPlaceOf grid number place = (place.1 < grid.sectors) × IsFirstOf grid number (place.0 * grid.sectors + place.1)
 
 -- A grid with no plan has a fault that says why.
 pub fault_says : (grid : Grid) → IsGrid grid → plan_of grid.sections grid.sectors (numbers_of grid) ≡ None → IsFaultOf grid (scan_fault_of grid)
@@ -212,17 +215,19 @@ fault_says grid is_grid none =
           let k = first_without grid in
           let low : k < length grid.cells = ltb-true _ _ within in
           let place = place_inside n s k is_grid.has_sectors (subst (λ m. k < m) total low) in
-          let at : is_none (cell_number (cell_at grid k)) ≡ true = passes_at_first unnumbered grid.cells Zero low in
+          let at : is_none (number_at grid k) ≡ true = passes_at_first unnumbered grid.cells Zero low in
           rw within (
-            place.0,
-            place.1,
-            subst (λ x. cell_number (cell_at grid x) ≡ None) (sym place.2) (none_is (cell_number (cell_at grid k)) at),
+            (
+              place.0,
+              place.1,
+              subst (λ x. number_at grid x ≡ None) (sym place.2) (none_is (number_at grid k) at),
+              λ before under. none_is_not (number_at grid before) (fails_before_first unnumbered grid.cells before Zero (subst (λ x. before < x) place.2 under)),
+            ),
             ap (λ x. found_in (cell_at grid x)) (sym place.2),
-            λ before under. none_is_not (cell_number (cell_at grid before)) (fails_before_first unnumbered grid.cells before Zero (subst (λ x. before < x) place.2 under)),
           )
       | inr past ↦
-          let all : (k : ℕ) → k < length grid.cells → cell_number (cell_at grid k) ≢ None =
-          λ k low. none_is_not (cell_number (cell_at grid k)) (fails_before_first unnumbered grid.cells k Zero (let end = ltb-false _ _ past in omega arith)) in
+          let all : (k : ℕ) → k < length grid.cells → number_at grid k ≢ None =
+          λ k low. none_is_not (number_at grid k) (fails_before_first unnumbered grid.cells k Zero (let end = ltb-false _ _ past in omega arith)) in
           let numbered = grid_numbered grid is_grid all in
           let no_newest : newest (occurs n s g) ≡ None = elim (cases_option (newest (occurs n s g))) [
             | inl is ↦ is
@@ -239,8 +244,8 @@ fault_says grid is_grid none =
                 let low_k : k < length grid.cells = subst (λ m. k < m) (sym total) (place_low n s found.0 found.1 found.2 found.3) in
                 let is = first_of_is grid number k low_k found.4 in
                 let place = place_inside n s (first_of grid number) is_grid.has_sectors (subst (λ m. first_of grid number < m) total is.0) in
-                subst (IsPlaceOf grid number) (sym (place_by (λ number. first_place (λ cell. bears (cell_number cell) number) grid) number low))
-                (place.1, subst (λ x. IsFirstOf grid number x) (sym place.2) is),
+                subst (IsFirstPlace grid (Some number)) (sym (place_by (λ number. first_place (λ cell. bears (cell_number cell) number) grid) number low))
+                (place.0, place.1, subst (λ x. number_at grid x ≡ Some number) (sym place.2) is.1, λ before under. is.2 before (subst (λ x. before < x) place.2 under)),
             all,
           )
     ]

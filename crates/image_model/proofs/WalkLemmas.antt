@@ -12,46 +12,59 @@ use Rattle.image_model.proofs.BelowLemmas.{any_at, any_none, any_found, all_from
 
 -- ---- what a sector bears
 
+-- A sector that has the number bears it,
 pub bears_it : (c : Option ℕ) (k : ℕ) → c ≡ Some k → bears c k ≡ true
 bears_it c k e = rw e (eq-eqb k k refl)
 
+-- and bears no other,
 pub bears_other : (c : Option ℕ) (q k : ℕ) → c ≡ Some q → q ≢ k → bears c k ≡ false
 bears_other c q k e ne = rw e (ne_eqb q k ne)
 
+-- and what it bears it has.
 pub bears_is : (c : Option ℕ) (k : ℕ) → bears c k ≡ true → c ≡ Some k
 bears_is None k e = absurd (true≢false (sym e))
 bears_is (Some q) k e = ap Some (eqb-true q k e)
 
+-- What it has not it does not bear.
 pub bears_false : (c : Option ℕ) (k : ℕ) → c ≢ Some k → bears c k ≡ false
 bears_false c k ne = false_from_ne_true (bears c k) (λ e. ne (bears_is c k e))
 
+-- What is some has a number.
 pub some_is : (c : Option ℕ) → is_some c ≡ true → (k : ℕ) × (c ≡ Some k)
 some_is None e = absurd (true≢false (sym e))
 some_is (Some k) e = (k, refl)
 
 -- ---- sections and the whole journal
 
+-- A section with such a sector holds the number,
 pub holds_at : (s : ℕ) (g : Numbers) (k i j : ℕ) → j < s → g i j ≡ Some k → holds s g k i ≡ true
 holds_at s g k i j narrow e = any_at s (λ j. bears (g i j) k) j narrow (bears_it (g i j) k e)
 
+-- and one that holds it has such a sector.
 pub holds_found : (s : ℕ) (g : Numbers) (k i : ℕ) → holds s g k i ≡ true → (j : ℕ) × (j < s) × (g i j ≡ Some k)
 holds_found s g k i e = let f = any_found s (λ j. bears (g i j) k) e in (f.0, f.1, bears_is (g i f.0) k f.2)
 
+-- A section with no such sector does not hold it.
 pub holds_none : (s : ℕ) (g : Numbers) (k i : ℕ) → ((j : ℕ) → j < s → g i j ≢ Some k) → holds s g k i ≡ false
 holds_none s g k i each = any_none s (λ j. bears (g i j) k) (λ j narrow. bears_false (g i j) k (each j narrow))
 
+-- A section of which each sector has the number is wholly of it,
 pub wholly_at : (s : ℕ) (g : Numbers) (k i : ℕ) → ((j : ℕ) → j < s → g i j ≡ Some k) → is_wholly s g k i ≡ true
 wholly_at s g k i each = all_from s (λ j. bears (g i j) k) (λ j narrow. bears_it (g i j) k (each j narrow))
 
+-- and of one that is each sector has it.
 pub wholly_each : (s : ℕ) (g : Numbers) (k i : ℕ) → is_wholly s g k i ≡ true → (j : ℕ) → j < s → g i j ≡ Some k
 wholly_each s g k i e j narrow = bears_is (g i j) k (all_at s (λ j. bears (g i j) k) e j narrow)
 
+-- A section that is wholly of a number holds it.
 pub wholly_holds : (s : ℕ) (g : Numbers) (k i : ℕ) → 0 < s → is_wholly s g k i ≡ true → holds s g k i ≡ true
 wholly_holds s g k i wide e = holds_at s g k i 0 wide (wholly_each s g k i e 0 wide)
 
+-- A number that a sector has occurs,
 pub occurs_at : (n s : ℕ) (g : Numbers) (k i j : ℕ) → i < n → j < s → g i j ≡ Some k → occurs n s g k ≡ true
 occurs_at n s g k i j low narrow e = any_at n (holds s g k) i low (holds_at s g k i j narrow e)
 
+-- and one that occurs is on some sector.
 pub occurs_found : (n s : ℕ) (g : Numbers) (k : ℕ) → occurs n s g k ≡ true → (i : ℕ) × (j : ℕ) × (i < n) × (j < s) × (g i j ≡ Some k)
 occurs_found n s g k e =
     let at = any_found n (holds s g k) e in
@@ -66,9 +79,11 @@ lacks_from n s g k each = any_none n (holds s g k) (λ i low. holds_none s g k i
 pub absent_at : (n s : ℕ) (g : Numbers) (k : ℕ) → occurs n s g k ≡ false → (i j : ℕ) → i < n → j < s → g i j ≢ Some k
 absent_at n s g k e i j low narrow is = true≢false (sym (occurs_at n s g k i j low narrow is) ∙ e)
 
+-- Where each sector has a number all are numbered,
 pub numbered_from : (n s : ℕ) (g : Numbers) → ((i j : ℕ) → i < n → j < s → is_some (g i j) ≡ true) → is_numbered n s g ≡ true
 numbered_from n s g each = all_from n (λ i. all_below s (λ j. is_some (g i j))) (λ i low. all_from s (λ j. is_some (g i j)) (λ j narrow. each i j low narrow))
 
+-- and where all are each has one.
 pub numbered_at : (n s : ℕ) (g : Numbers) → is_numbered n s g ≡ true → (i j : ℕ) → i < n → j < s → is_some (g i j) ≡ true
 numbered_at n s g e i j low narrow = all_at s (λ j. is_some (g i j)) (all_at n (λ i. all_below s (λ j. is_some (g i j))) e i low) j narrow
 
@@ -113,21 +128,27 @@ walk_runs a b c =
 
 -- Journals with the same number on each sector have the same plan.
 module _ (n s : ℕ) (g h : Numbers) (same : (i j : ℕ) → i < n → j < s → h i j ≡ g i j) where
+  -- Their sections hold the same,
   pub holds_same : (k i : ℕ) → i < n → holds s h k i ≡ holds s g k i
   holds_same k i low = any_same s _ _ (λ j narrow. ap (λ (c : Option ℕ). bears c k) (same i j low narrow))
 
+  -- and are wholly of the same,
   pub wholly_same : (k i : ℕ) → i < n → is_wholly s h k i ≡ is_wholly s g k i
   wholly_same k i low = all_same s _ _ (λ j narrow. ap (λ (c : Option ℕ). bears c k) (same i j low narrow))
 
+  -- so the same numbers occur,
   pub occurs_same : occurs n s h ≡ occurs n s g
   occurs_same = fun_ext (λ k. any_same n _ _ (holds_same k))
 
+  -- the same sectors are numbered,
   pub numbered_same : is_numbered n s h ≡ is_numbered n s g
   numbered_same = all_same n _ _ (λ i low. all_same s _ _ (λ j narrow. ap (λ (c : Option ℕ). is_some c) (same i j low narrow)))
 
+  -- the plans for a newest number are the same,
   pub plan_at_same : (q : ℕ) → plan_at n s h q ≡ plan_at n s g q
   plan_at_same q = rw (any_same n (holds s h (later 2 q)) (holds s g (later 2 q)) (holds_same (later 2 q)), last_same n (holds s h q) (holds s g q) (holds_same q), front_same n (is_wholly s h q) (is_wholly s g q) (wholly_same q)) refl
 
+  -- and so is the plan.
   pub plan_same : plan_of n s h ≡ plan_of n s g
   unfolding plan_of
   plan_same =

@@ -1,4 +1,5 @@
--- Tests of the numbers below a bound: whether some or all pass, the last that does, and how many do from 0 on.
+-- Tests of the numbers below a bound: whether some or all pass, which is the last that does, and
+-- how many do from 0 on.
 use Rattle.std.specs.Prelude.{ℕ, zero, suc, Bool, true, false, ◌&&◌, ◌||◌, if◌then◌else◌}
 
 -- Some number below n passes.

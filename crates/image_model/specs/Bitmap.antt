@@ -1,5 +1,5 @@
 -- Which regions are dirty in an image's bitmap, and which blocks await their tags.
--- Source: Linux, Documentation/admin-guide/device-mapper/dm-integrity.rst, bitmap mode, and dm-integrity.c, block_bitmap_op.
+-- Source: Linux, drivers/md/dm-integrity.c, block_bitmap_op and integrity_recalc.
 use Rattle.std.specs.Prelude.{ℕ, ◌+◌, ◌*◌, ◌/◌, ◌%◌, ◌==◌, nat_lt, Bool, ◌&&◌, if◌then◌else◌, List, slice_index, filter}
 use Rattle.std.specs.List.{range_with_len}
 use Rattle.std.specs.Int.{bit_at}
@@ -21,15 +21,18 @@ is_dirty g image region = is_bit_set (bytes_at image 8 (bitmap_sectors g)) regio
 abbrev pub dirty_regions : Geometry → Image → List ℕ
 dirty_regions g image = filter (is_dirty g image) (range_with_len 0 (regions g))
 
--- The tags are recalculated from a sector on, and block b has one from there on.
+-- The tags are to be recalculated from a sector on, and block b has one from there on.
 abbrev pub is_to_recalculate : Superblock → Geometry → ℕ → Bool
 is_to_recalculate s g b = has_flag RECALCULATING s.flags && nat_lt s.recalc_sector ((b + 1) * g.shape.spb)
 
--- Block b awaits its tag: with a bitmap where its region is dirty, whatever is to be recalculated.
+-- Block b awaits its tag at opening: with a bitmap the bits alone decide.
 unfoldable pub awaits : Superblock → Geometry → Image → ℕ → Bool
 awaits s g image b =
-    if has_flag DIRTY_BITMAP s.flags then is_dirty g image (region_of g b) else is_to_recalculate s g b
+    if has_flag DIRTY_BITMAP s.flags
+    then is_dirty g image (region_of g b)
+    else is_to_recalculate s g b
 
 -- A region awaits where one of its blocks does.
 unfoldable pub region_awaits : Superblock → Geometry → Image → ℕ → Bool
-region_awaits s g image region = any_below g.blocks (λ b. region_of g b == region && awaits s g image b)
+region_awaits s g image region =
+    any_below g.blocks (λ b. region_of g b == region && awaits s g image b)

@@ -1,4 +1,5 @@
 -- The cells of an image: what each block reads as, and the tag that is stored for it.
+-- Own: the entries of the walk count, and a block that awaits has the tag of its bytes.
 use Rattle.std.specs.Prelude.{ℕ, ◌*◌, ◌==◌, Bool, if◌then◌else◌, Option, Some, None, option_map, unwrap_or, find, Result, Ok, Err, List, [], reverse, map, flat_map, filter_map}
 use Rattle.std.specs.List.{range_with_len}
 use Rattle.disk_model.specs.Disk.{Image}
@@ -23,7 +24,8 @@ pub record Cell : Type 0 where
 abbrev pub salt_of : Superblock → Option (List ℕ)
 salt_of s = if has_flag FIXED_HMAC s.flags then Some s.salt else None
 
--- What stands where the layout puts block b, whatever journal, bitmap and flags say. A tag may straddle two sectors.
+-- What stands where the layout puts block b, whatever journal, bitmap and flags say. A tag may straddle
+-- two sectors.
 unfoldable pub placed_cells_of : Geometry → Image → ℕ → Cell
 placed_cells_of g image b = record {
   bytes = bytes_at image (data_at g b) g.shape.spb;
@@ -52,7 +54,8 @@ counted_sections (Err fault) = []
 
 -- The used entries of the walk's sections, in its order.
 unfoldable pub replayed_entries : Geometry → Image → List Entry
-replayed_entries g image = filter_map (entry_of g image) (entry_places g (counted_sections (walk_of g image)))
+replayed_entries g image =
+    filter_map (entry_of g image) (entry_places g (counted_sections (walk_of g image)))
 
 -- ---- the cells
 
@@ -75,8 +78,10 @@ recalculated_cell key s g image b =
     let tag = block_tag key (salt_of s) g (b * g.shape.spb) placed.bytes in
     if awaits s g image b then record placed { tag = tag } else placed
 
--- A block's cell: its last entry that counts, and else the placed cell, with the tag of its bytes where it awaits that.
+-- The cell of a block: its last entry that counts, and else what is placed, with the tag of its bytes
+-- where it awaits that.
 unfoldable pub cells_of : Option (List ℕ) → Superblock → Geometry → Image → ℕ → Cell
 cells_of key s g image b =
-    unwrap_or (option_map (λ entry. record { bytes = entry.bytes; tag = entry.tag }) (last_entry g (counted_entries s g image) b))
+    let last = last_entry g (counted_entries s g image) b in
+    unwrap_or (option_map (λ entry. record { bytes = entry.bytes; tag = entry.tag }) last)
     (recalculated_cell key s g image b)

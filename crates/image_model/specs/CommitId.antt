@@ -1,4 +1,4 @@
--- The commit id that marks a journal sector, and the commit number that a sector bears.
+-- The commit id that marks a sector of the journal, and the commit number that a sector bears.
 use Rattle.std.specs.Prelude.{◌≡◌, ◌↔◌, ℕ, ◌+◌, ◌*◌, ◌^◌, ◌<◌, ◌==◌, bit_xor, List, [], ◌∷◌, find, Option, Some}
 use Rattle.image_model.specs.Sectors.{number_in}
 

@@ -1,4 +1,5 @@
 -- The grid of an image's journal, and its replay walk.
+-- Own: as the scan.
 use Rattle.std.specs.Prelude.{◌≡◌, ℕ, ◌<◌, ◌+◌, ◌*◌, ◌/◌, ◌%◌, ◌==◌, nat_lt, Bool, not, ◌&&◌, if◌then◌else◌, Option, Some, None, Result, List, map}
 use Rattle.std.specs.List.{range_with_len, list_all}
 use Rattle.disk_model.specs.Disk.{Image}
@@ -11,6 +12,7 @@ use Rattle.image_model.specs.Section.{is_used}
 use Rattle.image_model.specs.Scan.{SectorCell, Number, Zero, Other, ScanFault, Grid, IsGrid, numbers_of, walk_of_grid}
 use Rattle.image_model.specs.Walk.{Plan}
 
+-- All bytes of a sector are zero.
 abbrev pub is_zero_sector : List ℕ → Bool
 is_zero_sector bytes = list_all (λ byte. byte == 0) bytes
 
@@ -25,11 +27,12 @@ sector_cell g image k =
     let sectors = section_sectors g.shape in
     cell_by (commit_number (k / sectors) (k % sectors) (image (8 + k))) (image (8 + k))
 
--- Entry n of a section is used, and its sector is no zero one among the first `bitmap` of the journal.
+-- Entry n of a section is used, and its sector is no zero one among the journal's first `bitmap`.
 abbrev pub is_used_outside : ℕ → Geometry → Image → ℕ → ℕ → Bool
 is_used_outside bitmap g image section n =
     let k = section * section_sectors g.shape + n % 8 in
-    is_used g.shape (bytes_at image (section_at g section) 8) n && not (nat_lt k bitmap && is_zero_sector (image (8 + k)))
+    is_used g.shape (bytes_at image (section_at g section) 8) n
+    && not (nat_lt k bitmap && is_zero_sector (image (8 + k)))
 
 -- The grid of an image's journal, where a bitmap would have so many of its sectors.
 unfoldable pub grid_with : ℕ → Geometry → Image → Grid
@@ -38,7 +41,8 @@ grid_with bitmap g image = record {
   sectors = section_sectors g.shape;
   cells = map (sector_cell g image) (range_with_len 0 (journal_sectors g));
   bitmap = bitmap;
-  used_outside = any_below g.sections (λ section. any_below (section_entries g.shape) (is_used_outside bitmap g image section));
+  used_outside = any_below g.sections (λ section.
+    any_below (section_entries g.shape) (is_used_outside bitmap g image section));
 }
 
 -- How many sectors a bitmap would have: none where blanks do not count.
@@ -52,9 +56,13 @@ grid_of g image = grid_with (blank_bound g) g image
 abbrev pub walk_of : Geometry → Image → Result Plan ScanFault
 walk_of g image = walk_of_grid (grid_of g image)
 
--- The grid of an image has a cell for each sector of each section, by the number that this one bears at its place.
+-- The grid is one for the journal's sections, by the number that each sector bears at its place.
+pub record IsGridOf (g : Geometry) (image : Image) (grid : Grid) : Type 0 where
+  pub is_grid : IsGrid grid
+  pub sections : grid.sections ≡ g.sections
+  pub sectors : grid.sectors ≡ section_sectors g.shape
+  pub numbers : (section sector : ℕ) → section < g.sections → sector < section_sectors g.shape →
+      numbers_of grid section sector ≡ commit_number section sector (image (section_at g section + sector))
+
 abbrev pub GridLaw : Type 0
-GridLaw = (g : Geometry) (sectors : ℕ) (image : Image) → IsGeometry g sectors
-    → IsGrid (grid_of g image)
-    × ((section sector : ℕ) → section < g.sections → sector < section_sectors g.shape
-    → numbers_of (grid_of g image) section sector ≡ commit_number section sector (image (section_at g section + sector)))
+GridLaw = (g : Geometry) (sectors : ℕ) (image : Image) → IsGeometry g sectors → IsGridOf g image (grid_of g image)

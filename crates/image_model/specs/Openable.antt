@@ -28,13 +28,14 @@ pub record IsReadable (sectors : ℕ) (image : Image) : Type 0 where
 abbrev pub is_block_start : Geometry → ℕ → Bool
 is_block_start g sector = sector % g.shape.spb == 0 && nat_lt sector (g.blocks * g.shape.spb)
 
--- An entry can be replayed: it is of a block of the device, and its tag is that block's.
+-- An entry can be replayed: it is of a block of the device, and its tag is that of its bytes there.
 pub record IsReplayable (key salt : Option (List ℕ)) (g : Geometry) (entry : Entry) : Type 0 where
   pub whole : entry.sector % g.shape.spb ≡ 0
   pub inside : entry.sector < g.blocks * g.shape.spb
   pub tag : entry.tag ≡ block_tag key salt g entry.sector entry.bytes
 
--- An image that can be opened: it is readable, and where it has a journal that has a walk whose used entries can be replayed.
+-- An image that can be opened: it is readable, and where it has a journal and no bitmap, that has a
+-- walk whose used entries can be replayed.
 pub record IsOpenable (key : Option (List ℕ)) (sectors : ℕ) (image : Image) : Type 0 where
   pub readable : IsReadable sectors image
   pub walk : has_flag DIRTY_BITMAP readable.superblock.flags ≡ false → IsOk (walk_of readable.geometry image)
@@ -48,7 +49,8 @@ pub data JournalFault : Type 0 where
   JournalTag : (section entry : ℕ) (stored computed : List ℕ) → JournalFault
 
 -- Why the entry at a place is refused, if it is.
-unfoldable pub entry_fault : Option (List ℕ) → Option (List ℕ) → Geometry → ℕ × ℕ → Entry → Option JournalFault
+unfoldable pub entry_fault : Option (List ℕ) → Option (List ℕ) → Geometry → ℕ × ℕ → Entry
+    → Option JournalFault
 entry_fault key salt g place entry =
     let computed = block_tag key salt g entry.sector entry.bytes in
     if not (is_block_start g entry.sector) then Some (JournalBlock place.0 place.1 entry.sector) else
@@ -61,7 +63,8 @@ entry_faults key salt g image =
     (entry_places g (counted_sections (walk_of g image)))
 
 -- Why the journal of an image is refused, if it is: the scan's fault, or the first of an entry.
-unfoldable pub journal_fault_of : Option (List ℕ) → Option (List ℕ) → Geometry → Image → Option JournalFault
+unfoldable pub journal_fault_of : Option (List ℕ) → Option (List ℕ) → Geometry → Image
+    → Option JournalFault
 journal_fault_of key salt g image =
     option_or (option_map Scan (result_err (walk_of g image))) (slice_get (entry_faults key salt g image) 0)
 

@@ -7,19 +7,22 @@ use Rattle.image_model.specs.CommitId.{commit_numbers}
 use Rattle.image_model.specs.Below.{any_below, all_below}
 use Rattle.image_model.specs.Walk.{Blank, Plan, Numbers, bears, plan_of}
 
--- What stands in the place of a journal sector's commit id: one of its own ids, the end of 512 zero bytes, or another id.
+-- What stands in the place of a journal sector's commit id: one of its own ids, the end of 512 zero
+-- bytes, or another id.
 pub data SectorCell : Type 0 where
   Number : (number : ℕ) → SectorCell
   Zero : SectorCell
   Other : (found : ℕ) → SectorCell
 
--- Why a journal has no plan: the first sector without a number, or the first place of each of the four numbers.
+-- Why a journal has no plan: the first sector without a number and what is found there, or the first
+-- place of each of the four numbers.
 pub data ScanFault : Type 0 where
   NoNumber : (section sector found : ℕ) → ScanFault
   FourNumbers : (places : List (ℕ × ℕ)) → ScanFault
 
--- A journal as the scan sees it: so many sections of so many sectors, the cell of each, how many sectors from the first on
--- a bitmap would have, and whether a used entry stands elsewhere than in the zero ones among these.
+-- A journal as the scan sees it: so many sections of so many sectors, the cell of each sector, how
+-- many of them, from the first on, a bitmap would have, and whether a used entry stands elsewhere than
+-- in the zero ones among these.
 pub record Grid : Type 0 where
   pub sections : ℕ
   pub sectors : ℕ
@@ -35,6 +38,10 @@ abbrev pub cell_number : SectorCell → Option ℕ
 cell_number (Number number) = Some number
 cell_number other = None
 
+-- The number of sector k of the journal, if it bears one.
+abbrev pub number_at : Grid → ℕ → Option ℕ
+number_at grid k = cell_number (cell_at grid k)
+
 abbrev pub is_zero : SectorCell → Bool
 is_zero Zero = true
 is_zero other = false
@@ -44,16 +51,16 @@ abbrev pub found_in : SectorCell → ℕ
 found_in (Other found) = found
 found_in other = 0
 
--- A grid has at least one sector, a cell for each, no longer bitmap than these, and commit numbers alone.
+-- A grid has at least one sector, a cell for each, a bitmap that is no longer, and commit numbers.
 pub record IsGrid (grid : Grid) : Type 0 where
   pub has_sections : 0 < grid.sections
   pub has_sectors : 0 < grid.sectors
   pub cells : length grid.cells ≡ grid.sections * grid.sectors
   pub bitmap : grid.bitmap ≤ length grid.cells
-  pub numbers : (k number : ℕ) → cell_number (cell_at grid k) ≡ Some number → number < 4
+  pub numbers : (k number : ℕ) → number_at grid k ≡ Some number → number < 4
 
 abbrev pub numbers_of : Grid → Numbers
-numbers_of grid section sector = cell_number (cell_at grid (section * grid.sectors + sector))
+numbers_of grid section sector = number_at grid (section * grid.sectors + sector)
 
 -- Sector k of the journal is a zero one among the bitmap's.
 abbrev pub is_blank_sector : Grid → ℕ → Bool
@@ -62,10 +69,10 @@ is_blank_sector grid k = nat_lt k grid.bitmap && is_zero (cell_at grid k)
 -- Each sector but the blank ones bears the number.
 abbrev pub is_blank_with : Grid → ℕ → Bool
 is_blank_with grid number =
-    all_below (length grid.cells) (λ k. is_blank_sector grid k || bears (cell_number (cell_at grid k)) number)
+    all_below (length grid.cells) (λ k. is_blank_sector grid k || bears (number_at grid k) number)
 
--- The number of a blank journal: some sectors are blank, all others bear it, and no entry in these is used. It is 0 where
--- all are blank.
+-- The number of a blank journal: some sectors are blank, all others bear it, and no entry in these is
+-- used. It is 0 where all are blank.
 abbrev pub blank_number : Grid → Option ℕ
 blank_number grid =
     if any_below (length grid.cells) (is_blank_sector grid) && not grid.used_outside
@@ -77,7 +84,9 @@ blank_plan number = record { state = Blank number; walk = (0, 0) ∷ (0, 0) ∷ 
 
 -- The section of the first sector that passes, and the sector in it.
 abbrev pub first_place : (SectorCell → Bool) → Grid → ℕ × ℕ
-first_place test grid = (position_or_len test grid.cells / grid.sectors, position_or_len test grid.cells % grid.sectors)
+first_place test grid =
+    let k = position_or_len test grid.cells in
+    (k / grid.sectors, k % grid.sectors)
 
 -- Why a journal that is not blank has no plan.
 abbrev pub scan_fault_of : Grid → ScanFault
@@ -90,5 +99,5 @@ scan_fault_of grid =
 -- The plan of a journal: that of a blank one, else that by its numbers, else the fault.
 unfoldable pub walk_of_grid : Grid → Result Plan ScanFault
 walk_of_grid grid =
-    ok_or (option_or (option_map blank_plan (blank_number grid)) (plan_of grid.sections grid.sectors (numbers_of grid)))
-    (scan_fault_of grid)
+    let blank = option_map blank_plan (blank_number grid) in
+    ok_or (option_or blank (plan_of grid.sections grid.sectors (numbers_of grid))) (scan_fault_of grid)

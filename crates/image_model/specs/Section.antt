@@ -1,5 +1,5 @@
--- The entries of a journal section, by its bytes: 8 metadata sectors, and the data sectors of its entries.
--- Source: Linux, drivers/md/dm-integrity.c, struct journal_entry, struct journal_sector and access_journal_entry.
+-- The entries of a journal section, by its bytes: 8 metadata sectors, then the data sectors of each
+-- entry. Source: Linux, drivers/md/dm-integrity.c, struct journal_entry and access_journal_entry.
 use Rattle.std.specs.Prelude.{ℕ, ◌+◌, ◌*◌, ◌-◌, ◌/◌, ◌%◌, ◌^◌, ◌==◌, Bool, not, if◌then◌else◌, List, ◌++◌, Option, Some, None, flat_map, filter_map}
 use Rattle.std.specs.List.{range_with_len}
 use Rattle.image_model.specs.Geometry.{Shape, entry_size, section_entries}
@@ -26,7 +26,8 @@ parts_of shape bytes n = piece bytes (512 * (8 + n * shape.spb)) (512 * shape.sp
 -- The bytes of an entry's block: 504 from each of its data sectors, and the last 8 from the entry.
 abbrev pub block_in : Shape → List ℕ → List ℕ → ℕ → List ℕ
 block_in shape bytes parts n =
-    flat_map (λ k. piece parts (512 * k) 504 ++ piece bytes (entry_from shape n + 8 + 8 * k) 8) (range_with_len 0 shape.spb)
+    flat_map (λ k. piece parts (512 * k) 504 ++ piece bytes (entry_from shape n + 8 + 8 * k) 8)
+    (range_with_len 0 shape.spb)
 
 -- Entry n of a section, and none where it is unused.
 unfoldable pub entry_at : Shape → List ℕ → ℕ → Option Entry

@@ -1,9 +1,10 @@
--- The scan in words, as laws that hold of its definitions: the newest number, the states, the walks and the refusals.
+-- The rules of the scan in words, as laws that hold of its definitions: the newest number, the states,
+-- the walks, the blanks and the refusals.
 -- Own: as the walk.
 use Rattle.std.specs.Prelude.{◌≡◌, ◌≢◌, ℕ, ◌+◌, ◌*◌, ◌-◌, ◌<◌, ◌≤◌, min, Bool, true, false, Option, Some, None, Result, Ok, IfOk, IfErr, List, [], ◌∷◌, ◌++◌, map, length, slice_index_or}
 use Rattle.std.specs.List.{range_with_len}
 use Rattle.image_model.specs.Walk.{State, Rest, Mixed, Erasing, Blank, Numbers, occurs, later, newest, sections_of, ring}
-use Rattle.image_model.specs.Scan.{Zero, ScanFault, NoNumber, FourNumbers, Grid, IsGrid, cell_at, cell_number, found_in, numbers_of, blank_plan, walk_of_grid}
+use Rattle.image_model.specs.Scan.{Zero, ScanFault, NoNumber, FourNumbers, Grid, IsGrid, cell_at, number_at, found_in, numbers_of, blank_plan, walk_of_grid}
 
 -- Whether a number occurs, and those one, two and three laps on.
 abbrev pub laps_of : (ℕ → Bool) → ℕ → List Bool
@@ -21,15 +22,17 @@ pub record NewestTable (has : ℕ → Bool) (number : ℕ) : Type 0 where
 abbrev pub IsWholly : ℕ → Numbers → ℕ → ℕ → Type 0
 IsWholly sectors numbers number section = (sector : ℕ) → sector < sectors → numbers section sector ≡ Some number
 
--- A journal at rest: the sections below `next` are wholly of the number, and the others of the one before it.
+-- A journal at rest: the sections below `next` are wholly of the number, and the others of the one
+-- before it.
 pub record IsAtRest (sections sectors next number : ℕ) (numbers : Numbers) : Type 0 where
   pub inside : next < sections
   pub low : number < 4
   pub new : (section : ℕ) → section < next → IsWholly sectors numbers number section
   pub old : (section : ℕ) → next ≤ section → section < sections → IsWholly sectors numbers (later 3 number) section
 
--- The walk where the newest number and the one before it occur: the sections behind the last that holds the newest, and
--- then those from 0 on up to that one, ending before the first that is not wholly of it.
+-- The walk where the newest number and the one before it occur: the sections behind the last that
+-- holds the newest, and then those from 0 on, up to that one and ending before the first that is not
+-- wholly of it.
 pub record IsWalkOfTwo (sections sectors number : ℕ) (numbers : Numbers) (walk : List ℕ) : Type 0 where
   pub last : ℕ
   pub inside : last < sections
@@ -45,11 +48,11 @@ pub record IsWalkOfTwo (sections sectors number : ℕ) (numbers : Numbers) (walk
 abbrev pub IsBlankSector : Grid → ℕ → Type 0
 IsBlankSector grid k = (k < grid.bitmap) × (cell_at grid k ≡ Zero)
 
--- The blank rule: some sectors are blank, all others bear the number, no entry in these is used, and the number is 0 where
--- there are no others.
+-- The blank rule: some sectors are blank, all others bear the number, no entry in these is used, and
+-- the number is 0 where there are no others.
 pub record IsBlank (grid : Grid) (number : ℕ) : Type 0 where
   pub some : (k : ℕ) × (k < length grid.cells) × IsBlankSector grid k
-  pub others : (k : ℕ) → k < length grid.cells → (IsBlankSector grid k → ⊥) → cell_number (cell_at grid k) ≡ Some number
+  pub others : (k : ℕ) → k < length grid.cells → (IsBlankSector grid k → ⊥) → number_at grid k ≡ Some number
   pub unused : grid.used_outside ≡ false
   pub no_others : ((k : ℕ) → k < length grid.cells → IsBlankSector grid k) → number ≡ 0
 
@@ -69,26 +72,26 @@ IsPlanOf grid walk (Erasing number) =
     (newest (has_number grid) ≡ Some number) × (has_number grid (later 2 number) ≡ true) × (walk ≡ [])
 IsPlanOf grid walk (Blank number) = IsBlank grid number × (walk ≡ [])
 
--- Sector k is the first that bears the number.
-abbrev pub IsFirstOf : Grid → ℕ → ℕ → Type 0
-IsFirstOf grid number k =
-    (k < length grid.cells) × (cell_number (cell_at grid k) ≡ Some number)
-    × ((before : ℕ) → before < k → cell_number (cell_at grid before) ≢ Some number)
+-- The place is the first with this number, or without any.
+abbrev pub IsFirstPlace : Grid → Option ℕ → ℕ × ℕ → Type 0
+IsFirstPlace grid number place =
+    let k = place.0 * grid.sectors + place.1 in
+    (place.0 < grid.sections) × (place.1 < grid.sectors) × (number_at grid k ≡ number)
+    × ((before : ℕ) → before < k → number_at grid before ≢ number)
 
--- The first sector without a number, with what is found there, or the first places of all four numbers.
+-- The first place without a number, and what is found there, or the first places of all four numbers,
+-- where each sector bears one.
 abbrev pub IsFaultOf : Grid → ScanFault → Type 0
 IsFaultOf grid (NoNumber section sector found) =
-    (section < grid.sections) × (sector < grid.sectors)
-    × (cell_number (cell_at grid (section * grid.sectors + sector)) ≡ None)
+    IsFirstPlace grid None (section, sector)
     × (found ≡ found_in (cell_at grid (section * grid.sectors + sector)))
-    × ((before : ℕ) → before < section * grid.sectors + sector → cell_number (cell_at grid before) ≢ None)
 IsFaultOf grid (FourNumbers places) =
     (length places ≡ 4)
-    × ((number : ℕ) → number < 4 → let place = slice_index_or places number (0, 0) in
-    (place.1 < grid.sectors) × IsFirstOf grid number (place.0 * grid.sectors + place.1))
-    × ((k : ℕ) → k < length grid.cells → cell_number (cell_at grid k) ≢ None)
+    × ((number : ℕ) → number < 4 → IsFirstPlace grid (Some number) (slice_index_or places number (0, 0)))
+    × ((k : ℕ) → k < length grid.cells → number_at grid k ≢ None)
 
--- The scan follows the rules: each plan and each fault says what holds, and a blank journal is seen as one.
+-- The scan follows the rules: each plan and each fault says what holds of the journal, and a blank
+-- journal is seen as one.
 pub record FollowsRules (grid : Grid) : Type 0 where
   pub plan : IfOk (walk_of_grid grid) (λ plan. IsPlanOf grid (sections_of plan.walk) plan.state)
   pub fault : IfErr (walk_of_grid grid) (IsFaultOf grid)

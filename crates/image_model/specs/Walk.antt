@@ -1,20 +1,21 @@
--- The plan of a journal by the numbers on its sectors: its state, and which of its sections count, in order.
--- Source: Linux, Documentation/admin-guide/device-mapper/dm-integrity.rst, a section counts where its commit id is on all its
--- sectors. Own: the order of the sections, the states and the refusals.
+-- The plan of a journal by the numbers on its sectors: its state, and which sections count, in order.
+-- Source: Linux, Documentation/admin-guide/device-mapper/dm-integrity.rst: a section counts where its
+-- commit id stands on all its sectors. Own: the order of the sections, the states and the refusals.
 use Rattle.std.specs.Prelude.{ℕ, ◌+◌, ◌-◌, ◌%◌, ◌==◌, nat_lt, Bool, true, false, not, ◌&&◌, if◌then◌else◌, Option, Some, None, is_some, option_map, find, List, [], ◌∷◌, ◌++◌}
 use Rattle.std.specs.List.{range_with_len}
 use Rattle.image_model.specs.CommitId.{commit_numbers}
 use Rattle.image_model.specs.Below.{any_below, all_below, past_last, front_length}
 
--- The state of a journal: at rest, with the section and the number that are written next; within a commit or an erasure
--- that was cut, with the newest number; or blank, with the number of what is not zero.
+-- The state of a journal: at rest, with the section and the number that are written next; within a
+-- commit or an erasure that was cut, with the newest number; blank, with the number of what is not zero.
 pub data State : Type 0 where
   Rest : (next number : ℕ) → State
   Mixed : (newest : ℕ) → State
   Erasing : (newest : ℕ) → State
   Blank : (number : ℕ) → State
 
--- The state, and the sections that count: two ranges in order, each from its first section to the one after its last.
+-- The state, and the sections that count: two ranges in order, each from its first section to the one
+-- after its last.
 pub record Plan : Type 0 where
   pub state : State
   pub walk : List (ℕ × ℕ)
@@ -50,7 +51,7 @@ is_numbered sections sectors numbers =
 abbrev pub later : ℕ → ℕ → ℕ
 later laps number = (number + laps) % 4
 
--- The newest of the numbers that occur: the least whose next one does not, and none where all four do.
+-- The newest of the numbers that occur: the least whose next one does not, none where all four do.
 abbrev pub newest : (ℕ → Bool) → Option ℕ
 newest has = find (λ number. has number && not (has (later 1 number))) commit_numbers
 
@@ -75,13 +76,16 @@ state_at sections reached whole number =
 abbrev pub range : ℕ → ℕ → ℕ × ℕ
 range from to = if nat_lt from to then (from, to) else (0, 0)
 
--- The plan for a newest number: nothing counts where the number two laps on occurs, and else the sections behind its
--- reach do, and then those from 0 on that are wholly of it.
+-- The plan for a newest number: nothing counts where the number two laps on occurs, and else the
+-- sections behind its reach do, and then those from 0 on that are wholly of it.
 abbrev pub plan_by : ℕ → Bool → ℕ → ℕ → ℕ → Plan
 plan_by sections has_two_on reached whole number =
     if has_two_on
     then record { state = Erasing number; walk = (0, 0) ∷ (0, 0) ∷ [] }
-    else record { state = state_at sections reached whole number; walk = range reached sections ∷ range 0 whole ∷ [] }
+    else record {
+      state = state_at sections reached whole number;
+      walk = range reached sections ∷ range 0 whole ∷ [];
+    }
 
 abbrev pub plan_at : ℕ → ℕ → Numbers → ℕ → Plan
 plan_at sections sectors numbers number =
