@@ -21,18 +21,18 @@ room_is run row space a o some inside =
     let split : whole * (run + row) + rest ≡ space = div-add-mod' space (run + row) in
     let low : rest < run + row = mod_below space (run + row) (omega arith) in
     elim (cases_order a whole) [
-      inl same ↦
-        let rows : a * (run + row) ≡ whole * (run + row) = ap (λ n. n * (run + row)) same in
-        let places : a * row ≡ whole * row = ap (λ n. n * row) same in
-        (λ h. omega arith, λ h. omega arith)
-    | inr (inl less) ↦
-        let rows : a * (run + row) + (run + row) ≤ whole * (run + row) = row_fits a (run + row) whole (run + row) less (omega arith) in
-        let places : a * row + row ≤ whole * row = row_fits a row whole row less (omega arith) in
-        (λ h. omega arith, λ h. omega arith)
-    | inr (inr more) ↦
-        let rows : whole * (run + row) + (run + row) ≤ a * (run + row) = row_fits whole (run + row) a (run + row) more (omega arith) in
-        let places : whole * row + row ≤ a * row = row_fits whole row a row more (omega arith) in
-        (λ h. absurd (omega arith), λ h. absurd (omega arith))
+      | inl same ↦
+          let rows : a * (run + row) ≡ whole * (run + row) = ap (λ n. n * (run + row)) same in
+          let places : a * row ≡ whole * row = ap (λ n. n * row) same in
+          (λ h. omega arith, λ h. omega arith)
+      | inr (inl less) ↦
+          let rows : a * (run + row) + (run + row) ≤ whole * (run + row) = row_fits a (run + row) whole (run + row) less (omega arith) in
+          let places : a * row + row ≤ whole * row = row_fits a row whole row less (omega arith) in
+          (λ h. omega arith, λ h. omega arith)
+      | inr (inr more) ↦
+          let rows : whole * (run + row) + (run + row) ≤ a * (run + row) = row_fits whole (run + row) a (run + row) more (omega arith) in
+          let places : whole * row + row ≤ a * row = row_fits whole row a row more (omega arith) in
+          (λ h. absurd (omega arith), λ h. absurd (omega arith))
     ]
 
 -- So many sectors of the device have a place on a disk of so many sectors.
@@ -129,8 +129,8 @@ best_provided_is s sectors best h told =
       accepted = record {
         layout = record { version = h.version; flags = h.flags; log2_interleave = h.log2_interleave; log2_spb = h.log2_spb; tag_size = h.tag_size; sections = h.sections };
         provided = (parts.1, omega arith);
-        whole_blocks = eights_whole best s.log2_spb eights h.log2_spb
-      }
+        whole_blocks = eights_whole best s.log2_spb eights h.log2_spb;
+      };
     }
 
 -- Where none are told, the disk can provide none.
@@ -139,8 +139,8 @@ none_provided s sectors have need h told n some whole =
     let g = layout_of s in
     let none = none_told s sectors have need told in
     elim (cases_lt (sector_at g (n - 1)) sectors) [
-      inl inside ↦
-        let most = best_greatest g sectors n some whole (sector_at_in_room g sectors (n - 1) (pow_pos s.log2_interleave) inside) in
-        absurd (omega arith)
-    | inr outside ↦ outside
+      | inl inside ↦
+          let most = best_greatest g sectors n some whole (sector_at_in_room g sectors (n - 1) (pow_pos s.log2_interleave) inside) in
+          absurd (omega arith)
+      | inr outside ↦ outside
     ]

@@ -41,7 +41,7 @@ has_entries shape spb_low spb_high tag_low tag_high =
       entries_is = refl;
       sectors_is = refl;
       sectors_low = omega arith;
-      sectors_high = omega arith
+      sectors_high = omega arith;
     }
 
 -- ---- a geometry
@@ -54,8 +54,8 @@ tag_run_of-high s h =
     let power = pow-le-pow_right {n = 2} (omega arith) {i = s.log2_interleave - s.log2_spb} {j = s.log2_interleave} (omega arith) in
     let bytes : 2 ^ (s.log2_interleave - s.log2_spb) * s.tag_size ≤ 2 ^ s.log2_interleave * 32 = mul-le _ _ _ _ power tag.1 in
     elim (cases_Bool (has_flag FIXED_PADDING s.flags)) [
-      inl set ↦ let e = ap (λ b. round_up (2 ^ (s.log2_interleave - s.log2_spb) * s.tag_size) (cond b 4096 131072) / 512) set in omega arith
-    | inr unset ↦ let e = ap (λ b. round_up (2 ^ (s.log2_interleave - s.log2_spb) * s.tag_size) (cond b 4096 131072) / 512) unset in omega arith
+      | inl set ↦ let e = ap (λ b. round_up (2 ^ (s.log2_interleave - s.log2_spb) * s.tag_size) (cond b 4096 131072) / 512) set in omega arith
+      | inr unset ↦ let e = ap (λ b. round_up (2 ^ (s.log2_interleave - s.log2_spb) * s.tag_size) (cond b 4096 131072) / 512) unset in omega arith
     ]
 
 -- A journal has few enough sections that its sectors can be counted.

@@ -1,10 +1,12 @@
+pub mod Apart
 pub mod BestProvided
 pub mod Bounds
 pub mod FaultLemmas
-pub mod Apart
 pub mod GeometryLemmas
 pub mod GeometryOf
 pub mod Regions
 pub mod SectorLemmas
 pub mod SuperblockLemmas
-pub mod WorkedGeometry
+mod WorkedGeometry
+mod WorkedImages
+mod WorkedSuperblock

@@ -33,9 +33,9 @@ least_from-least passes from (suc count) k low passing =
     cond_both (passes from) from (least_from passes (suc from) count) (λ n. n ≤ k)
     (λ here. low)
     (λ later. elim (cases_eq from k) [
-        inl same ↦ absurd (both_ways (passes from) later (ap passes same ∙ passing))
+      | inl same ↦ absurd (both_ways (passes from) later (ap passes same ∙ passing))
       | inr other ↦ least_from-least passes (suc from) count k (omega (arith, other)) passing
-      ])
+    ])
 
 -- ---- regions
 
@@ -80,7 +80,7 @@ fitting_log2_region_is g sectors h =
     record {
       not_below = least_from-from passes g.log2_region 48;
       fits = leb-true _ _ (least_from-passes passes g.log2_region 48 (le-leb _ _ (omega arith)));
-      least = λ k from fits. least_from-least passes g.log2_region 48 k from (le-leb _ _ fits)
+      least = λ k from fits. least_from-least passes g.log2_region 48 k from (le-leb _ _ fits);
     }
 
 -- It is the given one, or at most 48.

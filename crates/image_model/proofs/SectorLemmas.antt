@@ -105,5 +105,5 @@ bytes_at_read image at zero bytes size reads = no_bytes bytes size
 bytes_at_read image at (suc count) bytes size reads =
     let first : take 512 bytes ≡ image at = reads 0 (omega arith) ∙ ap image (omega arith) in
     let rest = bytes_at_read image (suc at) count (drop 512 bytes) (omega (arith, length-drop 512 bytes))
-        (λ k inside. ap (take 512) (drop-drop (512 * k) 512 bytes ∙ ap (λ n. drop n bytes) (omega arith)) ∙ reads (suc k) (omega arith) ∙ ap image (omega arith)) in
+    (λ k inside. ap (take 512) (drop-drop (512 * k) 512 bytes ∙ ap (λ n. drop n bytes) (omega arith)) ∙ reads (suc k) (omega arith) ∙ ap image (omega arith)) in
     sym (take-append-drop 512 bytes) ∙ ap (λ xs. xs ++ drop 512 bytes) first ∙ ap (λ xs. image at ++ xs) rest

@@ -31,7 +31,7 @@ passes_range low high n h = not_from_true _ (and_from _ _ (le-leb low n h.0) (le
 flag_unset : (flag flags : ℕ) → bit_and (bit_not w32 KNOWN_FLAGS) flag ≡ flag → unknown_flags flags ≡ 0 → has_flag flag flags ≡ false
 flag_unset flag flags outside none =
     let none_here : bit_and flags flag ≡ 0 =
-        ap (bit_and flags) (sym outside) ∙ sym (and_assoc flag flags (bit_not w32 KNOWN_FLAGS)) ∙ ap (λ n. bit_and n flag) none in
+    ap (bit_and flags) (sym outside) ∙ sym (and_assoc flag flags (bit_not w32 KNOWN_FLAGS)) ∙ ap (λ n. bit_and n flag) none in
     not_from_true _ (eq-eqb _ 0 none_here)
 
 -- ---- the fields
@@ -48,26 +48,43 @@ passed_accepted s (version, (mac, (inline, (flags, (interleave, (block, (tag, (s
         log2_interleave = in_range 3 31 s.log2_interleave interleave;
         log2_spb = ltb-false 3 s.log2_spb block;
         tag_size = in_range 1 32 s.tag_size tag;
-        sections = omega (arith, some)
+        sections = omega (arith, some);
       };
       provided = in_range 1 (2 ^ 48) s.provided (not_from_true _ parts.0);
-      whole_blocks = eqb-true _ 0 parts.1
+      whole_blocks = eqb-true _ 0 parts.1;
     }
 
 -- No test refuses accepted fields.
 accepted_passed : (s : Superblock) → IsAccepted s → HasPassed (superblock_faults s)
 accepted_passed s h =
-    let layout = h.layout in
-    (passes_range 1 5 s.version layout.version,
-     (flag_unset HAVE_JOURNAL_MAC s.flags refl layout.flags,
-     (flag_unset INLINE s.flags refl layout.flags,
-     (not_from_true _ (eq-eqb _ 0 layout.flags),
-     (passes_range 3 31 s.log2_interleave layout.log2_interleave,
-     (le-ltb 3 s.log2_spb layout.log2_spb,
-     (passes_range 1 32 s.tag_size layout.tag_size,
-     (ne_eqb s.sections 0 (λ e. let some = layout.sections in omega arith),
-     (not_from_true _ (and_from _ _ (not-false _ (passes_range 1 (2 ^ 48) s.provided h.provided)) (eq-eqb _ 0 h.whole_blocks)),
-     tt)))))))))
+    let layout = h.layout in (
+      passes_range 1 5 s.version layout.version,
+      (
+        flag_unset HAVE_JOURNAL_MAC s.flags refl layout.flags,
+        (
+          flag_unset INLINE s.flags refl layout.flags,
+          (
+            not_from_true _ (eq-eqb _ 0 layout.flags),
+            (
+              passes_range 3 31 s.log2_interleave layout.log2_interleave,
+              (
+                le-ltb 3 s.log2_spb layout.log2_spb,
+                (
+                  passes_range 1 32 s.tag_size layout.tag_size,
+                  (
+                    ne_eqb s.sections 0 (λ e. let some = layout.sections in omega arith),
+                    (
+                      not_from_true _ (and_from _ _ (not-false _ (passes_range 1 (2 ^ 48) s.provided h.provided)) (eq-eqb _ 0 h.whole_blocks)),
+                      tt,
+                    ),
+                  ),
+                ),
+              ),
+            ),
+          ),
+        ),
+      ),
+    )
 
 -- The magic stands exactly where the first eight bytes are its own.
 magic_decides : (bytes : List ℕ) → Decides (starts_with nat_eq bytes magic) (magic ≡ take 8 bytes)
@@ -106,17 +123,18 @@ magic_written s rest = refl
 -- The fields are told exactly where the magic stands and none of them is refused.
 pub superblock_told : ToldLaw
 unfolding superblock_of
-superblock_told bytes s =
-    (λ told.
-        let parts = ok_unless-told ((not (starts_with nat_eq bytes magic), Magic) ∷ superblock_faults (fields_in bytes)) (fields_in bytes) s told in
-        let accepted = passed_accepted (fields_in bytes) parts.1.1 in
-        (sym ((magic_decides bytes).0 (not-false _ parts.1.0)), sym parts.0, subst IsAccepted parts.0 accepted),
-     λ h.
-        let accepted = subst IsAccepted h.1 h.2 in
-        let known = (magic_decides bytes).1 (sym h.0) in
-        ok_unless-passed ((not (starts_with nat_eq bytes magic), Magic) ∷ superblock_faults (fields_in bytes)) (fields_in bytes)
-        (not_from_true _ known, accepted_passed (fields_in bytes) accepted)
-        ∙ ap Ok (sym h.1))
+superblock_told bytes s = (
+  λ told.
+      let parts = ok_unless-told ((not (starts_with nat_eq bytes magic), Magic) ∷ superblock_faults (fields_in bytes)) (fields_in bytes) s told in
+      let accepted = passed_accepted (fields_in bytes) parts.1.1 in
+      (sym ((magic_decides bytes).0 (not-false _ parts.1.0)), sym parts.0, subst IsAccepted parts.0 accepted),
+  λ h.
+      let accepted = subst IsAccepted h.1 h.2 in
+      let known = (magic_decides bytes).1 (sym h.0) in
+      ok_unless-passed ((not (starts_with nat_eq bytes magic), Magic) ∷ superblock_faults (fields_in bytes)) (fields_in bytes)
+      (not_from_true _ known, accepted_passed (fields_in bytes) accepted)
+      ∙ ap Ok (sym h.1),
+)
 
 -- What was written for accepted fields reads as these fields.
 pub superblock_of-superblock_bytes : ReadsBackLaw

@@ -142,8 +142,10 @@ geometry_faults s sectors =
     let need = sector_at g (s.provided - 1) + 1 in
     size_faults g sectors
     ++ (nat_lt sectors need, TooSmall sectors need)
-    ∷ (has_flag DIRTY_BITMAP s.flags && nat_lt (journal_sectors g) (bitmap_sectors g),
-       BitmapTooLarge (bitmap_sectors g) (journal_sectors g))
+    ∷ (
+      has_flag DIRTY_BITMAP s.flags && nat_lt (journal_sectors g) (bitmap_sectors g),
+      BitmapTooLarge (bitmap_sectors g) (journal_sectors g),
+    )
     ∷ []
 
 -- The geometry of the fields on a disk of so many sectors, or the first fault.
