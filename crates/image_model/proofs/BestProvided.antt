@@ -1,14 +1,16 @@
 -- How many sectors a disk can provide.
-use Rattle.std.proofs.Common.{◌≡◌, ◌≢◌, ◌⊎◌, inl, inr, ℕ, zero, suc, ◌+◌, ◌-◌, ◌*◌, ◌/◌, ◌%◌, ◌^◌, ◌<◌, ◌≤◌, Bool, true, false, List, [], ◌∷◌, ◌++◌, Ok, Err, refl, sym, ap, subst, ◌∙◌, arith}
-use Rattle.std.specs.Prelude.{◌==◌}
+use Rattle.std.proofs.Common.{◌≡◌, inl, inr, ℕ, zero, suc, ◌+◌, ◌-◌, ◌*◌, ◌/◌, ◌%◌, ◌^◌, ◌<◌, ◌≤◌, Bool, true, false, [], ◌∷◌, ◌++◌, Ok, Err, refl, sym, ap, subst, ◌∙◌, arith}
+use Rattle.std.specs.Prelude.{◌==◌, IsTrue}
 use Rattle.std.proofs.lemmas.Bool.{cases_order, cases_lt, eqb-false, eqb-true, ltb-false}
 use Rattle.std.proofs.lemmas.Nat.{row_fits, div-add-mod', mod_below, pow_pos}
-use Rattle.std.proofs.Math.Nat.{mul_assoc, mul-mod_left}
-use Rattle.image_model.specs.Superblock.{Superblock, HasLayout, IsAccepted}
-use Rattle.image_model.specs.Geometry.{Geometry, layout_of, journal_sectors, initial, area_at, sector_at, size_faults, best_provided, best_provided_of, DeviceTooLarge, JournalTooLarge, TooSmall}
+use Rattle.std.proofs.Math.Nat.{mul-mod_left}
+use Rattle.image_model.specs.declared.flags.TheConstants.{DIRTY_BITMAP}
+use Rattle.image_model.specs.Superblock.{Superblock, has_flag, HasLayout}
+use Rattle.image_model.specs.Geometry.{Geometry, layout_of, journal_sectors, initial, sector_at, bitmap_sectors_for, size_faults, best_provided, best_provided_of, DeviceTooLarge, JournalTooLarge, TooSmall}
 use Rattle.image_model.specs.Faults.{ok_unless}
-use Rattle.image_model.specs.GeometryLaws.{BestProvidedLaw, NoneProvidedLaw}
+use Rattle.image_model.specs.GeometryLaws.{FitsDisk, BestProvidedLaw, NoneProvidedLaw}
 use Rattle.image_model.proofs.FaultLemmas.{ok_unless-told}
+use Rattle.image_model.proofs.GeometryLemmas.{sector_at-provided}
 
 -- Place o of row a lies in the first `space` places of rows that have `run` places more, exactly where it is one of
 -- those that the whole rows and the last one leave.
@@ -86,14 +88,14 @@ unfolding best_provided
 best_greatest g sectors n some eights inside = omega arith
 
 -- What is told of a disk that can provide sectors.
-best_told : (s : Superblock) (sectors best : ℕ) → best_provided_of s sectors ≡ Ok best → (best_provided (layout_of s) sectors ≡ best) × (1 ≤ best) × (sectors ≤ 2 ^ 48)
+best_told : (s : Superblock) (sectors best : ℕ) → best_provided_of s sectors ≡ Ok best → (best_provided (layout_of s) sectors ≡ best) × (1 ≤ best) × (sectors ≤ 2 ^ 48) × (journal_sectors (layout_of s) ≤ 2 ^ 20)
 unfolding best_provided_of
 best_told s sectors best told =
     let g = layout_of s in
     let parts = ok_unless-told (size_faults g sectors ++ (best_provided g sectors == 0, TooSmall sectors (initial g + g.tag_run + 8)) ∷ []) (best_provided g sectors) best told in
     let some = eqb-false (best_provided g sectors) 0 parts.1.1.1.0 in
     let is = parts.0 in
-    (is, omega (arith, some), ltb-false (2 ^ 48) sectors parts.1.0)
+    (is, omega (arith, some), ltb-false (2 ^ 48) sectors parts.1.0, ltb-false (2 ^ 20) (journal_sectors g) parts.1.1.0)
 
 small_told : (large long small : Bool) (x sectors journal have need told_have told_need : ℕ)
     → ok_unless ((large, DeviceTooLarge sectors) ∷ (long, JournalTooLarge journal) ∷ (small, TooSmall have need) ∷ []) x ≡ Err (TooSmall told_have told_need) → small ≡ true
@@ -144,3 +146,17 @@ none_provided s sectors have need h told n some whole =
           absurd (omega arith)
       | inr outside ↦ outside
     ]
+
+-- The fields with these sectors fit the disk, if the bitmap does.
+pub best_provided-FitsDisk : (s : Superblock) (sectors best : ℕ) → HasLayout s → best_provided_of s sectors ≡ Ok best
+    → (IsTrue (has_flag DIRTY_BITMAP s.flags) → bitmap_sectors_for (best / 2 ^ s.log2_spb) s.log2_region ≤ journal_sectors (layout_of s))
+    → FitsDisk (record s { provided = best }) sectors
+best_provided-FitsDisk s sectors best h told bitmap =
+    let parts = best_told s sectors best told in
+    let is = best_provided_is s sectors best h told in
+    record {
+      device = parts.2;
+      journal = parts.3;
+      last = subst (λ n. n < sectors) (sym (sector_at-provided s best (best - 1))) is.fits;
+      bitmap = bitmap;
+    }

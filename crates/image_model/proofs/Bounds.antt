@@ -1,11 +1,11 @@
 -- How large the numbers of a section and of a geometry can be.
-use Rattle.std.proofs.Common.{◌≡◌, ◌⊎◌, inl, inr, ℕ, zero, suc, ◌+◌, ◌-◌, ◌*◌, ◌/◌, ◌%◌, ◌^◌, ◌<◌, ◌≤◌, cond, refl, sym, ap, subst, ◌∙◌, arith}
+use Rattle.std.proofs.Common.{◌≡◌, inl, inr, ℕ, ◌+◌, ◌-◌, ◌*◌, ◌/◌, ◌%◌, ◌^◌, ◌<◌, ◌≤◌, cond, refl, ap, arith}
 use Rattle.std.proofs.lemmas.Bool.{cases_Bool}
 use Rattle.std.proofs.lemmas.Nat.{le-div, pow_pos, div-add-mod', mod_below, mul-le}
-use Rattle.std.proofs.Math.Nat.{div-le_of_le-mul, div-le_self, div-mul-le_self, mul-le-mul_left, mul-le-mul_right, pow-le-pow_right}
+use Rattle.std.proofs.Math.Nat.{div-le_of_le-mul, div-mul-le_self, mul-le-mul_left, pow-le-pow_right}
 use Rattle.image_model.specs.declared.flags.TheConstants.{FIXED_PADDING}
-use Rattle.image_model.specs.Superblock.{Superblock, has_flag, HasLayout, IsAccepted}
-use Rattle.image_model.specs.Geometry.{Shape, Geometry, round_up, entry_size, entries_per_sector, section_entries, section_sectors, tag_run_of, layout_of, journal_sectors, initial, sector_at, IsGeometry}
+use Rattle.image_model.specs.Superblock.{Superblock, has_flag, HasLayout}
+use Rattle.image_model.specs.Geometry.{Shape, round_up, entry_size, entries_per_sector, section_entries, section_sectors, tag_run_of, layout_of, journal_sectors, sector_at}
 
 -- ---- a section
 

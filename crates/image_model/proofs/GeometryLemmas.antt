@@ -1,10 +1,11 @@
 -- Lemmas on the words of specs/Geometry.antt.
-use Rattle.std.proofs.Common.{◌≡◌, ◌≢◌, ◌⊎◌, inl, inr, ℕ, zero, suc, ◌+◌, ◌-◌, ◌*◌, ◌/◌, ◌%◌, ◌^◌, ◌<◌, ◌≤◌, Bool, true, false, not, Ok, refl, sym, ap, subst, ◌∙◌, arith}
+use Rattle.std.proofs.Common.{◌≡◌, ◌≢◌, ◌⊎◌, inl, inr, ℕ, zero, suc, ◌+◌, ◌-◌, ◌*◌, ◌/◌, ◌%◌, ◌<◌, ◌≤◌, refl, sym, ap, subst, ◌∙◌, arith}
 use Rattle.std.proofs.lemmas.Bool.{cases_order}
 use Rattle.std.proofs.lemmas.Nat.{row_fits, div-mul-add, mod-mul-add, div-add-mod', mod_below}
-use Rattle.std.proofs.Math.Nat.{mul_assoc, add-mul, mul-div_cancel}
-use Rattle.image_model.specs.Superblock.{Superblock, IsAccepted, HasLayout}
-use Rattle.image_model.specs.Geometry.{Shape, Geometry, entry_size, entries_per_sector, section_entries, section_sectors, tag_run_of, layout_of, section_at, journal_sectors, initial, area_at, sector_at, data_at, tag_offset, tag_at, regions_for, bitmap_sectors_for, geometry_of, IsGeometry}
+use Rattle.std.proofs.Math.Nat.{mul-div_cancel}
+use Rattle.image_model.specs.Superblock.{Superblock}
+use Rattle.image_model.specs.Geometry.{Geometry, section_sectors, tag_run_of, layout_of, section_at, initial, area_at, sector_at, data_at, tag_at}
+use Rattle.image_model.specs.GeometryLaws.{IsGeometry}
 
 -- ---- where a block lies in its area
 
@@ -40,7 +41,7 @@ sector_at-block g b blocks j some whole inside =
     omega (arith, sector_at-is g b blocks j some whole inside, data_at-is g b blocks some whole (omega arith))
 
 tag_at-is : (g : Geometry) (b blocks : ℕ) → 0 < blocks → g.interleave ≡ blocks * g.shape.spb → 0 < g.shape.spb → 512 * (tag_at g b).0 + (tag_at g b).1 ≡ 512 * area_at g (b / blocks) + b % blocks * g.shape.tag_size
-unfolding tag_at tag_offset
+unfolding tag_at
 tag_at-is g b blocks some whole positive =
     let at = sector_of_block b g.shape.spb blocks 0 some positive in
     let here : b * g.shape.spb ≡ b * g.shape.spb + 0 = omega arith in
@@ -153,7 +154,7 @@ data_at-inside g sectors b h inside =
 -- The byte where a tag begins is one of its sector.
 tag_at-byte : (g : Geometry) (b : ℕ) → (tag_at g b).1 < 512
 unfolding tag_at
-tag_at-byte g b = mod_below (tag_offset g b) 512 (omega arith)
+tag_at-byte g b = mod_below (b * g.shape.spb % g.interleave / g.shape.spb * g.shape.tag_size) 512 (omega arith)
 
 -- The tag of a block begins behind the journal, and ends on the disk, where the data of its area begin or before.
 pub tag_at-inside : (g : Geometry) (sectors b : ℕ) → IsGeometry g sectors → b < g.blocks → (initial g ≤ (tag_at g b).0) × (512 * (tag_at g b).0 + (tag_at g b).1 + g.shape.tag_size ≤ 512 * data_at g b) × ((tag_at g b).1 < 512)
@@ -164,3 +165,21 @@ tag_at-inside g sectors b h inside =
     let ends = p.tag_ends in
     let after = p.data_is in
     (omega arith, omega arith, low)
+
+-- A sector with a byte of a tag holds no data.
+pub tag_sector-no_data : (g : Geometry) (sectors b c sector k : ℕ) → IsGeometry g sectors → 512 * (tag_at g b).0 + (tag_at g b).1 < 512 * (sector + 1) → 512 * sector < 512 * (tag_at g b).0 + (tag_at g b).1 + g.shape.tag_size → k < g.shape.spb → sector ≢ data_at g c + k
+tag_sector-no_data g sectors b c sector k h begins ends inside same =
+    elim (tag_and_data g b c (placed g sectors b h) (placed g sectors c h)) [ inl before ↦ omega arith | inr behind ↦ omega arith ]
+
+-- How many sectors are provided changes no place.
+pub sector_at-provided : (s : Superblock) (provided x : ℕ) → sector_at (layout_of (record s { provided = provided })) x ≡ sector_at (layout_of s) x
+unfolding sector_at tag_run_of
+sector_at-provided s provided x = refl
+
+pub data_at-provided : (s : Superblock) (provided b : ℕ) → data_at (layout_of (record s { provided = provided })) b ≡ data_at (layout_of s) b
+unfolding data_at sector_at tag_run_of
+data_at-provided s provided b = refl
+
+pub tag_at-provided : (s : Superblock) (provided b : ℕ) → tag_at (layout_of (record s { provided = provided })) b ≡ tag_at (layout_of s) b
+unfolding tag_at tag_run_of
+tag_at-provided s provided b = refl

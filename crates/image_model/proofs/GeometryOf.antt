@@ -1,13 +1,13 @@
 -- What the geometry of accepted fields has.
-use Rattle.std.proofs.Common.{◌≡◌, ◌⊎◌, inl, inr, ℕ, zero, suc, ◌+◌, ◌-◌, ◌*◌, ◌/◌, ◌%◌, ◌^◌, ◌<◌, ◌≤◌, Bool, true, false, cond, List, [], ◌∷◌, ◌++◌, Ok, refl, sym, ap, subst, ◌∙◌, arith}
-use Rattle.std.specs.Prelude.{nat_lt, ◌&&◌, if◌then◌else◌}
+use Rattle.std.proofs.Common.{◌≡◌, inl, inr, ℕ, zero, suc, ◌+◌, ◌-◌, ◌*◌, ◌/◌, ◌^◌, ◌≤◌, Bool, true, false, cond, Ok, refl, sym, ap, subst, ◌∙◌, arith}
+use Rattle.std.specs.Prelude.{◌&&◌}
 use Rattle.std.proofs.lemmas.Bool.{ltb-false, le-ltb, cases_Bool}
-use Rattle.std.proofs.lemmas.Nat.{pow_pos, pow-add, le-div, div-add-mod', div-mul-add}
+use Rattle.std.proofs.lemmas.Nat.{pow_pos, pow-add, div-add-mod'}
 use Rattle.std.proofs.Math.Nat.{pow-le-pow_right, mul-div_cancel}
-use Rattle.image_model.specs.declared.flags.TheConstants.{DIRTY_BITMAP, FIXED_PADDING}
-use Rattle.image_model.specs.Superblock.{Superblock, has_flag, HasLayout, IsAccepted}
-use Rattle.image_model.specs.Geometry.{Geometry, round_up, section_sectors, tag_run_of, layout_of, journal_sectors, initial, area_at, sector_at, data_at, bitmap_sectors, size_faults, geometry_of, IsGeometry, geometry_faults}
-use Rattle.image_model.specs.GeometryLaws.{FitsDisk, GivenLaw, ApartLaw}
+use Rattle.image_model.specs.declared.flags.TheConstants.{FIXED_PADDING}
+use Rattle.image_model.specs.Superblock.{Superblock, has_flag, IsAccepted}
+use Rattle.image_model.specs.Geometry.{round_up, tag_run_of, layout_of, journal_sectors, sector_at, data_at, bitmap_sectors, geometry_of, geometry_faults}
+use Rattle.image_model.specs.GeometryLaws.{FitsDisk, IsGeometry, GivenLaw, ApartLaw}
 use Rattle.image_model.proofs.FaultLemmas.{HasPassed, ok_unless-told, ok_unless-passed}
 use Rattle.image_model.proofs.Apart.{lies_apart}
 use Rattle.image_model.proofs.GeometryLemmas.{sector_at-block}

@@ -1,6 +1,6 @@
 -- Lemmas on the words of specs/Superblock.antt.
-use Rattle.std.proofs.Common.{◌≡◌, ℕ, zero, suc, ◌+◌, ◌-◌, ◌*◌, ◌^◌, ◌%◌, ◌<◌, ◌≤◌, Bool, true, false, not, ◌&&◌, List, [], ◌∷◌, ◌++◌, length, take, drop, slice_index, Ok, refl, sym, ap, subst, ◌∙◌, arith, bit_and}
-use Rattle.std.proofs.lemmas.Bool.{not-false, not_from_true, leb-true, le-leb, le-ltb, and_parts, and_from, ltb-false, eqb-true, eqb-false, eq-eqb, ne_eqb}
+use Rattle.std.proofs.Common.{◌≡◌, ℕ, ◌^◌, ◌<◌, ◌≤◌, max, false, not, List, [], ◌∷◌, ◌++◌, length, take, slice_index, Ok, refl, sym, ap, subst, ◌∙◌, arith, bit_and}
+use Rattle.std.proofs.lemmas.Bool.{cond_both, not-false, not_from_true, leb-true, le-leb, le-ltb, and_parts, and_from, ltb-false, eqb-true, eqb-false, eq-eqb, ne_eqb}
 use Rattle.std.proofs.lemmas.List.{take_at}
 use Rattle.std.proofs.lemmas.Nat.{and_assoc}
 use Rattle.std.proofs.Math.Nat.{mod-eq_of_lt}
@@ -10,11 +10,10 @@ use Rattle.std.specs.Bool.{Decides}
 use Rattle.std.proofs.lemmas.Bool.Decides.{Decides-eqb}
 use Rattle.std.proofs.lemmas.Slice.Eq.{slice_eq-Decides}
 use Rattle.std.specs.Int.{w32, bit_not, is_in_range, IsInRange}
-use Rattle.image_model.specs.declared.flags.TheConstants.{HAVE_JOURNAL_MAC, INLINE, KNOWN_FLAGS}
-use Rattle.image_model.specs.Superblock.{Superblock, has_flag, unknown_flags, is_provided, superblock_faults, magic, fields_in, superblock_of, superblock_bytes, HasLayout, IsAccepted, FitsBytes, Magic}
+use Rattle.image_model.specs.declared.flags.TheConstants.{HAVE_JOURNAL_MAC, RECALCULATING, DIRTY_BITMAP, FIXED_PADDING, FIXED_HMAC, INLINE, KNOWN_FLAGS}
+use Rattle.image_model.specs.Superblock.{Superblock, has_flag, unknown_flags, is_provided, superblock_faults, magic, fields_in, superblock_of, superblock_bytes, version_for, IsAccepted, FitsBytes, Magic}
 use Rattle.image_model.specs.SuperblockLaws.{ToldLaw, ReadsBackLaw, WrittenLaw}
-use Rattle.image_model.specs.Faults.{ok_unless}
-use Rattle.image_model.proofs.SectorLemmas.{number_in-bytes_of}
+use Rattle.image_model.proofs.SectorLemmas.{number_in-bytes_of, number_in-lt, length-piece}
 use Rattle.image_model.proofs.FaultLemmas.{HasPassed, ok_unless-told, ok_unless-passed}
 
 -- ---- tests and what they tell
@@ -28,7 +27,7 @@ passes_range : (low high n : ℕ) → IsInRange low high n → not (is_in_range 
 passes_range low high n h = not_from_true _ (and_from _ _ (le-leb low n h.0) (le-leb n high h.1))
 
 -- A flag outside the known ones is not set where no unknown one is.
-flag_unset : (flag flags : ℕ) → bit_and (bit_not w32 KNOWN_FLAGS) flag ≡ flag → unknown_flags flags ≡ 0 → has_flag flag flags ≡ false
+pub flag_unset : (flag flags : ℕ) → bit_and (bit_not w32 KNOWN_FLAGS) flag ≡ flag → unknown_flags flags ≡ 0 → has_flag flag flags ≡ false
 flag_unset flag flags outside none =
     let none_here : bit_and flags flag ≡ 0 =
     ap (bit_and flags) (sym outside) ∙ sym (and_assoc flag flags (bit_not w32 KNOWN_FLAGS)) ∙ ap (λ n. bit_and n flag) none in
@@ -146,3 +145,23 @@ superblock_of-superblock_bytes s rest h fits =
 pub length-superblock_bytes : WrittenLaw
 unfolding superblock_bytes
 length-superblock_bytes s fits = omega (arith, fits.salt)
+
+-- What stands in bytes fits them.
+pub FitsBytes-fields_in : (bytes : List ℕ) → 64 ≤ length bytes → ((k : ℕ) → slice_index bytes k < 256) → FitsBytes (fields_in bytes)
+unfolding fields_in
+FitsBytes-fields_in bytes long low = record {
+  sections = number_in-lt bytes 12 4 low;
+  flags = number_in-lt bytes 24 4 low;
+  log2_region = low 29;
+  recalc_sector = number_in-lt bytes 32 8 low;
+  salt = length-piece bytes 48 16 (omega arith);
+}
+
+-- A version that is written is one that is accepted, and none below the version read.
+pub version_for-accepted : (version flags : ℕ) → IsInRange 1 5 version → IsInRange 1 5 (version_for version flags) × (version ≤ version_for version flags)
+version_for-accepted version flags h =
+    let in_range : ℕ → Type 0 = λ n. IsInRange 1 5 (max version n) × (version ≤ max version n) in
+    cond_both (has_flag FIXED_HMAC flags) 5 _ in_range (λ set. ((omega arith, omega arith), omega arith))
+    (λ unset. cond_both (has_flag FIXED_PADDING flags) 4 _ in_range (λ set. ((omega arith, omega arith), omega arith))
+    (λ unset. cond_both (has_flag DIRTY_BITMAP flags) 3 _ in_range (λ set. ((omega arith, omega arith), omega arith))
+    (λ unset. cond_both (has_flag RECALCULATING flags) 2 1 in_range (λ set. ((omega arith, omega arith), omega arith)) (λ unset. ((omega arith, omega arith), omega arith)))))

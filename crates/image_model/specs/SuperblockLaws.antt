@@ -1,5 +1,5 @@
 -- What holds of every superblock.
-use Rattle.std.specs.Prelude.{◌≡◌, ◌↔◌, ℕ, ◌≤◌, List, ◌++◌, length, take, Ok}
+use Rattle.std.specs.Prelude.{◌≡◌, ◌↔◌, ℕ, List, ◌++◌, length, take, Ok}
 use Rattle.image_model.specs.Superblock.{Superblock, magic, fields_in, superblock_of, superblock_bytes, IsAccepted, FitsBytes}
 
 -- What was written for accepted fields reads as these fields, whatever bytes follow.
