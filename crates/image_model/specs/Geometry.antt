@@ -64,10 +64,11 @@ layout_of s = record {
 }
 
 -- The sector of the disk where section i of the journal begins. The superblock has sectors 0 to 7.
--- Source: access_journal.
+-- Source: rw_journal and rw_journal_sectors.
 abbrev pub section_at : Geometry → ℕ → ℕ
 section_at g i = 8 + i * section_sectors g.shape
 
+-- The sectors of the journal.
 abbrev pub journal_sectors : Geometry → ℕ
 journal_sectors g = g.sections * section_sectors g.shape
 
@@ -99,16 +100,19 @@ tag_at g b =
 abbrev pub region_of : Geometry → ℕ → ℕ
 region_of g b = b / 2 ^ g.log2_region
 
+-- So many blocks make so many regions, of which the last may be cut short.
 unfoldable pub regions_for : ℕ → ℕ → ℕ
 regions_for blocks log2_region = quotient_up blocks (2 ^ log2_region)
 
--- One bit a region, in groups of 4096 bytes. Source: BITMAP_BLOCK_SIZE.
+-- The sectors of their bitmap, which has one bit a region, in groups of 4096 bytes. Source: BITMAP_BLOCK_SIZE.
 unfoldable pub bitmap_sectors_for : ℕ → ℕ → ℕ
 bitmap_sectors_for blocks log2_region = 8 * quotient_up (regions_for blocks log2_region) 32768
 
+-- The regions of the device.
 abbrev pub regions : Geometry → ℕ
 regions g = regions_for g.blocks g.log2_region
 
+-- The sectors of the bitmap, which begins where the journal does.
 abbrev pub bitmap_sectors : Geometry → ℕ
 bitmap_sectors g = bitmap_sectors_for g.blocks g.log2_region
 
@@ -135,17 +139,15 @@ size_faults g sectors =
     ∷ (nat_lt (2 ^ 20) (journal_sectors g), JournalTooLarge (journal_sectors g))
     ∷ []
 
--- Those and the faults by where the data and the bitmap end.
+-- Those, and the faults by where the data and the bitmap end.
 abbrev pub geometry_faults : Superblock → ℕ → List (Bool × GeometryFault)
 geometry_faults s sectors =
     let g = layout_of s in
     let need = sector_at g (s.provided - 1) + 1 in
+    let has_long_bitmap = has_flag DIRTY_BITMAP s.flags && nat_lt (journal_sectors g) (bitmap_sectors g) in
     size_faults g sectors
     ++ (nat_lt sectors need, TooSmall sectors need)
-    ∷ (
-      has_flag DIRTY_BITMAP s.flags && nat_lt (journal_sectors g) (bitmap_sectors g),
-      BitmapTooLarge (bitmap_sectors g) (journal_sectors g),
-    )
+    ∷ (has_long_bitmap, BitmapTooLarge (bitmap_sectors g) (journal_sectors g))
     ∷ []
 
 -- The geometry of the fields on a disk of so many sectors, or the first fault.
