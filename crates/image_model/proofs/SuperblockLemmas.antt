@@ -1,5 +1,5 @@
 -- Lemmas on the words of specs/Superblock.antt.
-use Rattle.std.proofs.Common.{◌≡◌, ℕ, ◌^◌, ◌<◌, ◌≤◌, max, false, not, List, [], ◌∷◌, ◌++◌, length, take, slice_index, Ok, refl, sym, ap, subst, ◌∙◌, arith, bit_and}
+use Rattle.std.proofs.Common.{◌≡◌, ℕ, ◌^◌, ◌<◌, ◌≤◌, max, true, false, not, List, [], ◌∷◌, ◌++◌, length, take, slice_index, Ok, Err, refl, sym, ap, subst, ◌∙◌, arith, bit_and}
 use Rattle.std.proofs.lemmas.Bool.{cond_both, not-false, not_from_true, leb-true, le-leb, le-ltb, and_parts, and_from, ltb-false, eqb-true, eqb-false, eq-eqb, ne_eqb}
 use Rattle.std.proofs.lemmas.List.{take_at}
 use Rattle.std.proofs.lemmas.Nat.{and_assoc}
@@ -12,6 +12,7 @@ use Rattle.std.proofs.lemmas.Slice.Eq.{slice_eq-Decides}
 use Rattle.std.specs.Int.{w32, bit_not, is_in_range, IsInRange}
 use Rattle.image_model.specs.declared.flags.TheConstants.{HAVE_JOURNAL_MAC, RECALCULATING, DIRTY_BITMAP, FIXED_PADDING, FIXED_HMAC, INLINE, KNOWN_FLAGS}
 use Rattle.image_model.specs.Superblock.{Superblock, has_flag, unknown_flags, is_provided, superblock_faults, magic, fields_in, superblock_of, superblock_bytes, version_for, IsAccepted, Magic}
+use Rattle.image_model.specs.Faults.{ok_unless}
 use Rattle.image_model.specs.SuperblockLaws.{FitsBytes, ToldLaw, ReadsBackLaw, WrittenLaw}
 use Rattle.image_model.proofs.SectorLemmas.{number_in-bytes_of, number_in-lt, length-piece}
 use Rattle.image_model.proofs.FaultLemmas.{HasPassed, ok_unless-told, ok_unless-passed}
@@ -134,6 +135,16 @@ superblock_told bytes s = (
       (not_from_true _ known, accepted_passed (fields_in bytes) accepted)
       ∙ ap Ok (sym h.1),
 )
+
+-- Without the magic nothing else is looked at.
+pub superblock_of-no_magic : (bytes : List ℕ) → starts_with nat_eq bytes magic ≡ false → superblock_of bytes ≡ Err Magic
+unfolding superblock_of
+superblock_of-no_magic bytes missing = ap (λ known. ok_unless ((not known, Magic) ∷ superblock_faults (fields_in bytes)) (fields_in bytes)) missing
+
+-- With it the fields are judged.
+pub superblock_of-magic : (bytes : List ℕ) → starts_with nat_eq bytes magic ≡ true → superblock_of bytes ≡ ok_unless (superblock_faults (fields_in bytes)) (fields_in bytes)
+unfolding superblock_of
+superblock_of-magic bytes known = ap (λ known. ok_unless ((not known, Magic) ∷ superblock_faults (fields_in bytes)) (fields_in bytes)) known
 
 -- What was written for accepted fields reads as these fields.
 pub superblock_of-superblock_bytes : ReadsBackLaw
