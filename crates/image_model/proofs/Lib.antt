@@ -7,6 +7,6 @@ pub mod GeometryOf
 pub mod Regions
 pub mod SectorLemmas
 pub mod SuperblockLemmas
-mod WorkedGeometry
 mod WorkedImages
 mod WorkedSuperblock
+pub mod WorkedGeometry
