@@ -2,8 +2,8 @@
 use Rattle.std.proofs.Common.{◌≢◌, ◌⊎◌, inl, inr, ℕ, ◌*◌, ◌<◌, ◌≤◌, refl, ap, arith}
 use Rattle.std.proofs.Math.Logic.{⊎_swap}
 use Rattle.std.proofs.lemmas.Bool.{cases_order}
-use Rattle.image_model.specs.Geometry.{Geometry}
-use Rattle.image_model.specs.GeometryLaws.{IsGeometry, Part, Head, Section, TagOf, DataOf, IsPart, first_byte, end_byte, LiesApart}
+use Rattle.image_model.specs.Geometry.{IsGeometry, Geometry}
+use Rattle.image_model.specs.GeometryLaws.{Part, Head, Section, TagOf, DataOf, IsPart, first_byte, end_byte, LiesApart}
 use Rattle.image_model.proofs.GeometryLemmas.{placed, data_in_order, tags_in_order, tag_and_data, section_at-lt, data_at-inside, tag_at-inside}
 
 abbrev IsApart : Geometry → Part → Part → Type 0

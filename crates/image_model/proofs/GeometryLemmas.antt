@@ -4,8 +4,7 @@ use Rattle.std.proofs.lemmas.Bool.{cases_order}
 use Rattle.std.proofs.lemmas.Nat.{row_fits, div-mul-add, mod-mul-add, div-add-mod', mod_below}
 use Rattle.std.proofs.Math.Nat.{mul-div_cancel}
 use Rattle.image_model.specs.Superblock.{Superblock}
-use Rattle.image_model.specs.Geometry.{Geometry, section_sectors, tag_run_of, layout_of, section_at, initial, area_at, sector_at, data_at, tag_at}
-use Rattle.image_model.specs.GeometryLaws.{IsGeometry}
+use Rattle.image_model.specs.Geometry.{Geometry, IsGeometry, section_sectors, tag_run_of, layout_of, section_at, initial, area_at, sector_at, data_at, tag_offset, tag_at}
 
 -- ---- where a block lies in its area
 
@@ -41,7 +40,7 @@ sector_at-block g b blocks j some whole inside =
     omega (arith, sector_at-is g b blocks j some whole inside, data_at-is g b blocks some whole (omega arith))
 
 tag_at-is : (g : Geometry) (b blocks : ℕ) → 0 < blocks → g.interleave ≡ blocks * g.shape.spb → 0 < g.shape.spb → 512 * (tag_at g b).0 + (tag_at g b).1 ≡ 512 * area_at g (b / blocks) + b % blocks * g.shape.tag_size
-unfolding tag_at
+unfolding tag_at tag_offset
 tag_at-is g b blocks some whole positive =
     let at = sector_of_block b g.shape.spb blocks 0 some positive in
     let here : b * g.shape.spb ≡ b * g.shape.spb + 0 = omega arith in
@@ -153,7 +152,7 @@ data_at-inside g sectors b h inside =
 
 -- The byte where a tag begins is one of its sector.
 tag_at-byte : (g : Geometry) (b : ℕ) → (tag_at g b).1 < 512
-unfolding tag_at
+unfolding tag_at tag_offset
 tag_at-byte g b = mod_below (b * g.shape.spb % g.interleave / g.shape.spb * g.shape.tag_size) 512 (omega arith)
 
 -- The tag of a block begins behind the journal, and ends on the disk, where the data of its area begin or before.

@@ -6,8 +6,8 @@ use Rattle.std.proofs.lemmas.Nat.{pow_pos, pow-add, div-add-mod'}
 use Rattle.std.proofs.Math.Nat.{pow-le-pow_right, mul-div_cancel}
 use Rattle.image_model.specs.declared.flags.TheConstants.{FIXED_PADDING}
 use Rattle.image_model.specs.Superblock.{Superblock, has_flag, IsAccepted}
-use Rattle.image_model.specs.Geometry.{round_up, tag_run_of, layout_of, journal_sectors, sector_at, data_at, bitmap_sectors, geometry_of, geometry_faults}
-use Rattle.image_model.specs.GeometryLaws.{FitsDisk, IsGeometry, GivenLaw, ApartLaw}
+use Rattle.image_model.specs.Geometry.{IsGeometry, round_up, tag_run_of, layout_of, journal_sectors, sector_at, data_at, bitmap_sectors, geometry_of, geometry_faults}
+use Rattle.image_model.specs.GeometryLaws.{FitsDisk, GivenLaw, ApartLaw}
 use Rattle.image_model.proofs.FaultLemmas.{HasPassed, ok_unless-told, ok_unless-passed}
 use Rattle.image_model.proofs.Apart.{lies_apart}
 use Rattle.image_model.proofs.GeometryLemmas.{sector_at-block}

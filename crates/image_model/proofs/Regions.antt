@@ -5,8 +5,8 @@ use Rattle.std.proofs.lemmas.Bool.{cond_both, both_ways, cases_eq, leb-true, le-
 use Rattle.std.proofs.lemmas.Nat.{row_fits, pow_pos, div-add-mod', mod_below}
 use Rattle.std.proofs.Math.Nat.{add-div_right, div-eq_of_lt-le, div-mul-le_self, mul-le-mul_left, mul-le-mul_right, pow-le-pow_right}
 use Rattle.std.proofs.Math.Pow.{shr_mono}
-use Rattle.image_model.specs.Geometry.{Geometry, quotient_up, section_sectors, journal_sectors, data_at, regions_for, bitmap_sectors_for, regions, bitmap_sectors, region_of, least_from, fitting_log2_region}
-use Rattle.image_model.specs.GeometryLaws.{IsGeometry, IsFitting, FittingLaw}
+use Rattle.image_model.specs.Geometry.{Geometry, IsGeometry, quotient_up, section_sectors, journal_sectors, data_at, regions_for, bitmap_sectors_for, regions, bitmap_sectors, region_of, least_from, fitting_log2_region}
+use Rattle.image_model.specs.GeometryLaws.{IsFitting, FittingLaw}
 use Rattle.image_model.proofs.BestProvided.{sector_at-le}
 
 -- ---- the least number that passes

@@ -1,6 +1,6 @@
 -- Where the journal, the tags and the data lie on a disk, and which blocks of the device make a region.
 -- Source: Linux, Documentation/admin-guide/device-mapper/dm-integrity.rst, and drivers/md/dm-integrity.c, by function.
-use Rattle.std.specs.Prelude.{ℕ, zero, suc, ◌+◌, ◌-◌, ◌*◌, ◌/◌, ◌%◌, ◌^◌, Bool, ◌&&◌, ◌==◌, nat_le, nat_lt, if◌then◌else◌, List, [], ◌∷◌, ◌++◌, Result}
+use Rattle.std.specs.Prelude.{◌≡◌, ◌≤◌, ℕ, zero, suc, ◌+◌, ◌-◌, ◌*◌, ◌/◌, ◌%◌, ◌^◌, Bool, ◌&&◌, ◌==◌, nat_le, nat_lt, if◌then◌else◌, List, [], ◌∷◌, ◌++◌, Result}
 use Rattle.image_model.specs.declared.flags.TheConstants.{DIRTY_BITMAP, FIXED_PADDING}
 use Rattle.image_model.specs.Faults.{ok_unless}
 use Rattle.image_model.specs.Superblock.{Superblock, has_flag}
@@ -88,13 +88,13 @@ sector_at g x = area_at g (x / g.interleave) + g.tag_run + x % g.interleave
 unfoldable pub data_at : Geometry → ℕ → ℕ
 data_at g b = sector_at g (b * g.shape.spb)
 
--- The sector of the disk where the tag of block b begins, and the byte in it. The tags of an area stand in the order of its
--- blocks, so that some straddle two sectors. Source: get_metadata_sector_and_offset.
+-- The byte of its area's tags where the tag of block b begins.
+unfoldable pub tag_offset : Geometry → ℕ → ℕ
+tag_offset g b = b * g.shape.spb % g.interleave / g.shape.spb * g.shape.tag_size
+
+-- The sector of the disk where the tag of block b begins, and the byte in it. Source: get_metadata_sector_and_offset.
 unfoldable pub tag_at : Geometry → ℕ → ℕ × ℕ
-tag_at g b =
-    let x = b * g.shape.spb in
-    let byte = x % g.interleave / g.shape.spb * g.shape.tag_size in
-    (area_at g (x / g.interleave) + byte / 512, byte % 512)
+tag_at g b = (area_at g (b * g.shape.spb / g.interleave) + tag_offset g b / 512, tag_offset g b % 512)
 
 -- The region of block b.
 abbrev pub region_of : Geometry → ℕ → ℕ
@@ -167,3 +167,17 @@ best_provided_of s sectors =
     let g = layout_of s in
     let best = best_provided g sectors in
     ok_unless (size_faults g sectors ++ (best == 0, TooSmall sectors (initial g + g.tag_run + 8)) ∷ []) best
+
+-- What holds of each geometry that is given: an area has whole blocks and room for their tags, and the last block is on
+-- the disk of so many sectors.
+pub record IsGeometry (g : Geometry) (sectors : ℕ) : Type 0 where
+  pub spb : (1 ≤ g.shape.spb) × (g.shape.spb ≤ 8)
+  pub tag_size : (1 ≤ g.shape.tag_size) × (g.shape.tag_size ≤ 32)
+  pub sections : 1 ≤ g.sections
+  pub whole_blocks : g.interleave ≡ g.interleave / g.shape.spb * g.shape.spb
+  pub interleave : 8 ≤ g.interleave
+  pub tags : g.interleave / g.shape.spb * g.shape.tag_size ≤ 512 * g.tag_run
+  pub blocks : 1 ≤ g.blocks
+  pub last : data_at g (g.blocks - 1) + g.shape.spb ≤ sectors
+  pub device : sectors ≤ 2 ^ 48
+  pub journal : journal_sectors g ≤ 2 ^ 20

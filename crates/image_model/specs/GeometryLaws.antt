@@ -2,7 +2,7 @@
 use Rattle.std.specs.Prelude.{◌≡◌, ◌≢◌, ◌⊎◌, ℕ, ◌+◌, ◌-◌, ◌*◌, ◌/◌, ◌%◌, ◌^◌, ◌<◌, ◌≤◌, ⊤, IsTrue, ◌↔◌, Ok, Err}
 use Rattle.image_model.specs.declared.flags.TheConstants.{DIRTY_BITMAP}
 use Rattle.image_model.specs.Superblock.{Superblock, has_flag, HasLayout, IsAccepted}
-use Rattle.image_model.specs.Geometry.{Geometry, section_sectors, layout_of, section_at, journal_sectors, sector_at, data_at, tag_at, bitmap_sectors, bitmap_sectors_for, fitting_log2_region, geometry_of, best_provided_of, TooSmall}
+use Rattle.image_model.specs.Geometry.{Geometry, IsGeometry, section_sectors, layout_of, section_at, journal_sectors, sector_at, data_at, tag_at, bitmap_sectors, bitmap_sectors_for, fitting_log2_region, geometry_of, best_provided_of, TooSmall}
 
 -- The geometry of the fields has room on a disk of so many sectors.
 pub record FitsDisk (s : Superblock) (sectors : ℕ) : Type 0 where
@@ -14,20 +14,6 @@ pub record FitsDisk (s : Superblock) (sectors : ℕ) : Type 0 where
 -- A geometry is given exactly where it is the fields' own and has room.
 abbrev pub GivenLaw : Type 0
 GivenLaw = (s : Superblock) (sectors : ℕ) (g : Geometry) → (geometry_of s sectors ≡ Ok g) ↔ ((g ≡ layout_of s) × FitsDisk s sectors)
-
--- What holds of each geometry that is given: an area has whole blocks and room for their tags, and the last block is on
--- the disk of so many sectors.
-pub record IsGeometry (g : Geometry) (sectors : ℕ) : Type 0 where
-  pub spb : (1 ≤ g.shape.spb) × (g.shape.spb ≤ 8)
-  pub tag_size : (1 ≤ g.shape.tag_size) × (g.shape.tag_size ≤ 32)
-  pub sections : 1 ≤ g.sections
-  pub whole_blocks : g.interleave ≡ g.interleave / g.shape.spb * g.shape.spb
-  pub interleave : 8 ≤ g.interleave
-  pub tags : g.interleave / g.shape.spb * g.shape.tag_size ≤ 512 * g.tag_run
-  pub blocks : 1 ≤ g.blocks
-  pub last : data_at g (g.blocks - 1) + g.shape.spb ≤ sectors
-  pub device : sectors ≤ 2 ^ 48
-  pub journal : journal_sectors g ≤ 2 ^ 20
 
 -- What takes bytes of the disk: the superblock, a section of the journal, and of each block its tag and its data.
 pub data Part : Type 0 where
