@@ -180,5 +180,5 @@ unfolding data_at sector_at tag_run_of
 data_at-provided s provided b = refl
 
 pub tag_at-provided : (s : Superblock) (provided b : ℕ) → tag_at (layout_of (record s { provided = provided })) b ≡ tag_at (layout_of s) b
-unfolding tag_at tag_run_of
+unfolding tag_at tag_offset tag_run_of
 tag_at-provided s provided b = refl
