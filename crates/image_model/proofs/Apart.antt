@@ -1,8 +1,8 @@
 -- The parts of a disk lie apart.
-use Rattle.std.proofs.Common.{◌≡◌, ◌≢◌, ◌⊎◌, inl, inr, ℕ, ◌+◌, ◌*◌, ◌<◌, ◌≤◌, refl, ap, arith}
+use Rattle.std.proofs.Common.{◌≢◌, ◌⊎◌, inl, inr, ℕ, ◌*◌, ◌<◌, ◌≤◌, refl, ap, arith}
 use Rattle.std.proofs.Math.Logic.{⊎_swap}
 use Rattle.std.proofs.lemmas.Bool.{cases_order}
-use Rattle.image_model.specs.Geometry.{Geometry, section_sectors, section_at, data_at, tag_at, IsGeometry}
+use Rattle.image_model.specs.Geometry.{IsGeometry, Geometry}
 use Rattle.image_model.specs.GeometryLaws.{Part, Head, Section, TagOf, DataOf, IsPart, first_byte, end_byte, LiesApart}
 use Rattle.image_model.proofs.GeometryLemmas.{placed, data_in_order, tags_in_order, tag_and_data, section_at-lt, data_at-inside, tag_at-inside}
 
@@ -12,25 +12,25 @@ IsApart g p q = (end_byte g p ≤ first_byte g q) ⊎ (end_byte g q ≤ first_by
 sections_apart : (g : Geometry) (i k : ℕ) → i ≢ k → IsApart g (Section i) (Section k)
 sections_apart g i k other =
     elim (cases_order i k) [
-      inl same ↦ absurd (other same)
-    | inr (inl less) ↦ let before = section_at-lt g i k less in inl (omega arith)
-    | inr (inr more) ↦ let before = section_at-lt g k i more in inr (omega arith)
+      | inl same ↦ absurd (other same)
+      | inr (inl less) ↦ let before = section_at-lt g i k less in inl (omega arith)
+      | inr (inr more) ↦ let before = section_at-lt g k i more in inr (omega arith)
     ]
 
 tags_apart : (g : Geometry) (sectors b c : ℕ) → IsGeometry g sectors → b ≢ c → IsApart g (TagOf b) (TagOf c)
 tags_apart g sectors b c h other =
     elim (cases_order b c) [
-      inl same ↦ absurd (other same)
-    | inr (inl less) ↦ inl (tags_in_order g b c (placed g sectors b h) (placed g sectors c h) less)
-    | inr (inr more) ↦ inr (tags_in_order g c b (placed g sectors c h) (placed g sectors b h) more)
+      | inl same ↦ absurd (other same)
+      | inr (inl less) ↦ inl (tags_in_order g b c (placed g sectors b h) (placed g sectors c h) less)
+      | inr (inr more) ↦ inr (tags_in_order g c b (placed g sectors c h) (placed g sectors b h) more)
     ]
 
 data_apart : (g : Geometry) (sectors b c : ℕ) → IsGeometry g sectors → b ≢ c → IsApart g (DataOf b) (DataOf c)
 data_apart g sectors b c h other =
     elim (cases_order b c) [
-      inl same ↦ absurd (other same)
-    | inr (inl less) ↦ let before = data_in_order g b c (placed g sectors b h) (placed g sectors c h) less in inl (omega arith)
-    | inr (inr more) ↦ let before = data_in_order g c b (placed g sectors c h) (placed g sectors b h) more in inr (omega arith)
+      | inl same ↦ absurd (other same)
+      | inr (inl less) ↦ let before = data_in_order g b c (placed g sectors b h) (placed g sectors c h) less in inl (omega arith)
+      | inr (inr more) ↦ let before = data_in_order g c b (placed g sectors c h) (placed g sectors b h) more in inr (omega arith)
     ]
 
 section_before_tag : (g : Geometry) (sectors i b : ℕ) → IsGeometry g sectors → i < g.sections → b < g.blocks → IsApart g (Section i) (TagOf b)

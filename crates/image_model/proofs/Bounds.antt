@@ -1,11 +1,11 @@
 -- How large the numbers of a section and of a geometry can be.
-use Rattle.std.proofs.Common.{◌≡◌, ◌⊎◌, inl, inr, ℕ, zero, suc, ◌+◌, ◌-◌, ◌*◌, ◌/◌, ◌%◌, ◌^◌, ◌<◌, ◌≤◌, cond, refl, sym, ap, subst, ◌∙◌, arith}
+use Rattle.std.proofs.Common.{◌≡◌, inl, inr, ℕ, ◌+◌, ◌-◌, ◌*◌, ◌/◌, ◌%◌, ◌^◌, ◌<◌, ◌≤◌, cond, refl, ap, arith}
 use Rattle.std.proofs.lemmas.Bool.{cases_Bool}
 use Rattle.std.proofs.lemmas.Nat.{le-div, pow_pos, div-add-mod', mod_below, mul-le}
-use Rattle.std.proofs.Math.Nat.{div-le_of_le-mul, div-le_self, div-mul-le_self, mul-le-mul_left, mul-le-mul_right, pow-le-pow_right}
+use Rattle.std.proofs.Math.Nat.{div-le_of_le-mul, div-mul-le_self, mul-le-mul_left, pow-le-pow_right}
 use Rattle.image_model.specs.declared.flags.TheConstants.{FIXED_PADDING}
-use Rattle.image_model.specs.Superblock.{Superblock, has_flag, HasLayout, IsAccepted}
-use Rattle.image_model.specs.Geometry.{Shape, Geometry, round_up, entry_size, entries_per_sector, section_entries, section_sectors, tag_run_of, layout_of, journal_sectors, initial, sector_at, IsGeometry}
+use Rattle.image_model.specs.Superblock.{Superblock, has_flag, HasLayout}
+use Rattle.image_model.specs.Geometry.{Shape, round_up, entry_size, entries_per_sector, section_entries, section_sectors, tag_run_of, layout_of, journal_sectors, sector_at}
 
 -- ---- a section
 
@@ -41,7 +41,7 @@ has_entries shape spb_low spb_high tag_low tag_high =
       entries_is = refl;
       sectors_is = refl;
       sectors_low = omega arith;
-      sectors_high = omega arith
+      sectors_high = omega arith;
     }
 
 -- ---- a geometry
@@ -54,8 +54,8 @@ tag_run_of-high s h =
     let power = pow-le-pow_right {n = 2} (omega arith) {i = s.log2_interleave - s.log2_spb} {j = s.log2_interleave} (omega arith) in
     let bytes : 2 ^ (s.log2_interleave - s.log2_spb) * s.tag_size ≤ 2 ^ s.log2_interleave * 32 = mul-le _ _ _ _ power tag.1 in
     elim (cases_Bool (has_flag FIXED_PADDING s.flags)) [
-      inl set ↦ let e = ap (λ b. round_up (2 ^ (s.log2_interleave - s.log2_spb) * s.tag_size) (cond b 4096 131072) / 512) set in omega arith
-    | inr unset ↦ let e = ap (λ b. round_up (2 ^ (s.log2_interleave - s.log2_spb) * s.tag_size) (cond b 4096 131072) / 512) unset in omega arith
+      | inl set ↦ let e = ap (λ b. round_up (2 ^ (s.log2_interleave - s.log2_spb) * s.tag_size) (cond b 4096 131072) / 512) set in omega arith
+      | inr unset ↦ let e = ap (λ b. round_up (2 ^ (s.log2_interleave - s.log2_spb) * s.tag_size) (cond b 4096 131072) / 512) unset in omega arith
     ]
 
 -- A journal has few enough sections that its sectors can be counted.

@@ -1,5 +1,5 @@
 -- Lemmas on the words of specs/Faults.antt.
-use Rattle.std.proofs.Common.{◌≡◌, Bool, true, false, List, [], ◌∷◌, Result, Ok, Err, cond, refl, ap, ◌∙◌}
+use Rattle.std.proofs.Common.{◌≡◌, Bool, true, false, List, [], ◌∷◌, Ok, Err, cond, refl, ap, ◌∙◌}
 use Rattle.image_model.specs.Faults.{ok_unless}
 
 -- No test holds.

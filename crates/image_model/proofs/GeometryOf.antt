@@ -1,12 +1,12 @@
 -- What the geometry of accepted fields has.
-use Rattle.std.proofs.Common.{◌≡◌, ◌⊎◌, inl, inr, ℕ, zero, suc, ◌+◌, ◌-◌, ◌*◌, ◌/◌, ◌%◌, ◌^◌, ◌<◌, ◌≤◌, Bool, true, false, cond, List, [], ◌∷◌, ◌++◌, Ok, refl, sym, ap, subst, ◌∙◌, arith}
-use Rattle.std.specs.Prelude.{nat_lt, ◌&&◌, if◌then◌else◌}
+use Rattle.std.proofs.Common.{◌≡◌, inl, inr, ℕ, zero, suc, ◌+◌, ◌-◌, ◌*◌, ◌/◌, ◌^◌, ◌≤◌, Bool, true, false, cond, Ok, refl, sym, ap, subst, ◌∙◌, arith}
+use Rattle.std.specs.Prelude.{◌&&◌}
 use Rattle.std.proofs.lemmas.Bool.{ltb-false, le-ltb, cases_Bool}
-use Rattle.std.proofs.lemmas.Nat.{pow_pos, pow-add, le-div, div-add-mod', div-mul-add}
+use Rattle.std.proofs.lemmas.Nat.{pow_pos, pow-add, div-add-mod'}
 use Rattle.std.proofs.Math.Nat.{pow-le-pow_right, mul-div_cancel}
-use Rattle.image_model.specs.declared.flags.TheConstants.{DIRTY_BITMAP, FIXED_PADDING}
-use Rattle.image_model.specs.Superblock.{Superblock, has_flag, HasLayout, IsAccepted}
-use Rattle.image_model.specs.Geometry.{Geometry, round_up, section_sectors, tag_run_of, layout_of, journal_sectors, initial, area_at, sector_at, data_at, bitmap_sectors, size_faults, geometry_of, IsGeometry, geometry_faults}
+use Rattle.image_model.specs.declared.flags.TheConstants.{FIXED_PADDING}
+use Rattle.image_model.specs.Superblock.{Superblock, has_flag, IsAccepted}
+use Rattle.image_model.specs.Geometry.{IsGeometry, round_up, tag_run_of, layout_of, journal_sectors, sector_at, data_at, bitmap_sectors, geometry_of, geometry_faults}
 use Rattle.image_model.specs.GeometryLaws.{FitsDisk, GivenLaw, ApartLaw}
 use Rattle.image_model.proofs.FaultLemmas.{HasPassed, ok_unless-told, ok_unless-passed}
 use Rattle.image_model.proofs.Apart.{lies_apart}
@@ -27,9 +27,9 @@ groups_are high low h = ap (λ n. n / 2 ^ low) (whole_groups high low h) ∙ mul
 tags_fit : (s : Superblock) → 2 ^ (s.log2_interleave - s.log2_spb) * s.tag_size ≤ 512 * tag_run_of s
 unfolding tag_run_of
 tags_fit s = elim (cases_Bool (has_flag FIXED_PADDING s.flags)) [
-      inl set ↦ let e = ap (λ b. round_up (2 ^ (s.log2_interleave - s.log2_spb) * s.tag_size) (cond b 4096 131072) / 512) set in omega arith
-    | inr unset ↦ let e = ap (λ b. round_up (2 ^ (s.log2_interleave - s.log2_spb) * s.tag_size) (cond b 4096 131072) / 512) unset in omega arith
-    ]
+  | inl set ↦ let e = ap (λ b. round_up (2 ^ (s.log2_interleave - s.log2_spb) * s.tag_size) (cond b 4096 131072) / 512) set in omega arith
+  | inr unset ↦ let e = ap (λ b. round_up (2 ^ (s.log2_interleave - s.log2_spb) * s.tag_size) (cond b 4096 131072) / 512) unset in omega arith
+]
 
 -- ---- blocks
 
@@ -78,29 +78,37 @@ passed_fits s sectors (device, (journal, (small, (bitmap, end)))) =
       device = ltb-false (2 ^ 48) sectors device;
       journal = ltb-false (2 ^ 20) (journal_sectors g) journal;
       last = omega arith;
-      bitmap = λ set. ltb-false (journal_sectors g) (bitmap_sectors g) (second_unset _ _ bitmap set)
+      bitmap = λ set. ltb-false (journal_sectors g) (bitmap_sectors g) (second_unset _ _ bitmap set);
     }
 
 -- No test refuses a disk that has room.
 fits_passed : (s : Superblock) (sectors : ℕ) → FitsDisk s sectors → HasPassed (geometry_faults s sectors)
 fits_passed s sectors h =
-    let g = layout_of s in
-    (le-ltb (2 ^ 48) sectors h.device,
-     (le-ltb (2 ^ 20) (journal_sectors g) h.journal,
-     (le-ltb sectors (sector_at g (s.provided - 1) + 1) (let last = h.last in omega arith),
-     (second_unused _ _ (λ set. le-ltb (journal_sectors g) (bitmap_sectors g) (h.bitmap set)),
-     tt))))
+    let g = layout_of s in (
+      le-ltb (2 ^ 48) sectors h.device,
+      (
+        le-ltb (2 ^ 20) (journal_sectors g) h.journal,
+        (
+          le-ltb sectors (sector_at g (s.provided - 1) + 1) (let last = h.last in omega arith),
+          (
+            second_unused _ _ (λ set. le-ltb (journal_sectors g) (bitmap_sectors g) (h.bitmap set)),
+            tt,
+          ),
+        ),
+      ),
+    )
 
 -- ---- for callers
 
 -- A geometry is given exactly where it has room.
 pub geometry_given : GivenLaw
 unfolding geometry_of
-geometry_given s sectors g =
-    (λ given.
-        let parts = ok_unless-told (geometry_faults s sectors) (layout_of s) g given in
-        (sym parts.0, passed_fits s sectors parts.1),
-     λ h. ok_unless-passed (geometry_faults s sectors) (layout_of s) (fits_passed s sectors h.1) ∙ ap Ok (sym h.0))
+geometry_given s sectors g = (
+  λ given.
+      let parts = ok_unless-told (geometry_faults s sectors) (layout_of s) g given in
+      (sym parts.0, passed_fits s sectors parts.1),
+  λ h. ok_unless-passed (geometry_faults s sectors) (layout_of s) (fits_passed s sectors h.1) ∙ ap Ok (sym h.0),
+)
 
 -- Where accepted fields have room, their geometry is one.
 pub IsGeometry-fits : (s : Superblock) (sectors : ℕ) → IsAccepted s → FitsDisk s sectors → IsGeometry (layout_of s) sectors
@@ -120,7 +128,7 @@ IsGeometry-fits s sectors h fits =
       blocks = blocks_some s h;
       last = let is = last_is s h in let last = fits.last in omega arith;
       device = fits.device;
-      journal = fits.journal
+      journal = fits.journal;
     }
 
 -- Accepted fields give a geometry whose parts lie apart.

@@ -1,11 +1,11 @@
 -- Which blocks make a region, and how large its bitmap is.
-use Rattle.std.proofs.Common.{◌≡◌, ◌⊎◌, inl, inr, ℕ, zero, suc, ◌+◌, ◌-◌, ◌*◌, ◌/◌, ◌%◌, ◌^◌, ◌<◌, ◌≤◌, max, Bool, true, false, cond, refl, sym, ap, subst, ◌∙◌, arith}
+use Rattle.std.proofs.Common.{◌≡◌, inl, inr, ℕ, zero, suc, ◌+◌, ◌-◌, ◌*◌, ◌/◌, ◌%◌, ◌^◌, ◌<◌, ◌≤◌, min, max, Bool, true, ap, subst, ◌∙◌, arith}
 use Rattle.std.specs.Prelude.{nat_le}
 use Rattle.std.proofs.lemmas.Bool.{cond_both, both_ways, cases_eq, leb-true, le-leb}
-use Rattle.std.proofs.lemmas.Nat.{row_fits, pow_pos}
+use Rattle.std.proofs.lemmas.Nat.{row_fits, pow_pos, div-add-mod', mod_below}
 use Rattle.std.proofs.Math.Nat.{add-div_right, div-eq_of_lt-le, div-mul-le_self, mul-le-mul_left, mul-le-mul_right, pow-le-pow_right}
 use Rattle.std.proofs.Math.Pow.{shr_mono}
-use Rattle.image_model.specs.Geometry.{Geometry, section_sectors, journal_sectors, initial, data_at, regions_for, bitmap_sectors_for, regions, bitmap_sectors, region_of, least_from, fitting_log2_region, IsGeometry}
+use Rattle.image_model.specs.Geometry.{Geometry, IsGeometry, quotient_up, section_sectors, journal_sectors, data_at, regions_for, bitmap_sectors_for, regions, bitmap_sectors, region_of, least_from, fitting_log2_region}
 use Rattle.image_model.specs.GeometryLaws.{IsFitting, FittingLaw}
 use Rattle.image_model.proofs.BestProvided.{sector_at-le}
 
@@ -33,9 +33,9 @@ least_from-least passes from (suc count) k low passing =
     cond_both (passes from) from (least_from passes (suc from) count) (λ n. n ≤ k)
     (λ here. low)
     (λ later. elim (cases_eq from k) [
-        inl same ↦ absurd (both_ways (passes from) later (ap passes same ∙ passing))
+      | inl same ↦ absurd (both_ways (passes from) later (ap passes same ∙ passing))
       | inr other ↦ least_from-least passes (suc from) count k (omega (arith, other)) passing
-      ])
+    ])
 
 -- ---- regions
 
@@ -54,6 +54,23 @@ unfolding section_sectors
 section_sectors-low g = omega arith
 
 -- ---- for callers
+
+-- A quotient rounded up, as `div_ceil` gives it.
+pub quotient_up-is : (number by : ℕ) → 0 < by → quotient_up number by ≡ number / by + min 1 (number % by)
+quotient_up-is number by some =
+    let split : number / by * by + number % by ≡ number = div-add-mod' number by in
+    let low : number % by < by = mod_below number by some in
+    let up : ℕ = number / by + min 1 (number % by) in
+    elim (cases_eq (number % by) 0) [
+      | inl none ↦
+          let is : up ≡ number / by = omega arith in
+          let row : up * by ≡ number / by * by = ap (λ n. n * by) is in
+          div-eq_of_lt-le by (omega arith) (omega arith)
+      | inr rest ↦
+          let is : up ≡ number / by + 1 = omega (arith, rest) in
+          let row : up * by ≡ (number / by + 1) * by = ap (λ n. n * by) is in
+          div-eq_of_lt-le by (omega (arith, rest)) (omega (arith, rest))
+    ]
 
 -- A device has no more blocks than a disk may have sectors.
 pub blocks-low : (g : Geometry) (sectors : ℕ) → IsGeometry g sectors → g.blocks ≤ 2 ^ 48
@@ -80,7 +97,7 @@ fitting_log2_region_is g sectors h =
     record {
       not_below = least_from-from passes g.log2_region 48;
       fits = leb-true _ _ (least_from-passes passes g.log2_region 48 (le-leb _ _ (omega arith)));
-      least = λ k from fits. least_from-least passes g.log2_region 48 k from (le-leb _ _ fits)
+      least = λ k from fits. least_from-least passes g.log2_region 48 k from (le-leb _ _ fits);
     }
 
 -- It is the given one, or at most 48.

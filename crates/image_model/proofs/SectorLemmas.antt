@@ -1,7 +1,6 @@
 -- Lemmas on the words of specs/Sectors.antt.
-use Rattle.std.proofs.Common.{◌≡◌, ℕ, zero, suc, ◌+◌, ◌-◌, ◌*◌, ◌^◌, ◌<◌, ◌≤◌, List, [], ◌∷◌, ◌++◌, length, take, drop, get_or, slice_index, refl, sym, ap, ◌∙◌, arith, length-append, length-take, length-drop}
-use Rattle.std.proofs.lemmas.List.{append_assoc, get_or-drop, get_or_append_left, get_or-append-add, take-append-drop, take_at, drop_at, drop-drop, take_all, take_more}
-use Rattle.byteorder.specs.Endian.{little_from}
+use Rattle.std.proofs.Common.{◌≡◌, ℕ, zero, suc, ◌+◌, ◌-◌, ◌*◌, ◌^◌, ◌<◌, ◌≤◌, List, [], ◌∷◌, ◌++◌, length, take, drop, slice_index, refl, sym, ap, ◌∙◌, arith, length-append, length-take, length-drop}
+use Rattle.std.proofs.lemmas.List.{append_assoc, get_or-drop, get_or_append_left, get_or-append-add, take-append-drop, take_at, drop_at, drop-drop}
 use Rattle.byteorder.specs.Numbers.{length-bytes_low_first, little_from-take, little_from-lt, little_number-reads_back}
 use Rattle.disk_model.specs.Disk.{Image, sector_in}
 use Rattle.image_model.specs.Sectors.{piece, number_in, bytes_of, bytes_at}
@@ -105,5 +104,5 @@ bytes_at_read image at zero bytes size reads = no_bytes bytes size
 bytes_at_read image at (suc count) bytes size reads =
     let first : take 512 bytes ≡ image at = reads 0 (omega arith) ∙ ap image (omega arith) in
     let rest = bytes_at_read image (suc at) count (drop 512 bytes) (omega (arith, length-drop 512 bytes))
-        (λ k inside. ap (take 512) (drop-drop (512 * k) 512 bytes ∙ ap (λ n. drop n bytes) (omega arith)) ∙ reads (suc k) (omega arith) ∙ ap image (omega arith)) in
+    (λ k inside. ap (take 512) (drop-drop (512 * k) 512 bytes ∙ ap (λ n. drop n bytes) (omega arith)) ∙ reads (suc k) (omega arith) ∙ ap image (omega arith)) in
     sym (take-append-drop 512 bytes) ∙ ap (λ xs. xs ++ drop 512 bytes) first ∙ ap (λ xs. image at ++ xs) rest

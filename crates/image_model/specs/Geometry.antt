@@ -1,6 +1,6 @@
 -- Where the journal, the tags and the data lie on a disk, and which blocks of the device make a region.
 -- Source: Linux, Documentation/admin-guide/device-mapper/dm-integrity.rst, and drivers/md/dm-integrity.c, by function.
-use Rattle.std.specs.Prelude.{ℕ, zero, suc, ◌+◌, ◌-◌, ◌*◌, ◌/◌, ◌%◌, ◌^◌, ◌≤◌, ◌≡◌, Bool, ◌&&◌, ◌==◌, nat_le, nat_lt, if◌then◌else◌, List, [], ◌∷◌, ◌++◌, Result}
+use Rattle.std.specs.Prelude.{◌≡◌, ◌≤◌, ℕ, zero, suc, ◌+◌, ◌-◌, ◌*◌, ◌/◌, ◌%◌, ◌^◌, Bool, ◌&&◌, ◌==◌, nat_le, nat_lt, if◌then◌else◌, List, [], ◌∷◌, ◌++◌, Result}
 use Rattle.image_model.specs.declared.flags.TheConstants.{DIRTY_BITMAP, FIXED_PADDING}
 use Rattle.image_model.specs.Faults.{ok_unless}
 use Rattle.image_model.specs.Superblock.{Superblock, has_flag}
@@ -64,10 +64,11 @@ layout_of s = record {
 }
 
 -- The sector of the disk where section i of the journal begins. The superblock has sectors 0 to 7.
--- Source: access_journal.
+-- Source: rw_journal and rw_journal_sectors.
 abbrev pub section_at : Geometry → ℕ → ℕ
 section_at g i = 8 + i * section_sectors g.shape
 
+-- The sectors of the journal.
 abbrev pub journal_sectors : Geometry → ℕ
 journal_sectors g = g.sections * section_sectors g.shape
 
@@ -99,16 +100,19 @@ tag_at g b = (area_at g (b * g.shape.spb / g.interleave) + tag_offset g b / 512,
 abbrev pub region_of : Geometry → ℕ → ℕ
 region_of g b = b / 2 ^ g.log2_region
 
+-- So many blocks make so many regions, of which the last may be cut short.
 unfoldable pub regions_for : ℕ → ℕ → ℕ
 regions_for blocks log2_region = quotient_up blocks (2 ^ log2_region)
 
--- One bit a region, in groups of 4096 bytes. Source: BITMAP_BLOCK_SIZE.
+-- The sectors of their bitmap, which has one bit a region, in groups of 4096 bytes. Source: BITMAP_BLOCK_SIZE.
 unfoldable pub bitmap_sectors_for : ℕ → ℕ → ℕ
 bitmap_sectors_for blocks log2_region = 8 * quotient_up (regions_for blocks log2_region) 32768
 
+-- The regions of the device.
 abbrev pub regions : Geometry → ℕ
 regions g = regions_for g.blocks g.log2_region
 
+-- The sectors of the bitmap, which begins where the journal does.
 abbrev pub bitmap_sectors : Geometry → ℕ
 bitmap_sectors g = bitmap_sectors_for g.blocks g.log2_region
 
@@ -135,22 +139,22 @@ size_faults g sectors =
     ∷ (nat_lt (2 ^ 20) (journal_sectors g), JournalTooLarge (journal_sectors g))
     ∷ []
 
--- Those and the faults by where the data and the bitmap end.
+-- Those, and the faults by where the data and the bitmap end.
 abbrev pub geometry_faults : Superblock → ℕ → List (Bool × GeometryFault)
 geometry_faults s sectors =
     let g = layout_of s in
     let need = sector_at g (s.provided - 1) + 1 in
+    let has_long_bitmap = has_flag DIRTY_BITMAP s.flags && nat_lt (journal_sectors g) (bitmap_sectors g) in
     size_faults g sectors
     ++ (nat_lt sectors need, TooSmall sectors need)
-    ∷ (has_flag DIRTY_BITMAP s.flags && nat_lt (journal_sectors g) (bitmap_sectors g),
-       BitmapTooLarge (bitmap_sectors g) (journal_sectors g))
+    ∷ (has_long_bitmap, BitmapTooLarge (bitmap_sectors g) (journal_sectors g))
     ∷ []
 
 -- The geometry of the fields on a disk of so many sectors, or the first fault.
 unfoldable pub geometry_of : Superblock → ℕ → Result Geometry GeometryFault
 geometry_of s sectors = ok_unless (geometry_faults s sectors) (layout_of s)
 
--- The most sectors, a multiple of 8, whose data lie on a disk of so many sectors: those of whole areas, then of one cut short.
+-- The most sectors, a multiple of 8, whose data lie on a disk of so many: those of whole areas, and of one cut short.
 unfoldable pub best_provided : Geometry → ℕ → ℕ
 best_provided g sectors =
     let space = sectors - initial g in

@@ -1,8 +1,8 @@
 -- What holds of every geometry that the fields give on a disk.
-use Rattle.std.specs.Prelude.{◌≡◌, ◌≢◌, ◌⊎◌, ℕ, ◌+◌, ◌-◌, ◌*◌, ◌/◌, ◌%◌, ◌^◌, ◌<◌, ◌≤◌, ⊤, IsTrue, ◌↔◌, Ok, Err}
+use Rattle.std.specs.Prelude.{◌≡◌, ◌≢◌, ◌⊎◌, ℕ, ◌+◌, ◌-◌, ◌*◌, ◌%◌, ◌^◌, ◌<◌, ◌≤◌, ⊤, IsTrue, ◌↔◌, Ok, Err}
 use Rattle.image_model.specs.declared.flags.TheConstants.{DIRTY_BITMAP}
 use Rattle.image_model.specs.Superblock.{Superblock, has_flag, HasLayout, IsAccepted}
-use Rattle.image_model.specs.Geometry.{Geometry, section_sectors, layout_of, section_at, journal_sectors, sector_at, data_at, tag_at, bitmap_sectors, bitmap_sectors_for, fitting_log2_region, geometry_of, best_provided_of, IsGeometry, TooSmall}
+use Rattle.image_model.specs.Geometry.{Geometry, IsGeometry, section_sectors, layout_of, section_at, journal_sectors, sector_at, data_at, tag_at, bitmap_sectors, bitmap_sectors_for, fitting_log2_region, geometry_of, best_provided_of, TooSmall}
 
 -- The geometry of the fields has room on a disk of so many sectors.
 pub record FitsDisk (s : Superblock) (sectors : ℕ) : Type 0 where
@@ -11,7 +11,7 @@ pub record FitsDisk (s : Superblock) (sectors : ℕ) : Type 0 where
   pub last : sector_at (layout_of s) (s.provided - 1) < sectors
   pub bitmap : IsTrue (has_flag DIRTY_BITMAP s.flags) → bitmap_sectors (layout_of s) ≤ journal_sectors (layout_of s)
 
--- It is given exactly where it has.
+-- A geometry is given exactly where it is the fields' own and has room.
 abbrev pub GivenLaw : Type 0
 GivenLaw = (s : Superblock) (sectors : ℕ) (g : Geometry) → (geometry_of s sectors ≡ Ok g) ↔ ((g ≡ layout_of s) × FitsDisk s sectors)
 
@@ -59,6 +59,7 @@ pub record IsFitting (g : Geometry) (log2_region : ℕ) : Type 0 where
   pub fits : bitmap_sectors_for g.blocks log2_region ≤ journal_sectors g
   pub least : (k : ℕ) → g.log2_region ≤ k → bitmap_sectors_for g.blocks k ≤ journal_sectors g → log2_region ≤ k
 
+-- The fitting log2_region of a geometry is that one.
 abbrev pub FittingLaw : Type 0
 FittingLaw = (g : Geometry) (sectors : ℕ) → IsGeometry g sectors → IsFitting g (fitting_log2_region g)
 
@@ -70,10 +71,11 @@ pub record IsBestProvided (s : Superblock) (sectors best : ℕ) : Type 0 where
   pub greatest : (n : ℕ) → 1 ≤ n → n % 8 ≡ 0 → sector_at (layout_of s) (n - 1) < sectors → n ≤ best
   pub accepted : IsAccepted (record s { provided = best })
 
+-- The sectors that are told for a new image are that many.
 abbrev pub BestProvidedLaw : Type 0
 BestProvidedLaw = (s : Superblock) (sectors best : ℕ) → HasLayout s → best_provided_of s sectors ≡ Ok best → IsBestProvided s sectors best
 
--- Where the disk is told to be too small, none does.
+-- Where the disk is told to be too small, it has room for no such multiple.
 abbrev pub NoneProvidedLaw : Type 0
 NoneProvidedLaw = (s : Superblock) (sectors have need : ℕ) → HasLayout s → best_provided_of s sectors ≡ Err (TooSmall have need)
     → (n : ℕ) → 1 ≤ n → n % 8 ≡ 0 → sectors ≤ sector_at (layout_of s) (n - 1)

@@ -1,6 +1,6 @@
 -- The superblock: its fields, the first fault for which it is refused, and the bytes that are written.
 -- Source: Linux, drivers/md/dm-integrity.c, struct superblock, dm_integrity_ctr and calculate_device_limits.
-use Rattle.std.specs.Prelude.{◌≡◌, ℕ, ◌%◌, ◌^◌, ◌<◌, ◌≤◌, max, Bool, not, ◌&&◌, ◌==◌, nat_eq, nat_lt, if◌then◌else◌, List, [], ◌∷◌, ◌++◌, length, slice_index, Result, bit_and, codes}
+use Rattle.std.specs.Prelude.{◌≡◌, ℕ, ◌%◌, ◌^◌, ◌≤◌, max, Bool, not, ◌&&◌, ◌==◌, nat_eq, nat_lt, if◌then◌else◌, List, [], ◌∷◌, ◌++◌, slice_index, Result, bit_and, codes}
 use Rattle.std.specs.List.{starts_with}
 use Rattle.std.specs.Int.{w32, bit_not, is_in_range, IsInRange}
 use Rattle.image_model.specs.declared.flags.TheConstants.{HAVE_JOURNAL_MAC, RECALCULATING, DIRTY_BITMAP, FIXED_PADDING, FIXED_HMAC, INLINE, KNOWN_FLAGS}
@@ -116,11 +116,3 @@ pub record IsAccepted (s : Superblock) : Type 0 where
   pub layout : HasLayout s
   pub provided : IsInRange 1 (2 ^ 48) s.provided
   pub whole_blocks : s.provided % 2 ^ s.log2_spb ≡ 0
-
--- The fields on which nothing else is a bound fit their bytes.
-pub record FitsBytes (s : Superblock) : Type 0 where
-  pub sections : s.sections < 2 ^ 32
-  pub flags : s.flags < 2 ^ 32
-  pub log2_region : s.log2_region < 2 ^ 8
-  pub recalc_sector : s.recalc_sector < 2 ^ 64
-  pub salt : length s.salt ≡ 16

@@ -1,6 +1,14 @@
 -- What holds of every superblock.
-use Rattle.std.specs.Prelude.{◌≡◌, ◌↔◌, ℕ, ◌≤◌, List, ◌++◌, length, take, Ok}
-use Rattle.image_model.specs.Superblock.{Superblock, magic, fields_in, superblock_of, superblock_bytes, IsAccepted, FitsBytes}
+use Rattle.std.specs.Prelude.{◌^◌, ◌<◌, ◌≡◌, ◌↔◌, ℕ, List, ◌++◌, length, take, Ok}
+use Rattle.image_model.specs.Superblock.{Superblock, magic, fields_in, superblock_of, superblock_bytes, IsAccepted}
+
+-- The fields on which nothing else is a bound fit their bytes.
+pub record FitsBytes (s : Superblock) : Type 0 where
+  pub sections : s.sections < 2 ^ 32
+  pub flags : s.flags < 2 ^ 32
+  pub log2_region : s.log2_region < 2 ^ 8
+  pub recalc_sector : s.recalc_sector < 2 ^ 64
+  pub salt : length s.salt ≡ 16
 
 -- What was written for accepted fields reads as these fields, whatever bytes follow.
 abbrev pub ReadsBackLaw : Type 0

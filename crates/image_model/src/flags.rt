@@ -15,7 +15,7 @@ pub const RECALCULATING: u32 = 0x2;
 /// Source: Linux, `drivers/md/dm-integrity.c`, `SB_FLAG_DIRTY_BITMAP`.
 pub const DIRTY_BITMAP: u32 = 0x4;
 
-/// The tags of an area are padded to 4096 bytes.
+/// The tags of an area take a multiple of 4096 bytes.
 ///
 /// Source: Linux, `drivers/md/dm-integrity.c`, `SB_FLAG_FIXED_PADDING`.
 pub const FIXED_PADDING: u32 = 0x8;
