@@ -1,0 +1,7 @@
+pub use Rattle.disk_model.specs.Causes
+pub use Rattle.disk_model.specs.Disk
+pub use Rattle.disk_model.specs.Moments
+pub mod Faults
+pub mod Record
+pub mod ReadsAnImage
+pub mod MemDisk

@@ -11,6 +11,10 @@ ghost use Rattle.disk_model.specs.Moments.{content_now, EachMoment, FromStart};
 #[derive(Clone, Copy, Debug, PartialEq, Eq)]
 pub struct Failed;
 
+/// There was no memory for what a call was to make.
+#[derive(Clone, Copy, Debug, PartialEq, Eq)]
+pub struct Memory;
+
 /// An object that counts the faults of what it stands for.
 pub trait Counted {
     /// How often it has failed. The count never falls, and stays at 2^64 - 1 once it is there.

@@ -4,6 +4,16 @@
 //! above is proved over any `Disk`, so over one that a cut may stop at any moment.
 #![tactic(auto)]
 
+mod candidates;
 mod disk;
+mod fault_plan;
+mod latest;
+mod mem_disk;
+mod record;
+mod stop;
+#[cfg(test)]
+mod tests;
 
-pub use disk::{Counted, Disk, Failed, Named};
+pub use disk::{Counted, Disk, Failed, Memory, Named};
+pub use fault_plan::{FaultPlan, MOST_FAILING};
+pub use mem_disk::MemDisk;

@@ -1,0 +1,9 @@
+use Rattle.std.proofs.Common.{◌≤◌, ◌+◌, take}
+use Rattle.sector_disk.specs.Record.{content_after, content_of_bytes, IsNoted}
+use Rattle.sector_disk.proofs.candidates.copy_candidate.Given as goal
+
+abbrev pub invariant-loop-event : goal.invariant-loop-event
+invariant-loop-event l = record {
+  noted : IsNoted (content_after (content_of_bytes l.base) (take l.event-index l.events)) l.at l.index l.last l.count l.out;
+  count : l.count ≤ l.event-index + 1;
+}

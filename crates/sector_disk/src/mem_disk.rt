@@ -1,0 +1,263 @@
+//! A disk in memory, which keeps a record of its sector writes and syncs.
+//!
+//! The bytes that reads give stand beside the record, so a read is a look-up and a copy. All memory is taken
+//! when the disk is made.
+ghost use Rattle.std.specs.Prelude.{◌≡◌, ◌⊎◌, ◌+◌, ◌-◌, ◌*◌, ◌/◌, ◌^◌, ◌<◌, ◌≤◌, ◌↔◌, ℕ, List, [], length, replicate, IfOk, IsOk, OnOk, OnErr, IsErr, IsTrue, min, vec_capacity, Some, None};
+ghost use Rattle.std.specs.Option.{ForSome, option_map};
+ghost use Rattle.disk_model.specs.Causes.{HasCause};
+ghost use Rattle.disk_model.specs.Disk.{Content, IsRun, Reads, AddsSome, with_run, newest_only};
+ghost use Rattle.disk_model.specs.Moments.{content_now, EachMoment, FromStart};
+ghost use Rattle.sector_disk.specs.Faults.{FailsNext, with_call, with_fault};
+ghost use Rattle.sector_disk.specs.Record.{IsLatest};
+
+use crate::candidates::{copy_choice, has_each};
+use crate::latest::{read_latest, write_latest};
+use crate::record::{Event, append_writes};
+use crate::stop::{count_writes_left, is_at_stop, stop_after_writes};
+use crate::{Counted, Disk, Failed, FaultPlan, MOST_FAILING, Memory, Named};
+use std::alloc::Global;
+
+/// A disk in memory, of sectors that are zeros at first.
+///
+/// Its sectors are written in ascending order, and its record tells each moment: one more with each sector
+/// write and each sync. Calls of `read_run`, `write_run` and `sync` can be set to fail.
+#[derive(Drop)]
+pub struct MemDisk {
+    sectors: u64,
+    base: Vec<u8>,
+    latest: Vec<u8>,
+    events: Vec<Event>,
+    room: usize,
+    stop: Option<u64>,
+    plan: FaultPlan,
+    ghost base_size: { length base.items ≡ 512 * sectors },
+    ghost latest_size: { length latest.items ≡ 512 * sectors },
+    ghost has_room: { room ≤ vec_capacity events },
+    ghost is_latest: { IsLatest sectors latest.items base.items events.items },
+}
+
+impl MemDisk {
+    ghost use Rattle.sector_disk.specs.MemDisk.{record_of, fresh_disk, HasChoice, IsChosen};
+
+    /// Makes a disk of so many sectors of zeros, with room to record `writes` sector writes and syncs together.
+    ///
+    /// # Errors
+    ///
+    /// - `Memory`: there is none for these.
+    pub fn new(alloc: Global, sectors: u64, writes: u64) -> Result<MemDisk, Memory>
+        ensures { IfOk result (λ disk. record_of disk ≡ fresh_disk sectors (replicate (512 * sectors) 0) writes) }
+    {
+        let Some(size) = sectors.checked_mul(512) else {
+            return Err(Memory);
+        };
+        let Ok(base) = vec![in alloc; 0; size as usize] else {
+            return Err(Memory);
+        };
+        let Ok(latest) = vec![in alloc; 0; size as usize] else {
+            return Err(Memory);
+        };
+        let room = writes as usize;
+        let Ok(events) = Vec::with_capacity(alloc, room) else {
+            return Err(Memory);
+        };
+        Ok(MemDisk {
+            sectors,
+            base,
+            latest,
+            events,
+            room,
+            stop: None,
+            plan: FaultPlan::new(),
+        })
+    }
+
+    /// Whether each sector has a candidate at the chosen index: the condition of `image`.
+    pub fn has(&self, choice: &[u32]) -> bool
+        ensures { IsTrue result ↔ HasChoice (record_of self.now) choice.now }
+    {
+        choice.len() as u64 == self.sectors && has_each(&self.base, &self.events, choice)
+    }
+
+    /// Makes the disk of one image: of each sector the candidate at the chosen index, the oldest first. It has
+    /// the same room, and no call of it is to fail.
+    ///
+    /// # Errors
+    ///
+    /// - `Memory`: there is none for it.
+    pub fn image(&self, alloc: Global, choice: &[u32]) -> Result<MemDisk, Memory>
+        requires { HasChoice (record_of self.now) choice.now }
+
+        ensures { IfOk result (λ disk. IsChosen (record_of self.now) choice.now (record_of disk)) }
+    {
+        let Ok(mut base) = vec![in alloc; 0; self.base.len()] else {
+            return Err(Memory);
+        };
+        copy_choice(&self.base, &self.events, choice, &mut base);
+        let Ok(latest) = base.clone() else {
+            return Err(Memory);
+        };
+        let Ok(events) = Vec::with_capacity(alloc, self.room) else {
+            return Err(Memory);
+        };
+        Ok(MemDisk {
+            sectors: self.sectors,
+            base,
+            latest,
+            events,
+            room: self.room,
+            stop: None,
+            plan: FaultPlan::new(),
+        })
+    }
+
+    /// Sets which calls of `read_run`, `write_run` and `sync` are to fail, in place of those that were set
+    /// before. Calls are numbered from 1, since the disk was made, failed ones included.
+    pub fn fail_at(&mut self, calls: &[u64])
+        requires { length calls.now ≤ MOST_FAILING }
+
+        ensures { record_of self.new ≡ record (record_of self.old) {
+          plan = record (record_of self.old).plan { failing = record { items = calls.now } };
+        } }
+    {
+        self.plan.fail_at(calls);
+    }
+
+    /// Sets a stop after so many further sector writes. From the stop on every call fails, with 0 at once.
+    pub fn stop_after(&mut self, writes: u64)
+        ensures { record_of self.new ≡ record (record_of self.old) { stop = Some writes } }
+    {
+        self.stop = Some(writes);
+    }
+}
+
+impl Counted for MemDisk {
+    ghost use Rattle.sector_disk.specs.MemDisk.{record_of, DiffersInFaults};
+
+    ghost faults = { λ d. (record_of d).plan.faults };
+
+    ghost tells_same = { λ a b. DiffersInFaults (record_of a) (record_of b) };
+}
+
+impl Named for MemDisk {
+    ghost use Rattle.sector_disk.specs.MemDisk.{record_of, DiffersInFaults};
+
+    fn bind(&mut self, _name: &str) -> Result<(), Failed>
+        ensures bound { IsOk result }
+
+        ensures cause { HasCause (record_of self.old).plan.faults (record_of self.new).plan.faults result }
+
+        ensures same { DiffersInFaults (record_of self.old) (record_of self.new) }
+        ensures kept { record_of self.new ≡ record_of self.old }
+    {
+        Ok(())
+    }
+}
+
+impl Disk for MemDisk {
+    ghost use Rattle.sector_disk.specs.MemDisk.{DiskRecord, record_of, moments_told, IsRefused, sectors_left, after_call, with_writes, with_sync};
+    ghost use Rattle.sector_disk.specs.ReadsAnImage.{last_image_is_image};
+    ghost use Rattle.std.proofs.Common.{ap};
+
+    ghost sectors = { λ d. (record_of d).sectors };
+
+    ghost moments = { λ d. moments_told (record_of d) };
+
+    ghost reads_an_image = { λ d c told. last_image_is_image d.base.items d.events.items c told };
+
+    ghost same_moments = { λ a b c same told. ap moments_told same };
+
+    ghost same_sectors = { λ a b c same told. ap (λ (d : DiskRecord). d.sectors) same };
+
+    fn sectors(&self) -> u64 {
+        self.sectors
+    }
+
+    fn read_run(&mut self, at: u64, buffer: &mut [u8]) -> Result<(), Failed>
+        requires { IsRun at (length buffer.old) (record_of self.old).sectors }
+
+        ensures read { OnOk result (ForSome (content_now (moments_told (record_of self.old))) (Reads at buffer.new)) }
+
+        ensures fails { IsErr result ↔ IsRefused (record_of self.old) }
+        ensures cause { HasCause (record_of self.old).plan.faults (record_of self.new).plan.faults result }
+
+        ensures sectors { (record_of self.new).sectors ≡ (record_of self.old).sectors }
+        ensures kept { moments_told (record_of self.new) ≡ moments_told (record_of self.old) }
+        ensures recorded { record_of self.new ≡ after_call result (record_of self.old) }
+    {
+        begin(&mut self.plan, self.stop)?;
+        read_latest(&self.latest, at, buffer);
+        Ok(())
+    }
+
+    fn write_run(&mut self, at: u64, bytes: &[u8]) -> Result<(), Failed>
+        requires { IsRun at (length bytes.now) (record_of self.old).sectors }
+
+        ensures written { OnOk result (content_now (moments_told (record_of self.new))
+            ≡ option_map (with_run at bytes.now) (content_now (moments_told (record_of self.old)))) }
+
+        ensures fails { IsErr result ↔ (IsRefused (record_of self.old)
+            ⊎ (sectors_left (record_of self.old) < length bytes.now / 512)) }
+        ensures cause { HasCause (record_of self.old).plan.faults (record_of self.new).plan.faults result }
+        ensures refused { IsRefused (record_of self.old)
+            → record_of self.new ≡ after_call result (record_of self.old) }
+        ensures appended { ¬ IsRefused (record_of self.old)
+            → record_of self.new ≡ with_writes (min (length bytes.now / 512) (sectors_left (record_of self.old)))
+            at bytes.now (after_call result (record_of self.old)) }
+
+        ensures sectors { (record_of self.new).sectors ≡ (record_of self.old).sectors }
+
+        ensures moments { EachMoment (moments_told (record_of self.old)) (moments_told (record_of self.new))
+            (FromStart (moments_told (record_of self.old)) (AddsSome at bytes.now)) }
+    {
+        begin(&mut self.plan, self.stop)?;
+        let left = count_writes_left(self.room.saturating_sub(self.events.len()), self.stop);
+        let count = left.min(bytes.len() as u64 / 512);
+        append_writes(&mut self.events, at, bytes, count as usize);
+        self.stop = stop_after_writes(self.stop, count);
+        let size = 512 * count as usize;
+        write_latest(&mut self.latest, at, &bytes[..size]);
+        if size < bytes.len() {
+            return Err(self.plan.fault());
+        }
+        Ok(())
+    }
+
+    fn sync(&mut self) -> Result<(), Failed>
+        ensures synced { OnOk result (content_now (moments_told (record_of self.new))
+            ≡ option_map newest_only (content_now (moments_told (record_of self.old)))) }
+        ensures ok { OnOk result (record_of self.new ≡ with_sync (after_call result (record_of self.old))) }
+
+        ensures fails { IsErr result ↔ (IsRefused (record_of self.old)
+            ⊎ ((record_of self.old).room ≤ length (record_of self.old).events)) }
+        ensures cause { HasCause (record_of self.old).plan.faults (record_of self.new).plan.faults result }
+        ensures err { OnErr result (moments_told (record_of self.new) ≡ moments_told (record_of self.old)) }
+        ensures failed { OnErr result (record_of self.new ≡ after_call result (record_of self.old)) }
+
+        ensures sectors { (record_of self.new).sectors ≡ (record_of self.old).sectors }
+
+        ensures moments { EachMoment (moments_told (record_of self.old)) (moments_told (record_of self.new))
+            (FromStart (moments_told (record_of self.old)) (λ start c. c ≡ newest_only start)) }
+    {
+        begin(&mut self.plan, self.stop)?;
+        if self.events.len() >= self.room {
+            return Err(self.plan.fault());
+        }
+        self.events.push_reserved(Event::Sync);
+        Ok(())
+    }
+}
+
+/// Counts a call, which fails where it was chosen to, and from the stop on.
+fn begin(plan: &mut FaultPlan, stop: Option<u64>) -> Result<(), Failed>
+    ensures ok { OnOk result (plan.new ≡ with_call plan.old) }
+
+    ensures fails { IsErr result ↔ (FailsNext plan.old ⊎ stop ≡ Some 0) }
+    ensures cause { HasCause plan.old.faults plan.new.faults result }
+    ensures err { OnErr result (plan.new ≡ with_fault (with_call plan.old)) }
+{
+    plan.begin()?;
+    if is_at_stop(stop) {
+        return Err(plan.fault());
+    }
+    Ok(())
+}
