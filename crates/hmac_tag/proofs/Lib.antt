@@ -1,2 +1,2 @@
-pub mod PaddedLemmas
 pub mod PreparedLemmas
+pub mod TagLemmas

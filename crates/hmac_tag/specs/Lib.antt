@@ -1,3 +1,3 @@
-pub mod Padded
 pub mod Prepared
-pub mod TagRule
+pub mod Tag
+pub mod TagMaker

@@ -4,9 +4,9 @@ ghost use Rattle.std.specs.Prelude.{◌≡◌, ◌↔◌, ◌<◌, ℕ, length, 
 use std::alloc::Global;
 use std::marker::Model;
 
-/// How many bytes a key may have.
+/// How many bytes a key has at most.
 ///
-/// Own: `docs/DECISIONS.md`.
+/// Source: integritysetup(8), `--integrity-key-size`.
 const LONGEST_KEY: usize = 4096;
 
 /// Why some bytes are no key. The first that holds is told.
@@ -20,7 +20,7 @@ pub enum KeyFault {
     Memory,
 }
 
-/// A key of 1 to 4096 bytes. It leaves no text: it has no `Debug`.
+/// A key of 1 to 4096 bytes. It has no `Debug`, so that it leaves no text.
 #[derive(Drop)]
 pub struct Key {
     bytes: Vec<u8>,
@@ -53,14 +53,11 @@ impl Key {
             return Err(KeyFault::Empty);
         }
         if bytes.len() > LONGEST_KEY {
-            return Err(KeyFault::TooLong {
-                len: bytes.len() as u64,
-            });
+            let len = bytes.len() as u64;
+            return Err(KeyFault::TooLong { len });
         }
-        match Vec::from_slice(alloc, bytes) {
-            Ok(bytes) => Ok(Key { bytes }),
-            Err(_) => Err(KeyFault::Memory),
-        }
+        let bytes = Vec::from_slice(alloc, bytes).map_err(|_| KeyFault::Memory)?;
+        Ok(Key { bytes })
     }
 
     pub(crate) fn bytes(&self) -> &[u8]

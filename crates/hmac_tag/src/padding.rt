@@ -4,6 +4,7 @@ ghost use Rattle.std.specs.Prelude.{◌≡◌, ◌≤◌, ◌-◌, ◌++◌, len
 /// The bytes, with zeros behind them up to `SIZE` bytes.
 pub(crate) fn padded<const SIZE: usize>(bytes: &[u8]) -> [u8; SIZE]
     requires { length bytes.now ≤ SIZE }
+
     ensures { result ≡ bytes.now ++ replicate (SIZE - length bytes.now) 0 }
 {
     let mut padded = [0; SIZE];

@@ -9,12 +9,12 @@ use std::marker::Model;
 #[derive(Clone, Copy, Debug)]
 pub struct Tag {
     bytes: [u8; 32],
-    len: usize,
+    len: u8,
 }
 
 impl Model for Tag {
     ghost use Rattle.std.specs.Prelude.{◌-◌, ◌++◌, List, ℕ, length, take, replicate};
-    ghost use Rattle.hmac_tag.specs.Padded.{IsPadded};
+    ghost use Rattle.hmac_tag.specs.Tag.{IsPadded};
 
     ghost Value = { List ℕ };
 
@@ -22,7 +22,10 @@ impl Model for Tag {
 
     ghost invariant = { λ tag. IsPadded tag.len tag.bytes };
 
-    ghost inverse = { λ bytes. record { bytes = bytes ++ replicate (32 - length bytes) 0; len = length bytes } };
+    ghost inverse = { λ bytes. record {
+      bytes = bytes ++ replicate (32 - length bytes) 0;
+      len = length bytes;
+    } };
 }
 
 impl Tag {
@@ -34,15 +37,16 @@ impl Tag {
     {
         Tag {
             bytes: padded(bytes),
-            len: bytes.len(),
+            len: bytes.len() as u8,
         }
     }
 
     /// Its bytes.
     pub fn bytes(&self) -> &[u8]
         ensures bytes { result.now ≡ self.now }
+
         ensures size { IsInRange 1 32 (length self.now) }
     {
-        &self.bytes[..self.len]
+        &self.bytes[..self.len as usize]
     }
 }

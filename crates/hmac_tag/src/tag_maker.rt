@@ -1,11 +1,11 @@
 //! Makes the tags of blocks, and compares them.
 //!
-//! The key, its pads and the salt are digested once. A tag copies the digests that begin with them and goes on
-//! from there, so it costs its message and, under a key, one block more.
-ghost use Rattle.std.specs.Prelude.{◌≡◌, ◌↔◌, ◌++◌, ℕ, List, [], IsTrue, bit_xor, map, unwrap_or};
+//! The key, its pads and the salt are digested once. Each tag goes on from a copy of the digests
+//! that begin with them: it costs the digest of its message and, under a key, one block more.
+ghost use Rattle.std.specs.Prelude.{◌≡◌, ◌↔◌, ◌++◌, ℕ, List, [], map, bit_xor, IsTrue, unwrap_or};
 ghost use Rattle.std.specs.Int.{IsInRange};
 ghost use Rattle.sha2.specs.Hashers.{Holds256};
-ghost use Rattle.image_model.specs.Tag.{digest_under, inner_pad, masked_key, outer_pad, padded_key, tag_message, tag_of};
+ghost use Rattle.image_model.specs.Tag.{digest_under, padded_key, tag_message, tag_of};
 
 use crate::key::{Hash, Key};
 use crate::padding::padded;
@@ -18,23 +18,21 @@ use std::marker::Model;
 /// Source: FIPS 180-4, section 1.
 const HASH_BLOCK: usize = 64;
 
-/// What the bytes of the key are combined with before the inner digest.
+/// What each byte of the key is masked with before the inner digest.
 ///
-/// Source: FIPS 198-1, section 3, ipad.
+/// Source: FIPS 198-1, section 2.3, `ipad`.
 const INNER_MASK: u8 = 0x36;
 
-/// What the bytes of the key are combined with before the outer digest.
+/// What each byte of the key is masked with before the outer digest.
 ///
-/// Source: FIPS 198-1, section 3, opad.
+/// Source: FIPS 198-1, section 2.3, `opad`.
 const OUTER_MASK: u8 = 0x5c;
 
-/// A hash with its pads digested.
+/// The key, if there is one, with what the outer digest begins with.
 #[derive(Drop)]
 enum Prepared {
-    /// There is no key.
     Plain,
-    /// The key, and SHA-256 after the outer pad.
-    Keyed(Key, Sha256),
+    Keyed { key: Key, outer: Sha256 },
 }
 
 /// Makes tags of one size by one hash, with one salt or none.
@@ -43,12 +41,12 @@ pub struct TagMaker {
     prepared: Prepared,
     salt: Option<[u8; 16]>,
     size: u8,
-    /// SHA-256 after the inner pad, if there is a key, and the salt, if there is one.
+    /// What the inner digest begins with: the inner pad, if there is a key, and the salt.
     inner: Sha256,
 }
 
 impl Model for TagMaker {
-    ghost use Rattle.hmac_tag.specs.TagRule.{TagRule};
+    ghost use Rattle.hmac_tag.specs.TagMaker.{TagRule};
 
     ghost Value = { TagRule };
 
@@ -60,9 +58,9 @@ impl Model for TagMaker {
 }
 
 impl TagMaker {
-    ghost use Rattle.hmac_tag.specs.TagRule.{key_of};
+    ghost use Rattle.hmac_tag.specs.TagMaker.{key_of};
 
-    /// A maker of tags of `size` bytes. It digests the key.
+    /// A maker of tags of `size` bytes. It digests the key and its pads.
     pub fn new(hash: Hash, salt: Option<[u8; 16]>, size: u8) -> TagMaker
         requires size { IsInRange 1 32 size }
 
@@ -80,7 +78,7 @@ impl TagMaker {
                 let inner = Sha256::new_with_prefix(masked(padded, INNER_MASK));
                 let outer = Sha256::new_with_prefix(masked(padded, OUTER_MASK));
                 TagMaker {
-                    prepared: Prepared::Keyed(key, outer),
+                    prepared: Prepared::Keyed { key, outer },
                     salt,
                     size,
                     inner: salted(inner, salt),
@@ -89,20 +87,22 @@ impl TagMaker {
         }
     }
 
-    /// The tag of the block whose first sector is `sector`, counted in sectors of the device.
+    /// The tag of the block with these bytes, whose first sector of the device is `sector`.
     ///
-    /// Source: Linux, drivers/md/dm-integrity.c, integrity_sector_checksum.
+    /// Source: Linux, `drivers/md/dm-integrity.c`, `integrity_sector_checksum`.
     pub fn tag(&self, sector: u64, bytes: &[u8]) -> Tag
-        ensures { result ≡ tag_of self.now.key self.now.salt self.now.size sector bytes.now }
+        ensures { result ≡
+            tag_of self.now.key self.now.salt self.now.size sector bytes.now }
     {
         let digest = self.digest(sector, bytes);
         Tag::from_bytes(&digest[..self.size as usize])
     }
 
-    /// Whether this is the tag of the block whose first sector is `sector`. A tag of another size never is. It looks
-    /// at every byte, whichever differs first.
+    /// Whether `tag` is the tag of that block. A tag of another size is not. It looks at every byte
+    /// of the tag, whichever differs first.
     pub fn matches(&self, sector: u64, bytes: &[u8], tag: &Tag) -> bool
-        ensures { IsTrue result ↔ (tag.now ≡ tag_of self.now.key self.now.salt self.now.size sector bytes.now) }
+        ensures { IsTrue result ↔ (tag.now ≡
+            tag_of self.now.key self.now.salt self.now.size sector bytes.now) }
     {
         let computed = self.tag(sector, bytes);
         are_same(computed.bytes(), tag.bytes())
@@ -117,7 +117,7 @@ impl TagMaker {
         let digest = inner.finalize();
         match &self.prepared {
             Prepared::Plain => digest,
-            Prepared::Keyed(_, outer) => {
+            Prepared::Keyed { outer, .. } => {
                 let mut outer = copy_of(outer);
                 outer.update(digest);
                 outer.finalize()
@@ -126,7 +126,6 @@ impl TagMaker {
     }
 }
 
-/// The key in 64 bytes, with zeros behind it; a longer one is replaced by its digest.
 fn padded_key(key: &[u8]) -> [u8; 64]
     ensures { result ≡ padded_key key.now }
 {
@@ -146,8 +145,10 @@ fn masked(mut key: [u8; 64], mask: u8) -> [u8; 64]
     key
 }
 
+/// The hasher, with the salt taken in if there is one.
 fn salted(mut hasher: Sha256, salt: Option<[u8; 16]>) -> Sha256
-    ensures { (start : List ℕ) → Holds256 hasher start → Holds256 result (start ++ unwrap_or salt []) }
+    ensures { (start : List ℕ) → Holds256 hasher start
+        → Holds256 result (start ++ unwrap_or salt []) }
 {
     if let Some(salt) = salt {
         hasher.update(salt);
@@ -155,6 +156,7 @@ fn salted(mut hasher: Sha256, salt: Option<[u8; 16]>) -> Sha256
     hasher
 }
 
+/// A copy of the hasher. It takes no memory, so it cannot fail.
 fn copy_of(hasher: &Sha256) -> Sha256
     ensures { result ≡ hasher.now }
 {

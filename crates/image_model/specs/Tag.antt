@@ -13,7 +13,8 @@ short_key key = if nat_le (length key) 64 then key else sha256 key
 abbrev pub padded_key : List ℕ → List ℕ
 padded_key key = short_key key ++ replicate (64 - length (short_key key)) 0
 
--- The key in 64 bytes, each joined with one and the same byte by exclusive or.
+-- The key in 64 bytes, each combined with one byte by exclusive or.
+-- Source: FIPS 198-1, section 4, steps 4 and 7.
 abbrev pub masked_key : ℕ → List ℕ → List ℕ
 masked_key mask key = map (λ byte. bit_xor byte mask) (padded_key key)
 

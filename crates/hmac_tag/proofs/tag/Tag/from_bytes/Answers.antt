@@ -1,4 +1,4 @@
-use Rattle.hmac_tag.proofs.PaddedLemmas.{IsPadded-zeros}
+use Rattle.hmac_tag.proofs.TagLemmas.{IsPadded-zeros}
 use Rattle.hmac_tag.proofs.tag.Tag.from_bytes.Goals as goal
 
 pub invariant_of-result : goal.invariant_of-result
