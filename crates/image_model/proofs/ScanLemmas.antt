@@ -10,7 +10,7 @@ use Rattle.image_model.specs.CommitId.{commit_numbers}
 use Rattle.image_model.specs.Below.{any_below, all_below}
 use Rattle.image_model.specs.Walk.{State, Rest, Mixed, Erasing, Plan, bears, is_numbered, occurs, later, newest, reach, whole_sections, state_at, range, plan_at, plan_of, sections_of}
 use Rattle.image_model.specs.Scan.{SectorCell, Number, Zero, Other, Grid, IsGrid, cell_at, cell_number, number_at, found_in, is_zero, numbers_of, is_blank_sector, is_blank_with, blank_number, first_place, scan_fault_of, walk_of_grid}
-use Rattle.image_model.specs.Tables.{IsAtRest, IsWalkOfTwo, IsBlankSector, IsBlank, has_number, IsPlanOf, IsFirstPlace, IsFaultOf, FollowsRules, ScanLaw}
+use Rattle.image_model.specs.Tables.{IsAtRest, IsWalkOfTwo, IsBlankSector, IsBlank, IsNumbered, has_number, IsPlanOf, IsFirstPlace, IsFaultOf, FollowsRules, ScanLaw}
 use Rattle.image_model.proofs.BelowLemmas.{any_at, any_found, all_from, all_at, all_or_some}
 use Rattle.image_model.proofs.NumberLemmas.{four_numbers, first_of_four, first_of_four_tells, cases_option, newest_none}
 use Rattle.image_model.proofs.WalkLemmas.{bears_it, bears_is, some_is, numbered_from, numbered_at, occurs_at, occurs_found, plan_is, plan_at_two, plan_newest, walk_runs}
@@ -115,6 +115,13 @@ module _ (grid : Grid) (is_grid : IsGrid grid) where
 numbers_low : (grid : Grid) → IsGrid grid → (i j k : ℕ) → i < grid.sections → j < grid.sectors → numbers_of grid i j ≡ Some k → k < 4
 numbers_low grid is_grid i j k low narrow = is_grid.numbers (i * grid.sectors + j) k
 
+-- Where all sectors are numbered each cell has a number.
+cells_numbered : (grid : Grid) → IsGrid grid → is_numbered grid.sections grid.sectors (numbers_of grid) ≡ true → IsNumbered grid
+cells_numbered grid is_grid numbered k low none =
+    let place = place_inside grid.sections grid.sectors k is_grid.has_sectors (subst (λ m. k < m) is_grid.cells low) in
+    let some = some_is _ (numbered_at grid.sections grid.sectors (numbers_of grid) numbered (k / grid.sectors) (k % grid.sectors) place.0 place.1) in
+    none-some some.0 (sym none ∙ ap (number_at grid) (sym place.2) ∙ some.1)
+
 -- A plan by the numbers says what holds of the journal.
 pub plan_says : (grid : Grid) → IsGrid grid → (plan : Plan) → plan_of grid.sections grid.sectors (numbers_of grid) ≡ Some plan → IsPlanOf grid (sections_of plan.walk) plan.state
 plan_says grid is_grid plan planned =
@@ -129,7 +136,7 @@ plan_says grid is_grid plan planned =
     elim (cases_Bool (occurs n s g (later 2 q))) [
       | inl two ↦
           let at : plan_at n s g q ≡ record { state = Erasing q; walk = (0, 0) ∷ (0, 0) ∷ [] } = rw two refl in
-          subst (λ (x : Plan). IsPlanOf grid (sections_of x.walk) x.state) (sym at ∙ from.1.2) (new, two, refl)
+          subst (λ (x : Plan). IsPlanOf grid (sections_of x.walk) x.state) (sym at ∙ from.1.2) (cells_numbered grid is_grid from.0, new, two, refl)
       | inr lacks ↦
           let at = plan_at_two n s g q lacks in
           let runs = walk_runs (reach n s g q) n (whole_sections n s g q) in
@@ -139,9 +146,10 @@ plan_says grid is_grid plan planned =
                 let mixed : state_at n (reach n s g q) (whole_sections n s g q) q ≡ Mixed q = rw (ne_eqb _ _ torn) refl in
                 let state : plan.state ≡ Mixed q = ap (λ (x : Plan). x.state) (sym from.1.2 ∙ at) ∙ mixed in
                 subst (λ (x : State). IsPlanOf grid (sections_of (range (reach n s g q) n ∷ range 0 (whole_sections n s g q) ∷ [])) x) (sym mixed) (
-                  new,
-                  lacks,
-                  λ next other rest. let other_plan = rest_plan n s next other g wide rest in
+                    cells_numbered grid is_grid from.0,
+                    new,
+                    lacks,
+                    λ next other rest. let other_plan = rest_plan n s next other g wide rest in
                       let same : plan ≡ other_plan.0 = same_Some _ _ (sym planned ∙ other_plan.1) in
                       let apart : Mixed q ≡ Rest next other = sym state ∙ ap (λ (x : Plan). x.state) same ∙ other_plan.2 in cc,
                   subst (λ (x : List ℕ). IsWalkOfTwo n s q g x) (sym runs) (walk_of_two n s q g wide low from.0 new lacks),
@@ -237,6 +245,7 @@ fault_says grid is_grid none =
           let each = newest_none (occurs n s g) first.0 (numbers_low grid is_grid 0 0 first.0 is_grid.has_sections is_grid.has_sectors first.1)
           (occurs_at n s g first.0 0 0 is_grid.has_sections is_grid.has_sectors first.1) no_newest in
           rw past (
+            all,
             refl,
             λ number low.
                 let found = occurs_found n s g number (each number low) in
@@ -246,7 +255,6 @@ fault_says grid is_grid none =
                 let place = place_inside n s (first_of grid number) is_grid.has_sectors (subst (λ m. first_of grid number < m) total is.0) in
                 subst (IsFirstPlace grid (Some number)) (sym (place_by (λ number. first_place (λ cell. bears (cell_number cell) number) grid) number low))
                 (place.0, place.1, subst (λ x. number_at grid x ≡ Some number) (sym place.2) is.1, λ before under. is.2 before (subst (λ x. before < x) place.2 under)),
-            all,
           )
     ]
 

@@ -18,6 +18,7 @@ is_bit_set bytes r = bit_at (slice_index bytes (r / 8)) (r % 8) == 1
 abbrev pub is_dirty : Geometry → Image → ℕ → Bool
 is_dirty g image region = is_bit_set (bytes_at image 8 (bitmap_sectors g)) region
 
+-- The regions that are dirty.
 abbrev pub dirty_regions : Geometry → Image → List ℕ
 dirty_regions g image = filter (is_dirty g image) (range_with_len 0 (regions g))
 

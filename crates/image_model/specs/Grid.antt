@@ -49,6 +49,7 @@ grid_with bitmap g image = record {
 unfoldable pub blank_bound : Geometry → ℕ
 blank_bound g = if BLANKS_COUNT then bitmap_sectors_for g.blocks (fitting_log2_region g) else 0
 
+-- The grid of an image's journal.
 abbrev pub grid_of : Geometry → Image → Grid
 grid_of g image = grid_with (blank_bound g) g image
 
@@ -64,5 +65,6 @@ pub record IsGridOf (g : Geometry) (image : Image) (grid : Grid) : Type 0 where
   pub numbers : (section sector : ℕ) → section < g.sections → sector < section_sectors g.shape →
       numbers_of grid section sector ≡ commit_number section sector (image (section_at g section + sector))
 
+-- The grid of each image is one for its sections.
 abbrev pub GridLaw : Type 0
 GridLaw = (g : Geometry) (sectors : ℕ) (image : Image) → IsGeometry g sectors → IsGridOf g image (grid_of g image)

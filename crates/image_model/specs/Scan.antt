@@ -34,6 +34,7 @@ pub record Grid : Type 0 where
 abbrev pub cell_at : Grid → ℕ → SectorCell
 cell_at grid k = slice_index_or grid.cells k Zero
 
+-- The commit number of a cell, if it has one.
 abbrev pub cell_number : SectorCell → Option ℕ
 cell_number (Number number) = Some number
 cell_number other = None
@@ -42,6 +43,7 @@ cell_number other = None
 abbrev pub number_at : Grid → ℕ → Option ℕ
 number_at grid k = cell_number (cell_at grid k)
 
+-- The cell is that of a zero sector.
 abbrev pub is_zero : SectorCell → Bool
 is_zero Zero = true
 is_zero other = false
@@ -59,6 +61,7 @@ pub record IsGrid (grid : Grid) : Type 0 where
   pub bitmap : grid.bitmap ≤ length grid.cells
   pub numbers : (k number : ℕ) → number_at grid k ≡ Some number → number < 4
 
+-- The number that each sector of each section bears.
 abbrev pub numbers_of : Grid → Numbers
 numbers_of grid section sector = number_at grid (section * grid.sectors + sector)
 
@@ -79,6 +82,7 @@ blank_number grid =
     then find (is_blank_with grid) commit_numbers
     else None
 
+-- The plan of a blank journal: nothing counts.
 abbrev pub blank_plan : ℕ → Plan
 blank_plan number = record { state = Blank number; walk = (0, 0) ∷ (0, 0) ∷ [] }
 

@@ -60,16 +60,21 @@ pub record IsBlank (grid : Grid) (number : ℕ) : Type 0 where
 abbrev pub has_number : Grid → ℕ → Bool
 has_number grid = occurs grid.sections grid.sectors (numbers_of grid)
 
+-- Each sector of the journal bears a number.
+abbrev pub IsNumbered : Grid → Type 0
+IsNumbered grid = (k : ℕ) → k < length grid.cells → number_at grid k ≢ None
+
 -- What the state and the walk of a plan say of the journal.
 abbrev pub IsPlanOf : Grid → List ℕ → State → Type 0
 IsPlanOf grid walk (Rest next number) =
     IsAtRest grid.sections grid.sectors next number (numbers_of grid) × (walk ≡ ring grid.sections next)
 IsPlanOf grid walk (Mixed number) =
-    (newest (has_number grid) ≡ Some number) × (has_number grid (later 2 number) ≡ false)
+    IsNumbered grid × (newest (has_number grid) ≡ Some number) × (has_number grid (later 2 number) ≡ false)
     × ((next other : ℕ) → IsAtRest grid.sections grid.sectors next other (numbers_of grid) → ⊥)
     × IsWalkOfTwo grid.sections grid.sectors number (numbers_of grid) walk
 IsPlanOf grid walk (Erasing number) =
-    (newest (has_number grid) ≡ Some number) × (has_number grid (later 2 number) ≡ true) × (walk ≡ [])
+    IsNumbered grid × (newest (has_number grid) ≡ Some number) × (has_number grid (later 2 number) ≡ true)
+    × (walk ≡ [])
 IsPlanOf grid walk (Blank number) = IsBlank grid number × (walk ≡ [])
 
 -- The place is the first with this number, or without any.
@@ -79,16 +84,14 @@ IsFirstPlace grid number place =
     (place.0 < grid.sections) × (place.1 < grid.sectors) × (number_at grid k ≡ number)
     × ((before : ℕ) → before < k → number_at grid before ≢ number)
 
--- The first place without a number, and what is found there, or the first places of all four numbers,
--- where each sector bears one.
+-- The first place without a number, and what is found there, or the first places of all four numbers.
 abbrev pub IsFaultOf : Grid → ScanFault → Type 0
 IsFaultOf grid (NoNumber section sector found) =
     IsFirstPlace grid None (section, sector)
     × (found ≡ found_in (cell_at grid (section * grid.sectors + sector)))
 IsFaultOf grid (FourNumbers places) =
-    (length places ≡ 4)
+    IsNumbered grid × (length places ≡ 4)
     × ((number : ℕ) → number < 4 → IsFirstPlace grid (Some number) (slice_index_or places number (0, 0)))
-    × ((k : ℕ) → k < length grid.cells → number_at grid k ≢ None)
 
 -- The scan follows the rules: each plan and each fault says what holds of the journal, and a blank
 -- journal is seen as one.
@@ -97,8 +100,10 @@ pub record FollowsRules (grid : Grid) : Type 0 where
   pub fault : IfErr (walk_of_grid grid) (IsFaultOf grid)
   pub blank : (number : ℕ) → IsBlank grid number → walk_of_grid grid ≡ Ok (blank_plan number)
 
+-- The newest number is that of the table.
 abbrev pub NewestLaw : Type 0
 NewestLaw = (has : ℕ → Bool) (number : ℕ) → number < 4 → NewestTable has number
 
+-- The scan of each grid follows the rules.
 abbrev pub ScanLaw : Type 0
 ScanLaw = (grid : Grid) → IsGrid grid → FollowsRules grid

@@ -26,6 +26,7 @@ pub record Plan : Type 0 where
 abbrev pub Numbers : Type 0
 Numbers = ℕ → ℕ → Option ℕ
 
+-- A sector that bears this, or nothing, bears the number.
 abbrev pub bears : Option ℕ → ℕ → Bool
 bears None number = false
 bears (Some borne) number = borne == number
@@ -87,6 +88,7 @@ plan_by sections has_two_on reached whole number =
       walk = range reached sections ∷ range 0 whole ∷ [];
     }
 
+-- The plan of a journal whose newest number this is.
 abbrev pub plan_at : ℕ → ℕ → Numbers → ℕ → Plan
 plan_at sections sectors numbers number =
     plan_by sections (occurs sections sectors numbers (later 2 number))
