@@ -1,14 +1,13 @@
 -- When a region awaits.
-use Rattle.std.proofs.Common.{◌≡◌, inl, inr, ℕ, suc, ◌+◌, ◌-◌, ◌*◌, ◌/◌, ◌%◌, ◌^◌, ◌<◌, ◌≤◌, min, Bool, true, false, ◌&&◌, ◌==◌, nat_lt, refl, sym, ◌∙◌, ap, subst, arith}
-use Rattle.std.proofs.lemmas.Bool.{cases_Bool, and_parts, and_from, and_left, eqb-true, eq-eqb, true≢false, lt-ltb, ltb-true, false_from_ne_true}
+use Rattle.std.proofs.Common.{◌≡◌, inl, inr, ℕ, ◌+◌, ◌-◌, ◌*◌, ◌/◌, ◌%◌, ◌^◌, ◌<◌, ◌≤◌, min, true, false, ◌&&◌, ◌==◌, nat_lt, refl, sym, ◌∙◌, ap, subst, arith}
+use Rattle.std.proofs.lemmas.Bool.{cases_Bool, and_parts, and_from, eqb-true, eq-eqb, true≢false, lt-ltb, ltb-true, false_from_ne_true}
 use Rattle.std.proofs.lemmas.Nat.{pow_pos, div-mul-add, div-add-mod', mod_below, mul-le}
-use Rattle.std.proofs.Math.Nat.{div-mul-le_self, mul-le-mul_right}
 use Rattle.disk_model.specs.Disk.{Image}
 use Rattle.image_model.specs.declared.flags.TheConstants.{DIRTY_BITMAP, RECALCULATING}
 use Rattle.image_model.specs.Bitmap.{is_dirty, is_to_recalculate, awaits, region_awaits}
 use Rattle.image_model.specs.Geometry.{Geometry, region_of, regions}
 use Rattle.image_model.specs.Superblock.{Superblock, has_flag}
-use Rattle.image_model.proofs.BelowLemmas.{any_at, any_found, any_none}
+use Rattle.image_model.proofs.BelowLemmas.{any_at, any_found}
 use Rattle.image_model.proofs.Regions.{region-begins}
 
 module _ (s : Superblock) (g : Geometry) (image : Image) where

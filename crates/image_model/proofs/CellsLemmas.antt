@@ -1,9 +1,9 @@
 -- What the cell of a block is.
-use Rattle.std.proofs.Common.{◌≡◌, ℕ, ◌*◌, Bool, true, false, refl, sym, ◌∙◌, ap, List, [], Option, Some, None}
+use Rattle.std.proofs.Common.{◌≡◌, ℕ, ◌*◌, true, false, refl, List, [], Option, Some, None}
 use Rattle.disk_model.specs.Disk.{Image}
 use Rattle.image_model.specs.declared.flags.TheConstants.{DIRTY_BITMAP}
 use Rattle.image_model.specs.Bitmap.{awaits}
-use Rattle.image_model.specs.Cells.{Cell, salt_of, placed_cells_of, replayed_entries, counted_entries, last_entry, block_tag, recalculated_cell, cells_of}
+use Rattle.image_model.specs.Cells.{salt_of, placed_cells_of, replayed_entries, counted_entries, last_entry, block_tag, cells_of}
 use Rattle.image_model.specs.Geometry.{Geometry}
 use Rattle.image_model.specs.Section.{Entry}
 use Rattle.image_model.specs.Superblock.{Superblock, has_flag}

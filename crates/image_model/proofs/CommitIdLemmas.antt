@@ -1,9 +1,9 @@
 -- Commit ids tell their place and their number.
-use Rattle.std.proofs.Common.{◌≡◌, ◌≢◌, inl, inr, ℕ, ◌+◌, ◌*◌, ◌/◌, ◌^◌, ◌<◌, Bool, true, false, ◌==◌, bit_xor, List, [], ◌∷◌, refl, sym, ◌∙◌, ap, subst, arith, find, Option, Some, None}
+use Rattle.std.proofs.Common.{◌≡◌, ◌≢◌, inl, inr, ℕ, ◌+◌, ◌*◌, ◌/◌, ◌^◌, ◌<◌, ◌==◌, bit_xor, refl, sym, ◌∙◌, ap, arith, Some, None}
 use Rattle.std.proofs.lemmas.Bool.{true≢false, eqb-true, eq-eqb, ne_eqb}
 use Rattle.std.proofs.lemmas.Nat.{xor_shr, xor_lt, same_from_place}
 use lib.Bits.{xor_assoc, xor_self, xor_zero_l, xor_zero_r, xor_shifted}
-use Rattle.image_model.specs.CommitId.{pattern_of, commit_id, commit_numbers, number_of, CommitNumberLaw, CommitIdsDiffer}
+use Rattle.image_model.specs.CommitId.{pattern_of, commit_id, number_of, CommitNumberLaw, CommitIdsDiffer}
 use Rattle.image_model.proofs.NumberLemmas.{four_numbers, first_of_four, first_of_four_tells, first_of_four_none, cases_option}
 
 xor_back : (p x : ℕ) → bit_xor p (bit_xor p x) ≡ x

@@ -1,5 +1,5 @@
 -- What the cells of an image's grid are.
-use Rattle.std.proofs.Common.{◌≡◌, inl, inr, ℕ, zero, suc, ◌+◌, ◌*◌, ◌/◌, ◌%◌, ◌^◌, ◌<◌, ◌≤◌, Bool, true, false, ◌==◌, if◌then◌else◌, refl, sym, ◌∙◌, ap, subst, arith, Option, Some, None, List, [], ◌∷◌, length, map, get_or}
+use Rattle.std.proofs.Common.{◌≡◌, inl, inr, ℕ, zero, suc, ◌+◌, ◌*◌, ◌/◌, ◌%◌, ◌^◌, ◌<◌, ◌≤◌, Bool, true, false, ◌==◌, if◌then◌else◌, refl, sym, ◌∙◌, ap, arith, Option, Some, None, List, [], ◌∷◌, length, map, get_or}
 use Rattle.std.specs.List.{range_with_len, list_all}
 use Rattle.std.proofs.lemmas.Bool.{cases_Bool, cases_lt, and_parts, eqb-true}
 use Rattle.std.proofs.lemmas.List.{get_or_past}
@@ -11,8 +11,7 @@ use Rattle.image_model.specs.declared.blanks.TheConstants.{BLANKS_COUNT}
 use Rattle.image_model.specs.CommitId.{id_in, number_of, commit_number}
 use Rattle.image_model.specs.Geometry.{Geometry, section_at, section_sectors, journal_sectors, bitmap_sectors_for, fitting_log2_region, IsGeometry}
 use Rattle.image_model.specs.Grid.{is_zero_sector, cell_by, sector_cell, grid_with, blank_bound, GridLaw}
-use Rattle.image_model.specs.Scan.{SectorCell, Number, Zero, Other, IsGrid, cell_at, cell_number, numbers_of}
-use Rattle.image_model.specs.Sectors.{number_in}
+use Rattle.image_model.specs.Scan.{Zero, cell_at, cell_number, numbers_of}
 use Rattle.image_model.proofs.Bounds.{has_entries}
 use Rattle.image_model.proofs.CommitIdLemmas.{number_of_tells, number_of-zero}
 use Rattle.image_model.proofs.Regions.{fitting_log2_region_is}

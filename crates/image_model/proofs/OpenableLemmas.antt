@@ -1,21 +1,23 @@
 -- A journal is refused exactly where it has no walk or an entry that cannot be replayed.
-use Rattle.std.proofs.Common.{◌≡◌, ◌↔◌, ⊎_elim, inl, inr, ℕ, ◌+◌, ◌*◌, ◌/◌, ◌%◌, ◌^◌, ◌<◌, ◌==◌, nat_lt, Bool, true, false, not, refl, sym, ◌∙◌, ap, arith, Option, Some, None, option_and_then, Result, Ok, Err, IsOk, List, [], ◌∷◌, filter_map, slice_get, bytes_eq}
+use Rattle.std.proofs.Common.{◌≡◌, ◌↔◌, inl, inr, ℕ, ◌+◌, ◌*◌, ◌/◌, ◌%◌, ◌^◌, ◌==◌, nat_lt, true, false, refl, sym, ◌∙◌, ap, subst, arith, Option, None, option_and_then, Result, Ok, Err, IsOk, List, [], ◌∷◌, filter_map, slice_get, bytes_eq}
 use Rattle.std.specs.List.{AllByRecursion}
 use Rattle.std.specs.Option.{option_map, option_or}
 use Rattle.std.specs.Result.{result_err}
-use Rattle.std.proofs.lemmas.Bool.{cases_Bool, and_parts, and_from, eqb-true, eq-eqb, ltb-true, lt-ltb, not_from_true, true≢false}
+use Rattle.std.proofs.lemmas.Bool.{cases_Bool, and_parts, and_from, eqb-true, eq-eqb, ltb-true, lt-ltb, true≢false}
 use Rattle.std.proofs.lemmas.Nat.{div-add-mod'}
 use Rattle.std.proofs.lemmas.Option.{none-some}
 use Rattle.std.proofs.lemmas.Slice.Eq.{bytes_eq-Decides}
 use Rattle.disk_model.specs.Disk.{Image}
-use Rattle.image_model.specs.Cells.{block_tag, entry_of, entry_places, counted_sections, replayed_entries}
+use Rattle.image_model.specs.declared.flags.TheConstants.{DIRTY_BITMAP}
+use Rattle.image_model.specs.Cells.{salt_of, block_tag, counted_entries, entry_of, entry_places, counted_sections, replayed_entries}
 use Rattle.image_model.specs.Geometry.{Geometry, layout_of, IsGeometry}
 use Rattle.image_model.specs.Grid.{walk_of}
-use Rattle.image_model.specs.Openable.{first_sector, IsReadable, is_block_start, IsReplayable, JournalFault, Scan, entry_fault, entry_faults, journal_fault_of, JournalFaultLaw}
+use Rattle.image_model.specs.Openable.{first_sector, IsReadable, is_block_start, IsReplayable, IsOpenable, JournalFault, Scan, entry_fault, journal_fault_of, JournalFaultLaw}
 use Rattle.image_model.specs.Section.{Entry}
 use Rattle.image_model.specs.Scan.{ScanFault}
 use Rattle.image_model.specs.Walk.{Plan}
-use Rattle.image_model.specs.Superblock.{Superblock, IsAccepted}
+use Rattle.image_model.specs.Superblock.{has_flag, IsAccepted}
+use Rattle.image_model.proofs.CellsLemmas.{counted_entries-journal, counted_entries-bitmap}
 use Rattle.image_model.proofs.GeometryOf.{geometry_given, geometry_apart}
 use Rattle.image_model.proofs.SuperblockLemmas.{superblock_told}
 use Rattle.image_model.proofs.NumberLemmas.{cases_option}
@@ -108,3 +110,33 @@ pub IsReadable-same : (sectors : ℕ) (image : Image) (one other : IsReadable se
 IsReadable-same sectors image one other =
     let fields : one.superblock ≡ other.superblock = let e = sym one.has_superblock ∙ other.has_superblock in cc in
     (fields, (IsReadable-geometry sectors image one).0 ∙ ap layout_of fields ∙ sym (IsReadable-geometry sectors image other).0)
+
+-- A readable image whose journal has no fault, if it has a journal, can be opened,
+pub IsOpenable-from : (key : Option (List ℕ)) (sectors : ℕ) (image : Image) (readable : IsReadable sectors image)
+    → (has_flag DIRTY_BITMAP readable.superblock.flags ≡ false → journal_fault_of key (salt_of readable.superblock) readable.geometry image ≡ None)
+    → IsOpenable key sectors image
+IsOpenable-from key sectors image readable no_fault =
+    let s = readable.superblock in
+    let g = readable.geometry in
+    elim (cases_Bool (has_flag DIRTY_BITMAP s.flags)) [
+      | inl set ↦ record {
+        readable = readable;
+        walk = λ clear. absurd (true≢false (sym set ∙ clear));
+        entries = subst (AllByRecursion (IsReplayable key (salt_of s) g)) (sym (counted_entries-bitmap key s g image set)) tt;
+      }
+      | inr clear ↦
+          let both = (journal_fault_law key (salt_of s) g image).0 (no_fault clear) in
+          record {
+            readable = readable;
+            walk = λ _. both.0;
+            entries = subst (AllByRecursion (IsReplayable key (salt_of s) g)) (sym (counted_entries-journal key s g image clear)) both.1;
+          }
+    ]
+
+-- and the journal of an image that can be opened has none.
+pub IsOpenable-journal : (key : Option (List ℕ)) (sectors : ℕ) (image : Image) (openable : IsOpenable key sectors image)
+    → has_flag DIRTY_BITMAP openable.readable.superblock.flags ≡ false → journal_fault_of key (salt_of openable.readable.superblock) openable.readable.geometry image ≡ None
+IsOpenable-journal key sectors image openable clear =
+    let s = openable.readable.superblock in
+    let g = openable.readable.geometry in
+    (journal_fault_law key (salt_of s) g image).1 (openable.walk clear, subst (AllByRecursion (IsReplayable key (salt_of s) g)) (counted_entries-journal key s g image clear) openable.entries)

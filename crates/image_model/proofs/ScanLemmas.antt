@@ -1,16 +1,15 @@
 -- The scan of a grid follows the rules in words.
-use Rattle.std.proofs.Common.{◌≡◌, ◌≢◌, ◌⊎◌, inl, inr, ℕ, ◌+◌, ◌-◌, ◌*◌, ◌/◌, ◌%◌, ◌<◌, ◌≤◌, Bool, true, false, not, ◌&&◌, ◌||◌, refl, sym, ◌∙◌, ap, subst, arith, eqb, nat_lt, if◌then◌else◌, Option, Some, None, is_some, is_none, ok_or, option_map, find, Result, Ok, Err, IfOk, IfErr, List, [], ◌∷◌, ◌++◌, length, map, get_or, slice_index_or, append-nil}
-use Rattle.std.specs.List.{range_with_len, position_or_len}
-use Rattle.std.specs.Option.{option_or}
-use Rattle.std.proofs.lemmas.Bool.{cases_Bool, cases_eq, cases_lt, true≢false, and_from, and_parts, and_left, and_right, or_left, or_right, or_cases, ltb-true, ltb-false, lt-ltb, le-ltb, eq-eqb, ne_eqb, not-true, not_from_false, false_from_ne_true}
+use Rattle.std.proofs.Common.{◌≡◌, ◌≢◌, ◌⊎◌, inl, inr, ℕ, ◌+◌, ◌-◌, ◌*◌, ◌/◌, ◌%◌, ◌<◌, Bool, true, false, not, ◌&&◌, ◌||◌, refl, sym, ◌∙◌, ap, subst, arith, nat_lt, Option, Some, None, is_some, is_none, find, List, [], ◌∷◌, length, map, slice_index_or, append-nil}
+use Rattle.std.specs.List.{position_or_len}
+use Rattle.std.proofs.lemmas.Bool.{cases_Bool, cases_eq, cases_lt, true≢false, and_from, and_parts, or_left, or_right, or_cases, ltb-true, ltb-false, lt-ltb, eq-eqb, ne_eqb, not-true, not_from_false, false_from_ne_true}
 use Rattle.std.proofs.lemmas.List.Sums.{fails_before_first, passes_at_first}
 use Rattle.std.proofs.lemmas.Nat.{div-add-mod', mod_below, div_below, mul-add-lt}
 use Rattle.std.proofs.lemmas.Option.{none-some, same_Some}
 use Rattle.image_model.specs.CommitId.{commit_numbers}
-use Rattle.image_model.specs.Below.{any_below, all_below}
+use Rattle.image_model.specs.Below.{any_below}
 use Rattle.image_model.specs.Walk.{State, Rest, Mixed, Erasing, Plan, bears, is_numbered, occurs, later, newest, reach, whole_sections, state_at, range, plan_at, plan_of, sections_of}
 use Rattle.image_model.specs.Scan.{SectorCell, Number, Zero, Other, Grid, IsGrid, cell_at, cell_number, number_at, found_in, is_zero, numbers_of, is_blank_sector, is_blank_with, blank_number, first_place, scan_fault_of, walk_of_grid}
-use Rattle.image_model.specs.Tables.{IsAtRest, IsWalkOfTwo, IsBlankSector, IsBlank, IsNumbered, has_number, IsPlanOf, IsFirstPlace, IsFaultOf, FollowsRules, ScanLaw}
+use Rattle.image_model.specs.Tables.{IsWalkOfTwo, IsBlankSector, IsBlank, IsNumbered, IsPlanOf, IsFirstPlace, IsFaultOf, ScanLaw}
 use Rattle.image_model.proofs.BelowLemmas.{any_at, any_found, all_from, all_at, all_or_some}
 use Rattle.image_model.proofs.NumberLemmas.{four_numbers, first_of_four, first_of_four_tells, cases_option, newest_none}
 use Rattle.image_model.proofs.WalkLemmas.{bears_it, bears_is, some_is, numbered_from, numbered_at, occurs_at, occurs_found, plan_is, plan_at_two, plan_newest, walk_runs}
@@ -146,10 +145,10 @@ plan_says grid is_grid plan planned =
                 let mixed : state_at n (reach n s g q) (whole_sections n s g q) q ≡ Mixed q = rw (ne_eqb _ _ torn) refl in
                 let state : plan.state ≡ Mixed q = ap (λ (x : Plan). x.state) (sym from.1.2 ∙ at) ∙ mixed in
                 subst (λ (x : State). IsPlanOf grid (sections_of (range (reach n s g q) n ∷ range 0 (whole_sections n s g q) ∷ [])) x) (sym mixed) (
-                    cells_numbered grid is_grid from.0,
-                    new,
-                    lacks,
-                    λ next other rest. let other_plan = rest_plan n s next other g wide rest in
+                  cells_numbered grid is_grid from.0,
+                  new,
+                  lacks,
+                  λ next other rest. let other_plan = rest_plan n s next other g wide rest in
                       let same : plan ≡ other_plan.0 = same_Some _ _ (sym planned ∙ other_plan.1) in
                       let apart : Mixed q ≡ Rest next other = sym state ∙ ap (λ (x : Plan). x.state) same ∙ other_plan.2 in cc,
                   subst (λ (x : List ℕ). IsWalkOfTwo n s q g x) (sym runs) (walk_of_two n s q g wide low from.0 new lacks),

@@ -1,5 +1,5 @@
 -- What an entry of a section is.
-use Rattle.std.proofs.Common.{◌≡◌, ℕ, ◌+◌, ◌*◌, Bool, true, false, refl, List, Some, None}
+use Rattle.std.proofs.Common.{◌≡◌, ℕ, ◌+◌, ◌*◌, true, false, refl, List, Some, None}
 use Rattle.image_model.specs.Geometry.{Shape}
 use Rattle.image_model.specs.Section.{entry_from, is_used, parts_of, block_in, entry_at}
 use Rattle.image_model.specs.Sectors.{piece, number_in}

@@ -1,13 +1,13 @@
 -- The plan by the numbers follows the tables.
-use Rattle.std.proofs.Common.{◌≡◌, ◌≢◌, inl, inr, ℕ, suc, ◌+◌, ◌-◌, ◌<◌, ◌≤◌, Bool, true, false, refl, sym, ◌∙◌, ap, subst, arith, eqb, Some, None, List, [], ◌∷◌, ◌++◌, append-nil}
+use Rattle.std.proofs.Common.{◌≡◌, ◌≢◌, inl, inr, ℕ, suc, ◌+◌, ◌-◌, ◌<◌, ◌≤◌, Bool, true, false, refl, sym, ◌∙◌, ap, subst, arith, Some, List, [], ◌∷◌, ◌++◌, append-nil}
 use Rattle.std.specs.List.{range_with_len}
 use Rattle.std.specs.Prelude.{is_some}
-use Rattle.std.proofs.lemmas.Bool.{cases_Bool, cases_eq, cases_lt, eqb-true, eqb-false, eq-eqb, ne_eqb, false_from_ne_true, true≢false}
+use Rattle.std.proofs.lemmas.Bool.{cases_eq, cases_lt, eq-eqb, ne_eqb, false_from_ne_true}
 use Rattle.std.proofs.lemmas.Option.{same_Some}
-use Rattle.image_model.specs.Walk.{Plan, Rest, Numbers, holds, is_wholly, occurs, is_numbered, later, newest, reach, whole_sections, state_at, plan_at, plan_of, sections_of, ring}
-use Rattle.image_model.specs.Tables.{NewestTable, NewestLaw, IsWholly, IsAtRest, IsWalkOfTwo}
+use Rattle.image_model.specs.Walk.{Plan, Rest, Numbers, holds, is_wholly, occurs, is_numbered, later, newest, reach, whole_sections, plan_at, plan_of, sections_of, ring}
+use Rattle.image_model.specs.Tables.{NewestLaw, IsWholly, IsAtRest, IsWalkOfTwo}
 use Rattle.image_model.proofs.BelowLemmas.{last_le, last_above, last_below, last_passes, front_le, front_passes, front_above, front_below}
-use Rattle.image_model.proofs.NumberLemmas.{newest_is, newest_apart, newest_three, newest_four, newest_tells, later_low, later_back, later_forth, later_twice, later_two, later_three, later_differs, only_three}
+use Rattle.image_model.proofs.NumberLemmas.{newest_is, newest_apart, newest_three, newest_four, newest_tells, later_low, later_back, later_forth, later_two, later_three, only_three}
 use Rattle.image_model.proofs.WalkLemmas.{plan_is, plan_at_two, holds_at, holds_found, holds_none, wholly_at, wholly_each, wholly_holds, numbered_from, numbered_at, occurs_at, occurs_found, lacks_from, absent_at, some_is, walk_runs}
 
 same_four : (a b c d a' b' c' d' : Bool) → ◌≡◌ {A = List Bool} (a ∷ b ∷ c ∷ d ∷ []) (a' ∷ b' ∷ c' ∷ d' ∷ []) → (a ≡ a') × (b ≡ b') × (c ≡ c') × (d ≡ d')

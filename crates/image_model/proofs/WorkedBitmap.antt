@@ -3,7 +3,7 @@ use Rattle.std.proofs.Common.{◌≡◌, ℕ, ◌==◌, true, false, if◌then�
 use Rattle.std.specs.List.{range_with_len}
 use Rattle.disk_model.specs.Disk.{Image}
 use Rattle.image_model.specs.Bitmap.{is_bit_set, dirty_regions, awaits, region_awaits}
-use Rattle.image_model.specs.Geometry.{layout_of, regions_for, bitmap_sectors_for, tag_run_of}
+use Rattle.image_model.specs.Geometry.{layout_of, regions_for, bitmap_sectors_for}
 use Rattle.image_model.specs.Superblock.{Superblock}
 
 -- One block of 80 written, in regions of one block: byte 0 of the bitmap is 08.

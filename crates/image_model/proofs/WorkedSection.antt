@@ -1,8 +1,8 @@
 -- The entries of a small section, by computing: blocks of one sector, and tags of 32 bytes.
-use Rattle.std.proofs.Common.{◌≡◌, ℕ, refl, Some, None, List, [], ◌∷◌, ◌++◌, replicate}
+use Rattle.std.proofs.Common.{◌≡◌, ℕ, refl, Some, None, List, ◌∷◌, ◌++◌, replicate}
 use Rattle.std.specs.List.{repeat}
-use Rattle.image_model.specs.Geometry.{Shape, entry_size, entries_per_sector, section_entries}
-use Rattle.image_model.specs.Section.{Entry, is_used, entry_at}
+use Rattle.image_model.specs.Geometry.{Shape, entry_size}
+use Rattle.image_model.specs.Section.{is_used, entry_at}
 
 abbrev shape : Shape
 shape = record { spb = 1; tag_size = 32 }

@@ -1,5 +1,5 @@
 -- Walks at values from outside, by computing.
-use Rattle.std.proofs.Common.{◌≡◌, ℕ, ◌*◌, refl, Bool, true, false, List, [], ◌∷◌, replicate, Result, Ok, Err, flat_map}
+use Rattle.std.proofs.Common.{◌≡◌, ℕ, refl, Bool, true, false, List, [], ◌∷◌, replicate, Result, Ok, Err, flat_map}
 use Rattle.image_model.specs.Walk.{State, Rest, Mixed, Erasing, Blank, Plan, plan_of, sections_of}
 use Rattle.image_model.specs.Scan.{SectorCell, Number, Zero, Other, ScanFault, NoNumber, FourNumbers, walk_of_grid}
 

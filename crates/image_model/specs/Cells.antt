@@ -1,6 +1,6 @@
 -- The cells of an image: what each block reads as, and the tag that is stored for it.
 -- Own: the entries of the walk count, and a block that awaits has the tag of its bytes.
-use Rattle.std.specs.Prelude.{ℕ, ◌*◌, ◌==◌, Bool, if◌then◌else◌, Option, Some, None, option_map, unwrap_or, find, Result, Ok, Err, List, [], reverse, map, flat_map, filter_map}
+use Rattle.std.specs.Prelude.{ℕ, ◌*◌, ◌==◌, if◌then◌else◌, Option, Some, None, option_map, unwrap_or, find, Result, Ok, Err, List, [], reverse, map, flat_map, filter_map}
 use Rattle.std.specs.List.{range_with_len}
 use Rattle.disk_model.specs.Disk.{Image}
 use Rattle.image_model.specs.declared.flags.TheConstants.{DIRTY_BITMAP, FIXED_HMAC}

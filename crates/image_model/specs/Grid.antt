@@ -42,7 +42,7 @@ grid_with bitmap g image = record {
   cells = map (sector_cell g image) (range_with_len 0 (journal_sectors g));
   bitmap = bitmap;
   used_outside = any_below g.sections (λ section.
-    any_below (section_entries g.shape) (is_used_outside bitmap g image section));
+      any_below (section_entries g.shape) (is_used_outside bitmap g image section));
 }
 
 -- How many sectors a bitmap would have: none where blanks do not count.

@@ -1,8 +1,8 @@
 -- The entries of a journal section, by its bytes: 8 metadata sectors, then the data sectors of each
 -- entry. Source: Linux, drivers/md/dm-integrity.c, struct journal_entry and access_journal_entry.
-use Rattle.std.specs.Prelude.{ℕ, ◌+◌, ◌*◌, ◌-◌, ◌/◌, ◌%◌, ◌^◌, ◌==◌, Bool, not, if◌then◌else◌, List, ◌++◌, Option, Some, None, flat_map, filter_map}
+use Rattle.std.specs.Prelude.{ℕ, ◌+◌, ◌*◌, ◌-◌, ◌/◌, ◌%◌, ◌^◌, ◌==◌, Bool, not, if◌then◌else◌, List, ◌++◌, Option, Some, None, flat_map}
 use Rattle.std.specs.List.{range_with_len}
-use Rattle.image_model.specs.Geometry.{Shape, entry_size, section_entries}
+use Rattle.image_model.specs.Geometry.{Shape, entry_size}
 use Rattle.image_model.specs.Sectors.{piece, number_in}
 
 -- A used entry: the first sector of its block, the block's bytes, and their tag.

@@ -1,7 +1,7 @@
 -- The rules of the scan in words, as laws that hold of its definitions: the newest number, the states,
 -- the walks, the blanks and the refusals.
 -- Own: as the walk.
-use Rattle.std.specs.Prelude.{◌≡◌, ◌≢◌, ℕ, ◌+◌, ◌*◌, ◌-◌, ◌<◌, ◌≤◌, min, Bool, true, false, Option, Some, None, Result, Ok, IfOk, IfErr, List, [], ◌∷◌, ◌++◌, map, length, slice_index_or}
+use Rattle.std.specs.Prelude.{◌≡◌, ◌≢◌, ℕ, ◌+◌, ◌*◌, ◌-◌, ◌<◌, ◌≤◌, min, Bool, true, false, Option, Some, None, Ok, IfOk, IfErr, List, [], ◌∷◌, ◌++◌, map, length, slice_index_or}
 use Rattle.std.specs.List.{range_with_len}
 use Rattle.image_model.specs.Walk.{State, Rest, Mixed, Erasing, Blank, Numbers, occurs, later, newest, sections_of, ring}
 use Rattle.image_model.specs.Scan.{Zero, ScanFault, NoNumber, FourNumbers, Grid, IsGrid, cell_at, number_at, found_in, numbers_of, blank_plan, walk_of_grid}

@@ -1,7 +1,7 @@
 -- The plan of a journal by the numbers on its sectors: its state, and which sections count, in order.
 -- Source: Linux, Documentation/admin-guide/device-mapper/dm-integrity.rst: a section counts where its
 -- commit id stands on all its sectors. Own: the order of the sections, the states and the refusals.
-use Rattle.std.specs.Prelude.{ℕ, ◌+◌, ◌-◌, ◌%◌, ◌==◌, nat_lt, Bool, true, false, not, ◌&&◌, if◌then◌else◌, Option, Some, None, is_some, option_map, find, List, [], ◌∷◌, ◌++◌}
+use Rattle.std.specs.Prelude.{ℕ, ◌+◌, ◌-◌, ◌%◌, ◌==◌, nat_lt, Bool, false, not, ◌&&◌, if◌then◌else◌, Option, Some, None, is_some, option_map, find, List, [], ◌∷◌, ◌++◌}
 use Rattle.std.specs.List.{range_with_len}
 use Rattle.image_model.specs.CommitId.{commit_numbers}
 use Rattle.image_model.specs.Below.{any_below, all_below, past_last, front_length}
