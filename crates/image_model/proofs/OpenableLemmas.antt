@@ -9,7 +9,7 @@ use Rattle.std.proofs.lemmas.Option.{none-some}
 use Rattle.std.proofs.lemmas.Slice.Eq.{bytes_eq-Decides}
 use Rattle.disk_model.specs.Disk.{Image}
 use Rattle.image_model.specs.declared.flags.TheConstants.{DIRTY_BITMAP}
-use Rattle.image_model.specs.Cells.{salt_of, block_tag, counted_entries, entry_of, entry_places, counted_sections, replayed_entries}
+use Rattle.image_model.specs.Cells.{salt_of, block_tag, entry_of, entry_places, counted_sections, replayed_entries}
 use Rattle.image_model.specs.Geometry.{Geometry, layout_of, IsGeometry}
 use Rattle.image_model.specs.Grid.{walk_of}
 use Rattle.image_model.specs.Openable.{first_sector, IsReadable, is_block_start, IsReplayable, IsOpenable, JournalFault, Scan, entry_fault, journal_fault_of, JournalFaultLaw}

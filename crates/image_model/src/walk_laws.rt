@@ -13,14 +13,14 @@ pub fn commit_ids_differ()
     ensures number { CommitNumberLaw }
 {}
 
-/// The newest number is that of the table, and each plan and each refusal of a scan says what holds of
-/// the journal.
+/// The newest number is that of the table, and each plan and each refusal of a scan says what holds
+/// of the journal.
 pub fn scan_follows_the_rules()
     ensures newest { NewestLaw }
     ensures scan { ScanLaw }
 {}
 
-/// The grid of an image has a cell for each sector of each section, by the number that this one bears.
+/// The grid of an image has a cell for each sector of each section, by the number that it bears.
 pub fn grid_is_of_the_image()
     ensures { GridLaw }
 {}
