@@ -1,5 +1,5 @@
 -- What a contract sees of a `MemSource` and of a `MemSink`.
-use Rattle.std.specs.Prelude.{◌≡◌, ℕ, ◌<◌, ◌-◌, List, length}
+use Rattle.std.specs.Prelude.{ℕ, ◌-◌, List, length}
 use Rattle.sector_disk.specs.declared.fault_plan.FaultPlan.{FaultPlan}
 
 -- A source in memory: the bytes that it has left, and which of its calls fail.

@@ -1,5 +1,5 @@
 //! A sink that holds bytes in memory.
-ghost use Rattle.std.specs.Prelude.{◌≡◌, ◌⊎◌, ◌≤◌, ◌<◌, ◌++◌, ◌↔◌, ℕ, List, [], length, min, take, drop, Some, IsErr, IfOk, OnErr};
+ghost use Rattle.std.specs.Prelude.{◌≡◌, ◌⊎◌, ◌≤◌, ◌<◌, ◌++◌, ◌↔◌, [], length, min, take, Some, IsErr, IfOk, OnErr};
 ghost use Rattle.disk_model.specs.Causes.{HasCause};
 ghost use Rattle.sector_disk.specs.Faults.{FailsNext, with_call, with_fault};
 
@@ -24,7 +24,7 @@ impl Model for MemSink {
 
     ghost view = { λ sink. record { held = sink.held.items; room = sink.room; plan = sink.plan } };
 
-    ghost invariant = { λ sink. sink.room ≤ vec_capacity sink.held };
+    ghost invariant = { λ sink. (length sink.held.items ≤ sink.room) × (sink.room ≤ vec_capacity sink.held) };
 }
 
 impl MemSink {
@@ -58,7 +58,8 @@ impl MemSink {
         requires { length calls.now ≤ MOST_FAILING }
 
         ensures { self.new ≡ record self.old {
-            plan = record self.old.plan { failing = record { items = calls.now } } } }
+          plan = record self.old.plan { failing = record { items = calls.now } };
+        } }
     {
         self.plan.fail_at(calls);
     }
@@ -78,7 +79,9 @@ impl Sink for MemSink {
     fn write(&mut self, bytes: &[u8]) -> Result<usize, Failed>
         ensures count { IfOk result (λ n. n ≡ min (length bytes.now) (room_left self.old)) }
         ensures written { IfOk result (λ n. self.new ≡ record self.old {
-            held = self.old.held ++ take n bytes.now; plan = with_call self.old.plan }) }
+          held = self.old.held ++ take n bytes.now;
+          plan = with_call self.old.plan;
+        }) }
 
         ensures fails { IsErr result ↔ (FailsNext self.old.plan
             ⊎ ((0 < length bytes.now) × (room_left self.old ≡ 0))) }
@@ -87,7 +90,7 @@ impl Sink for MemSink {
             ≡ record self.old { plan = with_fault (with_call self.old.plan) }) }
     {
         self.plan.begin()?;
-        let n = bytes.len().min(self.room.saturating_sub(self.held.len()));
+        let n = bytes.len().min(self.room - self.held.len());
         if n == 0 && !bytes.is_empty() {
             return Err(self.plan.fault());
         }

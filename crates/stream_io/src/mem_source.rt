@@ -1,5 +1,5 @@
 //! A source over bytes in memory.
-ghost use Rattle.std.specs.Prelude.{◌≡◌, ◌≤◌, ◌↔◌, ℕ, List, [], length, min, take, drop, Some, Ok, IsErr, IfOk, OnErr};
+ghost use Rattle.std.specs.Prelude.{◌≡◌, ◌≤◌, ◌↔◌, ℕ, List, [], length, min, drop, Some, Ok, IsErr, IfOk, OnErr};
 ghost use Rattle.std.proofs.Common.{ap};
 ghost use Rattle.disk_model.specs.Causes.{HasCause};
 ghost use Rattle.sector_disk.specs.Faults.{FailsNext, with_call, with_fault};
@@ -42,7 +42,8 @@ impl<'b> MemSource<'b> {
         requires { length calls.now ≤ MOST_FAILING }
 
         ensures { self.new ≡ record self.old {
-            plan = record self.old.plan { failing = record { items = calls.now } } } }
+          plan = record self.old.plan { failing = record { items = calls.now } };
+        } }
     {
         self.plan.fail_at(calls);
     }

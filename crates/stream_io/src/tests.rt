@@ -55,8 +55,16 @@ fn the_calls_that_were_set_fail(rt: HostRuntime) -> Result<(), Fail> {
                 source.fail_at(&then);
                 sink.fail_at(&then);
             }
-            assert_eq!(rt; source.read(&mut buffer).is_ok(), is_ok, "read {i} under {first:?}");
-            assert_eq!(rt; sink.write(b"xy").is_ok(), is_ok, "write {i} under {first:?}");
+            assert_eq!(rt;
+                source.read(&mut buffer).is_ok(),
+                is_ok,
+                "read {i} under {first:?}"
+            );
+            assert_eq!(rt;
+                sink.write(b"xy").is_ok(),
+                is_ok,
+                "write {i} under {first:?}"
+            );
         }
         let succeeded = wanted.iter().filter(|is_ok| **is_ok).count();
         assert_eq!(rt; sink.bytes().len(), 2 * succeeded, "held under {first:?}");
@@ -72,7 +80,11 @@ fn put_all_leaves_a_prefix_where_the_sink_fails(rt: HostRuntime) -> Result<(), F
     sink.fail_at(&[2]);
     assert_eq!(rt; put_all(&mut sink, b"def"), Err(Failed), "the call was set");
     assert_eq!(rt; sink.bytes(), b"abc".as_slice());
-    assert_eq!(rt; put_all(&mut sink, b"defghi"), Err(Failed), "there is no room for all");
+    assert_eq!(rt;
+        put_all(&mut sink, b"defghi"),
+        Err(Failed),
+        "there is no room for all"
+    );
     assert_eq!(rt; sink.bytes(), b"abcdefgh".as_slice());
     Ok(())
 }

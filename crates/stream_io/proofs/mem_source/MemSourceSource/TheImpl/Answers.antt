@@ -1,5 +1,5 @@
 -- What the trait ensures follows from the exact clauses.
-use Rattle.std.proofs.Common.{◌≡◌, ◌≤◌, ℕ, arith, ap, sym, subst, length, drop, min, Some}
+use Rattle.std.proofs.Common.{◌≡◌, ◌≤◌, ℕ, arith, ap, subst, length, drop, min, Some}
 use Rattle.std.specs.Option.{ForSome}
 use Rattle.std.proofs.lemmas.Option.{same_Some}
 use Rattle.std.proofs.lemmas.Result.{IfOk-weaker, on_err_weaker}
