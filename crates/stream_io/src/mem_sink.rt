@@ -28,7 +28,11 @@ impl Model for MemSink {
 }
 
 impl MemSink {
-    /// It holds nothing, and no call is to fail.
+    /// Makes a sink that holds nothing, with room for so many bytes. No call of it is to fail.
+    ///
+    /// # Errors
+    ///
+    /// - `Memory`: there is none for these.
     pub fn new(alloc: Global, room: usize) -> Result<MemSink, Memory>
         ensures held { IfOk result (λ sink. sink.held ≡ []) }
         ensures room { IfOk result (λ sink. sink.room ≡ room) }
@@ -53,7 +57,7 @@ impl MemSink {
     }
 
     /// Sets which calls of `write` are to fail, in place of those that were set before. Calls are numbered from 1,
-    /// since the sink was made.
+    /// since the sink was made, failed ones included.
     pub fn fail_at(&mut self, calls: &[u64])
         requires { length calls.now ≤ MOST_FAILING }
 

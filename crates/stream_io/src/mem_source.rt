@@ -1,5 +1,5 @@
 //! A source over bytes in memory.
-ghost use Rattle.std.specs.Prelude.{◌≡◌, ◌≤◌, ◌↔◌, ℕ, List, [], length, min, drop, Some, Ok, IsErr, IfOk, OnErr};
+ghost use Rattle.std.specs.Prelude.{◌≡◌, ◌≤◌, ◌↔◌, ℕ, List, [], length, min, drop, Some, IsErr, IsOk, IfOk, OnErr};
 ghost use Rattle.std.proofs.Common.{ap};
 ghost use Rattle.disk_model.specs.Causes.{HasCause};
 ghost use Rattle.sector_disk.specs.Faults.{FailsNext, with_call, with_fault};
@@ -25,7 +25,7 @@ impl<'b> Model for MemSource<'b> {
 }
 
 impl<'b> MemSource<'b> {
-    /// All the bytes are left, and no call is to fail.
+    /// Makes a source that has all these bytes left. No call of it is to fail.
     pub fn new(bytes: &'b [u8]) -> MemSource<'b>
         ensures left { result.left ≡ bytes.now }
         ensures plan { result.plan ≡ record { calls = 0; failing = record { items = [] }; faults = 0 } }
@@ -37,7 +37,7 @@ impl<'b> MemSource<'b> {
     }
 
     /// Sets which calls of `read` are to fail, in place of those that were set before. Calls are numbered from 1,
-    /// since the source was made.
+    /// since the source was made, failed ones included.
     pub fn fail_at(&mut self, calls: &[u64])
         requires { length calls.now ≤ MOST_FAILING }
 
@@ -57,11 +57,12 @@ impl Counted for MemSource<'_> {
 
 impl Named for MemSource<'_> {
     fn bind(&mut self, _name: &str) -> Result<(), Failed>
-        ensures ok { result ≡ Ok tt }
+        ensures bound { IsOk result }
 
         ensures cause { HasCause self.old.plan.faults self.new.plan.faults result }
 
-        ensures same { self.new ≡ self.old }
+        ensures same { self.new.left ≡ self.old.left }
+        ensures kept { self.new ≡ self.old }
     {
         Ok(())
     }

@@ -7,6 +7,8 @@
 
 mod list;
 mod pair;
+#[cfg(test)]
+mod tests;
 
 pub use list::write_pairs;
 pub use pair::{Pair, write_pair};

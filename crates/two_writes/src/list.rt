@@ -32,7 +32,7 @@ pub fn write_pairs<D: Disk>(disk: &mut D, pairs: &[Pair]) -> Result<(), Failed>
     // The same, told by the images of a disk on which nothing was pending.
     ensures cut { ForSome (content_now (D.moments disk.old)) HasNothingPending
         → EachMoment (D.moments disk.old) (D.moments disk.new)
-            (FromStart (D.moments disk.old) (λ start. EachImage (IsCutAmidPairs pairs.now start))) }
+        (FromStart (D.moments disk.old) (λ start. EachImage (IsCutAmidPairs pairs.now start))) }
 {
     for pair in pairs {
         write_pair(disk, pair)?;

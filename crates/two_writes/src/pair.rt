@@ -2,7 +2,7 @@
 //!
 //! There is one sync, behind both. So a cut before it may leave each of the two old or new, and a cut after it
 //! leaves both new.
-ghost use Rattle.std.specs.Prelude.{◌≡◌, ◌+◌, ◌<◌, ◌≤◌, length, OnOk};
+ghost use Rattle.std.specs.Prelude.{◌≡◌, ◌<◌, ◌↔◌, length, IsTrue, OnOk};
 ghost use Rattle.std.specs.Option.{ForSome, option_map};
 ghost use Rattle.disk_model.specs.Causes.{HasCause};
 ghost use Rattle.disk_model.specs.Disk.{EachImage, HasNothingPending, OnlyAdds, newest_only, with_run};
@@ -24,6 +24,20 @@ pub struct Pair {
     pub whole_at: u64,
     /// Its bytes.
     pub whole: [u8; 512],
+}
+
+impl Pair {
+    /// Whether it can be written to a disk of so many sectors: both are on it and are two, and the piece lies
+    /// within its sector.
+    pub fn is_fit(&self, sectors: u64) -> bool
+        ensures { IsTrue result ↔ IsFit sectors self.now }
+    {
+        self.changed_at < sectors
+            && self.whole_at < sectors
+            && self.changed_at != self.whole_at
+            && self.piece.len() <= 512
+            && self.from <= 512 - self.piece.len()
+    }
 }
 
 /// Reads the sector that changes, puts the piece into it, writes it and the whole one, and syncs.
@@ -49,7 +63,7 @@ pub fn write_pair<D: Disk>(disk: &mut D, pair: &Pair) -> Result<(), Failed>
     // The same, told by the images of a disk on which nothing was pending.
     ensures cut { ForSome (content_now (D.moments disk.old)) HasNothingPending
         → EachMoment (D.moments disk.old) (D.moments disk.new)
-            (FromStart (D.moments disk.old) (λ start. EachImage (IsOldOrNew pair.now start))) }
+        (FromStart (D.moments disk.old) (λ start. EachImage (IsOldOrNew pair.now start))) }
 {
     let mut sector = [0; 512];
     read_changed(disk, pair, &mut sector)?;
@@ -57,11 +71,7 @@ pub fn write_pair<D: Disk>(disk: &mut D, pair: &Pair) -> Result<(), Failed>
 }
 
 // Reads the sector that changes, and puts the piece into it.
-fn read_changed<D: Disk>(
-    disk: &mut D,
-    pair: &Pair,
-    sector: &mut [u8; 512],
-) -> Result<(), Failed>
+fn read_changed<D: Disk>(disk: &mut D, pair: &Pair, sector: &mut [u8; 512]) -> Result<(), Failed>
     requires { IsFit (D.sectors disk.old) pair.now }
 
     ensures sector { OnOk result (ForSome (content_now (D.moments disk.old))
@@ -90,7 +100,7 @@ fn write_both<D: Disk>(
 
     ensures written { OnOk result (content_now (D.moments disk.new)
         ≡ option_map (λ c. newest_only (with_run second_at second.now (with_run first_at first.now c)))
-            (content_now (D.moments disk.old))) }
+        (content_now (D.moments disk.old))) }
 
     ensures cause { HasCause (D.faults disk.old) (D.faults disk.new) result }
 
