@@ -1,3 +1,3 @@
 pub use Rattle.disk_model.specs.Causes
-pub mod Memory
+pub mod InMemory
 pub mod Stream

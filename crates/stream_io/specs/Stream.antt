@@ -1,4 +1,5 @@
 -- What a source gives and what a sink takes.
+-- Own: bytes are given and taken in order, as many at a time as the object likes, and none only at the end.
 use Rattle.std.specs.Prelude.{◌≡◌, ℕ, ◌<◌, ◌≤◌, List, [], ◌++◌, length, take, Option}
 use Rattle.std.specs.Option.{option_map}
 

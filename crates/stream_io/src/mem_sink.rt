@@ -18,7 +18,7 @@ pub struct MemSink {
 
 impl Model for MemSink {
     ghost use Rattle.std.specs.Prelude.{◌≤◌, length, vec_capacity};
-    ghost use Rattle.stream_io.specs.Memory.{SinkState};
+    ghost use Rattle.stream_io.specs.InMemory.{SinkState};
 
     ghost Value = { SinkState };
 
@@ -76,7 +76,7 @@ impl Counted for MemSink {
 }
 
 impl Sink for MemSink {
-    ghost use Rattle.stream_io.specs.Memory.{room_left};
+    ghost use Rattle.stream_io.specs.InMemory.{room_left};
 
     ghost held = { λ sink. Some sink.held };
 

@@ -17,7 +17,7 @@ pub struct MemSource<'b> {
 }
 
 impl<'b> Model for MemSource<'b> {
-    ghost use Rattle.stream_io.specs.Memory.{SourceState};
+    ghost use Rattle.stream_io.specs.InMemory.{SourceState};
 
     ghost Value = { SourceState };
 

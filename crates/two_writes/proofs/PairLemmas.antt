@@ -1,6 +1,6 @@
 -- What a pair, and a list of pairs, leaves once it is synced, and at each moment before.
 use Rattle.std.proofs.Common.{◌≡◌, ◌≢◌, ◌⊎◌, inl, inr, ⊎_elim, ℕ, ◌+◌, List, [], ◌∷◌, ◌++◌, length, take, drop, refl, sym, ◌∙◌, ap, subst, arith, Option, Some}
-use Rattle.std.specs.List.{All, fold, slice_get}
+use Rattle.std.specs.List.{All, slice_get}
 use Rattle.std.specs.Option.{ForSome, option_map}
 use borrow.Rule.Slice.PartMut.{put_mid}
 use Rattle.std.proofs.lemmas.List.{take_all}
@@ -17,7 +17,7 @@ use Rattle.two_writes.specs.Pair.{IsFit, with_piece, changed_sector, with_pair, 
 
 -- Once a pair is synced, both its sectors are new in every image.
 pub HasPair-with_pair : (pair : Pair) (old : Content) (image : Image) → length (changed_sector pair old) ≡ 512 → length pair.whole ≡ 512 → pair.changed_at ≢ pair.whole_at
-    → IsImage (with_pair old pair) image → HasPair pair old image
+    → IsImage (with_pair pair old) image → HasPair pair old image
 HasPair-with_pair pair old image one one' apart is =
     let first = with_run pair.changed_at (changed_sector pair old) old in
     let both = with_run pair.whole_at pair.whole first in
@@ -45,7 +45,7 @@ IsOldOrNew-adds pair old content image apart settled adds is =
 -- After pairs that were synced nothing is pending.
 pub HasNothingPending-with_pairs : (pairs : List Pair) (start : Content) → HasNothingPending start → HasNothingPending (with_pairs pairs start)
 HasNothingPending-with_pairs [] start settled = settled
-HasNothingPending-with_pairs (pair ∷ pairs) start settled = HasNothingPending-with_pairs pairs (with_pair start pair) (newest_only-pending (with_run pair.whole_at pair.whole (with_run pair.changed_at (changed_sector pair start) start)))
+HasNothingPending-with_pairs (pair ∷ pairs) start settled = HasNothingPending-with_pairs pairs (with_pair pair start) (newest_only-pending (with_run pair.whole_at pair.whole (with_run pair.changed_at (changed_sector pair start) start)))
 
 -- The next pair is fit as all are.
 next_is_fit : (sectors : ℕ) (pairs : List Pair) (done : ℕ) (next : Pair) → All (IsFit sectors) pairs → slice_get pairs done ≡ Some next → IsFit sectors next
@@ -66,9 +66,9 @@ changed_sector_is pair now buffer sector one is reads c told = is ∙ ap (with_p
 
 -- So the two writes and the sync leave the content with the pair.
 pub written_is : (pair : Pair) (old new : Option Content) (sector : List ℕ) → ForSome old (λ c. sector ≡ changed_sector pair c)
-    → new ≡ option_map (λ c. newest_only (with_run pair.whole_at pair.whole (with_run pair.changed_at sector c))) old → new ≡ option_map (λ c. with_pair c pair) old
+    → new ≡ option_map (λ c. newest_only (with_run pair.whole_at pair.whole (with_run pair.changed_at sector c))) old → new ≡ option_map (with_pair pair) old
 written_is pair old new sector is written =
-    written ∙ option_map-told (λ c. newest_only (with_run pair.whole_at pair.whole (with_run pair.changed_at sector c))) (λ c. with_pair c pair) old
+    written ∙ option_map-told (λ c. newest_only (with_run pair.whole_at pair.whole (with_run pair.changed_at sector c))) (with_pair pair) old
     (λ c told. ap (λ (bytes : List ℕ). newest_only (with_run pair.whole_at pair.whole (with_run pair.changed_at bytes c))) (is c told))
 
 -- And they add nothing but the pair.
@@ -87,9 +87,9 @@ adds_pair_by_images {a} pair apart settled moments =
 
 -- Once the pair is synced, both its sectors are new in every image.
 pub images_with_pair : (pair : Pair) (old new : Option Content) (sector : List ℕ) → ForSome old (λ c. sector ≡ changed_sector pair c) → length sector ≡ 512 → length pair.whole ≡ 512
-    → pair.changed_at ≢ pair.whole_at → new ≡ option_map (λ c. with_pair c pair) old → ForSome old (λ start. ForSome new (EachImage (HasPair pair start)))
+    → pair.changed_at ≢ pair.whole_at → new ≡ option_map (with_pair pair) old → ForSome old (λ start. ForSome new (EachImage (HasPair pair start)))
 images_with_pair pair old new sector is one one' apart written start told end told_end image of_end =
-    let end_is : end ≡ with_pair start pair = same_Some _ _ (sym told_end ∙ written ∙ ap (option_map (λ c. with_pair c pair)) told) in
+    let end_is : end ≡ with_pair pair start = same_Some _ _ (sym told_end ∙ written ∙ ap (option_map (with_pair pair)) told) in
     HasPair-with_pair pair start image (ap length (sym (is start told)) ∙ one) one' apart (subst (λ (c : Content). IsImage c image) end_is of_end)
 
 -- One turn more: what it adds to the content at its start, it adds after the pairs before it.

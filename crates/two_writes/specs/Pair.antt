@@ -1,4 +1,5 @@
 -- What a pair of sectors writes, and what a cut may leave of it.
+-- Own: an example, of no format.
 use Rattle.std.specs.Prelude.{◌≡◌, ◌≢◌, ◌⊎◌, ℕ, ◌+◌, ◌<◌, ◌≤◌, List, length, take, slice_get, Some}
 use Rattle.std.specs.List.{fold, replace_range}
 use Rattle.disk_model.specs.Disk.{Content, Image, last_image, newest_only, with_run, OnlyAdds}
@@ -20,8 +21,8 @@ abbrev pub changed_sector : Pair → Content → List ℕ
 changed_sector pair content = with_piece pair.from pair.piece.items (last_image content pair.changed_at)
 
 -- The content once the pair is written and synced.
-abbrev pub with_pair : Content → Pair → Content
-with_pair content pair =
+abbrev pub with_pair : Pair → Content → Content
+with_pair pair content =
     newest_only (with_run pair.whole_at pair.whole (with_run pair.changed_at (changed_sector pair content) content))
 
 -- The candidates that two writes of a sector each bring.
@@ -46,7 +47,7 @@ pub record IsOldOrNew (pair : Pair) (old : Content) (image : Image) : Type 0 whe
 
 -- The content once the pairs are written, the first of them first.
 abbrev pub with_pairs : List Pair → Content → Content
-with_pairs pairs content = fold with_pair content pairs
+with_pairs pairs content = fold (λ before pair. with_pair pair before) content pairs
 
 -- The content while the pairs are written: so many of them are done, and of the next one any part.
 pub record IsAmidPairs (pairs : List Pair) (start content : Content) : Type 0 where

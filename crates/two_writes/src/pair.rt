@@ -49,7 +49,7 @@ pub fn write_pair<D: Disk>(disk: &mut D, pair: &Pair) -> Result<(), Failed>
     requires { IsFit (D.sectors disk.old) pair.now }
 
     ensures written { OnOk result (content_now (D.moments disk.new)
-        ≡ option_map (λ c. with_pair c pair.now) (content_now (D.moments disk.old))) }
+        ≡ option_map (with_pair pair.now) (content_now (D.moments disk.old))) }
 
     ensures cause { HasCause (D.faults disk.old) (D.faults disk.new) result }
 

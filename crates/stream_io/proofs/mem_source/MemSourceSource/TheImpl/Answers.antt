@@ -4,7 +4,7 @@ use Rattle.std.specs.Option.{ForSome}
 use Rattle.std.proofs.lemmas.Option.{same_Some}
 use Rattle.std.proofs.lemmas.Result.{IfOk-weaker, on_err_weaker}
 use Rattle.sector_disk.specs.Faults.{with_call}
-use Rattle.stream_io.specs.Memory.{SourceState}
+use Rattle.stream_io.specs.InMemory.{SourceState}
 use Rattle.stream_io.specs.Stream.{Gives}
 use Rattle.stream_io.proofs.mem_source.MemSourceSource.TheImpl.Goals as goal
 

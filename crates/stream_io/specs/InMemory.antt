@@ -1,4 +1,5 @@
 -- What a contract sees of a `MemSource` and of a `MemSink`.
+-- Own: their calls fail where a test has chosen it, and a sink's at the end of its room.
 use Rattle.std.specs.Prelude.{ℕ, ◌-◌, List, length}
 use Rattle.sector_disk.specs.declared.fault_plan.FaultPlan.{FaultPlan}
 
