@@ -32,8 +32,8 @@ HasPair-with_pair pair old image one one' apart is =
 -- Where nothing was pending, an image of what only adds the pair has each sector old or new.
 pub IsOldOrNew-adds : (pair : Pair) (old content : Content) (image : Image) → pair.changed_at ≢ pair.whole_at → HasNothingPending old
     → OnlyAdds (IsOfPair pair old) old content → IsImage content image → IsOldOrNew pair old image
-IsOldOrNew-adds pair old content image apart settled adds is =
-    let at : (sector : ℕ) → (image sector ≡ last_image old sector) ⊎ IsOfPair pair old sector (image sector) = OnlyAdds-image_of_nothing_pending (IsOfPair pair old) old content image settled adds is in
+IsOldOrNew-adds pair old content image apart nothing_pending adds is =
+    let at : (sector : ℕ) → (image sector ≡ last_image old sector) ⊎ IsOfPair pair old sector (image sector) = OnlyAdds-image_of_nothing_pending (IsOfPair pair old) old content image nothing_pending adds is in
     record {
       changed = ⊎_elim inl (⊎_elim (λ changed. inr changed.1) (λ whole. absurd (apart whole.0))) (at pair.changed_at);
       whole = ⊎_elim inl (⊎_elim (λ changed. absurd (apart (sym changed.0))) (λ whole. inr whole.1)) (at pair.whole_at);
@@ -44,8 +44,8 @@ IsOldOrNew-adds pair old content image apart settled adds is =
 
 -- After pairs that were synced nothing is pending.
 pub HasNothingPending-with_pairs : (pairs : List Pair) (start : Content) → HasNothingPending start → HasNothingPending (with_pairs pairs start)
-HasNothingPending-with_pairs [] start settled = settled
-HasNothingPending-with_pairs (pair ∷ pairs) start settled = HasNothingPending-with_pairs pairs (with_pair pair start) (newest_only-pending (with_run pair.whole_at pair.whole (with_run pair.changed_at (changed_sector pair start) start)))
+HasNothingPending-with_pairs [] start nothing_pending = nothing_pending
+HasNothingPending-with_pairs (pair ∷ pairs) start nothing_pending = HasNothingPending-with_pairs pairs (with_pair pair start) (newest_only-pending (with_run pair.whole_at pair.whole (with_run pair.changed_at (changed_sector pair start) start)))
 
 -- The next pair is fit as all are.
 next_is_fit : (sectors : ℕ) (pairs : List Pair) (done : ℕ) (next : Pair) → All (IsFit sectors) pairs → slice_get pairs done ≡ Some next → IsFit sectors next
@@ -81,9 +81,9 @@ adds_pair pair sector is moments =
 -- The same by images, where nothing was pending.
 pub adds_pair_by_images : {a b : List Content} (pair : Pair) → pair.changed_at ≢ pair.whole_at → ForSome (content_now a) HasNothingPending
     → EachMoment a b (FromStart a (λ start. OnlyAdds (IsOfPair pair start) start)) → EachMoment a b (FromStart a (λ start. EachImage (IsOldOrNew pair start)))
-adds_pair_by_images {a} pair apart settled moments =
+adds_pair_by_images {a} pair apart nothing_pending moments =
     EachMoment-weaker (FromStart-weaker a (λ start. OnlyAdds (IsOfPair pair start) start) (λ start. EachImage (IsOldOrNew pair start))
-    (λ start content told adds image is. IsOldOrNew-adds pair start content image apart (settled start told) adds is)) moments
+    (λ start content told adds image is. IsOldOrNew-adds pair start content image apart (nothing_pending start told) adds is)) moments
 
 -- Once the pair is synced, both its sectors are new in every image.
 pub images_with_pair : (pair : Pair) (old new : Option Content) (sector : List ℕ) → ForSome old (λ c. sector ≡ changed_sector pair c) → length sector ≡ 512 → length pair.whole ≡ 512
@@ -104,7 +104,7 @@ amid_then pairs done next is so_far before turn =
 -- Told by images, where nothing was pending.
 pub amid_by_images : {a b : List Content} (sectors : ℕ) (pairs : List Pair) → All (IsFit sectors) pairs → ForSome (content_now a) HasNothingPending
     → EachMoment a b (FromStart a (IsAmidPairs pairs)) → EachMoment a b (FromStart a (λ start. EachImage (IsCutAmidPairs pairs start)))
-amid_by_images {a} sectors pairs fit settled moments =
+amid_by_images {a} sectors pairs fit nothing_pending moments =
     EachMoment-weaker (FromStart-weaker a (IsAmidPairs pairs) (λ start. EachImage (IsCutAmidPairs pairs start)) (λ start content told amid image is.
     let before = with_pairs (take amid.done pairs) start in
     let next_fit = next_is_fit sectors pairs amid.done amid.next fit amid.is_next in
@@ -112,5 +112,5 @@ amid_by_images {a} sectors pairs fit settled moments =
       done = amid.done;
       next = amid.next;
       is_next = amid.is_next;
-      left = IsOldOrNew-adds amid.next before content image next_fit.apart (HasNothingPending-with_pairs (take amid.done pairs) start (settled start told)) amid.adds is;
+      left = IsOldOrNew-adds amid.next before content image next_fit.apart (HasNothingPending-with_pairs (take amid.done pairs) start (nothing_pending start told)) amid.adds is;
     })) moments

@@ -14,8 +14,8 @@ returns-in_err-write_pair-clause-moments g c =
     amid_then c.args.pairs.now c.loop-pair.pair-index next is_next c.loop-pair.invariant.written c.loop-pair.invariant.moments c.write_pair.ensures.moments
 
 pub returns-in_err-write_pair-clause-cut : goal.returns-in_err-write_pair-clause-cut
-returns-in_err-write_pair-clause-cut g c settled =
-    amid_by_images (g.D.Disk.sectors c.args.disk.now) c.args.pairs.now c.requires settled (returns-in_err-write_pair-clause-moments g c)
+returns-in_err-write_pair-clause-cut g c nothing_pending =
+    amid_by_images (g.D.Disk.sectors c.args.disk.now) c.args.pairs.now c.requires nothing_pending (returns-in_err-write_pair-clause-moments g c)
 
 pub loop-pair-preserved : goal.loop-pair-preserved
 loop-pair-preserved g c =
@@ -29,5 +29,5 @@ loop-pair-preserved g c =
     }
 
 pub returns-clause-cut : goal.returns-clause-cut
-returns-clause-cut g c settled =
-    amid_by_images (g.D.Disk.sectors c.args.disk.now) c.args.pairs.now c.requires settled c.loop-pair.invariant.moments
+returns-clause-cut g c nothing_pending =
+    amid_by_images (g.D.Disk.sectors c.args.disk.now) c.args.pairs.now c.requires nothing_pending c.loop-pair.invariant.moments

@@ -19,5 +19,5 @@ returns-clause-moments g c =
     adds_pair c.args.pair.now c.read_changed.new.sector c.in_ok-read_changed.ensures.sector (rw c.read_changed.ensures.kept at c.write_both.ensures.moments)
 
 pub returns-clause-cut : goal.returns-clause-cut
-returns-clause-cut g c settled =
-    adds_pair_by_images c.args.pair.now c.requires.apart settled (returns-clause-moments g c)
+returns-clause-cut g c nothing_pending =
+    adds_pair_by_images c.args.pair.now c.requires.apart nothing_pending (returns-clause-moments g c)
