@@ -109,7 +109,12 @@ pub each_image : {a b : List Content} (W : ℕ → List ℕ → Type 0) (P : Ima
     → EachMoment a b (FromStart a (OnlyAdds W)) → EachMoment a b (EachImage P)
 each_image W P f m = each_content W (EachImage P) (λ start told c adds image is. f start told image (OnlyAdds-image W start c image adds is)) m
 
--- ---- the content after turns of a loop, for callers
+-- ---- the content after a call and after turns of a loop, for callers
+
+-- What a call did to the content, where it is the same only for the content that is told, as where the call wrote what it had read.
+pub option_map-told : (f g : Content → Content) (now : Option Content) → ForSome now (λ c. f c ≡ g c) → option_map f now ≡ option_map g now
+option_map-told f g None same = refl
+option_map-told f g (Some c) same = ap (λ (x : Content). Some x) (same c refl)
 
 -- One turn more of a loop over a list.
 pub turn_of_list : {X : Type 0} (step : Content → X → Content) (xs : List X) (i : ℕ) (d : X) (start so_far now : Option Content) → i < length xs
@@ -118,6 +123,12 @@ pub turn_of_list : {X : Type 0} (step : Content → X → Content) (xs : List X)
 turn_of_list step xs i d None so_far now below e f = f ∙ ap (option_map (λ c. step c (get_or xs i d))) e
 turn_of_list step xs i d (Some start) so_far now below e f =
     f ∙ ap (option_map (λ c. step c (get_or xs i d))) e ∙ ap (λ (c : Content). Some c) (sym (fold_more step start xs i d below))
+
+-- The same, told by the item that the turn was given.
+pub turn_of_item : {X : Type 0} (step : Content → X → Content) (xs : List X) (i : ℕ) (x : X) (start so_far now : Option Content) → i < length xs → x ≡ get_or xs i x
+    → so_far ≡ option_map (λ c. fold step c (take i xs)) start → now ≡ option_map (λ c. step c x) so_far
+    → now ≡ option_map (λ c. fold step c (take (i + 1) xs)) start
+turn_of_item {X} step xs i x start so_far now below is e f = turn_of_list step xs i x start so_far now below e (f ∙ ap (λ (y : X). option_map (λ c. step c y) so_far) is)
 
 -- One turn more of a loop over a range from 0 on.
 pub turn_of_range : (step : ℕ → Content → Content) (k : ℕ) (start so_far now : Option Content) → so_far ≡ option_map (after_turns step k) start → now ≡ option_map (step k) so_far

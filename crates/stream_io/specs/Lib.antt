@@ -1,0 +1,3 @@
+pub use Rattle.disk_model.specs.Causes
+pub mod InMemory
+pub mod Stream

@@ -1,0 +1,17 @@
+//! Bytes that come and bytes that go: what a source gives, what a sink takes, and both in memory.
+//!
+//! A contract sees a source as the bytes that it has left, and a sink as the bytes that it holds, where they tell
+//! them (`specs/Stream.antt` first).
+#![tactic(auto)]
+
+mod mem_sink;
+mod mem_source;
+mod putting;
+mod stream;
+#[cfg(test)]
+mod tests;
+
+pub use mem_sink::MemSink;
+pub use mem_source::MemSource;
+pub use putting::put_all;
+pub use stream::{Sink, Source};

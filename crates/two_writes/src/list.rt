@@ -1,0 +1,41 @@
+//! A list of pairs, written one after the other.
+ghost use Rattle.std.specs.Prelude.{◌≡◌, OnOk};
+ghost use Rattle.std.specs.List.{All};
+ghost use Rattle.std.specs.Option.{ForSome, option_map};
+ghost use Rattle.disk_model.specs.Causes.{HasCause};
+ghost use Rattle.disk_model.specs.Disk.{EachImage, HasNothingPending};
+ghost use Rattle.disk_model.specs.Moments.{content_now, EachMoment, FromStart};
+ghost use Rattle.two_writes.specs.Pair.{IsAmidPairs, IsCutAmidPairs, IsFit, with_pairs};
+
+use crate::{Pair, write_pair};
+use sector_disk::{Disk, Failed};
+
+/// Writes each pair, the first of them first. A later one reads what the earlier ones wrote.
+///
+/// # Errors
+///
+/// - `Failed`: the disk failed. Some of the pairs are written, and of the next one each of the two sectors has its
+///   new bytes as a candidate, or not.
+pub fn write_pairs<D: Disk>(disk: &mut D, pairs: &[Pair]) -> Result<(), Failed>
+    requires { All (IsFit (D.sectors disk.old)) pairs.now }
+
+    ensures written { OnOk result (content_now (D.moments disk.new)
+        ≡ option_map (with_pairs pairs.now) (content_now (D.moments disk.old))) }
+
+    ensures cause { HasCause (D.faults disk.old) (D.faults disk.new) result }
+
+    ensures sectors { D.sectors disk.new ≡ D.sectors disk.old }
+
+    ensures moments { EachMoment (D.moments disk.old) (D.moments disk.new)
+        (FromStart (D.moments disk.old) (IsAmidPairs pairs.now)) }
+
+    // The same, told by the images of a disk on which nothing was pending.
+    ensures cut { ForSome (content_now (D.moments disk.old)) HasNothingPending
+        → EachMoment (D.moments disk.old) (D.moments disk.new)
+        (FromStart (D.moments disk.old) (λ start. EachImage (IsCutAmidPairs pairs.now start))) }
+{
+    for pair in pairs {
+        write_pair(disk, pair)?;
+    }
+    Ok(())
+}
