@@ -6,7 +6,7 @@ use Rattle.sector_disk.specs.declared.fault_plan.FaultPlan.{FaultPlan}
 use Rattle.sector_disk.specs.declared.record.Event.{Event}
 use Rattle.sector_disk.specs.declared.record.Event.TheVariants.{Sync}
 use Rattle.sector_disk.specs.declared.mem_disk.MemDisk.{MemDisk}
-use Rattle.sector_disk.specs.Faults.{FailsNext, with_call, with_fault}
+use Rattle.sector_disk.specs.Faults.{FailsNext, unused_plan, with_call, with_fault}
 use Rattle.sector_disk.specs.Record.{content_after, content_of_bytes, moments_of, sector_writes, writes_left}
 
 -- A disk in memory: how many sectors it has and their bytes at first; the sector writes and syncs since, the oldest
@@ -45,7 +45,7 @@ fresh_disk sectors base room = record {
   events = [];
   room = room;
   stop = None;
-  plan = record { calls = 0; failing = record { items = [] }; faults = 0 };
+  plan = unused_plan;
 }
 
 -- The next call fails and does nothing: it was chosen to fail, or the stop is reached.

@@ -20,11 +20,11 @@ pub struct FaultPlan {
 }
 
 impl FaultPlan {
-    ghost use Rattle.sector_disk.specs.Faults.{FailsNext, with_call, with_fault};
+    ghost use Rattle.sector_disk.specs.Faults.{FailsNext, unused_plan, with_call, with_fault};
 
     /// No call was made, and none is to fail.
     pub fn new() -> FaultPlan
-        ensures { result ≡ record { calls = 0; failing = record { items = [] }; faults = 0 } }
+        ensures { result ≡ unused_plan }
     {
         FaultPlan {
             calls: 0,

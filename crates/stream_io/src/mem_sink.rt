@@ -1,7 +1,7 @@
 //! A sink that holds bytes in memory.
 ghost use Rattle.std.specs.Prelude.{◌≡◌, ◌⊎◌, ◌≤◌, ◌<◌, ◌++◌, ◌↔◌, [], length, min, take, Some, IsErr, IfOk, OnErr};
 ghost use Rattle.disk_model.specs.Causes.{HasCause};
-ghost use Rattle.sector_disk.specs.Faults.{FailsNext, with_call, with_fault};
+ghost use Rattle.sector_disk.specs.Faults.{FailsNext, unused_plan, with_call, with_fault};
 
 use crate::Sink;
 use sector_disk::{Counted, Failed, FaultPlan, MOST_FAILING, Memory};
@@ -36,8 +36,7 @@ impl MemSink {
     pub fn new(alloc: Global, room: usize) -> Result<MemSink, Memory>
         ensures held { IfOk result (λ sink. sink.held ≡ []) }
         ensures room { IfOk result (λ sink. sink.room ≡ room) }
-        ensures plan { IfOk result (λ sink. sink.plan
-            ≡ record { calls = 0; failing = record { items = [] }; faults = 0 }) }
+        ensures plan { IfOk result (λ sink. sink.plan ≡ unused_plan) }
     {
         let Ok(held) = Vec::with_capacity(alloc, room) else {
             return Err(Memory);

@@ -2,7 +2,7 @@
 ghost use Rattle.std.specs.Prelude.{◌≡◌, ◌≤◌, ◌↔◌, ℕ, List, [], length, min, drop, Some, IsErr, IsOk, IfOk, OnErr};
 ghost use Rattle.std.proofs.Common.{ap};
 ghost use Rattle.disk_model.specs.Causes.{HasCause};
-ghost use Rattle.sector_disk.specs.Faults.{FailsNext, with_call, with_fault};
+ghost use Rattle.sector_disk.specs.Faults.{FailsNext, unused_plan, with_call, with_fault};
 ghost use Rattle.stream_io.specs.Stream.{Gives};
 
 use crate::Source;
@@ -28,7 +28,7 @@ impl<'b> MemSource<'b> {
     /// Makes a source that has all these bytes left. No call of it is to fail.
     pub fn new(bytes: &'b [u8]) -> MemSource<'b>
         ensures left { result.left ≡ bytes.now }
-        ensures plan { result.plan ≡ record { calls = 0; failing = record { items = [] }; faults = 0 } }
+        ensures plan { result.plan ≡ unused_plan }
     {
         MemSource {
             left: bytes,
