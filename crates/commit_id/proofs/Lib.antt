@@ -1,0 +1,9 @@
+pub mod ScanLemmas
+pub mod FirstLemmas
+pub mod BlankLemmas
+pub mod SpreadLemmas
+pub mod GridLemmas
+pub mod TallyLemmas
+pub mod CountLemmas
+pub mod IdsLemmas
+pub mod ShapeLemmas
