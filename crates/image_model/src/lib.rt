@@ -1,4 +1,6 @@
 //! Definitions alone: what the bytes of a dm-integrity image mean.
+//!
+//! `specs/Superblock.antt` is the file to read first; `docs/FORMAT.md` leads through the others.
 #![tactic(auto)]
 
 mod blanks;
