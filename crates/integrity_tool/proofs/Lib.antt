@@ -1,0 +1,8 @@
+mod SmallImage
+mod ReadingLemmas
+mod ScriptLemmas
+mod LinesLemmas
+mod GrammarLemmas
+pub mod TextRoom
+mod RunningLemmas
+mod TopLemmas

@@ -1,0 +1,96 @@
+-- What the top call does: how a disk narrows, what a run prints that did nothing, and how its last line follows.
+use Rattle.std.proofs.Common.{◌≡◌, ◌⊎◌, inl, inr, ℕ, ◌≤◌, Bool, true, List, [], ◌++◌, length, refl, sym, ◌∙◌, subst, arith, append-nil, true≢false, Option, Some, None, Result, Ok, Err, IsSomeAnd, OnOk, OnErr, is_ok}
+use Rattle.std.specs.Option.{option_map}
+use Rattle.std.specs.List.{Contains}
+use Rattle.disk_model.specs.Causes.{Rose}
+use Rattle.disk_model.specs.Disk.{Content, Image, IsImage, last_image, newest_only, Reads}
+use Rattle.disk_model.specs.Moments.{content_now, EachMoment, FromStart}
+use Rattle.disk_model.proofs.DiskLemmas.{newest_only-image, Reads-one}
+use Rattle.disk_model.proofs.MomentsLemmas.{EachMoment-weaker}
+use Rattle.stream_io.specs.Stream.{with_bytes, AddsPrefix}
+use Rattle.device_model.specs.Ending.{Ending, Complete, fault_text, status_of}
+use Rattle.integrity_tool.specs.Ended.{ending_of}
+use Rattle.integrity_tool.specs.Form.{small_blocks}
+use Rattle.integrity_tool.specs.Outcome.{EndsBy, Runs}
+use Rattle.integrity_tool.specs.Top.{Tells, NarrowsImages}
+use Rattle.integrity_tool.specs.declared.ended.Ended.{Ended}
+use Rattle.integrity_tool.specs.declared.ended.Ended.TheVariants.{Image as ImageEnds, Disk as DiskEnds}
+use Rattle.integrity_tool.proofs.ScriptLemmas.{BeginsWith-none}
+
+-- ---- results
+
+pub when_ok : {T E P : Type 0} (r : Result T E) → is_ok r ≡ true → OnOk r P → P
+when_ok (Ok v) ok told = told
+when_ok (Err e) ok told = absurd (true≢false (sym ok))
+
+pub on_any : {T E P : Type 0} (r : Result T E) → P → OnOk r P
+on_any (Ok v) told = told
+on_any (Err e) told = tt
+
+-- ---- the disk
+
+-- What is read of the first sector of a synced disk is what its last image had there.
+pub first_sector : (c : Content) (sector : List ℕ) → length sector ≡ 512 → Reads 0 sector (newest_only c) → sector ≡ last_image c 0
+first_sector c sector long reads = Reads-one 0 sector (newest_only c) long reads
+
+-- A synced disk has an image that it had before.
+pub narrows_synced : (c : Content) → IsImage c (last_image c) → NarrowsImages c (newest_only c)
+narrows_synced c last = record {
+  each = λ image is sector. subst (λ (x : List ℕ). Contains (c sector) x) (sym (newest_only-image c image is sector)) (last sector);
+}
+
+pub each_of_sync : {a b : List Content} (start now : Content) → content_now a ≡ Some now → NarrowsImages start (newest_only now) → EachMoment a b (FromStart a (λ s c. c ≡ newest_only s)) → EachMoment a b (NarrowsImages start)
+each_of_sync {a} start now told narrows each =
+    EachMoment-weaker
+    (λ c from. subst (λ (later : Content). NarrowsImages start later) (sym (subst (λ (o : Option Content). IsSomeAnd o (λ s. c ≡ newest_only s)) told from)) narrows)
+    each
+
+-- ---- what is printed
+
+-- Nothing was run and nothing printed.
+pub nothing_run : (image : Image) (script before : List ℕ) (ending : Ending) → EndsBy image script [] script [] ending → IsSomeAnd (Some before) (λ after. Runs image script before after ending)
+nothing_run image script before ending ends = record {
+  lines = [];
+  rest = script;
+  part = [];
+  begins = BeginsWith-none small_blocks.blocks script;
+  text = sym (append-nil (before ++ []) ∙ append-nil before);
+  ends = ends;
+}
+
+-- A disk that was bound, and then judged, is refused for one of two reasons.
+pub refused_nothing_run : (image : Image) (script before : List ℕ) (ended : Ended) → (ended ≡ ImageEnds) ⊎ (ended ≡ DiskEnds)
+    → IsSomeAnd (Some before) (λ after. Runs image script before after (ending_of ended))
+refused_nothing_run image script before ended ends = elim ends [
+  | inl is ↦ subst (λ (x : Ended). IsSomeAnd (Some before) (λ after. Runs image script before after (ending_of x))) (sym is) (nothing_run image script before (ending_of ImageEnds) refl)
+  | inr is ↦ subst (λ (x : Ended). IsSomeAnd (Some before) (λ after. Runs image script before after (ending_of x))) (sym is) (nothing_run image script before (ending_of DiskEnds) refl)
+]
+
+-- ---- the last line
+
+pub Rose-earlier : (a b c : ℕ) → a ≤ b → Rose b c → Rose a c
+Rose-earlier a b c below rose = omega (arith, below, rose)
+
+-- A run that came to its end has no last line.
+pub tells_complete : (image : Image) (script before : List ℕ) (found_fault : Bool) (status : ℕ) (SinkRose : Type 0) (held : Option (List ℕ)) → status ≡ status_of (Complete found_fault)
+    → IsSomeAnd held (λ after. Runs image script before after (Complete found_fault)) → IsSomeAnd held (λ after. Tells image script before after status SinkRose)
+tells_complete image script before found_fault status SinkRose (Some after) is runs = record {
+  ending = Complete found_fault;
+  is_status = is;
+  run = after;
+  runs = runs;
+  last = inl (sym (append-nil after));
+}
+tells_complete image script before found_fault status SinkRose None is runs = absurd runs
+
+-- One that was ended early has one, or where the sink failed a part of it.
+pub tells_early : (image : Image) (script before : List ℕ) (ending : Ending) (status : ℕ) (SinkRose : Type 0) (held later : Option (List ℕ)) (E : Type 0) (result : Result (Unit {0}) E) → status ≡ status_of ending
+    → IsSomeAnd held (λ after. Runs image script before after ending) → OnOk result (later ≡ option_map (with_bytes (fault_text ending)) held) → OnErr result SinkRose → OnErr result (AddsPrefix (fault_text ending) held later)
+    → IsSomeAnd later (λ after. Tells image script before after status SinkRose)
+tells_early image script before ending status SinkRose None later E result is runs written rose err = absurd runs
+tells_early image script before ending status SinkRose (Some run) later E (Ok v) is runs written rose err =
+    subst (λ (o : Option (List ℕ)). IsSomeAnd o (λ after. Tells image script before after status SinkRose)) (sym written)
+    (record { ending = ending; is_status = is; run = run; runs = runs; last = inl refl })
+tells_early image script before ending status SinkRose (Some run) later E (Err e) is runs written rose err =
+    subst (λ (o : Option (List ℕ)). IsSomeAnd o (λ after. Tells image script before after status SinkRose)) (sym err.held)
+    (record { ending = ending; is_status = is; run = run; runs = runs; last = inr (rose, err.count, refl) })

@@ -1,0 +1,13 @@
+use Rattle.std.proofs.Common.{◌-◌, ◌≤◌}
+use Rattle.integrity_tool.specs.declared.line_reader.TheConstants.{MOST_SCRIPT}
+use Rattle.integrity_tool.proofs.LinesLemmas.{IsInLine}
+use Rattle.integrity_tool.proofs.line_reader.LineReader.next_line.Given as goal
+
+abbrev pub invariant-loop-self : goal.invariant-loop-self
+invariant-loop-self g l = record {
+  inside : IsInLine l.fn.self (g.S.Source.left l.fn.script) l.self (g.S.Source.left l.script);
+  later : g.S.Counted.faults l.fn.script ≤ g.S.Counted.faults l.script;
+}
+
+abbrev pub decreases-loop-self : goal.decreases-loop-self
+decreases-loop-self g l = MOST_SCRIPT - l.self.taken

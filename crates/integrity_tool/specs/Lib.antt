@@ -1,0 +1,12 @@
+pub mod Words
+pub mod Form
+pub mod Grammar
+pub mod Line
+pub mod Script
+pub mod Lines
+pub mod Ended
+pub mod Text
+pub mod Outcome
+pub mod Reading
+pub mod Running
+pub mod Top

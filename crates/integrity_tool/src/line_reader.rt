@@ -1,0 +1,280 @@
+//! Takes the lines of a script out of a source.
+//!
+//! The source is read a piece at a time, and a run of its bytes up to a newline goes into the line at once.
+ghost use Rattle.std.specs.Prelude.{◌≡◌, ◌≢◌, ◌+◌, ◌<◌, ◌≤◌, ℕ, List, [], ◌∷◌, ◌++◌, length, take, drop, slice_index, IsTrue, ◌↔◌, IfOk, OnOk, OnErr, IfSome, IfNone, if◌then◌else◌, ◌==◌};
+ghost use Rattle.std.specs.Option.{ForSome, IsSomeAnd};
+ghost use Rattle.disk_model.specs.Causes.{HasCause};
+ghost use Rattle.integrity_tool.specs.Script.{HasNoNewline};
+
+use memchr::memchr;
+use sector_disk::{Failed, Memory};
+use std::alloc::Global;
+use std::marker::Model;
+use stream_io::Source;
+
+/// The most bytes of a script that are run.
+///
+/// Own: docs/DECISIONS.md, "Bounds of a script".
+pub const MOST_SCRIPT: u64 = 16_777_216;
+
+/// The most bytes of a line, without its newline.
+pub const MOST_LINE: usize = 65_536;
+
+/// How many bytes of a source are read at a time.
+const PIECE: usize = 65_536;
+
+/// What was found next in a script.
+#[derive(Clone, Copy, Debug, PartialEq, Eq)]
+pub enum NextLine {
+    /// A line, which ends at a newline or at the script's end.
+    Line,
+    /// The script's end.
+    End,
+    /// A line of more than `MOST_LINE` bytes.
+    LongLine,
+    /// A script of more than `MOST_SCRIPT` bytes, where no newline within these ends the line.
+    LongScript,
+}
+
+/// The bytes that were read from a source and are not taken yet.
+#[derive(Drop)]
+struct Piece {
+    bytes: Vec<u8>,
+    begin: usize,
+    end: usize,
+}
+
+impl Model for Piece {
+    ghost Value = { List ℕ };
+
+    ghost view = { λ piece. drop piece.begin (take piece.end piece.bytes.items) };
+
+    ghost invariant = { λ piece. (piece.begin ≤ piece.end) × (piece.end ≤ length piece.bytes.items)
+        × (0 < length piece.bytes.items) };
+}
+
+impl Piece {
+    /// No byte is read yet. At most `size` bytes will be read at a time.
+    ///
+    /// # Errors
+    ///
+    /// - `Memory`: there is none for so many.
+    fn new(alloc: Global, size: usize) -> Result<Piece, Memory>
+        requires { 0 < size }
+
+        ensures { IfOk result (λ piece. piece ≡ []) }
+    {
+        let Ok(bytes) = vec![in alloc; 0; size] else {
+            return Err(Memory);
+        };
+        Ok(Piece {
+            bytes,
+            begin: 0,
+            end: 0,
+        })
+    }
+
+    /// The bytes that are not taken yet.
+    fn unread(&self) -> &[u8]
+        ensures { result.now ≡ self.now }
+    {
+        &self.bytes[self.begin..self.end]
+    }
+
+    /// Takes the first bytes.
+    fn skip(&mut self, count: usize)
+        requires { count ≤ length self.old }
+
+        ensures { self.new ≡ drop count self.old }
+    {
+        self.begin += count;
+    }
+
+    /// Reads the next bytes of the source: none only at its end.
+    ///
+    /// # Errors
+    ///
+    /// - `Failed`: the source failed. Nothing is read.
+    fn fill<S: Source>(&mut self, source: &mut S) -> Result<(), Failed>
+        requires { self.old ≡ [] }
+
+        ensures read { OnOk result (ForSome (S.left source.old) (λ left. IsSomeAnd (S.left source.new)
+            (λ later. (left ≡ self.new ++ later) × (self.new ≡ [] → later ≡ [])))) }
+
+        ensures cause { HasCause (S.faults source.old) (S.faults source.new) result }
+        ensures err { OnErr result ((self.new ≡ []) × (S.left source.new ≡ S.left source.old)) }
+    {
+        self.begin = 0;
+        self.end = 0;
+        self.end = source.read(&mut self.bytes)?;
+        Ok(())
+    }
+}
+
+/// Takes lines out of a script. All its memory is taken when it is made.
+#[derive(Drop)]
+pub struct LineReader {
+    piece: Piece,
+    line: Vec<u8>,
+    taken: u64,
+}
+
+impl Model for LineReader {
+    ghost use Rattle.std.specs.Prelude.{◌+◌, ◌≤◌, vec_capacity};
+    ghost use Rattle.integrity_tool.specs.Lines.{LineReading};
+    ghost use Rattle.integrity_tool.specs.declared.line_reader.TheConstants.{MOST_LINE, MOST_SCRIPT};
+
+    ghost Value = { LineReading };
+
+    ghost view = { λ reader. record { unread = reader.piece; line = reader.line.items; taken = reader.taken } };
+
+    ghost invariant = { λ reader. (MOST_LINE + 1 ≤ vec_capacity reader.line) × (reader.taken ≤ MOST_SCRIPT) };
+}
+
+impl LineReader {
+    ghost use Rattle.integrity_tool.specs.Lines.{BeginsLine, FindsLine, EndsRun};
+
+    /// Nothing is read yet.
+    ///
+    /// # Errors
+    ///
+    /// - `Memory`: there is none for a piece and a line.
+    pub fn new(alloc: Global) -> Result<LineReader, Memory>
+        ensures { IfOk result (λ reader. reader ≡ record { unread = []; line = []; taken = 0 }) }
+    {
+        let piece = Piece::new(alloc, PIECE)?;
+        let Ok(line) = Vec::with_capacity(alloc, MOST_LINE + 1) else {
+            return Err(Memory);
+        };
+        Ok(LineReader {
+            piece,
+            line,
+            taken: 0,
+        })
+    }
+
+    /// The bytes of the line that `next_line` took last, without its newline.
+    pub fn line(&self) -> &[u8]
+        ensures { result.now ≡ self.now.line }
+    {
+        &self.line
+    }
+
+    /// Takes the next line, and its newline. It takes `MOST_SCRIPT` bytes at most over all calls, newlines
+    /// included, and of a line one byte more than `MOST_LINE` at most.
+    ///
+    /// # Errors
+    ///
+    /// - `Failed`: the source failed. What was taken stands in the line.
+    pub fn next_line<S: Source>(&mut self, script: &mut S) -> Result<NextLine, Failed>
+        ensures found { IfOk result (λ next. ForSome (S.left script.old) (λ left. IsSomeAnd (S.left script.new)
+            (λ later. FindsLine next self.old self.new (self.old.unread ++ left) (self.new.unread ++ later)))) }
+        ensures taken { IfOk result (λ next. next ≡ NextLine.Line → self.old.taken < self.new.taken) }
+
+        ensures cause { HasCause (S.faults script.old) (S.faults script.new) result }
+        ensures err { OnErr result (ForSome (S.left script.old) (λ left. IsSomeAnd (S.left script.new)
+            (λ later. BeginsLine self.old self.new (self.old.unread ++ left) (self.new.unread ++ later)))) }
+
+        ensures within { self.new.taken ≤ MOST_SCRIPT }
+    {
+        self.line.clear();
+        while self.has_more(script)? {
+            if let Some(next) = self.take_run() {
+                return Ok(next);
+            }
+        }
+        Ok(self.at_end())
+    }
+
+    /// Whether more bytes are to come. It reads on where all bytes that were read are taken.
+    ///
+    /// # Errors
+    ///
+    /// - `Failed`: the source failed. Nothing has changed.
+    fn has_more<S: Source>(&mut self, script: &mut S) -> Result<bool, Failed>
+        ensures more { IfOk result (λ more. IsTrue more ↔ (0 < length self.new.unread)) }
+        ensures read { OnOk result (ForSome (S.left script.old) (λ left. IsSomeAnd (S.left script.new)
+            (λ later. (self.old.unread ++ left ≡ self.new.unread ++ later)
+            × (self.new.unread ≡ [] → later ≡ [])))) }
+
+        ensures cause { HasCause (S.faults script.old) (S.faults script.new) result }
+        ensures err { OnErr result ((self.new ≡ self.old) × (S.left script.new ≡ S.left script.old)) }
+
+        ensures same { self.new ≡ record self.old { unread = self.new.unread } }
+        ensures within { self.new.taken ≤ MOST_SCRIPT }
+    {
+        if self.piece.unread().is_empty() {
+            self.piece.fill(script)?;
+        }
+        Ok(!self.piece.unread().is_empty())
+    }
+
+    /// What the script's end ends.
+    fn at_end(&self) -> NextLine
+        ensures line { self.now.line ≢ [] → result ≡ NextLine.Line }
+        ensures end { self.now.line ≡ [] → result ≡ NextLine.End }
+    {
+        if self.line.is_empty() {
+            NextLine::End
+        } else {
+            NextLine::Line
+        }
+    }
+
+    /// Takes the unread bytes of the line, and its newline where it stands among them.
+    fn take_run(&mut self) -> Option<NextLine>
+        requires unread { 0 < length self.old.unread }
+        requires line { length self.old.line ≤ MOST_LINE }
+
+        ensures { EndsRun result self.old self.new }
+    {
+        if self.taken == MOST_SCRIPT {
+            return Some(NextLine::LongScript);
+        }
+        let unread = self.piece.unread();
+        let most = unread
+            .len()
+            .min(MOST_LINE + 1 - self.line.len())
+            .min((MOST_SCRIPT - self.taken) as usize);
+        if let Some(count) = newline_at(&unread[..most]) {
+            self.take(count);
+            self.piece.skip(1);
+            self.taken += 1;
+            return Some(NextLine::Line);
+        }
+        self.take(most);
+        if self.line.len() > MOST_LINE {
+            return Some(NextLine::LongLine);
+        }
+        None
+    }
+
+    /// Takes the next bytes into the line.
+    fn take(&mut self, count: usize)
+        requires unread { count ≤ length self.old.unread }
+        requires line { length self.old.line + count ≤ MOST_LINE + 1 }
+        requires taken { self.old.taken + count ≤ MOST_SCRIPT }
+
+        ensures { self.new ≡ record {
+          unread = drop count self.old.unread;
+          line = self.old.line ++ take count self.old.unread;
+          taken = self.old.taken + count;
+        } }
+    {
+        self.line
+            .extend_from_slice(&self.piece.unread()[..count])
+            .unwrap();
+        self.piece.skip(count);
+        self.taken += count as u64;
+    }
+}
+
+/// Where the first newline stands.
+fn newline_at(bytes: &[u8]) -> Option<usize>
+    ensures found { IfSome result (λ at. (at < length bytes.now) × (slice_index bytes.now at ≡ 10)
+        × HasNoNewline (take at bytes.now)) }
+
+    ensures none { IfNone result (HasNoNewline bytes.now) }
+{
+    memchr(b'\n', bytes)
+}

@@ -1,0 +1,168 @@
+//! The top call: from the words to the status.
+ghost use Rattle.std.specs.Prelude.{◌≡◌, ◌⊎◌, ◌≤◌, ◌++◌, ℕ, List, length, map, Some, IsSomeAnd, IfErr, OnOk};
+ghost use Rattle.std.specs.Option.{ForSome, option_map};
+ghost use Rattle.std.specs.String.{string_bytes};
+ghost use Rattle.disk_model.specs.Causes.{Rose};
+ghost use Rattle.disk_model.specs.Disk.{last_image, newest_only};
+ghost use Rattle.disk_model.specs.Moments.{content_now, EachMoment, FromStart};
+ghost use Rattle.integrity_tool.specs.Form.{IsOfForm};
+ghost use Rattle.integrity_tool.specs.Outcome.{Runs};
+ghost use Rattle.integrity_tool.specs.Running.{RefusesScript, ending_by};
+ghost use Rattle.integrity_tool.specs.Top.{IsRefusedScript, Tells, NarrowsImages};
+ghost use Rattle.device_model.specs.Ending.{Complete, status_of};
+ghost use Rattle.integrity_tool.specs.Words.{IsRunWords};
+
+use crate::ended::Ended;
+use crate::running::{Room, run_script};
+use crate::small_image::{SMALL_SECTORS, TAG_SIZE, is_small_superblock};
+use crate::words::image_to_run;
+use hmac_tag::{Hash, TagMaker};
+use sector_disk::{Disk, Named};
+use std::alloc::Global;
+use stream_io::{Sink, Source};
+
+/// Does what the words say, and answers the status. The words are the program's name and then those of a command.
+///
+/// There is one command, `run IMAGE --mode D`, on one form of image, the small one, and one form of line, `read F C`.
+/// The key is not touched. The first call of the disk, once it is bound, is a sync, and the last one is a sync before
+/// `closed` is printed.
+///
+/// # Statuses
+///
+/// - 0: the script was run to its end.
+/// - 1: so it was, and a read found a block whose stored tag differs.
+/// - 2: the words are no command, or the script is refused.
+/// - 3: the image is refused.
+/// - 4, 5, 6: the disk, the source of the script, or the sink failed.
+/// - 7: there was no memory.
+pub fn integrity<D: Disk + Named, K: Source + Named, S: Source, O: Sink>(
+    alloc: Global,
+    words: &[String],
+    disk: &mut D,
+    _key: &mut K,
+    script: &mut S,
+    out: &mut O,
+) -> u8
+    // The statuses, and what each but 0 and 1 comes from.
+    ensures status { result ≤ 7 }
+    ensures refused { result ≡ 2 → IsRunWords (map string_bytes words.now)
+        → ForSome (S.left script.old) IsRefusedScript }
+    ensures image { result ≡ 3 → ForSome (content_now (D.moments disk.old)) (λ c.
+        ¬ IsOfForm (D.sectors disk.old) (last_image c)) }
+    ensures disk { result ≡ 4 → Rose (D.faults disk.old) (D.faults disk.new) }
+    ensures script { result ≡ 5 → Rose (S.faults script.old) (S.faults script.new) }
+    ensures sink { result ≡ 6 → Rose (O.faults out.old) (O.faults out.new) }
+
+    // What 0 and 1 say of the words and the image.
+    ensures ran { result ≤ 1 → IsRunWords (map string_bytes words.now) }
+    ensures form { result ≤ 1 → ForSome (content_now (D.moments disk.old)) (λ c.
+        IsOfForm (D.sectors disk.old) (last_image c)) }
+
+    // What was printed, whatever the status, and that 1 is told by it alone.
+    ensures tells { ForSome (content_now (D.moments disk.old)) (λ c. ForSome (S.left script.old) (λ left.
+        ForSome (O.held out.old) (λ before. IsSomeAnd (O.held out.new) (λ after.
+        Tells (last_image c) left before after result (Rose (O.faults out.old) (O.faults out.new)))))) }
+
+    // Nothing else ends a run.
+    ensures complete { IsRunWords (map string_bytes words.now) → ForSome (content_now (D.moments disk.old)) (λ c.
+        IsOfForm (D.sectors disk.old) (last_image c) → ForSome (S.left script.old) (λ left. ¬ IsRefusedScript left
+        → ¬ Rose (D.faults disk.old) (D.faults disk.new) → ¬ Rose (S.faults script.old) (S.faults script.new)
+        → ¬ Rose (O.faults out.old) (O.faults out.new) → (result ≤ 1 ⊎ result ≡ 7))) }
+
+    // Each image, now and at each moment of the call, is one of those before it.
+    ensures images { ForSome (content_now (D.moments disk.old)) (λ start.
+        EachMoment (D.moments disk.old) (D.moments disk.new) (NarrowsImages start)) }
+{
+    match run(alloc, words, disk, script, out) {
+        Ok(found_fault) => complete_status(found_fault),
+        Err(ended) => {
+            let _ = ended.put_last_line(out);
+            ended.status()
+        }
+    }
+}
+
+/// The status of a run that came to its end.
+fn complete_status(found_fault: bool) -> u8
+    ensures { result ≡ status_of (Complete found_fault) }
+{
+    if found_fault { 1 } else { 0 }
+}
+
+/// Does what the words say, up to the end or to what ends it. It tells whether a read found a block whose stored tag
+/// differs.
+fn run<D: Disk + Named, S: Source, O: Sink>(
+    alloc: Global,
+    words: &[String],
+    disk: &mut D,
+    script: &mut S,
+    out: &mut O,
+) -> Result<bool, Ended>
+    ensures runs { ForSome (content_now (D.moments disk.old)) (λ c. ForSome (S.left script.old) (λ left.
+        ForSome (O.held out.old) (λ before. IsSomeAnd (O.held out.new) (λ after.
+        Runs (last_image c) left before after (ending_by result))))) }
+    ensures ran { OnOk result (IsRunWords (map string_bytes words.now)) }
+    ensures form { OnOk result (ForSome (content_now (D.moments disk.old)) (λ c.
+        IsOfForm (D.sectors disk.old) (last_image c))) }
+
+    ensures words { result ≡ Err Ended.Words → ¬ IsRunWords (map string_bytes words.now) }
+    ensures refused { IfErr result (λ ended. RefusesScript ended → ForSome (S.left script.old) IsRefusedScript) }
+    ensures image { result ≡ Err Ended.Image → ForSome (content_now (D.moments disk.old)) (λ c.
+        ¬ IsOfForm (D.sectors disk.old) (last_image c)) }
+    ensures disk { result ≡ Err Ended.Disk → Rose (D.faults disk.old) (D.faults disk.new) }
+    ensures script { result ≡ Err Ended.Script → Rose (S.faults script.old) (S.faults script.new) }
+    ensures sink { result ≡ Err Ended.Sink → Rose (O.faults out.old) (O.faults out.new) }
+
+    ensures sink_later { O.faults out.old ≤ O.faults out.new }
+
+    ensures images { ForSome (content_now (D.moments disk.old)) (λ start.
+        EachMoment (D.moments disk.old) (D.moments disk.new) (NarrowsImages start)) }
+{
+    let Some(image) = image_to_run(words) else {
+        return Err(Ended::Words);
+    };
+    if disk.bind(image).is_err() {
+        return Err(Ended::Disk);
+    }
+    let Ok(mut room) = Room::new(alloc) else {
+        return Err(Ended::Memory);
+    };
+    open(disk)?;
+    let maker = TagMaker::new(Hash::Sha256, None, TAG_SIZE as u8);
+    run_script(disk, script, out, &maker, &mut room)
+}
+
+/// Syncs the disk, and judges its image by its size and its first sector.
+fn open<D: Disk>(disk: &mut D) -> Result<(), Ended>
+    ensures form { OnOk result (ForSome (content_now (D.moments disk.old)) (λ c.
+        IsOfForm (D.sectors disk.old) (last_image c))) }
+    ensures size { OnOk result (SMALL_SECTORS ≤ D.sectors disk.new) }
+
+    ensures image { result ≡ Err Ended.Image → ForSome (content_now (D.moments disk.old)) (λ c.
+        ¬ IsOfForm (D.sectors disk.old) (last_image c)) }
+    ensures disk { result ≡ Err Ended.Disk → Rose (D.faults disk.old) (D.faults disk.new) }
+    ensures others { IfErr result (λ ended. ended ≡ Ended.Image ⊎ ended ≡ Ended.Disk) }
+
+    ensures disk_later { D.faults disk.old ≤ D.faults disk.new }
+    ensures sectors { D.sectors disk.new ≡ D.sectors disk.old }
+
+    ensures synced { OnOk result (content_now (D.moments disk.new)
+        ≡ option_map newest_only (content_now (D.moments disk.old))) }
+    ensures moments { EachMoment (D.moments disk.old) (D.moments disk.new)
+        (FromStart (D.moments disk.old) (λ start c. c ≡ newest_only start)) }
+{
+    if disk.sync().is_err() {
+        return Err(Ended::Disk);
+    }
+    if disk.sectors() < SMALL_SECTORS {
+        return Err(Ended::Image);
+    }
+    let mut sector = [0; 512];
+    if disk.read_run(0, &mut sector).is_err() {
+        return Err(Ended::Disk);
+    }
+    if !is_small_superblock(&sector) {
+        return Err(Ended::Image);
+    }
+    Ok(())
+}
