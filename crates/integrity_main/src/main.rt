@@ -1,0 +1,59 @@
+//! The program: its files, its standard input and output, and its status.
+//!
+//! What it does is `integrity` of `integrity_tool`, which is proved over any disk, source and sink. These here
+//! stand for what the system has: each makes calls of std, counts what fails, and tells nothing of content.
+#![tactic(auto)]
+
+mod faults;
+mod file_disk;
+mod file_source;
+mod opening;
+mod reading;
+mod std_sink;
+mod std_source;
+#[cfg(test)]
+mod tests;
+
+use file_disk::FileDisk;
+use file_source::FileSource;
+use integrity_tool::integrity;
+use std::io::ErrorKind;
+use std::process::ExitCode;
+use std::rt::Env;
+use std::{env, io};
+use std_sink::StdSink;
+use std_source::StdSource;
+use stream_io::put_all;
+
+/// The status of a program that has no memory for its words.
+const NO_MEMORY: u8 = 7;
+
+/// The words that the program is given, the first its name.
+fn words_of<R: Env + AllocGlobal>(rt: &R) -> io::Result<Vec<String>> {
+    Ok(env::args(rt)?.collect(rt.alloc())?)
+}
+
+fn main(rt: HostRuntime) -> ExitCode {
+    let mut disk = FileDisk::new(&rt);
+    let mut key = FileSource::new(&rt);
+    let mut script = StdSource::new(&rt);
+    let mut out = StdSink::new(&rt);
+    let words = match words_of(&rt) {
+        Ok(words) => words,
+        Err(e) if e.kind() == ErrorKind::OutOfMemory => {
+            let _ = put_all(&mut out, b"fault memory\n");
+            return ExitCode::from(NO_MEMORY);
+        }
+        // One of them is no text. So they are no command, as no words are none.
+        Err(_) => Vec::new(rt.alloc()),
+    };
+    let status = integrity(
+        rt.alloc(),
+        &words,
+        &mut disk,
+        &mut key,
+        &mut script,
+        &mut out,
+    );
+    ExitCode::from(status)
+}

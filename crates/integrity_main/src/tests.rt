@@ -1,0 +1,118 @@
+//! Tests of the adapters over files that they make: no clause says what reaches a file or comes from it.
+use crate::file_disk::FileDisk;
+use crate::file_source::FileSource;
+use crate::std_sink::StdSink;
+use sector_disk::{Disk, Failed, Named};
+use std::fmt::Display;
+use std::fs::File;
+use std::io::{ErrorKind, Print, Write};
+use std::test::Fail;
+use std::{fs, io};
+use stream_io::{Sink, Source, put_all};
+
+#[test]
+fn a_disk_is_the_whole_sectors_of_its_file(rt: HostRuntime) -> Result<(), Fail> {
+    let mut wanted = [0xaa; 1636];
+    fs::write(&rt, "image", &wanted)?;
+    let mut disk = FileDisk::new(&rt);
+    assert_eq!(rt; disk.sectors(), 0, "before bind");
+    assert_eq!(rt; disk.sync(), Err(Failed), "before bind");
+    assert_eq!(rt; disk.bind("no file"), Err(Failed));
+    assert_eq!(rt; disk.bind("image"), Ok(()));
+    assert_eq!(rt; disk.sectors(), 3);
+    disk.write_run(1, &[0xbb; 1024])?;
+    disk.sync()?;
+    wanted[512..1536].fill(0xbb);
+    assert_eq!(rt;
+        fs::read(&rt, "image")?.as_slice(),
+        &wanted[..],
+        "the sectors that were written, and no other byte"
+    );
+    let mut buffer = [0; 1024];
+    disk.read_run(0, &mut buffer)?;
+    assert_eq!(rt; &buffer[..], &wanted[..1024]);
+    fs::write(&rt, "image", b"cut")?;
+    assert_eq!(rt;
+        disk.read_run(0, &mut buffer),
+        Err(Failed),
+        "the file is shorter now"
+    );
+    Ok(())
+}
+
+#[test]
+fn a_source_gives_its_file(rt: HostRuntime) -> Result<(), Fail> {
+    fs::write(&rt, "key", b"abcde")?;
+    let mut source = FileSource::new(&rt);
+    let mut buffer = [b'-'; 3];
+    assert_eq!(rt; source.read(&mut buffer), Err(Failed), "before bind");
+    assert_eq!(rt; source.bind("no file"), Err(Failed));
+    assert_eq!(rt; source.bind("key"), Ok(()));
+    assert_eq!(rt; source.read(&mut buffer)?, 3);
+    assert_eq!(rt; &buffer, b"abc");
+    assert_eq!(rt; source.read(&mut buffer)?, 2);
+    assert_eq!(rt; &buffer, b"dec");
+    assert_eq!(rt; source.read(&mut buffer)?, 0, "at the end");
+    Ok(())
+}
+
+// A standard output that is a file, in which a bar stands behind what each call writes.
+#[derive(Drop)]
+struct Page {
+    file: File,
+}
+
+impl Print for Page {
+    fn print<D: Display + Drop>(&self, _value: D) -> io::Result<()> {
+        Err(ErrorKind::Unsupported.into())
+    }
+
+    fn println<D: Display + Drop>(&self, _value: D) -> io::Result<()> {
+        Err(ErrorKind::Unsupported.into())
+    }
+
+    fn write_all(&self, bytes: &[u8]) -> io::Result<()> {
+        let mut file = &self.file;
+        file.write_all(bytes)?;
+        file.write_all(b"|")
+    }
+}
+
+#[test]
+fn a_line_goes_out_whole(rt: HostRuntime) -> Result<(), Fail> {
+    let mut sink = StdSink::new(Page {
+        file: File::create(&rt, "page")?,
+    });
+    let pieces = [
+        ("ok ", ""),
+        ("flush\n", "ok flush\n|"),
+        ("ok flush\nclo", "ok flush\n|ok flush\nclo|"),
+        ("sed\n", "ok flush\n|ok flush\nclo|sed\n|"),
+    ];
+    for (piece, wanted) in pieces {
+        put_all(&mut sink, piece.as_bytes())?;
+        assert_eq!(rt; fs::read_to_string(&rt, "page")?.as_str(), wanted);
+    }
+    let line = vec![in rt.alloc(); b'0'; 10_000]?;
+    let mut sink = StdSink::new(Page {
+        file: File::create(&rt, "page")?,
+    });
+    assert_eq!(rt; sink.write(&line)?, 8192, "as much as there is room for");
+    assert_eq!(rt; fs::read(&rt, "page")?.len(), 8193);
+    Ok(())
+}
+
+#[test]
+fn a_sink_fails_with_its_output(rt: HostRuntime) -> Result<(), Fail> {
+    fs::write(&rt, "page", b"")?;
+    let mut sink = StdSink::new(Page {
+        file: File::open(&rt, "page")?,
+    });
+    assert_eq!(rt; sink.write(b"ok "), Ok(3), "held back");
+    assert_eq!(rt;
+        sink.write(b"flush\n"),
+        Err(Failed),
+        "the file is not open for writes"
+    );
+    Ok(())
+}
