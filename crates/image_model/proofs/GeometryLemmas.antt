@@ -1,5 +1,5 @@
 -- Lemmas on the words of specs/Geometry.antt.
-use Rattle.std.proofs.Common.{◌≡◌, ◌≢◌, ◌⊎◌, inl, inr, ℕ, zero, suc, ◌+◌, ◌-◌, ◌*◌, ◌/◌, ◌%◌, ◌<◌, ◌≤◌, refl, sym, ap, subst, ◌∙◌, arith}
+use Rattle.std.proofs.Common.{◌≡◌, ◌≢◌, ◌⊎◌, inl, inr, ℕ, zero, suc, ◌+◌, ◌-◌, ◌*◌, ◌/◌, ◌%◌, ◌^◌, ◌<◌, ◌≤◌, refl, sym, ap, subst, ◌∙◌, arith}
 use Rattle.std.proofs.lemmas.Bool.{cases_order}
 use Rattle.std.proofs.lemmas.Nat.{row_fits, div-mul-add, mod-mul-add, div-add-mod', mod_below}
 use Rattle.std.proofs.Math.Nat.{mul-div_cancel}
@@ -169,6 +169,23 @@ tag_at-inside g sectors b h inside =
 pub tag_sector-no_data : (g : Geometry) (sectors b c sector k : ℕ) → IsGeometry g sectors → 512 * (tag_at g b).0 + (tag_at g b).1 < 512 * (sector + 1) → 512 * sector < 512 * (tag_at g b).0 + (tag_at g b).1 + g.shape.tag_size → k < g.shape.spb → sector ≢ data_at g c + k
 tag_sector-no_data g sectors b c sector k h begins ends inside same =
     elim (tag_and_data g b c (placed g sectors b h) (placed g sectors c h)) [ inl before ↦ omega arith | inr behind ↦ omega arith ]
+
+-- A geometry on a disk is one on each larger disk.
+pub IsGeometry-larger : (g : Geometry) (sectors larger : ℕ) → IsGeometry g sectors → sectors ≤ larger → larger ≤ 2 ^ 48 → IsGeometry g larger
+IsGeometry-larger g sectors larger h more most =
+    let last = h.last in
+    record {
+      spb = h.spb;
+      tag_size = h.tag_size;
+      sections = h.sections;
+      whole_blocks = h.whole_blocks;
+      interleave = h.interleave;
+      tags = h.tags;
+      blocks = h.blocks;
+      last = omega arith;
+      device = most;
+      journal = h.journal;
+    }
 
 -- How many sectors are provided changes no place.
 pub sector_at-provided : (s : Superblock) (provided x : ℕ) → sector_at (layout_of (record s { provided = provided })) x ≡ sector_at (layout_of s) x

@@ -37,7 +37,8 @@ tags_fit s = elim (cases_Bool (has_flag FIXED_PADDING s.flags)) [
 provided_is : (s : Superblock) → IsAccepted s → s.provided ≡ s.provided / 2 ^ s.log2_spb * 2 ^ s.log2_spb
 provided_is s h = let whole = h.whole_blocks in let split = div-add-mod' s.provided (2 ^ s.log2_spb) in omega arith
 
-blocks_some : (s : Superblock) → IsAccepted s → 1 ≤ s.provided / 2 ^ s.log2_spb
+-- They make a block.
+pub blocks_some : (s : Superblock) → IsAccepted s → 1 ≤ s.provided / 2 ^ s.log2_spb
 blocks_some s h = some (s.provided / 2 ^ s.log2_spb) (provided_is s h) h.provided.0
   where
     some : (blocks : ℕ) → s.provided ≡ blocks * 2 ^ s.log2_spb → 1 ≤ s.provided → 1 ≤ blocks

@@ -44,16 +44,17 @@ regions_for-one : (blocks log2_region : ℕ) → 1 ≤ blocks → blocks ≤ 2 ^
 unfolding regions_for
 regions_for-one blocks log2_region some low = div-eq_of_lt-le (2 ^ log2_region) (omega arith) (omega arith)
 
-bitmap_sectors_for-one : (blocks log2_region : ℕ) → 1 ≤ blocks → blocks ≤ 2 ^ log2_region → bitmap_sectors_for blocks log2_region ≡ 8
-unfolding bitmap_sectors_for
-bitmap_sectors_for-one blocks log2_region some low = let one = regions_for-one blocks log2_region some low in omega arith
-
 -- A section has its 8 metadata sectors.
 section_sectors-low : (g : Geometry) → 8 ≤ section_sectors g.shape
 unfolding section_sectors
 section_sectors-low g = omega arith
 
 -- ---- for callers
+
+-- Their bitmap takes eight sectors.
+pub bitmap_sectors_for-one : (blocks log2_region : ℕ) → 1 ≤ blocks → blocks ≤ 2 ^ log2_region → bitmap_sectors_for blocks log2_region ≡ 8
+unfolding bitmap_sectors_for
+bitmap_sectors_for-one blocks log2_region some low = let one = regions_for-one blocks log2_region some low in omega arith
 
 -- A quotient rounded up, as `div_ceil` gives it.
 pub quotient_up-is : (number by : ℕ) → 0 < by → quotient_up number by ≡ number / by + min 1 (number % by)
@@ -72,6 +73,20 @@ quotient_up-is number by some =
           div-eq_of_lt-le by (omega (arith, rest)) (omega (arith, rest))
     ]
 
+-- The regions of so many blocks: that of the last one, and those before it.
+pub regions_for-is : (blocks log2_region : ℕ) → 1 ≤ blocks → regions_for blocks log2_region ≡ (blocks - 1) / 2 ^ log2_region + 1
+unfolding regions_for
+regions_for-is blocks log2_region some =
+    let positive = pow_pos log2_region in
+    let moved : blocks + (2 ^ log2_region - 1) ≡ blocks - 1 + 2 ^ log2_region = omega arith in
+    ap (λ n. n / 2 ^ log2_region) moved ∙ add-div_right (blocks - 1) positive
+
+-- The sectors of their bitmap, as `div_ceil` gives them.
+pub bitmap_sectors_for-is : (blocks log2_region : ℕ)
+    → bitmap_sectors_for blocks log2_region ≡ 8 * (regions_for blocks log2_region / 32768 + min 1 (regions_for blocks log2_region % 32768))
+unfolding bitmap_sectors_for
+bitmap_sectors_for-is blocks log2_region = ap (λ n. 8 * n) (quotient_up-is (regions_for blocks log2_region) 32768 (omega arith))
+
 -- A device has no more blocks than a disk may have sectors.
 pub blocks-low : (g : Geometry) (sectors : ℕ) → IsGeometry g sectors → g.blocks ≤ 2 ^ 48
 unfolding data_at
@@ -84,6 +99,13 @@ blocks-low g sectors h =
     let row : (g.blocks - 1) * 1 ≤ (g.blocks - 1) * g.shape.spb = mul-le-mul_left (g.blocks - 1) spb.0 in
     omega arith
 
+-- The journal has room for the bitmap of one region.
+pub journal_sectors-some : (g : Geometry) (sectors : ℕ) → IsGeometry g sectors → 8 ≤ journal_sectors g
+journal_sectors-some g sectors h =
+    let section = section_sectors-low g in
+    let journal : 1 * section_sectors g.shape ≤ journal_sectors g = mul-le-mul_right (section_sectors g.shape) h.sections in
+    omega arith
+
 -- The fitting log2_region is the least one whose bitmap fits the journal.
 pub fitting_log2_region_is : FittingLaw
 unfolding fitting_log2_region
@@ -92,8 +114,7 @@ fitting_log2_region_is g sectors h =
     let low = blocks-low g sectors h in
     let most = pow-le-pow_right {n = 2} (omega arith) {i = 48} {j = g.log2_region + 48} (omega arith) in
     let one = bitmap_sectors_for-one g.blocks (g.log2_region + 48) h.blocks (omega arith) in
-    let section = section_sectors-low g in
-    let journal : 1 * section_sectors g.shape ≤ journal_sectors g = mul-le-mul_right (section_sectors g.shape) h.sections in
+    let journal = journal_sectors-some g sectors h in
     record {
       not_below = least_from-from passes g.log2_region 48;
       fits = leb-true _ _ (least_from-passes passes g.log2_region 48 (le-leb _ _ (omega arith)));
@@ -107,8 +128,7 @@ fitting_log2_region-high g sectors h =
     let low = blocks-low g sectors h in
     let most = pow-le-pow_right {n = 2} (omega arith) {i = 48} {j = max g.log2_region 48} (omega arith) in
     let one = bitmap_sectors_for-one g.blocks (max g.log2_region 48) h.blocks (omega arith) in
-    let section = section_sectors-low g in
-    let journal : 1 * section_sectors g.shape ≤ journal_sectors g = mul-le-mul_right (section_sectors g.shape) h.sections in
+    let journal = journal_sectors-some g sectors h in
     fitting.least (max g.log2_region 48) (omega arith) (omega arith)
 
 -- A log2_region that is the least to fit is the fitting one.

@@ -136,6 +136,14 @@ superblock_told bytes s = (
       ∙ ap Ok (sym h.1),
 )
 
+-- No test refuses accepted fields.
+pub superblock_faults-passed : (s : Superblock) → IsAccepted s → ok_unless (superblock_faults s) s ≡ Ok s
+superblock_faults-passed s h = ok_unless-passed (superblock_faults s) s (accepted_passed s h)
+
+-- Fields that no test refuses are accepted.
+pub superblock_faults-accepted : (s told : Superblock) → ok_unless (superblock_faults s) s ≡ Ok told → IsAccepted s
+superblock_faults-accepted s told is = passed_accepted s (ok_unless-told (superblock_faults s) s told is).1
+
 -- Without the magic nothing else is looked at.
 pub superblock_of-no_magic : (bytes : List ℕ) → starts_with nat_eq bytes magic ≡ false → superblock_of bytes ≡ Err Magic
 unfolding superblock_of

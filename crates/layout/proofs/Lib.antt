@@ -1,0 +1,5 @@
+mod LayoutLemmas
+mod PlaceLemmas
+mod ProvidedLemmas
+mod RegionLemmas
+mod RoomLemmas

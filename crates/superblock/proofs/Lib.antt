@@ -1,0 +1,2 @@
+mod PadsLemmas
+mod ReadingLemmas
