@@ -6,3 +6,5 @@ mod GrammarLemmas
 pub mod TextRoom
 mod RunningLemmas
 mod TopLemmas
+mod StandingLemmas
+mod StandsForLemmas

@@ -1,24 +1,27 @@
 -- What was found next in a script, and what a line of it prints.
 use Rattle.std.proofs.Common.{◌≡◌, ◌≢◌, inl, inr, ⊎_elim, ℕ, ◌+◌, ◌<◌, ◌≤◌, ◌||◌, Bool, false, List, [], ◌∷◌, ◌++◌, length, take, drop, refl, sym, ◌∙◌, ap, subst, arith, append_assoc, append-nil, length-append, Option, Some, None, Ok, Err, IsSomeAnd, lit<}
-use Rattle.std.specs.List.{All}
+use Rattle.std.specs.List.{AllByRecursion}
+use Rattle.disk_model.specs.Moments.{content_now, EachMoment}
 use Rattle.std.specs.Option.{option_map, ForSome}
 use Rattle.std.proofs.lemmas.List.{take-append-drop}
-use Rattle.std.proofs.lemmas.List.Elements.{All-head, All-tail}
-use Rattle.disk_model.specs.Disk.{Content, Image, last_image}
+use Rattle.disk_model.specs.Disk.{Content, Image, HasNothingPending, last_image}
 use Rattle.stream_io.specs.Stream.{with_bytes, AddsPrefix}
 use Rattle.device_model.specs.Ending.{Ending, Complete, RefusedLine, RefusedLength, DiskFailed, ScriptFailed, SinkFailed, LineForm}
-use Rattle.device_model.specs.Transcript.{Line as ScriptLine, Read, Fill, Flush, Session, session_of, line_result, after_line, after_lines, find_faults, closed_text, read_text}
-use Rattle.device_model.specs.History.{History, cells_now}
+use Rattle.device_model.specs.Transcript.{Line as ScriptLine, Session, session_of, line_result, after_line, find_faults, closed_text, read_text}
+use Rattle.device_model.specs.History.{Change, cells_now}
 use Rattle.device_model.specs.Reply.{Reply, read_reply}
 use Rattle.device_model.proofs.ReplyLemmas.{read_reply-same}
-use Rattle.device_model.proofs.TranscriptLemmas.{transcript-push, find_faults-push}
+use Rattle.device_model.proofs.TranscriptLemmas.{after_lines-push, transcript-push, find_faults-push}
 use Rattle.integrity_tool.specs.Ended.{ending_of}
 use Rattle.integrity_tool.specs.Form.{small_blocks, small_cells}
-use Rattle.integrity_tool.specs.Grammar.{IsLine, IsRunnable}
+use Rattle.integrity_tool.specs.Grammar.{IsLine}
 use Rattle.integrity_tool.specs.Line.{line_of, IsNoLine}
 use Rattle.integrity_tool.specs.Lines.{LineReading, FindsLine, FindsWholeLine, FindsLongLine, FindsLongScript}
-use Rattle.integrity_tool.specs.Outcome.{printed, IsNextText, EndsBy, Runs}
-use Rattle.integrity_tool.specs.Running.{Shows, Prints, FindsNext, EndsLine, EndsScript, RefusesScript}
+use Rattle.integrity_tool.specs.Outcome.{printed, IsNextText, EndsBy}
+use Rattle.integrity_tool.specs.Running.{Prints, FindsNext, EndsLine, EndsScript, RefusesScript}
+use Rattle.integrity_tool.specs.Leaving.{session_after, IsNextChanges, IsLeftBy, RunsAndLeaves}
+use Rattle.integrity_tool.specs.Standing.{StandsFor, MayBeCut}
+use Rattle.integrity_tool.proofs.StandsForLemmas.{StandsFor-opened, MayBeCut-none}
 use Rattle.integrity_tool.specs.Top.{IsRefusedScript}
 use Rattle.integrity_tool.specs.Script.{TakesLine, BeginsWith}
 use Rattle.integrity_tool.specs.declared.ended.Ended.{Ended}
@@ -63,7 +66,7 @@ next_is_too_much number old new before after found =
 -- ---- what a line prints
 
 -- What a read of the disk gives is what the session's blocks give.
-pub reply_in_session : (c : Content) (s : Session) (first count n : ℕ) (reply : Reply) → Shows c s → first + count ≤ small_blocks.blocks → n ≡ count → reply ≡ read_reply small_blocks.tag (small_cells (last_image c)) first n
+pub reply_in_session : (c : Content) (s : Session) (first count n : ℕ) (reply : Reply) → ((b : ℕ) → b < small_blocks.blocks → small_cells (last_image c) b ≡ cells_now small_blocks.tag s.history b) → first + count ≤ small_blocks.blocks → n ≡ count → reply ≡ read_reply small_blocks.tag (small_cells (last_image c)) first n
     → reply ≡ read_reply small_blocks.tag (cells_now small_blocks.tag s.history) first count
 reply_in_session c s first count n reply shows inside size is =
     is ∙ ap (read_reply small_blocks.tag (small_cells (last_image c)) first) size
@@ -73,18 +76,6 @@ reply_in_session c s first count n reply shows inside size is =
 pub shown_text : (first count : ℕ) (shown buffer cleared : List ℕ) (reply other : Reply) → shown ≡ buffer → buffer ≡ cleared ++ read_text first count reply → cleared ≡ [] → reply ≡ other → shown ≡ read_text first count other
 shown_text first count shown buffer cleared reply other e put none same =
     e ∙ put ∙ ap (λ (l : List ℕ). l ++ read_text first count reply) none ∙ ap (read_text first count) same
-
--- The lines that can be run so far change no block.
-pub history-after_lines : (s : Session) (lines : List ScriptLine) → All (IsRunnable small_blocks.blocks) lines → (after_lines small_blocks s lines).history ≡ s.history
-history-after_lines s [] runnable = refl
-history-after_lines s (Fill first count byte ∷ lines) runnable = absurd (All-head (IsRunnable small_blocks.blocks) (Fill first count byte) lines runnable)
-history-after_lines s (Read first count ∷ lines) runnable = history-after_lines (after_line small_blocks s (Read first count)) lines (All-tail (IsRunnable small_blocks.blocks) (Read first count) lines runnable)
-history-after_lines s (Flush ∷ lines) runnable = absurd (All-head (IsRunnable small_blocks.blocks) Flush lines runnable)
-
--- So the disk shows the session after them.
-pub Shows-after_lines : (c : Content) (lines : List ScriptLine) → All (IsRunnable small_blocks.blocks) lines → Shows c (after_lines small_blocks (session_of (small_cells (last_image c))) lines)
-Shows-after_lines c lines runnable b below =
-    sym (ap (λ (h : History). cells_now small_blocks.tag h b) (history-after_lines (session_of (small_cells (last_image c))) lines runnable))
 
 -- ---- a run under way
 
@@ -101,13 +92,26 @@ both_later None n P Q R T p q r f = absurd p
 both_later (Some a) None P Q R T p q r f = absurd (q a refl)
 both_later (Some a) (Some b) P Q R T p q r f = f a b p (q a refl) (r a refl)
 
+some_weaker_content : (P Q : Content → Type 0) (o : Option Content) → IsSomeAnd o P → ((d : Content) → P d → Q d) → IsSomeAnd o Q
+some_weaker_content P Q None p f = absurd p
+some_weaker_content P Q (Some d) p f = f d p
+
+-- What holds at the start and at each moment holds at the end.
+pub holds_at_end : {a b : List Content} (P : Content → Type 0) (d : Content) → content_now a ≡ Some d → P d → EachMoment a b P → IsSomeAnd (content_now b) P
+holds_at_end {a} {b} P d told p each = go each.since each.grows each.each
+  where
+    go : (since : List Content) → b ≡ since ++ a → AllByRecursion P since → IsSomeAnd (content_now b) P
+    go [] e all = subst (λ (h : List Content). IsSomeAnd (content_now h) P) (sym e) (subst (λ (o : Option Content). IsSomeAnd o P) (sym told) p)
+    go (x ∷ since) e all = subst (λ (h : List Content). IsSomeAnd (content_now h) P) (sym e) all.0
+
 -- These lines were run whole: what was printed of them, and what of the script is left.
-pub record IsUnderWay (image : Image) (script before : List ℕ) (number : ℕ) (found_fault : Bool) (rest : List ℕ) (held : Option (List ℕ)) : Type 0 where
+pub record IsUnderWay (image : Image) (script before : List ℕ) (number : ℕ) (found_fault : Bool) (rest : List ℕ) (held : Option (List ℕ)) (now : Option Content) : Type 0 where
   pub lines : List ScriptLine
   pub begins : BeginsWith small_blocks.blocks script lines rest
   pub counted : number ≡ length lines + 1
   pub found : found_fault ≡ find_faults small_blocks (session_of (small_cells image)) lines
   pub holds : held ≡ Some (before ++ printed image lines)
+  pub stands : IsSomeAnd now (λ d. StandsFor d (session_after image lines).history)
 
 -- So much of the script was taken in lines that can be run, whatever the disk and the sink tell.
 pub record IsTaken (script rest : List ℕ) : Type 0 where
@@ -132,71 +136,113 @@ IsTaken-refused script rest after number taken Script way found refuses = absurd
 IsTaken-refused script rest after number taken Sink way found refuses = absurd refuses
 IsTaken-refused script rest after number taken Memory way found refuses = absurd refuses
 
-pub under_way_at_first : (image : Image) (script before : List ℕ) → IsUnderWay image script before 1 false script (Some before)
-under_way_at_first image script before = record {
+pub under_way_at_first : (c : Content) (script before : List ℕ) → HasNothingPending c → IsUnderWay (last_image c) script before 1 false script (Some before) (Some c)
+under_way_at_first c script before nothing = record {
   lines = [];
   begins = BeginsWith-none small_blocks.blocks script;
   counted = refl;
   found = refl;
   holds = ap (λ (t : List ℕ). Some t) (sym (append-nil before));
+  stands = StandsFor-opened c nothing;
 }
 
-module _ (c : Content) (script before : List ℕ) (number : ℕ) (found_fault : Bool) (rest : List ℕ) (held : Option (List ℕ)) (way : IsUnderWay (last_image c) script before number found_fault rest held) where
+-- The start of a run, with a reader that has taken nothing.
+pub first_way : (c : Content) (script before : List ℕ) (reader : LineReading) (held : Option (List ℕ)) (now : Option Content) → reader ≡ record { unread = []; line = []; taken = 0 } → held ≡ Some before → now ≡ Some c → HasNothingPending c
+    → IsUnderWay (last_image c) script before 1 false (reader.unread ++ script) held now × (reader.taken + length (reader.unread ++ script) ≡ length script)
+first_way c script before reader held now empty told_before told nothing = rw (empty, told_before, told) (under_way_at_first c script before nothing, omega arith)
+
+pub first_taken : (script : List ℕ) (reader : LineReading) → reader ≡ record { unread = []; line = []; taken = 0 } → IsTaken script (reader.unread ++ script) × (reader.taken + length (reader.unread ++ script) ≡ length script)
+first_taken script reader empty = rw empty (IsTaken-none script, omega arith)
+
+-- What follows from what is told of a disk.
+pub told_here : (o : Option Content) (P : Content → Type 0) (R : Type 0) → IsSomeAnd o P → ((d : Content) → o ≡ Some d → P d → R) → R
+told_here None P R p f = absurd p
+told_here (Some d) P R p f = f d refl p
+
+module _ (c : Content) (script before : List ℕ) (number : ℕ) (found_fault : Bool) (rest : List ℕ) (held : Option (List ℕ)) (now : Option Content) (way : IsUnderWay (last_image c) script before number found_fault rest held now) where
   -- The session of the next line.
   abbrev pub session : Session
-  session = after_lines small_blocks (session_of (small_cells (last_image c))) way.lines
+  session = session_after (last_image c) way.lines
 
-  pub shows : Shows c session
-  shows = Shows-after_lines c way.lines way.begins.runnable
+  pub stands : IsSomeAnd now (λ d. StandsFor d session.history)
+  stands = way.stands
 
-  -- How it ends, where this is printed behind the lines.
-  ends_with : (part : List ℕ) (held' : Option (List ℕ)) (ending : Ending) → held' ≡ option_map (with_bytes part) held → EndsBy (last_image c) script way.lines rest part ending → IsSomeAnd held' (λ h. Runs (last_image c) script before h ending)
-  ends_with part held' ending adds ends =
-      let all : held' ≡ Some (before ++ printed (last_image c) way.lines ++ part) = adds ∙ ap (option_map (with_bytes part)) way.holds in
-      subst (λ (o : Option (List ℕ)). IsSomeAnd o (λ h. Runs (last_image c) script before h ending)) (sym all) (record {
-        lines = way.lines;
-        rest = rest;
-        part = part;
-        begins = way.begins;
-        text = refl;
-        ends = ends;
-      })
+  -- What is under way, and what a cut may leave of it.
+  module _ (later : Option Content) (changes : List Change) (next : IsNextChanges (last_image c) way.lines rest changes) (cut : IsSomeAnd later (MayBeCut session.history changes)) where
+    -- How it ends, where this is printed behind the lines.
+    ends_with : (part : List ℕ) (held' : Option (List ℕ)) (ending : Ending) → held' ≡ option_map (with_bytes part) held → EndsBy (last_image c) script way.lines rest part ending
+        → IsSomeAnd held' (λ h. IsSomeAnd later (RunsAndLeaves (last_image c) script before h ending))
+    ends_with part held' ending adds ends =
+        let all : held' ≡ Some (before ++ printed (last_image c) way.lines ++ part) = adds ∙ ap (option_map (with_bytes part)) way.holds in
+        subst (λ (o : Option (List ℕ)). IsSomeAnd o (λ h. IsSomeAnd later (RunsAndLeaves (last_image c) script before h ending))) (sym all) (some_weaker_content (MayBeCut session.history changes) (RunsAndLeaves (last_image c) script before (before ++ printed (last_image c) way.lines ++ part) ending) later cut (λ d is. record {
+          runs = record {
+            lines = way.lines;
+            rest = rest;
+            part = part;
+            begins = way.begins;
+            text = refl;
+            ends = ends;
+          };
+          changes = changes;
+          next = next;
+          cut = is;
+        }))
 
-  -- Where nothing is.
-  ends_here : (held' : Option (List ℕ)) (ending : Ending) → held' ≡ held → EndsBy (last_image c) script way.lines rest [] ending → IsSomeAnd held' (λ h. Runs (last_image c) script before h ending)
-  ends_here held' ending same ends = ends_with [] held' ending (same ∙ way.holds ∙ ap (λ (t : List ℕ). Some t) (sym (append-nil (before ++ printed (last_image c) way.lines))) ∙ ap (option_map (with_bytes [])) (sym way.holds)) ends
+    -- Where nothing is.
+    ends_here : (held' : Option (List ℕ)) (ending : Ending) → held' ≡ held → EndsBy (last_image c) script way.lines rest [] ending → IsSomeAnd held' (λ h. IsSomeAnd later (RunsAndLeaves (last_image c) script before h ending))
+    ends_here held' ending same ends = ends_with [] held' ending (same ∙ way.holds ∙ ap (λ (t : List ℕ). Some t) (sym (append-nil (before ++ printed (last_image c) way.lines))) ∙ ap (option_map (with_bytes [])) (sym way.holds)) ends
 
-  -- A part of what was to be printed next.
-  ends_in_part : (text : List ℕ) (held' : Option (List ℕ)) → IsNextText (last_image c) way.lines rest text → AddsPrefix text held held' → IsSomeAnd held' (λ h. Runs (last_image c) script before h SinkFailed)
-  ends_in_part text held' next adds = ends_with (take adds.count text) held' SinkFailed adds.held (text, drop adds.count text, next, sym (take-append-drop adds.count text))
+    -- A part of what was to be printed next.
+    ends_in_part : (text : List ℕ) (held' : Option (List ℕ)) → IsNextText (last_image c) way.lines rest text → AddsPrefix text held held' → IsSomeAnd held' (λ h. IsSomeAnd later (RunsAndLeaves (last_image c) script before h SinkFailed))
+    ends_in_part text held' to_print adds = ends_with (take adds.count text) held' SinkFailed adds.held (text, drop adds.count text, to_print, sym (take-append-drop adds.count text))
 
+    -- The script's end was reached.
+    pub ends_by_close : (ended : Ended) (held' : Option (List ℕ)) → rest ≡ [] → EndsLine ended → (ended ≡ Disk → held' ≡ held) → (ended ≡ Sink → AddsPrefix closed_text held held')
+        → IsSomeAnd held' (λ h. IsSomeAnd later (RunsAndLeaves (last_image c) script before h (ending_of ended)))
+    ends_by_close ended held' none ends disk sink = ⊎_elim
+        (λ e. subst (λ (x : Ended). IsSomeAnd held' (λ h. IsSomeAnd later (RunsAndLeaves (last_image c) script before h (ending_of x)))) (sym e) (ends_here held' DiskFailed (disk e) refl))
+        (λ e. subst (λ (x : Ended). IsSomeAnd held' (λ h. IsSomeAnd later (RunsAndLeaves (last_image c) script before h (ending_of x)))) (sym e) (ends_in_part closed_text held' (inr (none, refl)) (sink e)))
+        ends
+
+    pub ends_complete : (held' : Option (List ℕ)) → rest ≡ [] → held' ≡ option_map (with_bytes closed_text) held → IsSomeAnd held' (λ h. IsSomeAnd later (RunsAndLeaves (last_image c) script before h (Complete found_fault)))
+    ends_complete held' none adds = ends_with closed_text held' (Complete found_fault) adds (none, refl, way.found)
+
+    pub ends_in_line : (taken : ℕ) (after : List ℕ) (line : ReadLine) (ended : Ended) (held' : Option (List ℕ)) → FindsNext number taken rest after (Ok (Some line)) → Prints (line_result small_blocks session (line_of line)) held held' (Err ended) → EndsLine ended
+        → IsSomeAnd held' (λ h. IsSomeAnd later (RunsAndLeaves (last_image c) script before h (ending_of ended)))
+    ends_in_line taken after line Disk held' found prints ends = ends_here held' DiskFailed prints refl
+    ends_in_line taken after line Sink held' found prints ends =
+        ends_in_part (line_result small_blocks session (line_of line)).text held' (inl (line_of line, after, found.0, found.1, refl)) prints
+    ends_in_line taken after line Words held' found prints ends = absurd (⊎_elim (λ e. absurd (cc e)) (λ e. absurd (cc e)) ends)
+    ends_in_line taken after line (Line n) held' found prints ends = absurd (⊎_elim (λ e. absurd (cc e)) (λ e. absurd (cc e)) ends)
+    ends_in_line taken after line Length held' found prints ends = absurd (⊎_elim (λ e. absurd (cc e)) (λ e. absurd (cc e)) ends)
+    ends_in_line taken after line ImageEnds held' found prints ends = absurd (⊎_elim (λ e. absurd (cc e)) (λ e. absurd (cc e)) ends)
+    ends_in_line taken after line Script held' found prints ends = absurd (⊎_elim (λ e. absurd (cc e)) (λ e. absurd (cc e)) ends)
+    ends_in_line taken after line Memory held' found prints ends = absurd (⊎_elim (λ e. absurd (cc e)) (λ e. absurd (cc e)) ends)
+
+    ends_at : (taken : ℕ) (after : List ℕ) (ended : Ended) → taken + length rest ≡ length script → FindsNext number taken rest after (Err ended) → EndsScript ended → ended ≢ Disk → ended ≢ Sink
+        → IsSomeAnd held (λ h. IsSomeAnd later (RunsAndLeaves (last_image c) script before h (ending_of ended)))
+    ends_at taken after Words counted found ends disk sink = absurd ends
+    ends_at taken after (Line n) counted found ends disk sink = ends_here held (RefusedLine n LineForm) refl (found.0 ∙ way.counted, found.1, refl)
+    ends_at taken after Length counted found ends disk sink = ends_here held RefusedLength refl (omega (arith, counted, found), refl)
+    ends_at taken after ImageEnds counted found ends disk sink = absurd ends
+    ends_at taken after Disk counted found ends disk sink = absurd (disk refl)
+    ends_at taken after Script counted found ends disk sink = ends_here held ScriptFailed refl refl
+    ends_at taken after Sink counted found ends disk sink = absurd (sink refl)
+    ends_at taken after Memory counted found ends disk sink = absurd ends
+
+  -- What was left at each moment meanwhile.
+  pub left_meanwhile : (changes : List Change) → IsNextChanges (last_image c) way.lines rest changes → (d : Content) → MayBeCut session.history changes d → IsLeftBy (last_image c) script d
+  left_meanwhile changes next d is = record { lines = way.lines; rest = rest; begins = way.begins; changes = changes; next = next; cut = is }
+
+  -- Nothing was under way.
   pub ends_at_next : (taken : ℕ) (after : List ℕ) (ended : Ended) → taken + length rest ≡ length script → FindsNext number taken rest after (Err ended) → EndsScript ended → ended ≢ Disk → ended ≢ Sink
-      → IsSomeAnd held (λ h. Runs (last_image c) script before h (ending_of ended))
-  ends_at_next taken after Words counted found ends disk sink = absurd ends
-  ends_at_next taken after (Line n) counted found ends disk sink = ends_here held (RefusedLine n LineForm) refl (found.0 ∙ way.counted, found.1, refl)
-  ends_at_next taken after Length counted found ends disk sink = ends_here held RefusedLength refl (omega (arith, counted, found), refl)
-  ends_at_next taken after ImageEnds counted found ends disk sink = absurd ends
-  ends_at_next taken after Disk counted found ends disk sink = absurd (disk refl)
-  ends_at_next taken after Script counted found ends disk sink = ends_here held ScriptFailed refl refl
-  ends_at_next taken after Sink counted found ends disk sink = absurd (sink refl)
-  ends_at_next taken after Memory counted found ends disk sink = absurd ends
-
-  pub ends_in_line : (taken : ℕ) (after : List ℕ) (line : ReadLine) (ended : Ended) (held' : Option (List ℕ)) → FindsNext number taken rest after (Ok (Some line)) → Prints (line_result small_blocks session (line_of line)) held held' (Err ended) → EndsLine ended
-      → IsSomeAnd held' (λ h. Runs (last_image c) script before h (ending_of ended))
-  ends_in_line taken after line Disk held' found prints ends = ends_here held' DiskFailed prints refl
-  ends_in_line taken after line Sink held' found prints ends =
-      ends_in_part (line_result small_blocks session (line_of line)).text held' (inl (line_of line, after, found.0, found.1, refl)) prints
-  ends_in_line taken after line Words held' found prints ends = absurd (⊎_elim (λ e. absurd (cc e)) (λ e. absurd (cc e)) ends)
-  ends_in_line taken after line (Line n) held' found prints ends = absurd (⊎_elim (λ e. absurd (cc e)) (λ e. absurd (cc e)) ends)
-  ends_in_line taken after line Length held' found prints ends = absurd (⊎_elim (λ e. absurd (cc e)) (λ e. absurd (cc e)) ends)
-  ends_in_line taken after line ImageEnds held' found prints ends = absurd (⊎_elim (λ e. absurd (cc e)) (λ e. absurd (cc e)) ends)
-  ends_in_line taken after line Script held' found prints ends = absurd (⊎_elim (λ e. absurd (cc e)) (λ e. absurd (cc e)) ends)
-  ends_in_line taken after line Memory held' found prints ends = absurd (⊎_elim (λ e. absurd (cc e)) (λ e. absurd (cc e)) ends)
+      → IsSomeAnd held (λ h. IsSomeAnd now (RunsAndLeaves (last_image c) script before h (ending_of ended)))
+  ends_at_next = ends_at now [] (inr (inr refl)) (some_weaker_content (λ d. StandsFor d session.history) (MayBeCut session.history []) now way.stands (λ d is. MayBeCut-none d session.history [] is))
 
   -- One line more was run whole.
-  pub goes_on : (taken : ℕ) (after : List ℕ) (line : ReadLine) (fault both : Bool) (next : ℕ) (held' : Option (List ℕ)) → FindsNext number taken rest after (Ok (Some line)) → Prints (line_result small_blocks session (line_of line)) held held' (Ok fault)
-      → both ≡ (found_fault || fault) → next ≡ number + 1 → IsUnderWay (last_image c) script before next both after held'
-  goes_on taken after line fault both next held' found prints either counted = record {
+  pub goes_on : (taken : ℕ) (after : List ℕ) (line : ReadLine) (fault both : Bool) (next_number : ℕ) (held' : Option (List ℕ)) (later : Option Content) → FindsNext number taken rest after (Ok (Some line)) → Prints (line_result small_blocks session (line_of line)) held held' (Ok fault)
+      → both ≡ (found_fault || fault) → next_number ≡ number + 1 → IsSomeAnd later (λ d. StandsFor d (after_line small_blocks session (line_of line)).history) → IsUnderWay (last_image c) script before next_number both after held' later
+  goes_on taken after line fault both next_number held' later found prints either counted stood = record {
     lines = way.lines ++ line_of line ∷ [];
     begins = BeginsWith-push small_blocks.blocks script rest after way.lines (line_of line) way.begins found.0 found.1;
     counted = omega (arith, counted, way.counted, length-append way.lines (line_of line ∷ []));
@@ -207,21 +253,11 @@ module _ (c : Content) (script before : List ℕ) (number : ℕ) (found_fault : 
         prints.0 ∙ ap (option_map (with_bytes (line_result small_blocks session (line_of line)).text)) way.holds
         ∙ ap (λ (t : List ℕ). Some t) (append_assoc before (printed (last_image c) way.lines) (line_result small_blocks session (line_of line)).text
         ∙ ap (λ (t : List ℕ). before ++ t) (sym (transcript-push small_blocks (session_of (small_cells (last_image c))) way.lines (line_of line))));
+    stands = subst (λ (s : Session). IsSomeAnd later (λ d. StandsFor d s.history)) (sym (after_lines-push small_blocks (session_of (small_cells (last_image c))) way.lines (line_of line))) stood;
   }
 
   -- The same, with the count of the bytes that were taken.
-  pub goes_on_counted : (taken taken' : ℕ) (after : List ℕ) (line : ReadLine) (fault both : Bool) (next : ℕ) (held' : Option (List ℕ)) → FindsNext number taken rest after (Ok (Some line)) → Prints (line_result small_blocks session (line_of line)) held held' (Ok fault)
-      → both ≡ (found_fault || fault) → next ≡ number + 1 → taken' + length after ≡ taken + length rest → taken + length rest ≡ length script
-      → IsUnderWay (last_image c) script before next both after held' × (taken' + length after ≡ length script)
-  goes_on_counted taken taken' after line fault both next held' found prints either counted more so_far = (goes_on taken after line fault both next held' found prints either counted, more ∙ so_far)
-
-  -- The script's end was reached.
-  pub ends_by_close : (ended : Ended) (held' : Option (List ℕ)) → rest ≡ [] → EndsLine ended → (ended ≡ Disk → held' ≡ held) → (ended ≡ Sink → AddsPrefix closed_text held held')
-      → IsSomeAnd held' (λ h. Runs (last_image c) script before h (ending_of ended))
-  ends_by_close ended held' none ends disk sink = ⊎_elim
-      (λ e. subst (λ (x : Ended). IsSomeAnd held' (λ h. Runs (last_image c) script before h (ending_of x))) (sym e) (ends_here held' DiskFailed (disk e) refl))
-      (λ e. subst (λ (x : Ended). IsSomeAnd held' (λ h. Runs (last_image c) script before h (ending_of x))) (sym e) (ends_in_part closed_text held' (inr (none, refl)) (sink e)))
-      ends
-
-  pub ends_complete : (held' : Option (List ℕ)) → rest ≡ [] → held' ≡ option_map (with_bytes closed_text) held → IsSomeAnd held' (λ h. Runs (last_image c) script before h (Complete found_fault))
-  ends_complete held' none adds = ends_with closed_text held' (Complete found_fault) adds (none, refl, way.found)
+  pub goes_on_counted : (taken taken' : ℕ) (after : List ℕ) (line : ReadLine) (fault both : Bool) (next_number : ℕ) (held' : Option (List ℕ)) (later : Option Content) → FindsNext number taken rest after (Ok (Some line)) → Prints (line_result small_blocks session (line_of line)) held held' (Ok fault)
+      → both ≡ (found_fault || fault) → next_number ≡ number + 1 → IsSomeAnd later (λ d. StandsFor d (after_line small_blocks session (line_of line)).history) → taken' + length after ≡ taken + length rest → taken + length rest ≡ length script
+      → IsUnderWay (last_image c) script before next_number both after held' later × (taken' + length after ≡ length script)
+  goes_on_counted taken taken' after line fault both next_number held' later found prints either counted stood more so_far = (goes_on taken after line fault both next_number held' later found prints either counted stood, more ∙ so_far)

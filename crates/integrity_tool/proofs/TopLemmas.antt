@@ -3,16 +3,18 @@ use Rattle.std.proofs.Common.{◌≡◌, ◌⊎◌, inl, inr, ℕ, ◌≤◌, Bo
 use Rattle.std.specs.Option.{option_map}
 use Rattle.std.specs.List.{Contains}
 use Rattle.disk_model.specs.Causes.{Rose}
-use Rattle.disk_model.specs.Disk.{Content, Image, IsImage, last_image, newest_only, Reads}
+use Rattle.disk_model.specs.Disk.{Content, IsImage, last_image, newest_only, Reads, OnlyAdds}
 use Rattle.disk_model.specs.Moments.{content_now, EachMoment, FromStart}
-use Rattle.disk_model.proofs.DiskLemmas.{newest_only-image, Reads-one}
+use Rattle.disk_model.proofs.DiskLemmas.{newest_only-image, Reads-one, OnlyAdds-join}
 use Rattle.disk_model.proofs.MomentsLemmas.{EachMoment-weaker}
 use Rattle.stream_io.specs.Stream.{with_bytes, AddsPrefix}
 use Rattle.device_model.specs.Ending.{Ending, Complete, fault_text, status_of}
 use Rattle.integrity_tool.specs.Ended.{ending_of}
 use Rattle.integrity_tool.specs.Form.{small_blocks}
-use Rattle.integrity_tool.specs.Outcome.{EndsBy, Runs}
-use Rattle.integrity_tool.specs.Top.{Tells, NarrowsImages}
+use Rattle.integrity_tool.specs.Outcome.{EndsBy}
+use Rattle.integrity_tool.specs.Leaving.{RunsAndLeaves}
+use Rattle.integrity_tool.specs.Standing.{IsOfBlock}
+use Rattle.integrity_tool.specs.Top.{Leaves, Tells, NarrowsImages}
 use Rattle.integrity_tool.specs.declared.ended.Ended.{Ended}
 use Rattle.integrity_tool.specs.declared.ended.Ended.TheVariants.{Image as ImageEnds, Disk as DiskEnds}
 use Rattle.integrity_tool.proofs.ScriptLemmas.{BeginsWith-none}
@@ -45,26 +47,47 @@ each_of_sync {a} start now told narrows each =
     (λ c from. subst (λ (later : Content). NarrowsImages start later) (sym (subst (λ (o : Option Content). IsSomeAnd o (λ s. c ≡ newest_only s)) told from)) narrows)
     each
 
+pub NarrowsImages-same : (c : Content) → NarrowsImages c c
+NarrowsImages-same c = record { each = λ image is. is }
+
+-- What is added since the start of the call, where the disk tells its content.
+pub adds_from : {a b : List Content} (first now : Content) → content_now a ≡ Some now → OnlyAdds IsOfBlock first now → EachMoment a b (FromStart a (OnlyAdds IsOfBlock)) → EachMoment a b (OnlyAdds IsOfBlock first)
+adds_from first now told adds each =
+    EachMoment-weaker (λ d from. OnlyAdds-join IsOfBlock first now d adds (subst (λ (o : Option Content). IsSomeAnd o (λ start. OnlyAdds IsOfBlock start d)) told from)) each
+
 -- ---- what is printed
 
--- Nothing was run and nothing printed.
-pub nothing_run : (image : Image) (script before : List ℕ) (ending : Ending) → EndsBy image script [] script [] ending → IsSomeAnd (Some before) (λ after. Runs image script before after ending)
-nothing_run image script before ending ends = record {
-  lines = [];
-  rest = script;
-  part = [];
-  begins = BeginsWith-none small_blocks.blocks script;
-  text = sym (append-nil (before ++ []) ∙ append-nil before);
-  ends = ends;
-}
+-- Nothing was run and nothing printed, and the disk is as it was or synced.
+pub nothing_run : (first : Content) (script before : List ℕ) (ending : Ending) (now : Option Content) → EndsBy (last_image first) script [] script [] ending → IsSomeAnd now (NarrowsImages first)
+    → IsSomeAnd (Some before) (λ after. IsSomeAnd now (Leaves first script before after ending))
+nothing_run first script before ending None ends narrows = absurd narrows
+nothing_run first script before ending (Some d) ends narrows = inl (
+  record {
+    lines = [];
+    rest = script;
+    part = [];
+    begins = BeginsWith-none small_blocks.blocks script;
+    text = sym (append-nil (before ++ []) ∙ append-nil before);
+    ends = ends;
+  },
+  refl,
+  narrows,
+)
 
 -- A disk that was bound, and then judged, is refused for one of two reasons.
-pub refused_nothing_run : (image : Image) (script before : List ℕ) (ended : Ended) → (ended ≡ ImageEnds) ⊎ (ended ≡ DiskEnds)
-    → IsSomeAnd (Some before) (λ after. Runs image script before after (ending_of ended))
-refused_nothing_run image script before ended ends = elim ends [
-  | inl is ↦ subst (λ (x : Ended). IsSomeAnd (Some before) (λ after. Runs image script before after (ending_of x))) (sym is) (nothing_run image script before (ending_of ImageEnds) refl)
-  | inr is ↦ subst (λ (x : Ended). IsSomeAnd (Some before) (λ after. Runs image script before after (ending_of x))) (sym is) (nothing_run image script before (ending_of DiskEnds) refl)
+pub refused_nothing_run : (first : Content) (script before : List ℕ) (ended : Ended) (now : Option Content) → (ended ≡ ImageEnds) ⊎ (ended ≡ DiskEnds) → IsSomeAnd now (NarrowsImages first)
+    → IsSomeAnd (Some before) (λ after. IsSomeAnd now (Leaves first script before after (ending_of ended)))
+refused_nothing_run first script before ended now ends narrows = elim ends [
+  | inl is ↦ subst (λ (x : Ended). IsSomeAnd (Some before) (λ after. IsSomeAnd now (Leaves first script before after (ending_of x)))) (sym is) (nothing_run first script before (ending_of ImageEnds) now refl narrows)
+  | inr is ↦ subst (λ (x : Ended). IsSomeAnd (Some before) (λ after. IsSomeAnd now (Leaves first script before after (ending_of x)))) (sym is) (nothing_run first script before (ending_of DiskEnds) now refl narrows)
 ]
+
+-- A script was run.
+pub ran_leaves : (first : Content) (script before : List ℕ) (ending : Ending) (held : Option (List ℕ)) (now : Option Content) → IsSomeAnd held (λ after. IsSomeAnd now (RunsAndLeaves (last_image first) script before after ending))
+    → IsSomeAnd held (λ after. IsSomeAnd now (Leaves first script before after ending))
+ran_leaves first script before ending None now runs = absurd runs
+ran_leaves first script before ending (Some after) None runs = absurd runs
+ran_leaves first script before ending (Some after) (Some d) runs = inr runs
 
 -- ---- the last line
 
@@ -72,25 +95,27 @@ pub Rose-earlier : (a b c : ℕ) → a ≤ b → Rose b c → Rose a c
 Rose-earlier a b c below rose = omega (arith, below, rose)
 
 -- A run that came to its end has no last line.
-pub tells_complete : (image : Image) (script before : List ℕ) (found_fault : Bool) (status : ℕ) (SinkRose : Type 0) (held : Option (List ℕ)) → status ≡ status_of (Complete found_fault)
-    → IsSomeAnd held (λ after. Runs image script before after (Complete found_fault)) → IsSomeAnd held (λ after. Tells image script before after status SinkRose)
-tells_complete image script before found_fault status SinkRose (Some after) is runs = record {
+pub tells_complete : (first : Content) (script before : List ℕ) (found_fault : Bool) (status : ℕ) (SinkRose : Type 0) (held : Option (List ℕ)) (now : Option Content) → status ≡ status_of (Complete found_fault)
+    → IsSomeAnd held (λ after. IsSomeAnd now (Leaves first script before after (Complete found_fault))) → IsSomeAnd held (λ after. IsSomeAnd now (Tells first script before after status SinkRose))
+tells_complete first script before found_fault status SinkRose None now is leaves = absurd leaves
+tells_complete first script before found_fault status SinkRose (Some after) None is leaves = absurd leaves
+tells_complete first script before found_fault status SinkRose (Some after) (Some d) is leaves = record {
   ending = Complete found_fault;
   is_status = is;
   run = after;
-  runs = runs;
+  leaves = leaves;
   last = inl (sym (append-nil after));
 }
-tells_complete image script before found_fault status SinkRose None is runs = absurd runs
 
 -- One that was ended early has one, or where the sink failed a part of it.
-pub tells_early : (image : Image) (script before : List ℕ) (ending : Ending) (status : ℕ) (SinkRose : Type 0) (held later : Option (List ℕ)) (E : Type 0) (result : Result (Unit {0}) E) → status ≡ status_of ending
-    → IsSomeAnd held (λ after. Runs image script before after ending) → OnOk result (later ≡ option_map (with_bytes (fault_text ending)) held) → OnErr result SinkRose → OnErr result (AddsPrefix (fault_text ending) held later)
-    → IsSomeAnd later (λ after. Tells image script before after status SinkRose)
-tells_early image script before ending status SinkRose None later E result is runs written rose err = absurd runs
-tells_early image script before ending status SinkRose (Some run) later E (Ok v) is runs written rose err =
-    subst (λ (o : Option (List ℕ)). IsSomeAnd o (λ after. Tells image script before after status SinkRose)) (sym written)
-    (record { ending = ending; is_status = is; run = run; runs = runs; last = inl refl })
-tells_early image script before ending status SinkRose (Some run) later E (Err e) is runs written rose err =
-    subst (λ (o : Option (List ℕ)). IsSomeAnd o (λ after. Tells image script before after status SinkRose)) (sym err.held)
-    (record { ending = ending; is_status = is; run = run; runs = runs; last = inr (rose, err.count, refl) })
+pub tells_early : (first : Content) (script before : List ℕ) (ending : Ending) (status : ℕ) (SinkRose : Type 0) (held later : Option (List ℕ)) (now : Option Content) (E : Type 0) (result : Result (Unit {0}) E) → status ≡ status_of ending
+    → IsSomeAnd held (λ after. IsSomeAnd now (Leaves first script before after ending)) → OnOk result (later ≡ option_map (with_bytes (fault_text ending)) held) → OnErr result SinkRose → OnErr result (AddsPrefix (fault_text ending) held later)
+    → IsSomeAnd later (λ after. IsSomeAnd now (Tells first script before after status SinkRose))
+tells_early first script before ending status SinkRose None later now E result is leaves written rose err = absurd leaves
+tells_early first script before ending status SinkRose (Some run) later None E result is leaves written rose err = absurd leaves
+tells_early first script before ending status SinkRose (Some run) later (Some d) E (Ok v) is leaves written rose err =
+    subst (λ (o : Option (List ℕ)). IsSomeAnd o (λ after. Tells first script before after status SinkRose d)) (sym written)
+    (record { ending = ending; is_status = is; run = run; leaves = leaves; last = inl refl })
+tells_early first script before ending status SinkRose (Some run) later (Some d) E (Err e) is leaves written rose err =
+    subst (λ (o : Option (List ℕ)). IsSomeAnd o (λ after. Tells first script before after status SinkRose d)) (sym err.held)
+    (record { ending = ending; is_status = is; run = run; leaves = leaves; last = inr (rose, err.count, refl) })

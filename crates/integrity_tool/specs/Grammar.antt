@@ -1,6 +1,6 @@
 -- The lines of a script, as bytes.
 -- Own: words parted by one space, decimal numbers without leading zeros.
-use Rattle.std.specs.Prelude.{◌≡◌, ℕ, ◌+◌, ◌≤◌, List, [], ◌∷◌, ◌++◌, codes}
+use Rattle.std.specs.Prelude.{◌≡◌, ℕ, ◌+◌, ◌<◌, ◌≤◌, List, [], ◌∷◌, ◌++◌, codes}
 use Rattle.std.specs.Fmt.{decimal}
 use Rattle.hex.specs.Hex.{encode_lower}
 use Rattle.device_model.specs.Transcript.{Line, Fill, Read, Flush}
@@ -12,11 +12,11 @@ line_bytes (Fill first count byte) =
 line_bytes (Read first count) = codes "read " ++ decimal first ++ codes " " ++ decimal count
 line_bytes Flush = codes "flush"
 
--- The line can be run on so many blocks: it names one of them at least, and none that is not there.
+-- The line can be run on so many blocks: it is a flush, or its blocks are one of them at least and none that is not there.
 abbrev pub IsRunnable : ℕ → Line → Type 0
-IsRunnable blocks (Fill first count byte) = ⊥
+IsRunnable blocks (Fill first count byte) = (1 ≤ count) × (first + count ≤ blocks) × (byte < 256)
 IsRunnable blocks (Read first count) = (1 ≤ count) × (first + count ≤ blocks)
-IsRunnable blocks Flush = ⊥
+IsRunnable blocks Flush = Unit {0}
 
 -- The bytes are this line, and it can be run.
 pub record IsLine (blocks : ℕ) (bytes : List ℕ) (line : Line) : Type 0 where

@@ -10,3 +10,5 @@ pub mod Outcome
 pub mod Reading
 pub mod Running
 pub mod Top
+pub mod Standing
+pub mod Leaving

@@ -1,13 +1,11 @@
 -- What the functions say that run a script: what the disk shows, what a line does, and what the end of the run is.
 use Rattle.std.specs.Prelude.{◌≡◌, ◌⊎◌, ℕ, ◌+◌, ◌<◌, Bool, List, [], length, Option, None, Some, Result, Ok, Err}
 use Rattle.std.specs.Option.{option_map}
-use Rattle.disk_model.specs.Disk.{Content, last_image}
 use Rattle.stream_io.specs.Stream.{with_bytes, AddsPrefix}
 use Rattle.device_model.specs.Ending.{Ending, Complete}
-use Rattle.device_model.specs.History.{cells_now}
-use Rattle.device_model.specs.Transcript.{Session, LineResult}
+use Rattle.device_model.specs.Transcript.{LineResult}
 use Rattle.integrity_tool.specs.Ended.{ending_of}
-use Rattle.integrity_tool.specs.Form.{small_blocks, small_cells}
+use Rattle.integrity_tool.specs.Form.{small_blocks}
 use Rattle.integrity_tool.specs.Grammar.{line_bytes, IsRunnable}
 use Rattle.integrity_tool.specs.Line.{line_of}
 use Rattle.integrity_tool.specs.Script.{TakesLine, BeginsWithNone}
@@ -15,11 +13,6 @@ use Rattle.integrity_tool.specs.declared.ended.Ended.{Ended}
 use Rattle.integrity_tool.specs.declared.ended.Ended.TheVariants.{Words, Line, Length, Image, Disk, Sink, Memory}
 use Rattle.integrity_tool.specs.declared.line.Line.{Line as ReadLine}
 use Rattle.integrity_tool.specs.declared.line_reader.TheConstants.{MOST_SCRIPT}
-
--- The disk shows what each block holds in this session.
-abbrev pub Shows : Content → Session → Type 0
-Shows content s =
-    (b : ℕ) → b < small_blocks.blocks → small_cells (last_image content) b ≡ cells_now small_blocks.tag s.history b
 
 -- What a line that was run left in the sink: its text, or where the sink failed a part of it, else nothing.
 abbrev pub Prints : LineResult → Option (List ℕ) → Option (List ℕ) → Result Bool Ended → Type 0

@@ -14,6 +14,7 @@ mod small_image;
 mod text;
 mod top_call;
 mod words;
+mod writing;
 
 pub use line_reader::{MOST_LINE, MOST_SCRIPT};
 pub use top_call::integrity;

@@ -4,16 +4,17 @@
 ghost use Rattle.std.specs.Prelude.{◌≡◌, ◌≢◌, ◌⊎◌, ◌||◌, ◌+◌, ◌*◌, ◌<◌, ◌≤◌, ◌++◌, ℕ, List, [], length, Some, IfOk, IfErr, OnOk, OnErr, IsSome, IfSome, vec_len, vec_capacity, IsSomeAnd};
 ghost use Rattle.std.specs.Option.{ForSome, option_map};
 ghost use Rattle.disk_model.specs.Causes.{HasCause, Rose};
-ghost use Rattle.disk_model.specs.Disk.{Content, last_image, newest_only};
+ghost use Rattle.disk_model.specs.Disk.{Content, HasNothingPending, OnlyAdds, last_image, newest_only};
 ghost use Rattle.disk_model.specs.Moments.{content_now, EachMoment, FromStart};
 ghost use Rattle.device_model.specs.Reply.{read_reply};
-ghost use Rattle.device_model.specs.Transcript.{Read, Session, line_result, read_text, is_fault, closed_text};
+ghost use Rattle.device_model.specs.Transcript.{Fill, Read, Flush, Session, after_line, line_result, read_text, is_fault, closed_text};
 ghost use Rattle.integrity_tool.specs.Form.{small_blocks};
 ghost use Rattle.integrity_tool.specs.Grammar.{IsRunnable};
 ghost use Rattle.integrity_tool.specs.Line.{line_of};
-ghost use Rattle.integrity_tool.specs.Outcome.{Runs};
+ghost use Rattle.integrity_tool.specs.Leaving.{IsLeftBy, RunsAndLeaves};
 ghost use Rattle.integrity_tool.specs.Reading.{reply_of, IsSmallRule};
-ghost use Rattle.integrity_tool.specs.Running.{Shows, Prints, FindsNext, EndsLine, EndsScript, RefusesScript, ending_by};
+ghost use Rattle.integrity_tool.specs.Running.{Prints, FindsNext, EndsLine, EndsScript, RefusesScript, ending_by};
+ghost use Rattle.integrity_tool.specs.Standing.{IsOfBlock, MayBeCut, StandsFor};
 ghost use Rattle.integrity_tool.specs.Top.{IsRefusedScript};
 ghost use Rattle.stream_io.specs.Stream.{with_bytes, AddsPrefix};
 ghost use Rattle.integrity_tool.specs.Text.{longest_text};
@@ -24,7 +25,8 @@ use crate::line::{Line, read_line};
 use crate::line_reader::{LineReader, MOST_SCRIPT, NextLine};
 use crate::reading::{Found, read_blocks};
 use crate::small_image::{BLOCK_SIZE, SMALL_BLOCKS, SMALL_SECTORS, SMALL_SIZE};
-use crate::text::{longest_text, put_fault_text, put_read_text};
+use crate::text::{longest_text, put_fault_text, put_flush_text, put_read_text, put_write_text};
+use crate::writing::fill_blocks;
 use hmac_tag::TagMaker;
 use sector_disk::{Disk, Memory};
 use std::alloc::Global;
@@ -81,10 +83,11 @@ pub fn run_script<D: Disk, S: Source, O: Sink>(
     requires maker { IsSmallRule maker.now }
     requires room { room.old.reader ≡ record { unread = []; line = []; taken = 0 } }
     requires disk { SMALL_SECTORS ≤ D.sectors disk.old }
+    requires settled { ForSome (content_now (D.moments disk.old)) HasNothingPending }
 
     ensures runs { ForSome (content_now (D.moments disk.old)) (λ c. ForSome (S.left script.old) (λ left.
-        ForSome (O.held out.old) (λ before. IsSomeAnd (O.held out.new) (λ after.
-        Runs (last_image c) left before after (ending_by result))))) }
+        ForSome (O.held out.old) (λ before. IsSomeAnd (O.held out.new) (λ after. IsSomeAnd (content_now (D.moments disk.new))
+        (RunsAndLeaves (last_image c) left before after (ending_by result)))))) }
 
     ensures refused { IfErr result (λ ended. RefusesScript ended → ForSome (S.left script.old) IsRefusedScript) }
     ensures disk { result ≡ Err Ended.Disk → Rose (D.faults disk.old) (D.faults disk.new) }
@@ -97,8 +100,11 @@ pub fn run_script<D: Disk, S: Source, O: Sink>(
     ensures sink_later { O.faults out.old ≤ O.faults out.new }
     ensures sectors { D.sectors disk.new ≡ D.sectors disk.old }
 
-    ensures moments { EachMoment (D.moments disk.old) (D.moments disk.new)
-        (FromStart (D.moments disk.old) (λ start c. c ≡ newest_only start)) }
+    ensures moments { ForSome (content_now (D.moments disk.old)) (λ c. ForSome (S.left script.old) (λ left.
+        ForSome (O.held out.old) (λ before. EachMoment (D.moments disk.old) (D.moments disk.new)
+        (IsLeftBy (last_image c) left)))) }
+    ensures places { EachMoment (D.moments disk.old) (D.moments disk.new)
+        (FromStart (D.moments disk.old) (OnlyAdds IsOfBlock)) }
 {
     let mut found_fault = false;
     let mut number = 1;
@@ -159,8 +165,10 @@ fn run_line<D: Disk, O: Sink>(
     requires bytes { length bytes.old ≡ SMALL_SIZE }
     requires text { longest_text SMALL_SIZE ≤ vec_capacity text.old }
 
-    ensures prints { (c : Content) (s : Session) → content_now (D.moments disk.old) ≡ Some c → Shows c s
+    ensures prints { (c : Content) (s : Session) → content_now (D.moments disk.old) ≡ Some c → StandsFor c s.history
         → Prints (line_result small_blocks s (line_of line)) (O.held out.old) (O.held out.new) result }
+    ensures stands { (c : Content) (s : Session) → content_now (D.moments disk.old) ≡ Some c → StandsFor c s.history
+        → OnOk result (IsSomeAnd (content_now (D.moments disk.new)) (λ d. StandsFor d (after_line small_blocks s (line_of line)).history)) }
 
     ensures disk { result ≡ Err Ended.Disk → Rose (D.faults disk.old) (D.faults disk.new) }
     ensures sink { result ≡ Err Ended.Sink → Rose (O.faults out.old) (O.faults out.new) }
@@ -169,11 +177,94 @@ fn run_line<D: Disk, O: Sink>(
     ensures disk_later { D.faults disk.old ≤ D.faults disk.new }
     ensures sink_later { O.faults out.old ≤ O.faults out.new }
     ensures sectors { D.sectors disk.new ≡ D.sectors disk.old }
-    ensures kept { D.moments disk.new ≡ D.moments disk.old }
     ensures capacity { vec_capacity text.old ≤ vec_capacity text.new }
+
+    ensures moments { (c : Content) (s : Session) → content_now (D.moments disk.old) ≡ Some c → StandsFor c s.history
+        → EachMoment (D.moments disk.old) (D.moments disk.new) (MayBeCut s.history (line_result small_blocks s (line_of line)).changes) }
+    ensures places { EachMoment (D.moments disk.old) (D.moments disk.new)
+        (FromStart (D.moments disk.old) (OnlyAdds IsOfBlock)) }
 {
     match line {
+        Line::Fill { first, count, byte } => run_fill(disk, out, maker, first, count, byte, text),
         Line::Read { first, count } => run_read(disk, out, maker, first, count, bytes, text),
+        Line::Flush => run_flush(disk, out, text),
+    }
+}
+
+/// Fills blocks and prints that it is done.
+fn run_fill<D: Disk, O: Sink>(
+    disk: &mut D,
+    out: &mut O,
+    maker: &TagMaker,
+    first: u64,
+    count: u64,
+    byte: u8,
+    text: &mut Vec<u8>,
+) -> Result<bool, Ended>
+    requires maker { IsSmallRule maker.now }
+    requires range { first + count ≤ SMALL_BLOCKS }
+    requires disk { SMALL_SECTORS ≤ D.sectors disk.old }
+    requires text { longest_text SMALL_SIZE ≤ vec_capacity text.old }
+
+    ensures prints { (s : Session) → Prints (line_result small_blocks s (Fill first count byte)) (O.held out.old) (O.held out.new) result }
+    ensures stands { (c : Content) (s : Session) → content_now (D.moments disk.old) ≡ Some c → StandsFor c s.history
+        → OnOk result (IsSomeAnd (content_now (D.moments disk.new)) (λ d. StandsFor d (after_line small_blocks s (Fill first count byte)).history)) }
+
+    ensures disk { result ≡ Err Ended.Disk → Rose (D.faults disk.old) (D.faults disk.new) }
+    ensures sink { result ≡ Err Ended.Sink → Rose (O.faults out.old) (O.faults out.new) }
+    ensures others { IfErr result EndsLine }
+
+    ensures disk_later { D.faults disk.old ≤ D.faults disk.new }
+    ensures sink_later { O.faults out.old ≤ O.faults out.new }
+    ensures sectors { D.sectors disk.new ≡ D.sectors disk.old }
+    ensures capacity { vec_capacity text.old ≤ vec_capacity text.new }
+
+    ensures moments { (c : Content) (s : Session) → content_now (D.moments disk.old) ≡ Some c → StandsFor c s.history
+        → EachMoment (D.moments disk.old) (D.moments disk.new) (MayBeCut s.history (line_result small_blocks s (Fill first count byte)).changes) }
+    ensures places { EachMoment (D.moments disk.old) (D.moments disk.new)
+        (FromStart (D.moments disk.old) (OnlyAdds IsOfBlock)) }
+{
+    let Ok(()) = fill_blocks(disk, maker, first, count, byte) else {
+        return Err(Ended::Disk);
+    };
+    text.clear();
+    put_write_text(text, first, count);
+    match put_all(out, text) {
+        Ok(()) => Ok(false),
+        Err(_) => Err(Ended::Sink),
+    }
+}
+
+/// Syncs the disk and prints that it is done.
+fn run_flush<D: Disk, O: Sink>(disk: &mut D, out: &mut O, text: &mut Vec<u8>) -> Result<bool, Ended>
+    requires text { longest_text SMALL_SIZE ≤ vec_capacity text.old }
+
+    ensures prints { (s : Session) → Prints (line_result small_blocks s Flush) (O.held out.old) (O.held out.new) result }
+    ensures stands { (c : Content) (s : Session) → content_now (D.moments disk.old) ≡ Some c → StandsFor c s.history
+        → OnOk result (IsSomeAnd (content_now (D.moments disk.new)) (λ d. StandsFor d (after_line small_blocks s Flush).history)) }
+
+    ensures disk { result ≡ Err Ended.Disk → Rose (D.faults disk.old) (D.faults disk.new) }
+    ensures sink { result ≡ Err Ended.Sink → Rose (O.faults out.old) (O.faults out.new) }
+    ensures others { IfErr result EndsLine }
+
+    ensures disk_later { D.faults disk.old ≤ D.faults disk.new }
+    ensures sink_later { O.faults out.old ≤ O.faults out.new }
+    ensures sectors { D.sectors disk.new ≡ D.sectors disk.old }
+    ensures capacity { vec_capacity text.old ≤ vec_capacity text.new }
+
+    ensures moments { (c : Content) (s : Session) → content_now (D.moments disk.old) ≡ Some c → StandsFor c s.history
+        → EachMoment (D.moments disk.old) (D.moments disk.new) (MayBeCut s.history (line_result small_blocks s Flush).changes) }
+    ensures places { EachMoment (D.moments disk.old) (D.moments disk.new)
+        (FromStart (D.moments disk.old) (OnlyAdds IsOfBlock)) }
+{
+    let Ok(()) = disk.sync() else {
+        return Err(Ended::Disk);
+    };
+    text.clear();
+    put_flush_text(text);
+    match put_all(out, text) {
+        Ok(()) => Ok(false),
+        Err(_) => Err(Ended::Sink),
     }
 }
 
@@ -193,7 +284,7 @@ fn run_read<D: Disk, O: Sink>(
     requires bytes { length bytes.old ≡ SMALL_SIZE }
     requires text { longest_text SMALL_SIZE ≤ vec_capacity text.old }
 
-    ensures prints { (c : Content) (s : Session) → content_now (D.moments disk.old) ≡ Some c → Shows c s
+    ensures prints { (c : Content) (s : Session) → content_now (D.moments disk.old) ≡ Some c → StandsFor c s.history
         → Prints (line_result small_blocks s (Read first count)) (O.held out.old) (O.held out.new) result }
 
     ensures disk { result ≡ Err Ended.Disk → Rose (D.faults disk.old) (D.faults disk.new) }

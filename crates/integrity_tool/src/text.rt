@@ -1,9 +1,9 @@
-//! The texts of a read, appended to a buffer that is kept from line to line.
+//! The texts of a line, appended to a buffer that is kept from line to line.
 //!
 //! The buffer's room is taken once, for the longest text, so a line takes no memory for its text.
-ghost use Rattle.std.specs.Prelude.{◌≡◌, ◌+◌, ◌^◌, ◌<◌, ◌≤◌, ◌++◌, ℕ, List, length, vec_len, vec_capacity};
+ghost use Rattle.std.specs.Prelude.{◌≡◌, ◌+◌, ◌^◌, ◌<◌, ◌≤◌, ◌++◌, ℕ, List, length, codes, vec_len, vec_capacity};
 ghost use Rattle.device_model.specs.Reply.{Bytes, TagFault};
-ghost use Rattle.device_model.specs.Transcript.{read_text};
+ghost use Rattle.device_model.specs.Transcript.{read_text, write_text};
 ghost use Rattle.integrity_tool.specs.Text.{longest_text};
 
 use crate::pieces::{put_bytes, put_number, put_tag};
@@ -66,4 +66,31 @@ pub fn put_fault_text(text: &mut Vec<u8>, block: u64, stored: &Tag, computed: &T
     put_bytes(text, b" computed ");
     put_tag(text, computed);
     put_bytes(text, b"\n");
+}
+
+/// Appends the text of a write.
+#[tactic(auto, using(crate::proofs::TextRoom::lengths))]
+pub fn put_write_text(text: &mut Vec<u8>, first: u64, count: u64)
+    requires room { vec_len text.old + LONGEST_FAULT_TEXT ≤ vec_capacity text.old }
+
+    ensures written { text.new.items ≡ text.old.items ++ write_text first count }
+
+    ensures capacity { vec_capacity text.old ≤ vec_capacity text.new }
+{
+    put_bytes(text, b"ok write ");
+    put_number(text, first);
+    put_bytes(text, b" ");
+    put_number(text, count);
+    put_bytes(text, b"\n");
+}
+
+/// Appends the text of a flush.
+pub fn put_flush_text(text: &mut Vec<u8>)
+    requires room { vec_len text.old + LONGEST_FAULT_TEXT ≤ vec_capacity text.old }
+
+    ensures written { text.new.items ≡ text.old.items ++ codes "ok flush\n" }
+
+    ensures capacity { vec_capacity text.old ≤ vec_capacity text.new }
+{
+    put_bytes(text, b"ok flush\n");
 }

@@ -3,12 +3,12 @@ ghost use Rattle.std.specs.Prelude.{◌≡◌, ◌⊎◌, ◌≤◌, ◌++◌, �
 ghost use Rattle.std.specs.Option.{ForSome, option_map};
 ghost use Rattle.std.specs.String.{string_bytes};
 ghost use Rattle.disk_model.specs.Causes.{Rose};
-ghost use Rattle.disk_model.specs.Disk.{last_image, newest_only};
+ghost use Rattle.disk_model.specs.Disk.{OnlyAdds, last_image, newest_only};
 ghost use Rattle.disk_model.specs.Moments.{content_now, EachMoment, FromStart};
 ghost use Rattle.integrity_tool.specs.Form.{IsOfForm};
-ghost use Rattle.integrity_tool.specs.Outcome.{Runs};
 ghost use Rattle.integrity_tool.specs.Running.{RefusesScript, ending_by};
-ghost use Rattle.integrity_tool.specs.Top.{IsRefusedScript, Tells, NarrowsImages};
+ghost use Rattle.integrity_tool.specs.Standing.{IsOfBlock};
+ghost use Rattle.integrity_tool.specs.Top.{IsRefusedScript, Leaves, MayBeLeft, Tells};
 ghost use Rattle.device_model.specs.Ending.{Complete, status_of};
 ghost use Rattle.integrity_tool.specs.Words.{IsRunWords};
 
@@ -23,9 +23,9 @@ use stream_io::{Sink, Source};
 
 /// Does what the words say, and answers the status. The words are the program's name and then those of a command.
 ///
-/// There is one command, `run IMAGE --mode D`, on one form of image, the small one, and one form of line, `read F C`.
-/// The key is not touched. The first call of the disk, once it is bound, is a sync, and the last one is a sync before
-/// `closed` is printed.
+/// There is one command, `run IMAGE --mode D`, on one form of image, the small one, and three forms of line:
+/// `fill F C HH`, `read F C` and `flush`. The key is not touched. The first call of the disk, once it is bound, is a
+/// sync, and the last one is a sync before `closed` is printed.
 ///
 /// # Statuses
 ///
@@ -58,10 +58,10 @@ pub fn integrity<D: Disk + Named, K: Source + Named, S: Source, O: Sink>(
     ensures form { result ≤ 1 → ForSome (content_now (D.moments disk.old)) (λ c.
         IsOfForm (D.sectors disk.old) (last_image c)) }
 
-    // What was printed, whatever the status, and that 1 is told by it alone.
+    // What was printed and what is left on the disk, whatever the status, and that 1 is told by it alone.
     ensures tells { ForSome (content_now (D.moments disk.old)) (λ c. ForSome (S.left script.old) (λ left.
-        ForSome (O.held out.old) (λ before. IsSomeAnd (O.held out.new) (λ after.
-        Tells (last_image c) left before after result (Rose (O.faults out.old) (O.faults out.new)))))) }
+        ForSome (O.held out.old) (λ before. IsSomeAnd (O.held out.new) (λ after. IsSomeAnd (content_now (D.moments disk.new))
+        (Tells c left before after result (Rose (O.faults out.old) (O.faults out.new))))))) }
 
     // Nothing else ends a run.
     ensures complete { IsRunWords (map string_bytes words.now) → ForSome (content_now (D.moments disk.old)) (λ c.
@@ -69,9 +69,12 @@ pub fn integrity<D: Disk + Named, K: Source + Named, S: Source, O: Sink>(
         → ¬ Rose (D.faults disk.old) (D.faults disk.new) → ¬ Rose (S.faults script.old) (S.faults script.new)
         → ¬ Rose (O.faults out.old) (O.faults out.new) → (result ≤ 1 ⊎ result ≡ 7))) }
 
-    // Each image, now and at each moment of the call, is one of those before it.
-    ensures images { ForSome (content_now (D.moments disk.old)) (λ start.
-        EachMoment (D.moments disk.old) (D.moments disk.new) (NarrowsImages start)) }
+    // Each image at each moment of the call is one of those at its start, or one that a cut may leave of the lines run,
+    // and only sectors of blocks change.
+    ensures moments { ForSome (content_now (D.moments disk.old)) (λ c. ForSome (S.left script.old) (λ left.
+        ForSome (O.held out.old) (λ before. EachMoment (D.moments disk.old) (D.moments disk.new) (MayBeLeft c left)))) }
+    ensures places { ForSome (content_now (D.moments disk.old)) (λ c.
+        EachMoment (D.moments disk.old) (D.moments disk.new) (OnlyAdds IsOfBlock c)) }
 {
     match run(alloc, words, disk, script, out) {
         Ok(found_fault) => complete_status(found_fault),
@@ -99,8 +102,8 @@ fn run<D: Disk + Named, S: Source, O: Sink>(
     out: &mut O,
 ) -> Result<bool, Ended>
     ensures runs { ForSome (content_now (D.moments disk.old)) (λ c. ForSome (S.left script.old) (λ left.
-        ForSome (O.held out.old) (λ before. IsSomeAnd (O.held out.new) (λ after.
-        Runs (last_image c) left before after (ending_by result))))) }
+        ForSome (O.held out.old) (λ before. IsSomeAnd (O.held out.new) (λ after. IsSomeAnd (content_now (D.moments disk.new))
+        (Leaves c left before after (ending_by result)))))) }
     ensures ran { OnOk result (IsRunWords (map string_bytes words.now)) }
     ensures form { OnOk result (ForSome (content_now (D.moments disk.old)) (λ c.
         IsOfForm (D.sectors disk.old) (last_image c))) }
@@ -115,8 +118,10 @@ fn run<D: Disk + Named, S: Source, O: Sink>(
 
     ensures sink_later { O.faults out.old ≤ O.faults out.new }
 
-    ensures images { ForSome (content_now (D.moments disk.old)) (λ start.
-        EachMoment (D.moments disk.old) (D.moments disk.new) (NarrowsImages start)) }
+    ensures moments { ForSome (content_now (D.moments disk.old)) (λ c. ForSome (S.left script.old) (λ left.
+        ForSome (O.held out.old) (λ before. EachMoment (D.moments disk.old) (D.moments disk.new) (MayBeLeft c left)))) }
+    ensures places { ForSome (content_now (D.moments disk.old)) (λ c.
+        EachMoment (D.moments disk.old) (D.moments disk.new) (OnlyAdds IsOfBlock c)) }
 {
     let Some(image) = image_to_run(words) else {
         return Err(Ended::Words);

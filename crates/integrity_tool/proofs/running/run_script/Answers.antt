@@ -1,43 +1,69 @@
-use Rattle.std.proofs.Common.{◌++◌, Err, rules, refl, ap, ◌∙◌}
+use Rattle.std.proofs.Common.{◌++◌, ◌∷◌, [], inl, inr, Some, Ok, Err, rules, refl, ap}
 use Rattle.std.proofs.lemmas.Result.{err_from_is_err_and}
-use Rattle.disk_model.specs.Moments.{content_now}
+use Rattle.disk_model.specs.Moments.{content_now, FromStart}
+use Rattle.disk_model.proofs.MomentsLemmas.{adds_then, sync_adds, no_moment, EachMoment-then, EachMoment-weaker}
+use Rattle.device_model.specs.History.{Flushed}
+use Rattle.device_model.specs.Transcript.{line_result}
+use Rattle.integrity_tool.specs.Form.{small_blocks}
+use Rattle.integrity_tool.specs.Line.{line_of}
+use Rattle.disk_model.specs.Disk.{OnlyAdds, last_image}
+use Rattle.integrity_tool.specs.Standing.{IsOfBlock}
+use Rattle.integrity_tool.specs.Leaving.{IsLeftBy}
+use Rattle.integrity_tool.specs.Running.{FindsNext}
 use Rattle.integrity_tool.specs.declared.ended.Ended.{Ended}
-use Rattle.integrity_tool.proofs.RunningLemmas.{both_told, both_later, session, shows, ends_at_next, ends_in_line, ends_by_close, goes_on_counted, ends_complete, IsTaken-line, IsTaken-refused}
+use Rattle.integrity_tool.proofs.StandsForLemmas.{MayBeCut-none, flush_moments}
+use Rattle.integrity_tool.proofs.RunningLemmas.{both_told, both_later, told_here, holds_at_end, left_meanwhile, session, ends_at_next, ends_in_line, ends_by_close, goes_on_counted, ends_complete, first_way, first_taken, IsTaken-line, IsTaken-refused}
 use Rattle.integrity_tool.proofs.running.run_script.Goals as goal
 
 pub returns-in_err-line-clause-runs : goal.returns-in_err-line-clause-runs
 returns-in_err-line-clause-runs g c content told script told_script before told_before =
     let p = err_from_is_err_and c.from_residual.result c.from_residual.ensures.1 in
     rw (p.1, p.2) (both_told _ _ _ _ _ (c.loop-line.invariant.way content script before told told_script told_before) c.in_err-line.ensures.next
-    (λ left later way found. ends_at_next content script before c.loop-line.number c.loop-line.found_fault (c.loop-line.room.reader.unread ++ left) (g.O.Sink.held c.loop-line.out) way.0 c.loop-line.room.reader.taken (c.next_line.new.reader.unread ++ later) _ way.1 found
+    (λ left later way found. ends_at_next content script before c.loop-line.number c.loop-line.found_fault (c.loop-line.room.reader.unread ++ left) (g.O.Sink.held c.loop-line.out) (content_now (g.D.Disk.moments c.loop-line.disk)) way.0 c.loop-line.room.reader.taken (c.next_line.new.reader.unread ++ later) _ way.1 found
     c.in_err-line.ensures.others (λ e. c.in_err-line.ensures.not_disk (ap (λ (x : Ended). Err x) e)) (λ e. c.in_err-line.ensures.not_sink (ap (λ (x : Ended). Err x) e))))
 
 pub returns-in_err-fault-clause-runs : goal.returns-in_err-fault-clause-runs
 returns-in_err-fault-clause-runs g c content told script told_script before told_before =
     let p = err_from_is_err_and c.from_residual-in_err-fault.result c.from_residual-in_err-fault.ensures.1 in
-    let now = ap content_now c.loop-line.invariant.kept ∙ told in
     rw (p.1, p.2) (both_told _ _ _ _ _ (c.loop-line.invariant.way content script before told told_script told_before) (rw c.in-Some.is at c.in_ok-line.ensures.next)
     (λ left later way found.
-    let s = session content script before c.loop-line.number c.loop-line.found_fault (c.loop-line.room.reader.unread ++ left) (g.O.Sink.held c.loop-line.out) way.0 in
-    ends_in_line content script before c.loop-line.number c.loop-line.found_fault (c.loop-line.room.reader.unread ++ left) (g.O.Sink.held c.loop-line.out) way.0 c.loop-line.room.reader.taken (c.next_line.new.reader.unread ++ later) c.in-Some.line _ _ found
-    (c.in_err-fault.ensures.prints content s now (shows content script before c.loop-line.number c.loop-line.found_fault (c.loop-line.room.reader.unread ++ left) (g.O.Sink.held c.loop-line.out) way.0)) c.in_err-fault.ensures.others))
+    let s = session content script before c.loop-line.number c.loop-line.found_fault (c.loop-line.room.reader.unread ++ left) (g.O.Sink.held c.loop-line.out) (content_now (g.D.Disk.moments c.loop-line.disk)) way.0 in
+    told_here _ _ _ way.0.stands (λ d told_now stands.
+    ends_in_line content script before c.loop-line.number c.loop-line.found_fault (c.loop-line.room.reader.unread ++ left) (g.O.Sink.held c.loop-line.out) (content_now (g.D.Disk.moments c.loop-line.disk)) way.0 _ _ (inl (line_of c.in-Some.line, c.next_line.new.reader.unread ++ later, found.0, found.1, refl)) (holds_at_end _ d told_now (MayBeCut-none d s.history _ stands) (c.in_err-fault.ensures.moments d s told_now stands))
+    c.loop-line.room.reader.taken (c.next_line.new.reader.unread ++ later) c.in-Some.line _ _ found (c.in_err-fault.ensures.prints d s told_now stands) c.in_err-fault.ensures.others)))
+
+pub returns-in_err-fault-clause-moments : goal.returns-in_err-fault-clause-moments
+returns-in_err-fault-clause-moments g c content told script told_script before told_before =
+    both_told _ _ _ _ _ (c.loop-line.invariant.way content script before told told_script told_before) (rw c.in-Some.is at c.in_ok-line.ensures.next)
+    (λ left later way (found : FindsNext c.loop-line.number c.loop-line.room.reader.taken (c.loop-line.room.reader.unread ++ left) (c.next_line.new.reader.unread ++ later) (Ok (Some c.in-Some.line))).
+    let s = session content script before c.loop-line.number c.loop-line.found_fault (c.loop-line.room.reader.unread ++ left) (g.O.Sink.held c.loop-line.out) (content_now (g.D.Disk.moments c.loop-line.disk)) way.0 in
+    told_here _ _ _ way.0.stands (λ d told_now stands.
+    EachMoment-then (c.loop-line.invariant.moments content script before told told_script told_before)
+    (EachMoment-weaker (left_meanwhile content script before c.loop-line.number c.loop-line.found_fault (c.loop-line.room.reader.unread ++ left) (g.O.Sink.held c.loop-line.out) (content_now (g.D.Disk.moments c.loop-line.disk)) way.0 (line_result small_blocks s (line_of c.in-Some.line)).changes (inl (line_of c.in-Some.line, c.next_line.new.reader.unread ++ later, found.0, found.1, refl))) (c.run_line.ensures.moments d s told_now stands))))
 
 pub loop-line-preserved : goal.loop-line-preserved
 loop-line-preserved g c = record {
   way = λ content script before told told_script told_before.
-      let now = ap content_now c.loop-line.invariant.kept ∙ told in
       both_later _ _ _ _ _ _ (c.loop-line.invariant.way content script before told told_script told_before) (rw c.in-Some.is at c.in_ok-line.ensures.next) ((rw c.in-Some.is at c.in_ok-line.ensures.counted) refl)
       (λ left later way found counted.
-      let s = session content script before c.loop-line.number c.loop-line.found_fault (c.loop-line.room.reader.unread ++ left) (g.O.Sink.held c.loop-line.out) way.0 in
-      goes_on_counted content script before c.loop-line.number c.loop-line.found_fault (c.loop-line.room.reader.unread ++ left) (g.O.Sink.held c.loop-line.out) way.0 c.loop-line.room.reader.taken c.next_line.new.reader.taken (c.next_line.new.reader.unread ++ later) c.in-Some.line _ _ _ _ found
-      (c.in_ok-fault.ensures.prints content s now (shows content script before c.loop-line.number c.loop-line.found_fault (c.loop-line.room.reader.unread ++ left) (g.O.Sink.held c.loop-line.out) way.0)) c.either-found_fault.ensures refl counted way.1);
+      let s = session content script before c.loop-line.number c.loop-line.found_fault (c.loop-line.room.reader.unread ++ left) (g.O.Sink.held c.loop-line.out) (content_now (g.D.Disk.moments c.loop-line.disk)) way.0 in
+      told_here _ _ _ way.0.stands (λ d told_now stands.
+      goes_on_counted content script before c.loop-line.number c.loop-line.found_fault (c.loop-line.room.reader.unread ++ left) (g.O.Sink.held c.loop-line.out) (content_now (g.D.Disk.moments c.loop-line.disk)) way.0 c.loop-line.room.reader.taken c.next_line.new.reader.taken (c.next_line.new.reader.unread ++ later) c.in-Some.line _ _ _ _ _ found
+      (c.in_ok-fault.ensures.prints d s told_now stands) c.either-found_fault.ensures refl (c.in_ok-fault.ensures.stands d s told_now stands) counted way.1));
   taken = λ script told_script.
       both_later _ _ _ _ _ _ (c.loop-line.invariant.taken script told_script) (rw c.in-Some.is at c.in_ok-line.ensures.next) ((rw c.in-Some.is at c.in_ok-line.ensures.counted) refl)
       (λ left later way found counted. IsTaken-line script (c.loop-line.room.reader.unread ++ left) (c.next_line.new.reader.unread ++ later) c.loop-line.number c.loop-line.room.reader.taken c.next_line.new.reader.taken c.in-Some.line way found counted);
   numbered = search rules;
   within = search rules;
   sectors = search rules;
-  kept = search rules;
+  moments = λ content script before told told_script told_before.
+      both_told _ _ _ _ _ (c.loop-line.invariant.way content script before told told_script told_before) (rw c.in-Some.is at c.in_ok-line.ensures.next)
+      (λ left later way (found : FindsNext c.loop-line.number c.loop-line.room.reader.taken (c.loop-line.room.reader.unread ++ left) (c.next_line.new.reader.unread ++ later) (Ok (Some c.in-Some.line))).
+      let s = session content script before c.loop-line.number c.loop-line.found_fault (c.loop-line.room.reader.unread ++ left) (g.O.Sink.held c.loop-line.out) (content_now (g.D.Disk.moments c.loop-line.disk)) way.0 in
+      told_here _ _ _ way.0.stands (λ d told_now stands.
+      EachMoment-then (c.loop-line.invariant.moments content script before told told_script told_before)
+      (EachMoment-weaker (left_meanwhile content script before c.loop-line.number c.loop-line.found_fault (c.loop-line.room.reader.unread ++ left) (g.O.Sink.held c.loop-line.out) (content_now (g.D.Disk.moments c.loop-line.disk)) way.0 (line_result small_blocks s (line_of c.in-Some.line)).changes (inl (line_of c.in-Some.line, c.next_line.new.reader.unread ++ later, found.0, found.1, refl))) (c.run_line.ensures.moments d s told_now stands))));
+  places = adds_then IsOfBlock c.loop-line.invariant.places c.run_line.ensures.places;
   disk_later = search rules;
   script_later = search rules;
   sink_later = search rules;
@@ -47,16 +73,72 @@ pub returns-in_err-close-clause-runs : goal.returns-in_err-close-clause-runs
 returns-in_err-close-clause-runs g c content told script told_script before told_before =
     let p = err_from_is_err_and c.from_residual-in_err-close.result c.from_residual-in_err-close.ensures.1 in
     rw (p.1, p.2) (both_told _ _ _ _ _ (c.loop-line.invariant.way content script before told told_script told_before) (rw c.in_default.is at c.in_ok-line.ensures.next)
-    (λ left later way found. ends_by_close content script before c.loop-line.number c.loop-line.found_fault (c.loop-line.room.reader.unread ++ left) (g.O.Sink.held c.loop-line.out) way.0 _ _ found c.in_err-close.ensures.others
-    (λ e. (c.in_err-close.ensures.disk (ap (λ (x : Ended). Err x) e)).1) (λ e. (c.in_err-close.ensures.sink (ap (λ (x : Ended). Err x) e)).1)))
+    (λ left later way found.
+    let s = session content script before c.loop-line.number c.loop-line.found_fault (c.loop-line.room.reader.unread ++ left) (g.O.Sink.held c.loop-line.out) (content_now (g.D.Disk.moments c.loop-line.disk)) way.0 in
+    told_here _ _ _ way.0.stands (λ d told_now stands.
+    ends_by_close content script before c.loop-line.number c.loop-line.found_fault (c.loop-line.room.reader.unread ++ left) (g.O.Sink.held c.loop-line.out) (content_now (g.D.Disk.moments c.loop-line.disk)) way.0 _ (Flushed ∷ []) (inr (inl (found, refl))) (holds_at_end _ d told_now (MayBeCut-none d s.history (Flushed ∷ []) stands) (flush_moments d s.history told_now stands c.close.ensures.moments))
+    _ _ found c.in_err-close.ensures.others
+    (λ e. (c.in_err-close.ensures.disk (ap (λ (x : Ended). Err x) e)).1) (λ e. (c.in_err-close.ensures.sink (ap (λ (x : Ended). Err x) e)).1))))
+
+pub returns-in_err-close-clause-moments : goal.returns-in_err-close-clause-moments
+returns-in_err-close-clause-moments g c content told script told_script before told_before =
+    both_told _ _ _ _ _ (c.loop-line.invariant.way content script before told told_script told_before) (rw c.in_default.is at c.in_ok-line.ensures.next)
+    (λ left later way found.
+    let s = session content script before c.loop-line.number c.loop-line.found_fault (c.loop-line.room.reader.unread ++ left) (g.O.Sink.held c.loop-line.out) (content_now (g.D.Disk.moments c.loop-line.disk)) way.0 in
+    told_here _ _ _ way.0.stands (λ d told_now stands.
+    EachMoment-then (c.loop-line.invariant.moments content script before told told_script told_before)
+    (EachMoment-weaker (left_meanwhile content script before c.loop-line.number c.loop-line.found_fault (c.loop-line.room.reader.unread ++ left) (g.O.Sink.held c.loop-line.out) (content_now (g.D.Disk.moments c.loop-line.disk)) way.0 (Flushed ∷ []) (inr (inl (found, refl)))) (flush_moments d s.history told_now stands c.close.ensures.moments))))
 
 pub returns-clause-runs : goal.returns-clause-runs
 returns-clause-runs g c content told script told_script before told_before =
     both_told _ _ _ _ _ (c.loop-line.invariant.way content script before told told_script told_before) (rw c.in_default.is at c.in_ok-line.ensures.next)
-    (λ left later way found. ends_complete content script before c.loop-line.number c.loop-line.found_fault (c.loop-line.room.reader.unread ++ left) (g.O.Sink.held c.loop-line.out) way.0 _ found c.in_ok-close.ensures.closed)
+    (λ left later way found.
+    let s = session content script before c.loop-line.number c.loop-line.found_fault (c.loop-line.room.reader.unread ++ left) (g.O.Sink.held c.loop-line.out) (content_now (g.D.Disk.moments c.loop-line.disk)) way.0 in
+    told_here _ _ _ way.0.stands (λ d told_now stands.
+    ends_complete content script before c.loop-line.number c.loop-line.found_fault (c.loop-line.room.reader.unread ++ left) (g.O.Sink.held c.loop-line.out) (content_now (g.D.Disk.moments c.loop-line.disk)) way.0 _ (Flushed ∷ []) (inr (inl (found, refl))) (holds_at_end _ d told_now (MayBeCut-none d s.history (Flushed ∷ []) stands) (flush_moments d s.history told_now stands c.close.ensures.moments))
+    _ found c.in_ok-close.ensures.closed))
+
+pub returns-clause-moments : goal.returns-clause-moments
+returns-clause-moments g c content told script told_script before told_before =
+    both_told _ _ _ _ _ (c.loop-line.invariant.way content script before told told_script told_before) (rw c.in_default.is at c.in_ok-line.ensures.next)
+    (λ left later way found.
+    let s = session content script before c.loop-line.number c.loop-line.found_fault (c.loop-line.room.reader.unread ++ left) (g.O.Sink.held c.loop-line.out) (content_now (g.D.Disk.moments c.loop-line.disk)) way.0 in
+    told_here _ _ _ way.0.stands (λ d told_now stands.
+    EachMoment-then (c.loop-line.invariant.moments content script before told told_script told_before)
+    (EachMoment-weaker (left_meanwhile content script before c.loop-line.number c.loop-line.found_fault (c.loop-line.room.reader.unread ++ left) (g.O.Sink.held c.loop-line.out) (content_now (g.D.Disk.moments c.loop-line.disk)) way.0 (Flushed ∷ []) (inr (inl (found, refl)))) (flush_moments d s.history told_now stands c.close.ensures.moments))))
 
 pub returns-in_err-line-clause-refused : goal.returns-in_err-line-clause-refused
 returns-in_err-line-clause-refused g c =
     let p = err_from_is_err_and c.from_residual.result c.from_residual.ensures.1 in
     rw (p.1, p.2) (λ refuses script told_script. both_told _ _ _ _ _ (c.loop-line.invariant.taken script told_script) c.in_err-line.ensures.next
     (λ left later way found. IsTaken-refused script (c.loop-line.room.reader.unread ++ left) (c.next_line.new.reader.unread ++ later) c.loop-line.number c.loop-line.room.reader.taken c.in_err-line.field-0.0 way found refuses))
+
+pub returns-in_err-line-clause-moments : goal.returns-in_err-line-clause-moments
+returns-in_err-line-clause-moments g c content told script told_script before told_before = c.loop-line.invariant.moments content script before told told_script told_before
+
+pub loop-line-init : goal.loop-line-init
+loop-line-init g c = record {
+  way = λ content script before told told_script told_before.
+      rw told_script (first_way content script before c.args.room.now.reader (g.O.Sink.held c.args.out.now) (content_now (g.D.Disk.moments c.args.disk.now)) c.requires.room told_before told (c.requires.settled content told));
+  taken = λ script told_script. rw told_script (first_taken script c.args.room.now.reader c.requires.room);
+  numbered = search rules;
+  within = search rules;
+  sectors = search rules;
+  moments = λ content script before told told_script told_before. no_moment (g.D.Disk.moments c.args.disk.now) (IsLeftBy (last_image content) script);
+  places = no_moment (g.D.Disk.moments c.args.disk.now) (FromStart (g.D.Disk.moments c.args.disk.now) (OnlyAdds IsOfBlock));
+  disk_later = search rules;
+  script_later = search rules;
+  sink_later = search rules;
+}
+
+pub returns-in_err-line-clause-places : goal.returns-in_err-line-clause-places
+returns-in_err-line-clause-places g c = c.loop-line.invariant.places
+
+pub returns-in_err-fault-clause-places : goal.returns-in_err-fault-clause-places
+returns-in_err-fault-clause-places g c = adds_then IsOfBlock c.loop-line.invariant.places c.run_line.ensures.places
+
+pub returns-in_err-close-clause-places : goal.returns-in_err-close-clause-places
+returns-in_err-close-clause-places g c = adds_then IsOfBlock c.loop-line.invariant.places (sync_adds IsOfBlock (g.met.D.Disk.reads_an_image c.loop-line.disk) c.close.ensures.moments)
+
+pub returns-clause-places : goal.returns-clause-places
+returns-clause-places g c = adds_then IsOfBlock c.loop-line.invariant.places (sync_adds IsOfBlock (g.met.D.Disk.reads_an_image c.loop-line.disk) c.close.ensures.moments)

@@ -4,8 +4,8 @@ use Rattle.integrity_tool.proofs.top_call.integrity.Goals as goal
 
 pub returns-in-Ok-clause-tells : goal.returns-in-Ok-clause-tells
 returns-in-Ok-clause-tells g c content told script told_script before told_before =
-    tells_complete _ script before _ _ _ _ c.complete_status.ensures (c.in-Ok.ensures.runs content told script told_script before told_before)
+    tells_complete content script before _ _ _ _ _ c.complete_status.ensures (c.in-Ok.ensures.runs content told script told_script before told_before)
 
 pub returns-in-Err-clause-tells : goal.returns-in-Err-clause-tells
 returns-in-Err-clause-tells g c content told script told_script before told_before =
-    tells_early _ script before _ _ _ _ _ _ c.put_last_line.result c.status.ensures (c.in-Err.ensures.runs content told script told_script before told_before) c.put_last_line.ensures.written (on_err_weaker c.put_last_line.result (Rose-earlier _ _ _ c.in-Err.ensures.sink_later) c.put_last_line.ensures.cause.failed) c.put_last_line.ensures.err
+    tells_early content script before _ _ _ _ _ _ _ c.put_last_line.result c.status.ensures (c.in-Err.ensures.runs content told script told_script before told_before) c.put_last_line.ensures.written (on_err_weaker c.put_last_line.result (Rose-earlier _ _ _ c.in-Err.ensures.sink_later) c.put_last_line.ensures.cause.failed) c.put_last_line.ensures.err

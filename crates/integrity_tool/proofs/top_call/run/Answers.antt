@@ -1,50 +1,62 @@
-use Rattle.std.proofs.Common.{refl, sym, ap, ◌∙◌}
+use Rattle.std.proofs.Common.{Some, inl, inr, refl, sym, ap, ◌∙◌}
 use Rattle.std.specs.Option.{option_map}
 use Rattle.std.proofs.lemmas.Result.{err_from_is_err_and}
-use Rattle.disk_model.specs.Disk.{newest_only}
+use Rattle.disk_model.specs.Disk.{Content, OnlyAdds, newest_only}
 use Rattle.disk_model.specs.Moments.{content_now}
-use Rattle.disk_model.proofs.MomentsLemmas.{EachMoment-kept, EachMoment-then}
+use Rattle.disk_model.proofs.DiskLemmas.{synced_has_nothing_pending, OnlyAdds-none, newest_only-adds}
+use Rattle.disk_model.proofs.MomentsLemmas.{sync_adds, EachMoment-kept, EachMoment-then, EachMoment-weaker}
 use Rattle.device_model.specs.Ending.{RefusedWords, DiskFailed, NoMemory}
-use Rattle.integrity_tool.specs.Top.{NarrowsImages}
-use Rattle.integrity_tool.proofs.TopLemmas.{on_any, narrows_synced, each_of_sync, nothing_run, refused_nothing_run}
+use Rattle.integrity_tool.specs.Standing.{IsOfBlock}
+use Rattle.integrity_tool.specs.Top.{MayBeLeft, NarrowsImages}
+use Rattle.integrity_tool.proofs.RunningLemmas.{holds_at_end}
+use Rattle.integrity_tool.proofs.TopLemmas.{adds_from, on_any, narrows_synced, NarrowsImages-same, each_of_sync, nothing_run, refused_nothing_run, ran_leaves}
 use Rattle.integrity_tool.proofs.top_call.run.Goals as goal
 
 pub returns-in_default-clause-runs : goal.returns-in_default-clause-runs
 returns-in_default-clause-runs g c content told script told_script before told_before =
-    rw told_before (nothing_run _ script before RefusedWords refl)
+    rw (told_before, told) (nothing_run content script before RefusedWords (Some content) refl (NarrowsImages-same content))
 
 pub returns-then-is_err-clause-runs : goal.returns-then-is_err-clause-runs
 returns-then-is_err-clause-runs g c content told script told_script before told_before =
-    rw told_before (nothing_run _ script before DiskFailed refl)
+    let now = ap content_now (g.met.D.Disk.same_moments c.args.disk.now c.bind.new.self content c.bind.ensures.same told) ∙ told in
+    rw (told_before, now) (nothing_run content script before DiskFailed (Some content) refl (NarrowsImages-same content))
 
-pub returns-then-is_err-clause-images : goal.returns-then-is_err-clause-images
-returns-then-is_err-clause-images g c start told =
-    EachMoment-kept (NarrowsImages start) (g.met.D.Disk.same_moments c.args.disk.now c.bind.new.self start c.bind.ensures.same told)
+pub returns-then-is_err-clause-moments : goal.returns-then-is_err-clause-moments
+returns-then-is_err-clause-moments g c content told script told_script before told_before =
+    EachMoment-kept (MayBeLeft content script) (g.met.D.Disk.same_moments c.args.disk.now c.bind.new.self content c.bind.ensures.same told)
 
 pub returns-in_default-new-clause-runs : goal.returns-in_default-new-clause-runs
 returns-in_default-new-clause-runs g c content told script told_script before told_before =
-    rw told_before (nothing_run _ script before NoMemory refl)
+    let now = ap content_now (g.met.D.Disk.same_moments c.args.disk.now c.bind.new.self content c.bind.ensures.same told) ∙ told in
+    rw (told_before, now) (nothing_run content script before NoMemory (Some content) refl (NarrowsImages-same content))
 
-pub returns-in_default-new-clause-images : goal.returns-in_default-new-clause-images
-returns-in_default-new-clause-images g c start told =
-    EachMoment-kept (NarrowsImages start) (g.met.D.Disk.same_moments c.args.disk.now c.bind.new.self start c.bind.ensures.same told)
+pub returns-in_default-new-clause-moments : goal.returns-in_default-new-clause-moments
+returns-in_default-new-clause-moments g c content told script told_script before told_before =
+    EachMoment-kept (MayBeLeft content script) (g.met.D.Disk.same_moments c.args.disk.now c.bind.new.self content c.bind.ensures.same told)
 
 pub returns-in_err-open-clause-runs : goal.returns-in_err-open-clause-runs
 returns-in_err-open-clause-runs g c content told script told_script before told_before =
     let p = err_from_is_err_and c.from_residual.result c.from_residual.ensures.1 in
-    rw (p.1, p.2, told_before) (refused_nothing_run _ script before _ c.in_err-open.ensures.others)
+    let now = ap content_now (g.met.D.Disk.same_moments c.args.disk.now c.bind.new.self content c.bind.ensures.same told) ∙ told in
+    let each = each_of_sync content content now (narrows_synced content (g.met.D.Disk.reads_an_image c.args.disk.now content told)) c.open.ensures.moments in
+    rw (p.1, p.2, told_before) (refused_nothing_run content script before _ _ c.in_err-open.ensures.others (holds_at_end (NarrowsImages content) content now (NarrowsImages-same content) each))
 
-pub returns-in_err-open-clause-images : goal.returns-in_err-open-clause-images
-returns-in_err-open-clause-images g c start told =
-    let same = g.met.D.Disk.same_moments c.args.disk.now c.bind.new.self start c.bind.ensures.same told in
+pub returns-in_err-open-clause-moments : goal.returns-in_err-open-clause-moments
+returns-in_err-open-clause-moments g c content told script told_script before told_before =
+    let same = g.met.D.Disk.same_moments c.args.disk.now c.bind.new.self content c.bind.ensures.same told in
     let now = ap content_now same ∙ told in
-    EachMoment-then (EachMoment-kept (NarrowsImages start) same)
-    (each_of_sync start start now (narrows_synced start (g.met.D.Disk.reads_an_image c.args.disk.now start told)) c.open.ensures.moments)
+    EachMoment-then (EachMoment-kept (MayBeLeft content script) same)
+    (EachMoment-weaker (λ d is. inl is) (each_of_sync content content now (narrows_synced content (g.met.D.Disk.reads_an_image c.args.disk.now content told)) c.open.ensures.moments))
+
+pub run_script-requires-clause-settled : goal.run_script-requires-clause-settled
+run_script-requires-clause-settled g c =
+    synced_has_nothing_pending (λ (x : Content). x) (content_now (g.D.Disk.moments c.bind.new.self)) (content_now (g.D.Disk.moments c.open.new.disk)) c.in_ok-open.ensures.synced
 
 pub returns-clause-runs : goal.returns-clause-runs
 returns-clause-runs g c content told script told_script before told_before =
     let now = ap content_now (g.met.D.Disk.same_moments c.args.disk.now c.bind.new.self content c.bind.ensures.same told) ∙ told in
-    c.run_script.ensures.runs (newest_only content) (c.in_ok-open.ensures.synced ∙ ap (option_map newest_only) now) script told_script before told_before
+    ran_leaves content script before _ _ _
+    (c.run_script.ensures.runs (newest_only content) (c.in_ok-open.ensures.synced ∙ ap (option_map newest_only) now) script told_script before told_before)
 
 pub returns-clause-form : goal.returns-clause-form
 returns-clause-form g c =
@@ -52,11 +64,31 @@ returns-clause-form g c =
     let now = ap content_now (g.met.D.Disk.same_moments c.args.disk.now c.bind.new.self content c.bind.ensures.same told) ∙ told in
     rw (sym (g.met.D.Disk.same_sectors c.args.disk.now c.bind.new.self content c.bind.ensures.same told)) (c.in_ok-open.ensures.form content now))
 
-pub returns-clause-images : goal.returns-clause-images
-returns-clause-images g c start told =
-    let same = g.met.D.Disk.same_moments c.args.disk.now c.bind.new.self start c.bind.ensures.same told in
+pub returns-clause-moments : goal.returns-clause-moments
+returns-clause-moments g c content told script told_script before told_before =
+    let same = g.met.D.Disk.same_moments c.args.disk.now c.bind.new.self content c.bind.ensures.same told in
     let now = ap content_now same ∙ told in
-    let narrows = narrows_synced start (g.met.D.Disk.reads_an_image c.args.disk.now start told) in
-    EachMoment-then (EachMoment-kept (NarrowsImages start) same)
-    (EachMoment-then (each_of_sync start start now narrows c.open.ensures.moments)
-    (each_of_sync start (newest_only start) (c.in_ok-open.ensures.synced ∙ ap (option_map newest_only) now) narrows c.run_script.ensures.moments))
+    let narrows = narrows_synced content (g.met.D.Disk.reads_an_image c.args.disk.now content told) in
+    EachMoment-then (EachMoment-kept (MayBeLeft content script) same)
+    (EachMoment-then (EachMoment-weaker (λ d is. inl is) (each_of_sync content content now narrows c.open.ensures.moments))
+    (EachMoment-weaker (λ d is. inr is) (c.run_script.ensures.moments (newest_only content) (c.in_ok-open.ensures.synced ∙ ap (option_map newest_only) now) script told_script before told_before)))
+
+pub returns-then-is_err-clause-places : goal.returns-then-is_err-clause-places
+returns-then-is_err-clause-places g c content told = EachMoment-kept (OnlyAdds IsOfBlock content) (g.met.D.Disk.same_moments c.args.disk.now c.bind.new.self content c.bind.ensures.same told)
+
+pub returns-in_default-new-clause-places : goal.returns-in_default-new-clause-places
+returns-in_default-new-clause-places g c content told = EachMoment-kept (OnlyAdds IsOfBlock content) (g.met.D.Disk.same_moments c.args.disk.now c.bind.new.self content c.bind.ensures.same told)
+
+pub returns-in_err-open-clause-places : goal.returns-in_err-open-clause-places
+returns-in_err-open-clause-places g c content told =
+    let same = g.met.D.Disk.same_moments c.args.disk.now c.bind.new.self content c.bind.ensures.same told in
+    EachMoment-then (EachMoment-kept (OnlyAdds IsOfBlock content) same)
+    (adds_from content content (ap content_now same ∙ told) (OnlyAdds-none IsOfBlock content) (sync_adds IsOfBlock (g.met.D.Disk.reads_an_image c.bind.new.self) c.open.ensures.moments))
+
+pub returns-clause-places : goal.returns-clause-places
+returns-clause-places g c content told =
+    let same = g.met.D.Disk.same_moments c.args.disk.now c.bind.new.self content c.bind.ensures.same told in
+    let now = ap content_now same ∙ told in
+    EachMoment-then (EachMoment-kept (OnlyAdds IsOfBlock content) same)
+    (EachMoment-then (adds_from content content now (OnlyAdds-none IsOfBlock content) (sync_adds IsOfBlock (g.met.D.Disk.reads_an_image c.bind.new.self) c.open.ensures.moments))
+    (adds_from content (newest_only content) (c.in_ok-open.ensures.synced ∙ ap (option_map newest_only) now) (newest_only-adds IsOfBlock content (g.met.D.Disk.reads_an_image c.args.disk.now content told)) c.run_script.ensures.places))
