@@ -1,5 +1,5 @@
 -- What the top call does: how a disk narrows, what a run prints that did nothing, and how its last line follows.
-use Rattle.std.proofs.Common.{◌≡◌, ◌⊎◌, inl, inr, ℕ, ◌≤◌, Bool, true, List, [], ◌++◌, length, refl, sym, ◌∙◌, subst, arith, append-nil, true≢false, Option, Some, None, Result, Ok, Err, IsSomeAnd, OnOk, OnErr, is_ok}
+use Rattle.std.proofs.Common.{◌≡◌, ◌⊎◌, inl, inr, ℕ, ◌≤◌, Bool, true, List, length, refl, sym, subst, arith, append-nil, true≢false, Option, Some, None, Result, Ok, Err, IsSomeAnd, OnOk, OnErr, is_ok}
 use Rattle.std.specs.Option.{option_map}
 use Rattle.std.specs.List.{Contains}
 use Rattle.disk_model.specs.Causes.{Rose}
@@ -10,14 +10,12 @@ use Rattle.disk_model.proofs.MomentsLemmas.{EachMoment-weaker}
 use Rattle.stream_io.specs.Stream.{with_bytes, AddsPrefix}
 use Rattle.device_model.specs.Ending.{Ending, Complete, fault_text, status_of}
 use Rattle.integrity_tool.specs.Ended.{ending_of}
-use Rattle.integrity_tool.specs.Form.{small_blocks}
-use Rattle.integrity_tool.specs.Outcome.{EndsBy}
 use Rattle.integrity_tool.specs.Leaving.{RunsAndLeaves}
 use Rattle.integrity_tool.specs.Standing.{IsOfBlock}
-use Rattle.integrity_tool.specs.Top.{Leaves, Tells, NarrowsImages}
+use Rattle.integrity_tool.specs.Top.{Start, HasForm, EndsBeforeScript, Leaves, Tells, NarrowsImages}
+use Rattle.integrity_tool.specs.Words.{IsRunWords}
 use Rattle.integrity_tool.specs.declared.ended.Ended.{Ended}
 use Rattle.integrity_tool.specs.declared.ended.Ended.TheVariants.{Image as ImageEnds, Disk as DiskEnds}
-use Rattle.integrity_tool.proofs.ScriptLemmas.{BeginsWith-none}
 
 -- ---- results
 
@@ -58,36 +56,26 @@ adds_from first now told adds each =
 -- ---- what is printed
 
 -- Nothing was run and nothing printed, and the disk is as it was or synced.
-pub nothing_run : (first : Content) (script before : List ℕ) (ending : Ending) (now : Option Content) → EndsBy (last_image first) script [] script [] ending → IsSomeAnd now (NarrowsImages first)
-    → IsSomeAnd (Some before) (λ after. IsSomeAnd now (Leaves first script before after ending))
-nothing_run first script before ending None ends narrows = absurd narrows
-nothing_run first script before ending (Some d) ends narrows = inl (
-  record {
-    lines = [];
-    rest = script;
-    part = [];
-    begins = BeginsWith-none small_blocks.blocks script;
-    text = sym (append-nil (before ++ []) ∙ append-nil before);
-    ends = ends;
-  },
-  refl,
-  narrows,
-)
+pub nothing_run : (start : Start) (before : List ℕ) (ending : Ending) (now : Option Content) → EndsBeforeScript start ending → IsSomeAnd now (NarrowsImages start.content)
+    → IsSomeAnd (Some before) (λ after. IsSomeAnd now (Leaves start before after ending))
+nothing_run start before ending None ends narrows = absurd narrows
+nothing_run start before ending (Some d) ends narrows = inl (record { ends = ends; text = refl; images = narrows })
 
 -- A disk that was bound, and then judged, is refused for one of two reasons.
-pub refused_nothing_run : (first : Content) (script before : List ℕ) (ended : Ended) (now : Option Content) → (ended ≡ ImageEnds) ⊎ (ended ≡ DiskEnds) → IsSomeAnd now (NarrowsImages first)
-    → IsSomeAnd (Some before) (λ after. IsSomeAnd now (Leaves first script before after (ending_of ended)))
-refused_nothing_run first script before ended now ends narrows = elim ends [
-  | inl is ↦ subst (λ (x : Ended). IsSomeAnd (Some before) (λ after. IsSomeAnd now (Leaves first script before after (ending_of x)))) (sym is) (nothing_run first script before (ending_of ImageEnds) now refl narrows)
-  | inr is ↦ subst (λ (x : Ended). IsSomeAnd (Some before) (λ after. IsSomeAnd now (Leaves first script before after (ending_of x)))) (sym is) (nothing_run first script before (ending_of DiskEnds) now refl narrows)
+pub refused_nothing_run : (start : Start) (before : List ℕ) (ended : Ended) (now : Option Content) → IsRunWords start.words → (ended ≡ ImageEnds → ¬ HasForm start) → (ended ≡ ImageEnds) ⊎ (ended ≡ DiskEnds) → IsSomeAnd now (NarrowsImages start.content)
+    → IsSomeAnd (Some before) (λ after. IsSomeAnd now (Leaves start before after (ending_of ended)))
+refused_nothing_run start before ended now words image ends narrows = elim ends [
+  | inl is ↦ subst (λ (x : Ended). IsSomeAnd (Some before) (λ after. IsSomeAnd now (Leaves start before after (ending_of x)))) (sym is) (nothing_run start before (ending_of ImageEnds) now (words, image is) narrows)
+  | inr is ↦ subst (λ (x : Ended). IsSomeAnd (Some before) (λ after. IsSomeAnd now (Leaves start before after (ending_of x)))) (sym is) (nothing_run start before (ending_of DiskEnds) now words narrows)
 ]
 
 -- A script was run.
-pub ran_leaves : (first : Content) (script before : List ℕ) (ending : Ending) (held : Option (List ℕ)) (now : Option Content) → IsSomeAnd held (λ after. IsSomeAnd now (RunsAndLeaves (last_image first) script before after ending))
-    → IsSomeAnd held (λ after. IsSomeAnd now (Leaves first script before after ending))
-ran_leaves first script before ending None now runs = absurd runs
-ran_leaves first script before ending (Some after) None runs = absurd runs
-ran_leaves first script before ending (Some after) (Some d) runs = inr runs
+pub ran_leaves : (start : Start) (before : List ℕ) (ending : Ending) (held : Option (List ℕ)) (now : Option Content) → IsRunWords start.words → HasForm start
+    → IsSomeAnd held (λ after. IsSomeAnd now (RunsAndLeaves (last_image start.content) start.script before after ending))
+    → IsSomeAnd held (λ after. IsSomeAnd now (Leaves start before after ending))
+ran_leaves start before ending None now words form runs = absurd runs
+ran_leaves start before ending (Some after) None words form runs = absurd runs
+ran_leaves start before ending (Some after) (Some d) words form runs = inr (record { words = words; form = form; leaves = runs })
 
 -- ---- the last line
 
@@ -95,11 +83,11 @@ pub Rose-earlier : (a b c : ℕ) → a ≤ b → Rose b c → Rose a c
 Rose-earlier a b c below rose = omega (arith, below, rose)
 
 -- A run that came to its end has no last line.
-pub tells_complete : (first : Content) (script before : List ℕ) (found_fault : Bool) (status : ℕ) (SinkRose : Type 0) (held : Option (List ℕ)) (now : Option Content) → status ≡ status_of (Complete found_fault)
-    → IsSomeAnd held (λ after. IsSomeAnd now (Leaves first script before after (Complete found_fault))) → IsSomeAnd held (λ after. IsSomeAnd now (Tells first script before after status SinkRose))
-tells_complete first script before found_fault status SinkRose None now is leaves = absurd leaves
-tells_complete first script before found_fault status SinkRose (Some after) None is leaves = absurd leaves
-tells_complete first script before found_fault status SinkRose (Some after) (Some d) is leaves = record {
+pub tells_complete : (start : Start) (before : List ℕ) (found_fault : Bool) (status : ℕ) (SinkRose : Type 0) (held : Option (List ℕ)) (now : Option Content) → status ≡ status_of (Complete found_fault)
+    → IsSomeAnd held (λ after. IsSomeAnd now (Leaves start before after (Complete found_fault))) → IsSomeAnd held (λ after. IsSomeAnd now (Tells start before after status SinkRose))
+tells_complete start before found_fault status SinkRose None now is leaves = absurd leaves
+tells_complete start before found_fault status SinkRose (Some after) None is leaves = absurd leaves
+tells_complete start before found_fault status SinkRose (Some after) (Some d) is leaves = record {
   ending = Complete found_fault;
   is_status = is;
   run = after;
@@ -108,14 +96,14 @@ tells_complete first script before found_fault status SinkRose (Some after) (Som
 }
 
 -- One that was ended early has one, or where the sink failed a part of it.
-pub tells_early : (first : Content) (script before : List ℕ) (ending : Ending) (status : ℕ) (SinkRose : Type 0) (held later : Option (List ℕ)) (now : Option Content) (E : Type 0) (result : Result (Unit {0}) E) → status ≡ status_of ending
-    → IsSomeAnd held (λ after. IsSomeAnd now (Leaves first script before after ending)) → OnOk result (later ≡ option_map (with_bytes (fault_text ending)) held) → OnErr result SinkRose → OnErr result (AddsPrefix (fault_text ending) held later)
-    → IsSomeAnd later (λ after. IsSomeAnd now (Tells first script before after status SinkRose))
-tells_early first script before ending status SinkRose None later now E result is leaves written rose err = absurd leaves
-tells_early first script before ending status SinkRose (Some run) later None E result is leaves written rose err = absurd leaves
-tells_early first script before ending status SinkRose (Some run) later (Some d) E (Ok v) is leaves written rose err =
-    subst (λ (o : Option (List ℕ)). IsSomeAnd o (λ after. Tells first script before after status SinkRose d)) (sym written)
+pub tells_early : (start : Start) (before : List ℕ) (ending : Ending) (status : ℕ) (SinkRose : Type 0) (held later : Option (List ℕ)) (now : Option Content) (E : Type 0) (result : Result (Unit {0}) E) → status ≡ status_of ending
+    → IsSomeAnd held (λ after. IsSomeAnd now (Leaves start before after ending)) → OnOk result (later ≡ option_map (with_bytes (fault_text ending)) held) → OnErr result SinkRose → OnErr result (AddsPrefix (fault_text ending) held later)
+    → IsSomeAnd later (λ after. IsSomeAnd now (Tells start before after status SinkRose))
+tells_early start before ending status SinkRose None later now E result is leaves written rose err = absurd leaves
+tells_early start before ending status SinkRose (Some run) later None E result is leaves written rose err = absurd leaves
+tells_early start before ending status SinkRose (Some run) later (Some d) E (Ok v) is leaves written rose err =
+    subst (λ (o : Option (List ℕ)). IsSomeAnd o (λ after. Tells start before after status SinkRose d)) (sym written)
     (record { ending = ending; is_status = is; run = run; leaves = leaves; last = inl refl })
-tells_early first script before ending status SinkRose (Some run) later (Some d) E (Err e) is leaves written rose err =
-    subst (λ (o : Option (List ℕ)). IsSomeAnd o (λ after. Tells first script before after status SinkRose d)) (sym err.held)
+tells_early start before ending status SinkRose (Some run) later (Some d) E (Err e) is leaves written rose err =
+    subst (λ (o : Option (List ℕ)). IsSomeAnd o (λ after. Tells start before after status SinkRose d)) (sym err.held)
     (record { ending = ending; is_status = is; run = run; leaves = leaves; last = inr (rose, err.count, refl) })

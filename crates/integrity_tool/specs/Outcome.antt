@@ -1,7 +1,7 @@
 -- What a run did: what was printed, and what ended it.
 use Rattle.std.specs.Prelude.{◌≡◌, ◌⊎◌, ℕ, ◌+◌, ◌<◌, List, [], ◌++◌, length}
 use Rattle.disk_model.specs.Disk.{Image}
-use Rattle.device_model.specs.Ending.{Ending, Complete, RefusedLine, RefusedLength, SinkFailed}
+use Rattle.device_model.specs.Ending.{Ending, Complete, RefusedWords, RefusedLine, RefusedLength, RefusedImage, SinkFailed, NoMemory}
 use Rattle.device_model.specs.Transcript.{Line, session_of, after_lines, line_result, transcript, find_faults, closed_text}
 use Rattle.integrity_tool.specs.Form.{small_blocks, small_cells}
 use Rattle.integrity_tool.specs.Grammar.{line_bytes, IsRunnable}
@@ -21,6 +21,7 @@ IsNextText image lines rest text =
     ⊎ ((rest ≡ []) × (text ≡ closed_text))
 
 -- What ended the run after these lines, where `rest` follows them, and `part` is what was printed behind their texts.
+-- Words, an image or want of memory end no script.
 abbrev pub EndsBy : Image → List ℕ → List Line → List ℕ → List ℕ → Ending → Type 0
 EndsBy image script lines rest part (Complete found_fault) =
     (rest ≡ []) × (part ≡ closed_text) × (found_fault ≡ find_faults small_blocks (session_of (small_cells image)) lines)
@@ -29,6 +30,9 @@ EndsBy image script lines rest part (RefusedLine number fault) =
 EndsBy image script lines rest part RefusedLength = (MOST_SCRIPT < length script) × (part ≡ [])
 EndsBy image script lines rest part SinkFailed =
     (text : List ℕ) × (more : List ℕ) × IsNextText image lines rest text × (text ≡ part ++ more)
+EndsBy image script lines rest part RefusedWords = ⊥
+EndsBy image script lines rest part (RefusedImage fault) = ⊥
+EndsBy image script lines rest part NoMemory = ⊥
 EndsBy image script lines rest part ending = part ≡ []
 
 -- The run of a script on an image: the texts of these lines are printed whole, and then what ended it.

@@ -8,7 +8,7 @@ ghost use Rattle.disk_model.specs.Moments.{content_now, EachMoment, FromStart};
 ghost use Rattle.integrity_tool.specs.Form.{IsOfForm};
 ghost use Rattle.integrity_tool.specs.Running.{RefusesScript, ending_by};
 ghost use Rattle.integrity_tool.specs.Standing.{IsOfBlock};
-ghost use Rattle.integrity_tool.specs.Top.{IsRefusedScript, Leaves, MayBeLeft, Tells};
+ghost use Rattle.integrity_tool.specs.Top.{start_of, IsRefusedScript, Leaves, MayBeLeft, Tells};
 ghost use Rattle.device_model.specs.Ending.{Complete, status_of};
 ghost use Rattle.integrity_tool.specs.Words.{IsRunWords};
 
@@ -45,6 +45,7 @@ pub fn integrity<D: Disk + Named, K: Source + Named, S: Source, O: Sink>(
 ) -> u8
     // The statuses, and what each but 0 and 1 comes from.
     ensures status { result ≤ 7 }
+    ensures words { ¬ IsRunWords (map string_bytes words.now) → result ≡ 2 }
     ensures refused { result ≡ 2 → IsRunWords (map string_bytes words.now)
         → ForSome (S.left script.old) IsRefusedScript }
     ensures image { result ≡ 3 → ForSome (content_now (D.moments disk.old)) (λ c.
@@ -61,7 +62,8 @@ pub fn integrity<D: Disk + Named, K: Source + Named, S: Source, O: Sink>(
     // What was printed and what is left on the disk, whatever the status, and that 1 is told by it alone.
     ensures tells { ForSome (content_now (D.moments disk.old)) (λ c. ForSome (S.left script.old) (λ left.
         ForSome (O.held out.old) (λ before. IsSomeAnd (O.held out.new) (λ after. IsSomeAnd (content_now (D.moments disk.new))
-        (Tells c left before after result (Rose (O.faults out.old) (O.faults out.new))))))) }
+        (Tells (start_of (map string_bytes words.now) (D.sectors disk.old) c left) before after result
+        (Rose (O.faults out.old) (O.faults out.new))))))) }
 
     // Nothing else ends a run.
     ensures complete { IsRunWords (map string_bytes words.now) → ForSome (content_now (D.moments disk.old)) (λ c.
@@ -72,7 +74,8 @@ pub fn integrity<D: Disk + Named, K: Source + Named, S: Source, O: Sink>(
     // Each image at each moment of the call is one of those at its start, or one that a cut may leave of the lines run,
     // and only sectors of blocks change.
     ensures moments { ForSome (content_now (D.moments disk.old)) (λ c. ForSome (S.left script.old) (λ left.
-        ForSome (O.held out.old) (λ before. EachMoment (D.moments disk.old) (D.moments disk.new) (MayBeLeft c left)))) }
+        ForSome (O.held out.old) (λ before. EachMoment (D.moments disk.old) (D.moments disk.new)
+        (MayBeLeft (start_of (map string_bytes words.now) (D.sectors disk.old) c left))))) }
     ensures places { ForSome (content_now (D.moments disk.old)) (λ c.
         EachMoment (D.moments disk.old) (D.moments disk.new) (OnlyAdds IsOfBlock c)) }
 {
@@ -103,12 +106,13 @@ fn run<D: Disk + Named, S: Source, O: Sink>(
 ) -> Result<bool, Ended>
     ensures runs { ForSome (content_now (D.moments disk.old)) (λ c. ForSome (S.left script.old) (λ left.
         ForSome (O.held out.old) (λ before. IsSomeAnd (O.held out.new) (λ after. IsSomeAnd (content_now (D.moments disk.new))
-        (Leaves c left before after (ending_by result)))))) }
+        (Leaves (start_of (map string_bytes words.now) (D.sectors disk.old) c left) before after (ending_by result)))))) }
     ensures ran { OnOk result (IsRunWords (map string_bytes words.now)) }
     ensures form { OnOk result (ForSome (content_now (D.moments disk.old)) (λ c.
         IsOfForm (D.sectors disk.old) (last_image c))) }
 
     ensures words { result ≡ Err Ended.Words → ¬ IsRunWords (map string_bytes words.now) }
+    ensures words_first { ¬ IsRunWords (map string_bytes words.now) → result ≡ Err Ended.Words }
     ensures refused { IfErr result (λ ended. RefusesScript ended → ForSome (S.left script.old) IsRefusedScript) }
     ensures image { result ≡ Err Ended.Image → ForSome (content_now (D.moments disk.old)) (λ c.
         ¬ IsOfForm (D.sectors disk.old) (last_image c)) }
@@ -119,7 +123,8 @@ fn run<D: Disk + Named, S: Source, O: Sink>(
     ensures sink_later { O.faults out.old ≤ O.faults out.new }
 
     ensures moments { ForSome (content_now (D.moments disk.old)) (λ c. ForSome (S.left script.old) (λ left.
-        ForSome (O.held out.old) (λ before. EachMoment (D.moments disk.old) (D.moments disk.new) (MayBeLeft c left)))) }
+        ForSome (O.held out.old) (λ before. EachMoment (D.moments disk.old) (D.moments disk.new)
+        (MayBeLeft (start_of (map string_bytes words.now) (D.sectors disk.old) c left))))) }
     ensures places { ForSome (content_now (D.moments disk.old)) (λ c.
         EachMoment (D.moments disk.old) (D.moments disk.new) (OnlyAdds IsOfBlock c)) }
 {
