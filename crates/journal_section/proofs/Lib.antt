@@ -1,0 +1,5 @@
+pub mod PieceLemmas
+pub mod PlaceLemmas
+pub mod ShapeLemmas
+pub mod EntriesLemmas
+pub mod SectorsLemmas
