@@ -1,16 +1,21 @@
 -- Lemmas on the words of specs/Entries.antt.
-use Rattle.std.proofs.Common.{◌≡◌, ◌≢◌, ◌⊎◌, inl, inr, ℕ, zero, suc, Bool, true, false, ◌+◌, ◌*◌, ◌/◌, ◌%◌, ◌<◌, ◌≤◌, List, [], ◌∷◌, ◌++◌, length, map, get_or, set, slice_index, Option, Some, None, refl, sym, ap, ◌∙◌, arith, length-set}
+use Rattle.std.proofs.Common.{◌≡◌, ◌≢◌, ◌⊎◌, inl, inr, ℕ, zero, suc, not, true, ◌+◌, ◌-◌, ◌*◌, ◌/◌, ◌%◌, ◌^◌, ◌<◌, ◌≤◌, List, [], ◌∷◌, ◌++◌, length, take, get_or, replicate, set, slice_index, Option, Some, None, refl, sym, ap, subst, ◌∙◌, arith, length-set}
 use Rattle.std.specs.List.{range_with_len, flat_map}
-use Rattle.std.proofs.lemmas.Bool.{cases_eq}
-use Rattle.std.proofs.lemmas.List.{same_lists, get_or-set_same, get_or-set_other, length-map}
-use Rattle.std.proofs.lemmas.List.FromFn.{get_or-map-range_with_len, length-map-range_with_len}
+use Rattle.std.proofs.lemmas.Bool.{cases_Bool, cases_eq, cases_lt, eq-eqb, ne_eqb}
+use Rattle.std.proofs.lemmas.List.{append-nil, append_assoc, map-id, same_lists, get_or-set_same, get_or-set_other, get_or-replicate, length-replicate}
+use Rattle.std.proofs.lemmas.List.FromFn.{get_or-map-range_with_len, length-map-range_with_len, map-range_with_len_more}
+use Rattle.std.proofs.lemmas.List.Concat.{flat_map-append}
+use Rattle.std.specs.Option.{IfSome}
 use Rattle.image_model.specs.Geometry.{Shape, entry_size, section_entries, section_sectors}
 use Rattle.image_model.specs.Section.{Entry, entry_from, is_used, parts_of, block_in, entry_at}
 use Rattle.image_model.specs.Sectors.{piece, number_in}
 use Rattle.image_model.proofs.Bounds.{HasEntries}
+use Rattle.image_model.proofs.SectionLemmas.{entry_at-unused, entry_at-used}
 use Rattle.image_model.proofs.SectorLemmas.{number_in-same, piece-same, piece-piece}
-use Rattle.journal_section.specs.Entries.{entries_of, IsWithin}
-use Rattle.journal_section.proofs.PlaceLemmas.{entry_in_meta, parts_fit}
+use Rattle.journal_section.specs.Entries.{entries_of, HoldsEntries, IsNamedBy, IsWithin}
+use Rattle.journal_section.specs.Pieces.{HasPieces, with_piece}
+use Rattle.journal_section.proofs.PieceLemmas.{length-with_piece, take-with_piece}
+use Rattle.journal_section.proofs.PlaceLemmas.{entry_fits, entry_in_meta, parts_fit}
 
 -- ---- joined pieces
 
@@ -71,6 +76,19 @@ entry_at-same shape old new n has low size_old size_new fields fronts =
     let block = block_in-same shape old new n (omega arith) (omega arith) (omega arith) (omega arith) fields fronts in
     rw (mark, sector, tag, block) refl
 
+-- An entry is unused where the higher half of its sector's number is all ones.
+pub entry_at-unused_word : (shape : Shape) (bytes : List ℕ) (n : ℕ) → number_in bytes (entry_from shape n + 4) 4 ≡ 2 ^ 32 - 1
+    → entry_at shape bytes n ≡ None
+unfolding is_used
+entry_at-unused_word shape bytes n word =
+    entry_at-unused shape bytes n (ap not (eq-eqb (number_in bytes (entry_from shape n + 4) 4) (2 ^ 32 - 1) word))
+
+-- Where it is not, the entry is used.
+pub is_used-word : (shape : Shape) (bytes : List ℕ) (n : ℕ) → number_in bytes (entry_from shape n + 4) 4 ≢ 2 ^ 32 - 1
+    → is_used shape bytes n ≡ true
+unfolding is_used
+is_used-word shape bytes n word = ap not (ne_eqb (number_in bytes (entry_from shape n + 4) 4) (2 ^ 32 - 1) word)
+
 -- ---- the list of all
 
 pub length-entries_of : (shape : Shape) (bytes : List ℕ) → length (entries_of shape bytes) ≡ section_entries shape
@@ -112,4 +130,96 @@ entries_of-put shape old new n entry low others here =
         let inside : n < length all = omega arith in
         ap (entry_at shape new) same ∙ here ∙ sym (ap (λ k. get_or (set all n (Some entry)) k other) same ∙ get_or-set_same all n (Some entry) other inside)
       | inr differ ↦ others m low_m differ ∙ sym (get_or-set_other all n m (Some entry) other differ ∙ entries_of-at shape old m other low_m)
+    ])
+
+-- ---- what a seal leaves
+
+-- Sections that agree on all bytes but the commit ids hold the same entries.
+pub HoldsEntries-sealed : (shape : Shape) (old new : List ℕ) (entries : List (Option Entry)) → HasEntries shape
+    → length new ≡ length old
+    → ((at : ℕ) → at % 512 < 504 → slice_index new at ≡ slice_index old at)
+    → HoldsEntries shape entries old → HoldsEntries shape entries new
+HoldsEntries-sealed shape old new entries has size same holds =
+    let long = holds.size in
+    record {
+      size = size ∙ long;
+      entries_are = entries_of-same shape old new (λ n low.
+        let fits = entry_fits shape n has low in
+        let least = has.entry_low in
+        entry_at-same shape old new n has low long (size ∙ long)
+        (λ at within. same at (omega arith))
+        (λ at within front. same at front)) ∙ holds.entries_are;
+      zeros = λ at nothing. elim (cases_lt (at % 512) 504) [
+        | inl front ↦ same at front ∙ holds.zeros at nothing
+        | inr last ↦ absurd (nothing (inl last))
+      ];
+    }
+
+-- ---- an empty section
+
+-- Where the high word of each entry is all ones and all else is zero, each entry is unused.
+pub HoldsEntries-none : (shape : Shape) (bytes : List ℕ) → HasEntries shape
+    → length bytes ≡ 512 * section_sectors shape
+    → ((n : ℕ) → n < section_entries shape → number_in bytes (entry_from shape n + 4) 4 ≡ 2 ^ 32 - 1)
+    → ((at : ℕ) → ((n : ℕ) → n < section_entries shape → IsWithin (entry_from shape n + 4) 4 at → ⊥) → slice_index bytes at ≡ 0)
+    → HoldsEntries shape (replicate (section_entries shape) None) bytes
+HoldsEntries-none shape bytes has size unused zeros =
+    let none : Option Entry = None in
+    let count = length-replicate (section_entries shape) none in
+    record {
+      size = size;
+      entries_are = entries_of-are shape bytes (replicate (section_entries shape) none) count (λ n other low.
+        entry_at-unused_word shape bytes n (unused n low) ∙ sym (get_or-replicate (section_entries shape) n none other low));
+      zeros = λ at nothing. zeros at (λ n low within.
+        nothing (inr (n, omega arith, subst (λ entry. IsNamedBy shape n entry at) (sym (get_or-replicate (section_entries shape) n none none low)) within)));
+    }
+
+-- ---- the bytes of a block, sector by sector
+
+range_with_len_more : (from count : ℕ) → range_with_len from (count + 1) ≡ range_with_len from count ++ (from + count) ∷ []
+range_with_len_more from count =
+    sym (map-id (range_with_len from (count + 1))) ∙ map-range_with_len_more (λ k. k) from count (from + count) refl
+    ∙ ap (λ xs. xs ++ (from + count) ∷ []) (map-id (range_with_len from count))
+
+-- The sectors so far, and one more.
+pub block_more : (f : ℕ → List ℕ) (k : ℕ) (front last old mid new : List ℕ) → 512 * k + 512 ≤ length old
+    → length front ≡ 504 → length last ≡ 8 → mid ≡ with_piece (512 * k) front old → new ≡ with_piece (512 * k + 504) last mid
+    → f k ≡ front ++ last → take (512 * k) old ≡ flat_map f (range_with_len 0 k)
+    → take (512 * (k + 1)) new ≡ flat_map f (range_with_len 0 (k + 1))
+block_more f k front last old mid new fits size_front size_last put_front put_last is before =
+    let long = length-with_piece (512 * k) front old (omega arith) in
+    let long_mid = ap (λ (bytes : List ℕ). length bytes) put_front in
+    let all = flat_map f (range_with_len 0 k) in
+    ap (take (512 * (k + 1))) put_last
+    ∙ take-with_piece (512 * k + 504) last mid (512 * (k + 1)) (omega arith) (omega arith)
+    ∙ ap (λ xs. take (512 * k + 504) xs ++ last) put_front
+    ∙ ap (λ xs. xs ++ last) (take-with_piece (512 * k) front old (512 * k + 504) (omega arith) (omega arith))
+    ∙ ap (λ xs. xs ++ front ++ last) before
+    ∙ append_assoc all front last
+    ∙ ap (λ xs. all ++ xs) (sym is ∙ sym (append-nil (f k)))
+    ∙ sym (flat_map-append f (range_with_len 0 k) (k ∷ []))
+    ∙ ap (flat_map f) (sym (range_with_len_more 0 k ∙ ap (λ m. range_with_len 0 k ++ m ∷ []) (omega arith)))
+
+-- What one copy joins is the block of the entry, where it is used.
+pub block_of_entry : (shape : Shape) (n : ℕ) (meta parts bytes out : List ℕ) → HasEntries shape → n < section_entries shape
+    → HasPieces shape n meta parts bytes → out ≡ block_in shape meta parts n
+    → IfSome (get_or (entries_of shape bytes) n None) (λ entry. out ≡ entry.bytes)
+block_of_entry shape n meta parts bytes out has low pieces is =
+    let inside = entry_in_meta shape n has low in
+    let least = has.entry_low in
+    let word : ℕ → ℕ = λ k. entry_from shape n + 8 + 8 * k in
+    let same : block_in shape meta parts n ≡ block_in shape bytes (parts_of shape bytes n) n =
+    flat_map-same
+    (λ k. piece parts (512 * k) 504 ++ piece meta (word k) 8)
+    (λ k. piece (parts_of shape bytes n) (512 * k) 504 ++ piece bytes (word k) 8)
+    0 shape.spb
+    (λ k lowest highest.
+      let front = ap (λ xs. piece xs (512 * k) 504) (sym pieces.parts_are) in
+      let last = ap (λ xs. piece xs (word k) 8) (sym pieces.meta_are) ∙ piece-piece bytes 0 4096 (word k) 8 (omega arith)
+      ∙ ap (λ at. piece bytes at 8) (let start : 0 + word k ≡ word k = omega arith in start) in
+      rw (front, last) refl) in
+    subst (λ entry. IfSome entry (λ found. out ≡ found.bytes)) (sym (entries_of-at shape bytes n None low))
+    (elim (cases_Bool (is_used shape bytes n)) [
+      | inl used ↦ subst (λ entry. IfSome entry (λ found. out ≡ found.bytes)) (sym (entry_at-used shape bytes n used)) (is ∙ same)
+      | inr unused ↦ subst (λ entry. IfSome entry (λ found. out ≡ found.bytes)) (sym (entry_at-unused shape bytes n unused)) tt
     ])

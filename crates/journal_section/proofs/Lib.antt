@@ -3,3 +3,4 @@ pub mod PlaceLemmas
 pub mod ShapeLemmas
 pub mod EntriesLemmas
 pub mod SectorsLemmas
+pub mod FieldsLemmas

@@ -1,8 +1,8 @@
 -- Lemmas on bytes with a piece of them put anew.
-use Rattle.std.proofs.Common.{◌≡◌, ◌⊎◌, inl, inr, ℕ, ◌+◌, ◌-◌, ◌*◌, ◌<◌, ◌≤◌, List, ◌++◌, length, take, drop, slice_index, refl, sym, ap, ◌∙◌, arith, length-append, length-take, length-drop}
+use Rattle.std.proofs.Common.{◌≡◌, ◌⊎◌, inl, inr, ℕ, ◌+◌, ◌-◌, ◌*◌, ◌^◌, ◌<◌, ◌≤◌, List, ◌++◌, length, take, drop, slice_index, refl, sym, ap, ◌∙◌, arith, length-append, length-take, length-drop}
 use Rattle.std.proofs.lemmas.List.{append_assoc, get_or_append_left, get_or-append_right, get_or-take, get_or-drop, length-take-le, take_all, take_at}
-use Rattle.image_model.specs.Sectors.{piece}
-use Rattle.image_model.proofs.SectorLemmas.{piece-same}
+use Rattle.image_model.specs.Sectors.{piece, number_in, bytes_of}
+use Rattle.image_model.proofs.SectorLemmas.{piece-same, number_in-same, number_in-append_right, number_in-bytes_of}
 use Rattle.journal_section.specs.Pieces.{with_piece}
 
 -- As many bytes are there as before,
@@ -51,3 +51,31 @@ take-with_piece at new bytes end fits is =
     let front = length-take-le at bytes fits in
     ap (take end) (sym (append_assoc (take at bytes) new rest))
     ∙ take_at (take at bytes ++ new) rest end (omega (arith, length-append (take at bytes) new))
+
+-- A number put is the number there.
+pub number_in-with_piece : (at size number : ℕ) (bytes : List ℕ) → at ≤ length bytes → number < 256 ^ size
+    → number_in (with_piece at (bytes_of number size) bytes) at size ≡ number
+number_in-with_piece at size number bytes fits low =
+    let front = take at bytes in
+    let rest = drop (at + length (bytes_of number size)) bytes in
+    let place : length front + 0 ≡ at = omega (arith, length-take-le at bytes fits) in
+    ap (λ k. number_in (front ++ (bytes_of number size ++ rest)) k size) (sym place)
+    ∙ number_in-append_right front (bytes_of number size ++ rest) 0 size
+    ∙ number_in-bytes_of number size rest low
+
+-- Numbers and pieces that lie elsewhere stay.
+pub number_in-elsewhere : (at : ℕ) (new bytes : List ℕ) (from size : ℕ) → at ≤ length bytes → (from + size ≤ at) ⊎ (at + length new ≤ from)
+    → number_in (with_piece at new bytes) from size ≡ number_in bytes from size
+number_in-elsewhere at new bytes from size fits (inl before) =
+    number_in-same (with_piece at new bytes) bytes from from size (λ i low. with_piece-outside at new bytes (from + i) fits (inl (omega arith)))
+number_in-elsewhere at new bytes from size fits (inr behind) =
+    number_in-same (with_piece at new bytes) bytes from from size (λ i low. with_piece-outside at new bytes (from + i) fits (inr (omega arith)))
+
+pub piece-elsewhere : (at : ℕ) (new bytes : List ℕ) (from size : ℕ) → at + length new ≤ length bytes → from + size ≤ length bytes
+    → (from + size ≤ at) ⊎ (at + length new ≤ from) → piece (with_piece at new bytes) from size ≡ piece bytes from size
+piece-elsewhere at new bytes from size fits inside apart =
+    let long = length-with_piece at new bytes fits in
+    piece-same (with_piece at new bytes) bytes from from size (omega arith) inside (λ i low. elim apart [
+      | inl before ↦ with_piece-outside at new bytes (from + i) (omega arith) (inl (omega arith))
+      | inr behind ↦ with_piece-outside at new bytes (from + i) (omega arith) (inr (omega arith))
+    ])
