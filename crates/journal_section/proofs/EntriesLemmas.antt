@@ -2,7 +2,7 @@
 use Rattle.std.proofs.Common.{◌≡◌, ◌≢◌, ◌⊎◌, inl, inr, ℕ, zero, suc, not, true, ◌+◌, ◌-◌, ◌*◌, ◌/◌, ◌%◌, ◌^◌, ◌<◌, ◌≤◌, List, [], ◌∷◌, ◌++◌, length, take, get_or, replicate, set, slice_index, Option, Some, None, refl, sym, ap, subst, ◌∙◌, arith, length-set}
 use Rattle.std.specs.List.{range_with_len, flat_map}
 use Rattle.std.proofs.lemmas.Bool.{cases_Bool, cases_eq, cases_lt, eq-eqb, ne_eqb}
-use Rattle.std.proofs.lemmas.List.{append-nil, append_assoc, map-id, same_lists, get_or-set_same, get_or-set_other, get_or-replicate, length-replicate}
+use Rattle.std.proofs.lemmas.List.{append-nil, append_assoc, map-id, same_lists, take_all, get_or-set_same, get_or-set_other, get_or-replicate, length-replicate}
 use Rattle.std.proofs.lemmas.List.FromFn.{get_or-map-range_with_len, length-map-range_with_len, map-range_with_len_more}
 use Rattle.std.proofs.lemmas.List.Concat.{flat_map-append}
 use Rattle.std.specs.Option.{IfSome}
@@ -199,6 +199,12 @@ block_more f k front last old mid new fits size_front size_last put_front put_la
     ∙ ap (λ xs. all ++ xs) (sym is ∙ sym (append-nil (f k)))
     ∙ sym (flat_map-append f (range_with_len 0 k) (k ∷ []))
     ∙ ap (flat_map f) (sym (range_with_len_more 0 k ∙ ap (λ m. range_with_len 0 k ++ m ∷ []) (omega arith)))
+
+-- All of them are the block.
+pub block_all : (f : ℕ → List ℕ) (k spb : ℕ) (bytes : List ℕ) → k ≡ spb → length bytes ≡ 512 * spb
+    → take (512 * k) bytes ≡ flat_map f (range_with_len 0 k) → bytes ≡ flat_map f (range_with_len 0 spb)
+block_all f k spb bytes end size is =
+    sym (take_all (512 * k) bytes (omega arith)) ∙ is ∙ ap (λ count. flat_map f (range_with_len 0 count)) end
 
 -- What one copy joins is the block of the entry, where it is used.
 pub block_of_entry : (shape : Shape) (n : ℕ) (meta parts bytes out : List ℕ) → HasEntries shape → n < section_entries shape

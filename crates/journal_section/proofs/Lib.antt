@@ -4,3 +4,5 @@ pub mod ShapeLemmas
 pub mod EntriesLemmas
 pub mod SectorsLemmas
 pub mod FieldsLemmas
+pub mod ViewLemmas
+pub mod PutLemmas

@@ -4,7 +4,7 @@ use Rattle.commit_id.proofs.ShapeLemmas.{shape_holds}
 use Rattle.image_model.specs.Section.{entry_from}
 use Rattle.image_model.specs.Sectors.{piece}
 use Rattle.image_model.proofs.SectorLemmas.{length-piece}
-use Rattle.journal_section.proofs.EntriesLemmas.{block_more, block_of_entry}
+use Rattle.journal_section.proofs.EntriesLemmas.{block_all, block_more, block_of_entry}
 use Rattle.journal_section.proofs.ShapeLemmas.{entry_low}
 use Rattle.journal_section.proofs.blocks.block_bytes.Goals as goal
 
@@ -29,4 +29,13 @@ loop-k-preserved c =
     (omega arith) (length-piece parts from 504 (omega arith)) (length-piece meta word 8 (omega arith)) front last refl c.loop-k.invariant
 
 pub returns-clause-entry : goal.returns-clause-entry
-returns-clause-entry c = ?
+returns-clause-entry c =
+    let shape = shape_of c.args.shape in
+    let meta = c.args.meta.now in
+    let parts = c.args.parts.now in
+    let all : c.loop-k.k ≡ c.args.shape.spb = omega arith in
+    let is =
+    block_all (λ k. piece parts (512 * k) 504 ++ piece meta (entry_from shape c.args.n + 8 + 8 * k) 8) c.loop-k.k c.args.shape.spb
+    c.loop-k.out all (omega arith) c.loop-k.invariant in
+    λ bytes pieces. block_of_entry shape c.args.n meta parts bytes c.loop-k.out (shape_holds c.args.shape c.requires.shape).2
+    (entry_low c.args.shape c.args.n c.requires.shape c.requires.n) pieces is
