@@ -14,8 +14,31 @@ use Rattle.image_model.proofs.SectionLemmas.{entry_at-unused, entry_at-used}
 use Rattle.image_model.proofs.SectorLemmas.{number_in-same, piece-same, piece-piece}
 use Rattle.journal_section.specs.Entries.{entries_of, HoldsEntries, IsNamedBy, IsWithin}
 use Rattle.journal_section.specs.Pieces.{HasPieces, with_piece}
-use Rattle.journal_section.proofs.PieceLemmas.{length-with_piece, take-with_piece}
+use Rattle.journal_section.proofs.PieceLemmas.{length-with_piece, take-with_piece, with_piece-inside, with_piece-outside}
 use Rattle.journal_section.proofs.PlaceLemmas.{entry_fits, entry_in_meta, parts_fit}
+
+-- ---- places
+
+-- A byte is one of so many, or not.
+pub cases_within : (from size at : ℕ) → IsWithin from size at ⊎ (IsWithin from size at → ⊥)
+cases_within from size at = elim (cases_lt at from) [
+  | inl before ↦ inr (λ within. let lower = within.0 in omega arith)
+  | inr not_before ↦ elim (cases_lt at (from + size)) [
+    | inl inside ↦ inl (not_before, inside)
+    | inr behind ↦ inr (λ within. let upper = within.1 in omega arith)
+  ]
+]
+
+-- A byte that is none of a piece put stays.
+pub with_piece-apart : (at : ℕ) (new bytes : List ℕ) (k : ℕ) → at ≤ length bytes → (IsWithin at (length new) k → ⊥)
+    → slice_index (with_piece at new bytes) k ≡ slice_index bytes k
+with_piece-apart at new bytes k fits apart = elim (cases_lt k at) [
+  | inl before ↦ with_piece-outside at new bytes k fits (inl before)
+  | inr not_before ↦ elim (cases_lt k (at + length new)) [
+    | inl inside ↦ absurd (apart (not_before, inside))
+    | inr behind ↦ with_piece-outside at new bytes k fits (inr behind)
+  ]
+]
 
 -- ---- joined pieces
 
@@ -229,3 +252,42 @@ block_of_entry shape n meta parts bytes out has low pieces is =
       | inl used ↦ subst (λ entry. IfSome entry (λ found. out ≡ found.bytes)) (sym (entry_at-used shape bytes n used)) (is ∙ same)
       | inr unused ↦ subst (λ entry. IfSome entry (λ found. out ≡ found.bytes)) (sym (entry_at-unused shape bytes n unused)) tt
     ])
+
+-- ---- an empty section, entry by entry
+
+-- One more entry has its high word,
+pub ones_more : (shape : Shape) (n : ℕ) (old new : List ℕ) → entry_from shape n + 8 ≤ length old
+    → new ≡ with_piece (entry_from shape n + 4) (replicate 4 255) old
+    → ((m : ℕ) → m < n → (at : ℕ) → IsWithin (entry_from shape m + 4) 4 at → slice_index old at ≡ 255)
+    → (m : ℕ) → m < n + 1 → (at : ℕ) → IsWithin (entry_from shape m + 4) 4 at → slice_index new at ≡ 255
+ones_more shape n old new fits put before m low at within =
+    let from : ℕ = entry_from shape n + 4 in
+    ap (λ bytes. slice_index bytes at) put ∙ elim (cases_within from 4 at) [
+      | inl inside ↦
+        let lower = inside.0 in
+        let upper = inside.1 in
+        let place : from + (at - from) ≡ at = omega arith in
+        ap (λ k. slice_index (with_piece from (replicate 4 255) old) k) (sym place)
+        ∙ with_piece-inside from (replicate 4 255) old (at - from) (omega arith) (omega arith)
+        ∙ get_or-replicate 4 (at - from) 255 0 (omega arith)
+      | inr outside ↦ elim (cases_eq m n) [
+        | inl same ↦ absurd (outside (subst (λ k. IsWithin (entry_from shape k + 4) 4 at) same within))
+        | inr differ ↦ with_piece-apart from (replicate 4 255) old at (omega arith) outside ∙ before m (omega arith) at within
+      ]
+    ]
+
+-- and all else stays zero.
+pub zeros_stay : (shape : Shape) (n : ℕ) (old new : List ℕ) → entry_from shape n + 8 ≤ length old
+    → new ≡ with_piece (entry_from shape n + 4) (replicate 4 255) old
+    → ((at : ℕ) → ((m : ℕ) → m < n → IsWithin (entry_from shape m + 4) 4 at → ⊥) → slice_index old at ≡ 0)
+    → (at : ℕ) → ((m : ℕ) → m < n + 1 → IsWithin (entry_from shape m + 4) 4 at → ⊥) → slice_index new at ≡ 0
+zeros_stay shape n old new fits put before at nothing =
+    ap (λ bytes. slice_index bytes at) put
+    ∙ with_piece-apart (entry_from shape n + 4) (replicate 4 255) old at (omega arith) (nothing n (omega arith))
+    ∙ before at (λ m low. nothing m (omega arith))
+
+-- Four bytes of ones are the number of an unused entry.
+pub number_in-ones : (bytes : List ℕ) (from : ℕ) → ((at : ℕ) → IsWithin from 4 at → slice_index bytes at ≡ 255)
+    → number_in bytes from 4 ≡ 2 ^ 32 - 1
+number_in-ones bytes from ones =
+    number_in-same bytes (replicate 4 255) from 0 4 (λ i low. ones (from + i) (omega arith, omega arith) ∙ sym (get_or-replicate 4 (0 + i) 255 0 (omega arith)))
