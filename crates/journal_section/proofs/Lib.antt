@@ -6,3 +6,4 @@ pub mod SectorsLemmas
 pub mod FieldsLemmas
 pub mod ViewLemmas
 pub mod PutLemmas
+pub mod PiecesLemmas

@@ -13,7 +13,7 @@ use Rattle.journal_section.specs.Entries.{entries_of, HoldsEntries, IsNamed, IsN
 use Rattle.journal_section.specs.Fields.{HasFields}
 use Rattle.journal_section.specs.Pieces.{HasPieces, PutsEntry, with_piece, with_pieces}
 use Rattle.journal_section.proofs.PieceLemmas.{length-with_piece, with_piece-inside, with_piece-outside}
-use Rattle.journal_section.proofs.PlaceLemmas.{entry_in_meta, entries_apart, parts_fit, parts_apart}
+use Rattle.journal_section.proofs.PlaceLemmas.{entry_fits, entry_in_meta, entries_apart, parts_fit, parts_apart}
 use Rattle.journal_section.proofs.EntriesLemmas.{cases_within, flat_map-same, length-entries_of, entry_at-same, entries_of-put, is_used-word}
 
 -- ---- the bytes of a section with other pieces
@@ -124,7 +124,7 @@ put_place {shape} {n} {entry} {meta_old} {parts_old} {meta} {parts} {place} byte
 -- All that is not the entry's own stays.
 put_others : {shape : Shape} {n : ℕ} {entry : Entry} {meta_old parts_old meta parts place : List ℕ} (bytes : List ℕ)
     → IsPut shape n entry meta_old parts_old meta parts place → HasPieces shape n meta_old parts_old bytes
-    → (at : ℕ) → (IsOfEntry shape (entry_size shape) n at → ⊥)
+    → (at : ℕ) → (IsOfEntry shape n at → ⊥)
     → slice_index (with_pieces shape n meta parts bytes) at ≡ slice_index bytes at
 put_others {shape} {n} {entry} {meta_old} {parts_old} {meta} {parts} {place} bytes put pieces at other =
     let inside = entry_in_meta shape n put.has put.low in
@@ -314,4 +314,10 @@ puts_entry {shape} {n} {entry} {meta_old} {parts_old} {meta} {parts} {place} put
         zeros = put_zeros bytes entries put pieces holds;
       };
       others = put_others bytes put pieces;
+      ids = λ at last.
+      let fits = entry_fits shape n put.has put.low in
+      put_others bytes put pieces at (λ own. elim own [
+        | inl within ↦ let lower = within.0 in let upper = within.1 in omega arith
+        | inr within ↦ let front = within.1 in omega arith
+      ]);
     }

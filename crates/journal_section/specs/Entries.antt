@@ -2,7 +2,7 @@
 use Rattle.std.specs.Prelude.{◌≡◌, ◌⊎◌, ℕ, ◌+◌, ◌*◌, ◌%◌, ◌<◌, ◌≤◌, List, length, map, slice_index, slice_index_or, Option, Some, None}
 use Rattle.std.specs.List.{range_with_len}
 use Rattle.disk_model.specs.Disk.{sector_in}
-use Rattle.image_model.specs.Geometry.{Shape, section_entries, section_sectors}
+use Rattle.image_model.specs.Geometry.{Shape, entry_size, section_entries, section_sectors}
 use Rattle.image_model.specs.CommitId.{commit_number}
 use Rattle.image_model.specs.Section.{Entry, entry_from, entry_at}
 
@@ -40,7 +40,7 @@ BearsNumber shape i number bytes =
     (j : ℕ) → j < section_sectors shape → commit_number i j (sector_in bytes j) ≡ Some number
 
 -- The byte is entry n's own: one of its place in a metadata sector, or one of its data sectors that is of no commit id.
-abbrev pub IsOfEntry : Shape → ℕ → ℕ → ℕ → Type 0
-IsOfEntry shape size n at =
-    IsWithin (entry_from shape n) size at
+abbrev pub IsOfEntry : Shape → ℕ → ℕ → Type 0
+IsOfEntry shape n at =
+    IsWithin (entry_from shape n) (entry_size shape) at
     ⊎ (IsWithin (512 * (8 + n * shape.spb)) (512 * shape.spb) at × (at % 512 < 504))

@@ -12,6 +12,8 @@ mod entries;
 mod places;
 mod sealing;
 mod sectors;
+#[cfg(test)]
+mod tests;
 
 pub use blocks::block_bytes;
 pub use clearing::clear;
