@@ -70,14 +70,14 @@ block_in-same shape old new n fits_old fits_new long_old long_new fields fronts 
     (λ k. piece (parts_of shape old n) (512 * k) 504 ++ piece old (word k) 8)
     0 shape.spb
     (λ k low high.
-      let front =
-      piece-piece new start (512 * shape.spb) (512 * k) 504 (omega arith)
-      ∙ piece-same new old (start + 512 * k) (start + 512 * k) 504 (omega arith) (omega arith)
-      (λ i inside. fronts (start + 512 * k + i) (omega arith, omega arith) (omega arith))
-      ∙ sym (piece-piece old start (512 * shape.spb) (512 * k) 504 (omega arith)) in
-      let last = piece-same new old (word k) (word k) 8 (omega arith) (omega arith)
-      (λ i inside. fields (word k + i) (omega arith, omega arith)) in
-      rw (front, last) refl)
+    let front =
+    piece-piece new start (512 * shape.spb) (512 * k) 504 (omega arith)
+    ∙ piece-same new old (start + 512 * k) (start + 512 * k) 504 (omega arith) (omega arith)
+    (λ i inside. fronts (start + 512 * k + i) (omega arith, omega arith) (omega arith))
+    ∙ sym (piece-piece old start (512 * shape.spb) (512 * k) 504 (omega arith)) in
+    let last = piece-same new old (word k) (word k) 8 (omega arith) (omega arith)
+    (λ i inside. fields (word k + i) (omega arith, omega arith)) in
+    rw (front, last) refl)
 
 -- and so on the entry.
 pub entry_at-same : (shape : Shape) (old new : List ℕ) (n : ℕ) → HasEntries shape → n < section_entries shape
@@ -150,8 +150,8 @@ entries_of-put shape old new n entry low others here =
     entries_of-are shape new (set all n (Some entry)) (length-set all n (Some entry) ∙ count) (λ m other low_m.
     elim (cases_eq m n) [
       | inl same ↦
-        let inside : n < length all = omega arith in
-        ap (entry_at shape new) same ∙ here ∙ sym (ap (λ k. get_or (set all n (Some entry)) k other) same ∙ get_or-set_same all n (Some entry) other inside)
+          let inside : n < length all = omega arith in
+          ap (entry_at shape new) same ∙ here ∙ sym (ap (λ k. get_or (set all n (Some entry)) k other) same ∙ get_or-set_same all n (Some entry) other inside)
       | inr differ ↦ others m low_m differ ∙ sym (get_or-set_other all n m (Some entry) other differ ∙ entries_of-at shape old m other low_m)
     ])
 
@@ -167,11 +167,11 @@ HoldsEntries-sealed shape old new entries has size same holds =
     record {
       size = size ∙ long;
       entries_are = entries_of-same shape old new (λ n low.
-        let fits = entry_fits shape n has low in
-        let least = has.entry_low in
-        entry_at-same shape old new n has low long (size ∙ long)
-        (λ at within. same at (omega arith))
-        (λ at within front. same at front)) ∙ holds.entries_are;
+          let fits = entry_fits shape n has low in
+          let least = has.entry_low in
+          entry_at-same shape old new n has low long (size ∙ long)
+          (λ at within. same at (omega arith))
+          (λ at within front. same at front)) ∙ holds.entries_are;
       zeros = λ at nothing. elim (cases_lt (at % 512) 504) [
         | inl front ↦ same at front ∙ holds.zeros at nothing
         | inr last ↦ absurd (nothing (inl last))
@@ -192,9 +192,9 @@ HoldsEntries-none shape bytes has size unused zeros =
     record {
       size = size;
       entries_are = entries_of-are shape bytes (replicate (section_entries shape) none) count (λ n other low.
-        entry_at-unused_word shape bytes n (unused n low) ∙ sym (get_or-replicate (section_entries shape) n none other low));
+          entry_at-unused_word shape bytes n (unused n low) ∙ sym (get_or-replicate (section_entries shape) n none other low));
       zeros = λ at nothing. zeros at (λ n low within.
-        nothing (inr (n, omega arith, subst (λ entry. IsNamedBy shape n entry at) (sym (get_or-replicate (section_entries shape) n none none low)) within)));
+          nothing (inr (n, omega arith, subst (λ entry. IsNamedBy shape n entry at) (sym (get_or-replicate (section_entries shape) n none none low)) within)));
     }
 
 -- ---- the bytes of a block, sector by sector
@@ -243,10 +243,10 @@ block_of_entry shape n meta parts bytes out has low pieces is =
     (λ k. piece (parts_of shape bytes n) (512 * k) 504 ++ piece bytes (word k) 8)
     0 shape.spb
     (λ k lowest highest.
-      let front = ap (λ xs. piece xs (512 * k) 504) (sym pieces.parts_are) in
-      let last = ap (λ xs. piece xs (word k) 8) (sym pieces.meta_are) ∙ piece-piece bytes 0 4096 (word k) 8 (omega arith)
-      ∙ ap (λ at. piece bytes at 8) (let start : 0 + word k ≡ word k = omega arith in start) in
-      rw (front, last) refl) in
+    let front = ap (λ xs. piece xs (512 * k) 504) (sym pieces.parts_are) in
+    let last = ap (λ xs. piece xs (word k) 8) (sym pieces.meta_are) ∙ piece-piece bytes 0 4096 (word k) 8 (omega arith)
+    ∙ ap (λ at. piece bytes at 8) (let start : 0 + word k ≡ word k = omega arith in start) in
+    rw (front, last) refl) in
     subst (λ entry. IfSome entry (λ found. out ≡ found.bytes)) (sym (entries_of-at shape bytes n None low))
     (elim (cases_Bool (is_used shape bytes n)) [
       | inl used ↦ subst (λ entry. IfSome entry (λ found. out ≡ found.bytes)) (sym (entry_at-used shape bytes n used)) (is ∙ same)
@@ -264,12 +264,12 @@ ones_more shape n old new fits put before m low at within =
     let from : ℕ = entry_from shape n + 4 in
     ap (λ bytes. slice_index bytes at) put ∙ elim (cases_within from 4 at) [
       | inl inside ↦
-        let lower = inside.0 in
-        let upper = inside.1 in
-        let place : from + (at - from) ≡ at = omega arith in
-        ap (λ k. slice_index (with_piece from (replicate 4 255) old) k) (sym place)
-        ∙ with_piece-inside from (replicate 4 255) old (at - from) (omega arith) (omega arith)
-        ∙ get_or-replicate 4 (at - from) 255 0 (omega arith)
+          let lower = inside.0 in
+          let upper = inside.1 in
+          let place : from + (at - from) ≡ at = omega arith in
+          ap (λ k. slice_index (with_piece from (replicate 4 255) old) k) (sym place)
+          ∙ with_piece-inside from (replicate 4 255) old (at - from) (omega arith) (omega arith)
+          ∙ get_or-replicate 4 (at - from) 255 0 (omega arith)
       | inr outside ↦ elim (cases_eq m n) [
         | inl same ↦ absurd (outside (subst (λ k. IsWithin (entry_from shape k + 4) 4 at) same within))
         | inr differ ↦ with_piece-apart from (replicate 4 255) old at (omega arith) outside ∙ before m (omega arith) at within

@@ -7,3 +7,5 @@ pub mod FieldsLemmas
 pub mod ViewLemmas
 pub mod PutLemmas
 pub mod PiecesLemmas
+pub mod ToldLemmas
+mod Worked

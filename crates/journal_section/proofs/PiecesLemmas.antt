@@ -67,9 +67,9 @@ HasPieces-joined shape n meta parts has low size count each =
       size = omega (arith, length-append meta (concat parts));
       meta_are = take_at meta (concat parts) 4096 size;
       parts_are =
-      ap (λ at. piece (meta ++ concat parts) at (512 * shape.spb)) start
-      ∙ ap (take (512 * shape.spb)) (sym (drop-drop (n * (512 * shape.spb)) 4096 (meta ++ concat parts)) ∙ ap (drop (n * (512 * shape.spb))) (drop_at meta (concat parts) 4096 size))
-      ∙ piece-concat (512 * shape.spb) parts n each (omega arith);
+          ap (λ at. piece (meta ++ concat parts) at (512 * shape.spb)) start
+          ∙ ap (take (512 * shape.spb)) (sym (drop-drop (n * (512 * shape.spb)) 4096 (meta ++ concat parts)) ∙ ap (drop (n * (512 * shape.spb))) (drop_at meta (concat parts) 4096 size))
+          ∙ piece-concat (512 * shape.spb) parts n each (omega arith);
     }
 
 -- With a put into two of them they make the section that the put leaves.

@@ -31,12 +31,12 @@ entries_apart shape m n has low_m low_n differ =
         | inl behind ↦ inr (omega arith)
         | inr not_behind ↦ elim (cases_lt (m / 8) (n / 8)) [
           | inl above ↦
-            let step : (m / 8 + 1) * entry_size shape ≤ n / 8 * entry_size shape = mul-le-mul_right (entry_size shape) (omega arith) in
-            inl (omega arith)
+              let step : (m / 8 + 1) * entry_size shape ≤ n / 8 * entry_size shape = mul-le-mul_right (entry_size shape) (omega arith) in
+              inl (omega arith)
           | inr not_above ↦
-            let lower : n / 8 + 1 ≤ m / 8 = omega arith in
-            let step : (n / 8 + 1) * entry_size shape ≤ m / 8 * entry_size shape = mul-le-mul_right (entry_size shape) lower in
-            inr (omega arith)
+              let lower : n / 8 + 1 ≤ m / 8 = omega arith in
+              let step : (n / 8 + 1) * entry_size shape ≤ m / 8 * entry_size shape = mul-le-mul_right (entry_size shape) lower in
+              inr (omega arith)
         ]
       ]
     ]

@@ -58,7 +58,7 @@ with_pieces-others shape n meta parts bytes at has low size size_meta size_parts
     let start : ℕ = 512 * (n * shape.spb) in
     let long = length-drop 4096 bytes in
     let elsewhere : (at - 4096 < start) ⊎ (start + length parts ≤ at - 4096) =
-    elim apart [ | inl before ↦ inl (omega arith) | inr after ↦ inr (omega arith) ] in
+    elim apart [ inl before ↦ inl (omega arith) | inr after ↦ inr (omega arith) ] in
     let place : 4096 + (at - 4096) ≡ at = omega arith in
     get_or-append_right meta (with_piece start parts rest) 4096 at 0 size_meta behind
     ∙ with_piece-outside start parts rest (at - 4096) (omega arith) elsewhere
@@ -158,16 +158,16 @@ put_others {shape} {n} {entry} {meta_old} {parts_old} {meta} {parts} {place} byt
           | inl within ↦ elim (cases_lt (at % 512) 504) [
             | inl front ↦ absurd (other (inr ((not_before, within), front)))
             | inr last ↦
-              let i : ℕ = at - start in
-              let place_is : start + i ≡ at = omega arith in
-              let low_i : i < count = omega arith in
-              ap (λ k. slice_index (with_pieces shape n meta parts bytes) k) (sym place_is)
-              ∙ with_pieces-parts shape n meta parts bytes i put.has put.low pieces.size (put_size put) (omega arith)
-              ∙ put.ids i (omega arith)
-              ∙ sym (ap (λ xs. slice_index xs i) pieces.parts_are)
-              ∙ get_or-take count (drop start bytes) i 0 low_i
-              ∙ get_or-drop start bytes i 0
-              ∙ ap (λ k. slice_index bytes k) place_is
+                let i : ℕ = at - start in
+                let place_is : start + i ≡ at = omega arith in
+                let low_i : i < count = omega arith in
+                ap (λ k. slice_index (with_pieces shape n meta parts bytes) k) (sym place_is)
+                ∙ with_pieces-parts shape n meta parts bytes i put.has put.low pieces.size (put_size put) (omega arith)
+                ∙ put.ids i (omega arith)
+                ∙ sym (ap (λ xs. slice_index xs i) pieces.parts_are)
+                ∙ get_or-take count (drop start bytes) i 0 low_i
+                ∙ get_or-drop start bytes i 0
+                ∙ ap (λ k. slice_index bytes k) place_is
           ]
         ]
       ]
@@ -203,18 +203,18 @@ put_here {shape} {n} {entry} {meta_old} {parts_old} {meta} {parts} {place} bytes
     (λ k. piece entry.bytes (512 * k) 512)
     0 shape.spb
     (λ k lowest highest.
-      let front =
-      piece-piece new start (512 * shape.spb) (512 * k) 504 (omega arith)
-      ∙ piece-same new entry.bytes (start + 512 * k) (512 * k) 504 (omega arith) (omega arith)
-      (λ i low.
-        ap (λ at. slice_index new at) (let e : start + 512 * k + i ≡ start + (512 * k + i) = omega arith in e)
-        ∙ with_pieces-parts shape n meta parts bytes (512 * k + i) put.has put.low pieces.size (put_size put) (omega arith)
-        ∙ put.fronts (512 * k + i) (omega arith)) in
-      let last =
-      piece-same new place (from + 8 + 8 * k) (8 + 8 * k) 8 (omega arith) (omega arith)
-      (λ i low. ap (λ at. slice_index new at) (let e : from + 8 + 8 * k + i ≡ from + (8 + 8 * k + i) = omega arith in e) ∙ here (8 + 8 * k + i) (omega arith))
-      ∙ put.fields.lasts k (omega arith) in
-      rw (front, last) (sym (piece-add entry.bytes (512 * k) 504 8)))
+    let front =
+    piece-piece new start (512 * shape.spb) (512 * k) 504 (omega arith)
+    ∙ piece-same new entry.bytes (start + 512 * k) (512 * k) 504 (omega arith) (omega arith)
+    (λ i low.
+    ap (λ at. slice_index new at) (let e : start + 512 * k + i ≡ start + (512 * k + i) = omega arith in e)
+    ∙ with_pieces-parts shape n meta parts bytes (512 * k + i) put.has put.low pieces.size (put_size put) (omega arith)
+    ∙ put.fronts (512 * k + i) (omega arith)) in
+    let last =
+    piece-same new place (from + 8 + 8 * k) (8 + 8 * k) 8 (omega arith) (omega arith)
+    (λ i low. ap (λ at. slice_index new at) (let e : from + 8 + 8 * k + i ≡ from + (8 + 8 * k + i) = omega arith in e) ∙ here (8 + 8 * k + i) (omega arith))
+    ∙ put.fields.lasts k (omega arith) in
+    rw (front, last) (sym (piece-add entry.bytes (512 * k) 504 8)))
     ∙ blocks_joined entry.bytes 0 shape.spb ∙ take_all (512 * shape.spb) entry.bytes (omega arith) in
     entry_at-used shape new n used ∙ rw (sector, block, tag) refl
 
@@ -254,12 +254,15 @@ put_names shape n entry entries at has low not_place not_parts (inr (m, low_m, n
     let least = has.entry_low in
     elim (cases_eq m n) [
       | inl same ↦ absurd (named_own shape m (get_or entries m None) at named
-        (λ within. not_place (subst (λ k. IsWithin (entry_from shape k) (entry_size shape) at) same (let lower = within.0 in let upper = within.1 in (lower, omega arith))))
-        (λ within. not_place (subst (λ k. IsWithin (entry_from shape k) (entry_size shape) at) same (let lower = within.0 in let upper = within.1 in (omega arith, omega arith))))
-        (λ within. not_parts (subst (λ k. IsWithin (512 * (8 + k * shape.spb)) (512 * shape.spb) at) same within)))
+          (λ within. not_place (subst (λ k. IsWithin (entry_from shape k) (entry_size shape) at) same (let lower = within.0 in let upper = within.1 in (lower, omega arith))))
+          (λ within. not_place (subst (λ k. IsWithin (entry_from shape k) (entry_size shape) at) same (let lower = within.0 in let upper = within.1 in (omega arith, omega arith))))
+          (λ within. not_parts (subst (λ k. IsWithin (512 * (8 + k * shape.spb)) (512 * shape.spb) at) same within)))
       | inr differ ↦
-        inr (m, omega (arith, length-set entries n (Some entry)),
-        subst (λ found. IsNamedBy shape m found at) (sym (get_or-set_other entries n m (Some entry) None differ)) named)
+          inr (
+            m,
+            omega (arith, length-set entries n (Some entry)),
+            subst (λ found. IsNamedBy shape m found at) (sym (get_or-set_other entries n m (Some entry) None differ)) named,
+          )
     ]
 
 -- The bytes that nothing names stay zero.
@@ -280,20 +283,20 @@ put_zeros {shape} {n} {entry} {meta_old} {parts_old} {meta} {parts} {place} byte
     let size_tag = put.tag in
     elim (cases_within from (entry_size shape) at) [
       | inl within ↦
-        let lower = within.0 in
-        let upper = within.1 in
-        let i : ℕ = at - from in
-        let place_is : from + i ≡ at = omega arith in
-        let behind : 8 + 8 * shape.spb + shape.tag_size ≤ i = elim (cases_lt i (8 + 8 * shape.spb + shape.tag_size)) [
-          | inl named ↦ absurd (names (inl (lower, omega arith)))
-          | inr not_named ↦ not_named
-        ] in
-        ap (λ k. slice_index (with_pieces shape n meta parts bytes) k) (sym place_is) ∙ put_place bytes put i (omega arith) ∙ put.fields.zeros i (omega arith)
+          let lower = within.0 in
+          let upper = within.1 in
+          let i : ℕ = at - from in
+          let place_is : from + i ≡ at = omega arith in
+          let behind : 8 + 8 * shape.spb + shape.tag_size ≤ i = elim (cases_lt i (8 + 8 * shape.spb + shape.tag_size)) [
+            | inl named ↦ absurd (names (inl (lower, omega arith)))
+            | inr not_named ↦ not_named
+          ] in
+          ap (λ k. slice_index (with_pieces shape n meta parts bytes) k) (sym place_is) ∙ put_place bytes put i (omega arith) ∙ put.fields.zeros i (omega arith)
       | inr not_place ↦ elim (cases_within start (512 * shape.spb) at) [
         | inl within ↦ absurd (names (inr within))
         | inr not_parts ↦
-          put_others bytes put pieces at (λ own. elim own [ | inl within ↦ not_place within | inr within ↦ not_parts within.0 ])
-          ∙ holds.zeros at (λ named. nothing (put_names shape n entry entries at put.has inside not_place not_parts named))
+            put_others bytes put pieces at (λ own. elim own [ inl within ↦ not_place within | inr within ↦ not_parts within.0 ])
+            ∙ holds.zeros at (λ named. nothing (put_names shape n entry entries at put.has inside not_place not_parts named))
       ]
     ]
 
@@ -315,9 +318,9 @@ puts_entry {shape} {n} {entry} {meta_old} {parts_old} {meta} {parts} {place} put
       };
       others = put_others bytes put pieces;
       ids = λ at last.
-      let fits = entry_fits shape n put.has put.low in
-      put_others bytes put pieces at (λ own. elim own [
-        | inl within ↦ let lower = within.0 in let upper = within.1 in omega arith
-        | inr within ↦ let front = within.1 in omega arith
-      ]);
+          let fits = entry_fits shape n put.has put.low in
+          put_others bytes put pieces at (λ own. elim own [
+            | inl within ↦ let lower = within.0 in let upper = within.1 in omega arith
+            | inr within ↦ let front = within.1 in omega arith
+          ]);
     }

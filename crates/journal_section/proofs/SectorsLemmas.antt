@@ -26,7 +26,7 @@ pub zero_bytes-each : (bytes : List ℕ) (count : ℕ) → length bytes ≡ coun
     → ((k : ℕ) → k < length bytes → slice_index bytes k ≡ 0) ↔ (bytes ≡ zero_bytes count)
 zero_bytes-each bytes count size = (
   λ each. same_lists bytes (replicate count 0) (size ∙ sym (length-replicate count 0)) (λ k other inside.
-    get_or_default bytes k other 0 inside ∙ each k inside ∙ sym (get_or-replicate count k 0 other (omega arith))),
+      get_or_default bytes k other 0 inside ∙ each k inside ∙ sym (get_or-replicate count k 0 other (omega arith))),
   λ is k inside. ap (λ all. slice_index all k) is ∙ get_or-replicate count k 0 0 (omega arith),
 )
 
@@ -43,10 +43,10 @@ ids_more old new i j number id fits low_i low_j low is put before k within =
     let size = length-bytes_of id 8 in
     ap (λ bytes. number_in bytes (512 * k + 504) 8) put ∙ elim (cases_eq k j) [
       | inl same ↦
-        let place : 512 * k + 504 ≡ at = omega arith in
-        ap (λ a. number_in (with_piece at (bytes_of id 8) old) a 8) place
-        ∙ number_in-with_piece at 8 id old (omega arith) (omega arith)
-        ∙ is ∙ ap (λ a. commit_id i a number) (sym same)
+          let place : 512 * k + 504 ≡ at = omega arith in
+          ap (λ a. number_in (with_piece at (bytes_of id 8) old) a 8) place
+          ∙ number_in-with_piece at 8 id old (omega arith) (omega arith)
+          ∙ is ∙ ap (λ a. commit_id i a number) (sym same)
       | inr other ↦ number_in-elsewhere at (bytes_of id 8) old (512 * k + 504) 8 (omega arith) (inl (omega arith)) ∙ before k (omega arith)
     ]
 

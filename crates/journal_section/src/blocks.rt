@@ -23,7 +23,7 @@ pub fn block_bytes(shape: Shape, meta: &[u8], parts: &[u8], n: u64, out: &mut [u
     ensures bytes { out.new ≡ block_in (shape_of shape) meta.now parts.now n }
     ensures entry { (bytes : List ℕ) → HasPieces (shape_of shape) n meta.now parts.now bytes
         → IfSome (slice_index_or (entries_of (shape_of shape) bytes) n None)
-            (λ entry. out.new ≡ entry.bytes) }
+        (λ entry. out.new ≡ entry.bytes) }
 {
     let entry = entry_from(shape, n);
     for k in 0..shape.spb as usize {

@@ -74,7 +74,7 @@ pub fn put_entry(
     ensures put { let entry : Entry = record { sector = sector; bytes = block.now; tag = tag.now } in
         (bytes : List ℕ) → HasPieces (shape_of shape) n meta.old parts.old bytes
         → PutsEntry (shape_of shape) n entry bytes
-            (with_pieces (shape_of shape) n meta.new parts.new bytes) }
+        (with_pieces (shape_of shape) n meta.new parts.new bytes) }
 {
     let from = entry_from(shape, n);
     put_fields(

@@ -11,6 +11,7 @@ mod clearing;
 mod entries;
 mod places;
 mod sealing;
+mod section_laws;
 mod sectors;
 #[cfg(test)]
 mod tests;
@@ -19,4 +20,5 @@ pub use blocks::block_bytes;
 pub use clearing::clear;
 pub use entries::{EntryView, entry, put_entry};
 pub use sealing::seal;
+pub use section_laws::section_is_told;
 pub use sectors::{id_at, is_zero, number};

@@ -39,7 +39,15 @@ fn put(
     }
     let from = size * n as usize;
     let (meta, data) = bytes.split_at_mut(4096);
-    put_entry(shape, meta, &mut data[from..from + size], n, sector, block, tag);
+    put_entry(
+        shape,
+        meta,
+        &mut data[from..from + size],
+        n,
+        sector,
+        block,
+        tag,
+    );
     Ok(())
 }
 

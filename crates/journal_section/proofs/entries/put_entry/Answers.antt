@@ -29,8 +29,8 @@ returns c =
       size_old = c.requires.meta;
       size_place = omega arith;
       meta_is =
-      ap (λ rest. take from old ++ (place ++ rest)) (drop-drop count from old ∙ ap (λ n. drop n old) (omega arith))
-      ∙ ap (λ at. with_piece at place old) is;
+          ap (λ rest. take from old ++ (place ++ rest)) (drop-drop count from old ∙ ap (λ n. drop n old) (omega arith))
+          ∙ ap (λ at. with_piece at place old) is;
       fields = c.put_fields.ensures;
       size_parts = omega arith;
       fronts = c.put_fronts.ensures.fronts;

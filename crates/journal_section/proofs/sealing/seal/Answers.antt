@@ -17,7 +17,7 @@ loop-j-preserved c =
     let new = c.put_number.new.bytes in
     record {
       ids = ids_more old new c.args.i c.loop-j.j c.args.number c.id.result (omega arith) c.requires.section (omega arith) c.requires.number
-      c.id.ensures.id c.put_number.ensures c.loop-j.invariant.ids;
+          c.id.ensures.id c.put_number.ensures c.loop-j.invariant.ids;
       others = λ at front. others_stay old new c.loop-j.j c.id.result (omega arith) c.put_number.ensures at front ∙ c.loop-j.invariant.others at front;
     }
 
