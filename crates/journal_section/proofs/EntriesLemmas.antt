@@ -1,12 +1,12 @@
 -- Lemmas on the words of specs/Entries.antt.
-use Rattle.std.proofs.Common.{◌≡◌, ◌≢◌, ◌⊎◌, inl, inr, ℕ, zero, suc, not, true, ◌+◌, ◌-◌, ◌*◌, ◌/◌, ◌%◌, ◌^◌, ◌<◌, ◌≤◌, List, [], ◌∷◌, ◌++◌, length, take, get_or, replicate, set, slice_index, Option, Some, None, refl, sym, ap, subst, ◌∙◌, arith, length-set}
+use Rattle.std.proofs.Common.{◌≡◌, ◌≢◌, ◌⊎◌, inl, inr, ℕ, zero, suc, not, true, ◌+◌, ◌-◌, ◌*◌, ◌%◌, ◌^◌, ◌<◌, ◌≤◌, List, [], ◌∷◌, ◌++◌, length, take, get_or, replicate, set, slice_index, Option, Some, None, refl, sym, ap, subst, ◌∙◌, arith, length-set}
 use Rattle.std.specs.List.{range_with_len, flat_map}
 use Rattle.std.proofs.lemmas.Bool.{cases_Bool, cases_eq, cases_lt, eq-eqb, ne_eqb}
 use Rattle.std.proofs.lemmas.List.{append-nil, append_assoc, map-id, same_lists, take_all, get_or-set_same, get_or-set_other, get_or-replicate, length-replicate}
 use Rattle.std.proofs.lemmas.List.FromFn.{get_or-map-range_with_len, length-map-range_with_len, map-range_with_len_more}
 use Rattle.std.proofs.lemmas.List.Concat.{flat_map-append}
 use Rattle.std.specs.Option.{IfSome}
-use Rattle.image_model.specs.Geometry.{Shape, entry_size, section_entries, section_sectors}
+use Rattle.image_model.specs.Geometry.{Shape, section_entries, section_sectors}
 use Rattle.image_model.specs.Section.{Entry, entry_from, is_used, parts_of, block_in, entry_at}
 use Rattle.image_model.specs.Sectors.{piece, number_in}
 use Rattle.image_model.proofs.Bounds.{HasEntries}
@@ -14,7 +14,7 @@ use Rattle.image_model.proofs.SectionLemmas.{entry_at-unused, entry_at-used}
 use Rattle.image_model.proofs.SectorLemmas.{number_in-same, piece-same, piece-piece}
 use Rattle.journal_section.specs.Entries.{entries_of, HoldsEntries, IsNamedBy, IsWithin}
 use Rattle.journal_section.specs.Pieces.{HasPieces, with_piece}
-use Rattle.journal_section.proofs.PieceLemmas.{length-with_piece, take-with_piece, with_piece-inside, with_piece-outside}
+use Rattle.journal_section.proofs.PiecesLemmas.{length-with_piece, take-with_piece, with_piece-inside, with_piece-outside}
 use Rattle.journal_section.proofs.PlaceLemmas.{entry_fits, entry_in_meta, parts_fit}
 
 -- ---- places

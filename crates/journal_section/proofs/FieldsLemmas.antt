@@ -1,23 +1,10 @@
 -- Lemmas on the words of specs/Fields.antt.
-use Rattle.std.proofs.Common.{◌≡◌, inl, inr, ℕ, ◌+◌, ◌*◌, ◌^◌, ◌<◌, ◌≤◌, List, [], length, slice_index, refl, sym, ap, ◌∙◌, arith}
+use Rattle.std.proofs.Common.{◌≡◌, inl, inr, ℕ, ◌+◌, ◌*◌, ◌≤◌, List, [], length, slice_index, refl, sym, ap, ◌∙◌, arith}
 use Rattle.std.proofs.lemmas.Bool.{cases_eq}
-use Rattle.image_model.specs.Sectors.{piece, number_in, bytes_of}
-use Rattle.image_model.proofs.SectorLemmas.{length-bytes_of, length-piece}
+use Rattle.image_model.specs.Sectors.{piece, number_in}
 use Rattle.journal_section.specs.Fields.{HasFields}
 use Rattle.journal_section.specs.Pieces.{with_piece}
-use Rattle.journal_section.proofs.PieceLemmas.{length-with_piece, with_piece-outside, piece-with_piece, number_in-with_piece, number_in-elsewhere, piece-elsewhere}
-
--- The sector's number alone, in zeros.
-pub HasFields-none : (sector : ℕ) (block old new : List ℕ) → 8 ≤ length old → sector < 2 ^ 64 → ((at : ℕ) → slice_index old at ≡ 0)
-    → new ≡ with_piece 0 (bytes_of sector 8) old → HasFields 0 sector block [] new
-HasFields-none sector block old new fits low zero put =
-    let size = length-bytes_of sector 8 in
-    record {
-      sector_is = ap (λ bytes. number_in bytes 0 8) put ∙ number_in-with_piece 0 8 sector old (omega arith) (omega arith);
-      lasts = λ k none. absurd (omega arith);
-      tag_is = refl;
-      zeros = λ at behind. ap (λ bytes. slice_index bytes at) put ∙ with_piece-outside 0 (bytes_of sector 8) old at (omega arith) (inr (omega arith)) ∙ zero at;
-    }
+use Rattle.journal_section.proofs.PiecesLemmas.{with_piece-outside, piece-with_piece, number_in-elsewhere, piece-elsewhere}
 
 -- The last bytes of one more sector.
 pub HasFields-more : (k sector : ℕ) (block last old new : List ℕ) → 8 + 8 * k + 8 ≤ length old → length last ≡ 8

@@ -1,4 +1,4 @@
-pub mod PieceLemmas
+pub mod PiecesLemmas
 pub mod PlaceLemmas
 pub mod ShapeLemmas
 pub mod EntriesLemmas
@@ -6,6 +6,6 @@ pub mod SectorsLemmas
 pub mod FieldsLemmas
 pub mod ViewLemmas
 pub mod PutLemmas
-pub mod PiecesLemmas
+pub mod JoinedLemmas
 pub mod ToldLemmas
 mod Worked

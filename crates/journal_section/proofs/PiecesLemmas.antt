@@ -1,84 +1,81 @@
--- A section whose pieces are kept apart, joined.
-use Rattle.std.proofs.Common.{◌≡◌, ℕ, zero, suc, ◌+◌, ◌*◌, ◌<◌, ◌≤◌, List, [], ◌∷◌, ◌++◌, length, take, drop, get_or, set, refl, sym, ap, ◌∙◌, arith, length-append, length-drop}
-use Rattle.std.specs.List.{concat}
-use Rattle.std.proofs.lemmas.List.{drop-drop, drop_at, take_at}
-use Rattle.image_model.specs.Geometry.{Shape, section_entries, section_sectors}
-use Rattle.image_model.specs.Sectors.{piece}
-use Rattle.image_model.proofs.Bounds.{HasEntries}
-use Rattle.journal_section.specs.Pieces.{HasPieces, joined, with_piece, with_pieces}
+-- Lemmas on bytes with a piece of them put anew.
+use Rattle.std.proofs.Common.{◌≡◌, ◌⊎◌, inl, inr, ℕ, ◌+◌, ◌-◌, ◌^◌, ◌<◌, ◌≤◌, List, ◌++◌, length, take, drop, slice_index, refl, sym, ap, ◌∙◌, arith, length-append, length-take, length-drop}
+use Rattle.std.proofs.lemmas.List.{append_assoc, get_or_append_left, get_or-append_right, get_or-take, get_or-drop, length-take-le, take_all, take_at}
+use Rattle.image_model.specs.Sectors.{piece, number_in, bytes_of}
+use Rattle.image_model.proofs.SectorLemmas.{piece-same, number_in-same, number_in-append_right, number_in-bytes_of}
+use Rattle.journal_section.specs.Pieces.{with_piece}
 
--- Behind other bytes a piece is put as it is put alone.
-with_piece-behind : (front : List ℕ) (at : ℕ) (new bytes : List ℕ) → with_piece (length front + at) new (front ++ bytes) ≡ front ++ with_piece at new bytes
-with_piece-behind [] at new bytes = let place : 0 + at ≡ at = omega arith in rw place refl
-with_piece-behind (byte ∷ front) at new bytes =
-    let place : suc (length front) + at ≡ suc (length front + at) = omega arith in
-    let end : suc (length front) + at + length new ≡ suc (length front + at + length new) = omega arith in
-    rw (end, place) (ap (λ rest. byte ∷ rest) (with_piece-behind front at new bytes))
+-- As many bytes are there as before,
+pub length-with_piece : (at : ℕ) (new bytes : List ℕ) → at + length new ≤ length bytes → length (with_piece at new bytes) ≡ length bytes
+length-with_piece at new bytes fits =
+    let rest = drop (at + length new) bytes in
+    omega (arith, length-append (take at bytes) (new ++ rest), length-append new rest, length-take at bytes, length-drop (at + length new) bytes)
 
--- Pieces of one size, joined, are as long as all of them.
-length-concat : (size : ℕ) (parts : List (List ℕ)) → ((k : ℕ) → k < length parts → length (get_or parts k []) ≡ size) → length (concat parts) ≡ length parts * size
-length-concat size [] each = omega arith
-length-concat size (part ∷ parts) each =
-    let first = each 0 (omega arith) in
-    let others = length-concat size parts (λ k low. each (suc k) (omega arith)) in
-    omega (arith, length-append part (concat parts))
+-- the new ones in their place,
+pub with_piece-inside : (at : ℕ) (new bytes : List ℕ) (k : ℕ) → at ≤ length bytes → k < length new
+    → slice_index (with_piece at new bytes) (at + k) ≡ slice_index new k
+with_piece-inside at new bytes k fits inside =
+    let rest = drop (at + length new) bytes in
+    let here : at + k - at ≡ k = omega arith in
+    get_or-append_right (take at bytes) (new ++ rest) at (at + k) 0 (length-take-le at bytes fits) (omega arith)
+    ∙ ap (λ i. slice_index (new ++ rest) i) here
+    ∙ get_or_append_left new rest 0 k inside
 
--- Piece n of them stands behind n others,
-piece-concat : (size : ℕ) (parts : List (List ℕ)) (n : ℕ) → ((k : ℕ) → k < length parts → length (get_or parts k []) ≡ size) → n < length parts
-    → piece (concat parts) (n * size) size ≡ get_or parts n []
-piece-concat size [] n each low = absurd (omega arith)
-piece-concat size (part ∷ parts) zero each low =
-    let none : 0 * size ≡ 0 = omega arith in
-    rw none (take_at part (concat parts) size (each 0 (omega arith)))
-piece-concat size (part ∷ parts) (suc n) each low =
-    let first = each 0 (omega arith) in
-    let place : suc n * size ≡ size + n * size = omega arith in
-    ap (λ at. piece (part ++ concat parts) at size) place
-    ∙ ap (take size) (sym (drop-drop (n * size) size (part ++ concat parts)) ∙ ap (drop (n * size)) (drop_at part (concat parts) size first))
-    ∙ piece-concat size parts n (λ k inside. each (suc k) (omega arith)) (omega arith)
+-- and the others as they were.
+pub with_piece-outside : (at : ℕ) (new bytes : List ℕ) (k : ℕ) → at ≤ length bytes → (k < at) ⊎ (at + length new ≤ k)
+    → slice_index (with_piece at new bytes) k ≡ slice_index bytes k
+with_piece-outside at new bytes k fits (inl before) =
+    let front = length-take-le at bytes fits in
+    get_or_append_left (take at bytes) (new ++ drop (at + length new) bytes) 0 k (omega arith) ∙ get_or-take at bytes k 0 before
+with_piece-outside at new bytes k fits (inr behind) =
+    let rest = drop (at + length new) bytes in
+    let place : at + length new + (k - at - length new) ≡ k = omega arith in
+    get_or-append_right (take at bytes) (new ++ rest) at k 0 (length-take-le at bytes fits) (omega arith)
+    ∙ get_or-append_right new rest (length new) (k - at) 0 refl (omega arith)
+    ∙ get_or-drop (at + length new) bytes (k - at - length new) 0
+    ∙ ap (λ i. slice_index bytes i) place
 
--- and another one in its place is another one among them.
-concat-set : (size : ℕ) (parts : List (List ℕ)) (n : ℕ) (part : List ℕ) → ((k : ℕ) → k < length parts → length (get_or parts k []) ≡ size)
-    → n < length parts → length part ≡ size → with_piece (n * size) part (concat parts) ≡ concat (set parts n part)
-concat-set size [] n part each low is = absurd (omega arith)
-concat-set size (first ∷ parts) zero part each low is =
-    let none : 0 * size ≡ 0 = omega arith in
-    let all : 0 + length part ≡ size = omega arith in
-    rw (none, all) (ap (λ rest. part ++ rest) (drop_at first (concat parts) size (each 0 (omega arith))))
-concat-set size (first ∷ parts) (suc n) part each low is =
-    let place : suc n * size ≡ length first + n * size = let here = each 0 (omega arith) in omega arith in
-    ap (λ at. with_piece at part (first ++ concat parts)) place
-    ∙ with_piece-behind first (n * size) part (concat parts)
-    ∙ ap (λ rest. first ++ rest) (concat-set size parts n part (λ k inside. each (suc k) (omega arith)) (omega arith) is)
+-- The piece put is the piece there.
+pub piece-with_piece : (at : ℕ) (new bytes : List ℕ) → at + length new ≤ length bytes → piece (with_piece at new bytes) at (length new) ≡ new
+piece-with_piece at new bytes fits =
+    let long = length-with_piece at new bytes fits in
+    piece-same (with_piece at new bytes) new at 0 (length new) (omega arith) (omega arith)
+    (λ i inside. with_piece-inside at new bytes i (omega arith) inside ∙ ap (λ k. slice_index new k) (omega arith))
+    ∙ take_all (length new) new (omega arith)
 
--- ---- for callers
+-- The bytes up to its end are those before it, and the piece.
+pub take-with_piece : (at : ℕ) (new bytes : List ℕ) (end : ℕ) → at ≤ length bytes → at + length new ≡ end
+    → take end (with_piece at new bytes) ≡ take at bytes ++ new
+take-with_piece at new bytes end fits is =
+    let rest = drop (at + length new) bytes in
+    let front = length-take-le at bytes fits in
+    ap (take end) (sym (append_assoc (take at bytes) new rest))
+    ∙ take_at (take at bytes ++ new) rest end (omega (arith, length-append (take at bytes) new))
 
--- Pieces kept apart are those of the section that they make, joined.
-pub HasPieces-joined : (shape : Shape) (n : ℕ) (meta : List ℕ) (parts : List (List ℕ)) → HasEntries shape → n < section_entries shape
-    → length meta ≡ 4096 → length parts ≡ section_entries shape
-    → ((k : ℕ) → k < length parts → length (get_or parts k []) ≡ 512 * shape.spb)
-    → HasPieces shape n meta (get_or parts n []) (joined meta parts)
-HasPieces-joined shape n meta parts has low size count each =
-    let sectors = has.sectors_is in
-    let start : 512 * (8 + n * shape.spb) ≡ 4096 + n * (512 * shape.spb) = omega arith in
-    let long = length-concat (512 * shape.spb) parts each in
-    let all : length parts * (512 * shape.spb) ≡ section_entries shape * (512 * shape.spb) = ap (λ k. k * (512 * shape.spb)) count in
-    record {
-      size = omega (arith, length-append meta (concat parts));
-      meta_are = take_at meta (concat parts) 4096 size;
-      parts_are =
-          ap (λ at. piece (meta ++ concat parts) at (512 * shape.spb)) start
-          ∙ ap (take (512 * shape.spb)) (sym (drop-drop (n * (512 * shape.spb)) 4096 (meta ++ concat parts)) ∙ ap (drop (n * (512 * shape.spb))) (drop_at meta (concat parts) 4096 size))
-          ∙ piece-concat (512 * shape.spb) parts n each (omega arith);
-    }
+-- A number put is the number there.
+pub number_in-with_piece : (at size number : ℕ) (bytes : List ℕ) → at ≤ length bytes → number < 256 ^ size
+    → number_in (with_piece at (bytes_of number size) bytes) at size ≡ number
+number_in-with_piece at size number bytes fits low =
+    let front = take at bytes in
+    let rest = drop (at + length (bytes_of number size)) bytes in
+    let place : length front + 0 ≡ at = omega (arith, length-take-le at bytes fits) in
+    ap (λ k. number_in (front ++ (bytes_of number size ++ rest)) k size) (sym place)
+    ∙ number_in-append_right front (bytes_of number size ++ rest) 0 size
+    ∙ number_in-bytes_of number size rest low
 
--- With a put into two of them they make the section that the put leaves.
-pub with_pieces-joined : (shape : Shape) (n : ℕ) (meta new : List ℕ) (parts : List (List ℕ)) (part : List ℕ) → n < length parts
-    → length meta ≡ 4096 → ((k : ℕ) → k < length parts → length (get_or parts k []) ≡ 512 * shape.spb) → length part ≡ 512 * shape.spb
-    → with_pieces shape n new part (joined meta parts) ≡ joined new (set parts n part)
-with_pieces-joined shape n meta new parts part low size each size_part =
-    let place : 512 * (n * shape.spb) ≡ n * (512 * shape.spb) = omega arith in
-    ap (λ rest. new ++ rest)
-    (ap (with_piece (512 * (n * shape.spb)) part) (drop_at meta (concat parts) 4096 size)
-    ∙ ap (λ at. with_piece at part (concat parts)) place
-    ∙ concat-set (512 * shape.spb) parts n part each low size_part)
+-- Numbers and pieces that lie elsewhere stay.
+pub number_in-elsewhere : (at : ℕ) (new bytes : List ℕ) (from size : ℕ) → at ≤ length bytes → (from + size ≤ at) ⊎ (at + length new ≤ from)
+    → number_in (with_piece at new bytes) from size ≡ number_in bytes from size
+number_in-elsewhere at new bytes from size fits (inl before) =
+    number_in-same (with_piece at new bytes) bytes from from size (λ i low. with_piece-outside at new bytes (from + i) fits (inl (omega arith)))
+number_in-elsewhere at new bytes from size fits (inr behind) =
+    number_in-same (with_piece at new bytes) bytes from from size (λ i low. with_piece-outside at new bytes (from + i) fits (inr (omega arith)))
+
+pub piece-elsewhere : (at : ℕ) (new bytes : List ℕ) (from size : ℕ) → at + length new ≤ length bytes → from + size ≤ length bytes
+    → (from + size ≤ at) ⊎ (at + length new ≤ from) → piece (with_piece at new bytes) from size ≡ piece bytes from size
+piece-elsewhere at new bytes from size fits inside apart =
+    let long = length-with_piece at new bytes fits in
+    piece-same (with_piece at new bytes) bytes from from size (omega arith) inside (λ i low. elim apart [
+      | inl before ↦ with_piece-outside at new bytes (from + i) (omega arith) (inl (omega arith))
+      | inr behind ↦ with_piece-outside at new bytes (from + i) (omega arith) (inr (omega arith))
+    ])

@@ -1,18 +1,18 @@
 -- What a put leaves of a section.
-use Rattle.std.proofs.Common.{◌≡◌, ◌≢◌, ◌⊎◌, inl, inr, ℕ, zero, suc, ◌+◌, ◌-◌, ◌*◌, ◌%◌, ◌^◌, ◌<◌, ◌≤◌, List, ◌++◌, length, take, drop, get_or, set, slice_index, Option, Some, None, refl, sym, ap, subst, ◌∙◌, arith, length-append, length-drop, length-set}
+use Rattle.std.proofs.Common.{◌≡◌, ◌≢◌, ◌⊎◌, inl, inr, ℕ, zero, suc, ◌+◌, ◌-◌, ◌*◌, ◌%◌, ◌^◌, ◌<◌, ◌≤◌, List, ◌++◌, length, drop, get_or, set, slice_index, Option, Some, None, refl, sym, ap, subst, ◌∙◌, arith, length-append, length-drop, length-set}
 use Rattle.std.specs.List.{range_with_len, flat_map}
 use Rattle.std.proofs.lemmas.Bool.{cases_eq, cases_lt}
-use Rattle.std.proofs.lemmas.List.{get_or_append_left, get_or-append_right, get_or-take, get_or-drop, get_or-set_same, get_or-set_other, take_all, append-nil}
+use Rattle.std.proofs.lemmas.List.{get_or_append_left, get_or-append_right, get_or-take, get_or-drop, get_or-set_same, get_or-set_other, take_all}
 use Rattle.image_model.specs.Geometry.{Shape, entry_size, section_entries, section_sectors}
-use Rattle.image_model.specs.Section.{Entry, entry_from, parts_of, block_in, entry_at}
-use Rattle.image_model.specs.Sectors.{piece, number_in}
+use Rattle.image_model.specs.Section.{Entry, entry_from, parts_of, entry_at}
+use Rattle.image_model.specs.Sectors.{piece}
 use Rattle.image_model.proofs.Bounds.{HasEntries}
 use Rattle.image_model.proofs.SectionLemmas.{entry_at-used}
 use Rattle.image_model.proofs.SectorLemmas.{number_in-same, number_in-add, piece-same, piece-piece, piece-add}
-use Rattle.journal_section.specs.Entries.{entries_of, HoldsEntries, IsNamed, IsNamedBy, IsOfEntry, IsWithin}
+use Rattle.journal_section.specs.Entries.{HoldsEntries, IsNamed, IsNamedBy, IsOfEntry, IsWithin}
 use Rattle.journal_section.specs.Fields.{HasFields}
 use Rattle.journal_section.specs.Pieces.{HasPieces, PutsEntry, with_piece, with_pieces}
-use Rattle.journal_section.proofs.PieceLemmas.{length-with_piece, with_piece-inside, with_piece-outside}
+use Rattle.journal_section.proofs.PiecesLemmas.{length-with_piece, with_piece-inside, with_piece-outside}
 use Rattle.journal_section.proofs.PlaceLemmas.{entry_fits, entry_in_meta, entries_apart, parts_fit, parts_apart}
 use Rattle.journal_section.proofs.EntriesLemmas.{cases_within, flat_map-same, length-entries_of, entry_at-same, entries_of-put, is_used-word}
 

@@ -8,7 +8,7 @@ use Rattle.image_model.specs.Sectors.{number_in, bytes_of, zero_bytes}
 use Rattle.image_model.proofs.CommitIdLemmas.{commit_id-low, number_of-commit_id}
 use Rattle.image_model.proofs.SectorLemmas.{number_in-piece, length-bytes_of}
 use Rattle.journal_section.specs.Pieces.{with_piece}
-use Rattle.journal_section.proofs.PieceLemmas.{with_piece-outside, number_in-with_piece, number_in-elsewhere}
+use Rattle.journal_section.proofs.PiecesLemmas.{with_piece-outside, number_in-with_piece, number_in-elsewhere}
 
 -- The id of a sector is the number in its last 8 bytes.
 pub id_in-sector_in : (bytes : List ℕ) (j : ℕ) → id_in (sector_in bytes j) ≡ number_in bytes (512 * j + 504) 8

@@ -1,9 +1,9 @@
 -- What holds of the places that a `Shape` gives.
-use Rattle.std.proofs.Common.{◌≡◌, ℕ, ◌+◌, ◌*◌, ◌/◌, ◌^◌, ◌<◌, ◌≤◌, arith}
+use Rattle.std.proofs.Common.{ℕ, ◌+◌, ◌*◌, ◌/◌, ◌<◌, ◌≤◌, arith}
 use Rattle.commit_id.specs.declared.shape.Shape.{Shape}
 use Rattle.commit_id.specs.Shape.{shape_of, IsShape}
 use Rattle.commit_id.proofs.ShapeLemmas.{shape_holds}
-use Rattle.image_model.specs.Geometry.{section_entries, section_sectors}
+use Rattle.image_model.specs.Geometry.{section_entries}
 use Rattle.journal_section.proofs.PlaceLemmas.{entry_fits, parts_fit}
 
 -- An entry of a shape is one of the section's.

@@ -1,20 +1,20 @@
 -- A section is told by its entries and its commit number: each byte of it follows from these.
-use Rattle.std.proofs.Common.{◌≡◌, ◌⊎◌, inl, inr, ℕ, zero, suc, true, false, ◌+◌, ◌-◌, ◌*◌, ◌/◌, ◌%◌, ◌^◌, ◌<◌, ◌≤◌, ◌==◌, List, ◌++◌, length, get_or, slice_index, Option, Some, None, refl, sym, ap, ◌∙◌, arith, length-append}
+use Rattle.std.proofs.Common.{◌≡◌, ◌⊎◌, inl, inr, ℕ, zero, suc, true, false, ◌+◌, ◌-◌, ◌*◌, ◌/◌, ◌%◌, ◌^◌, ◌<◌, ◌≤◌, ◌==◌, List, ◌++◌, length, get_or, slice_index, Option, Some, None, sym, ap, ◌∙◌, arith, length-append}
 use Rattle.std.specs.List.{range_with_len, flat_map}
 use Rattle.std.proofs.lemmas.Bool.{cases_Bool, cases_lt, eqb-true, not_from_false, true≢false}
 use Rattle.std.proofs.lemmas.Grind.{same_number_lists}
 use Rattle.std.proofs.lemmas.List.{get_or_append_left, get_or-append_right, get_or-take, get_or-drop}
-use Rattle.image_model.specs.CommitId.{commit_id, id_in, number_of}
-use Rattle.image_model.specs.Geometry.{Shape, entry_size, section_entries, section_sectors}
+use Rattle.image_model.specs.CommitId.{id_in}
+use Rattle.image_model.specs.Geometry.{Shape, section_entries, section_sectors}
 use Rattle.image_model.specs.Section.{Entry, entry_from, is_used, parts_of, block_in, entry_at}
 use Rattle.image_model.specs.Sectors.{piece, number_in, bytes_of}
 use Rattle.image_model.proofs.BelowLemmas.{all_or_some}
 use Rattle.image_model.proofs.Bounds.{HasEntries}
 use Rattle.image_model.proofs.CommitIdLemmas.{number_of_tells}
 use Rattle.image_model.proofs.SectionLemmas.{entry_at-unused, entry_at-used}
-use Rattle.image_model.proofs.SectorLemmas.{bytes_of-number_in, length-piece, piece-piece}
+use Rattle.image_model.proofs.SectorLemmas.{bytes_of-number_in, length-piece}
 use Rattle.disk_model.specs.Disk.{sector_in}
-use Rattle.journal_section.specs.Entries.{entries_of, BearsNumber, HoldsEntries, IsNamed, IsNamedBy}
+use Rattle.journal_section.specs.Entries.{BearsNumber, HoldsEntries, IsNamed, IsNamedBy}
 use Rattle.journal_section.proofs.EntriesLemmas.{cases_within, entries_of-at, length-entries_of}
 use Rattle.journal_section.proofs.PlaceLemmas.{entry_in_meta, parts_fit}
 use Rattle.journal_section.proofs.SectorsLemmas.{id_in-sector_in}

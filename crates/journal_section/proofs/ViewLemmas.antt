@@ -1,8 +1,8 @@
 -- What the metadata sectors tell of an entry.
 use Rattle.std.proofs.Common.{◌≡◌, ◌≢◌, ℕ, ◌+◌, ◌-◌, ◌*◌, ◌^◌, ◌<◌, List, ◌++◌, length, get_or, Some, None, refl, sym, ap, ◌∙◌, arith, length-append}
 use Rattle.std.specs.Option.{option_map}
-use Rattle.image_model.specs.Geometry.{Shape, entry_size, section_entries}
-use Rattle.image_model.specs.Section.{Entry, entry_from, parts_of, block_in}
+use Rattle.image_model.specs.Geometry.{Shape, section_entries}
+use Rattle.image_model.specs.Section.{entry_from}
 use Rattle.image_model.specs.Sectors.{piece, number_in}
 use Rattle.image_model.proofs.Bounds.{HasEntries}
 use Rattle.image_model.proofs.SectionLemmas.{entry_at-used}

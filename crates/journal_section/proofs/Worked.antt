@@ -1,13 +1,13 @@
 -- A small section, by computing: blocks of one sector, and tags of 32 bytes.
-use Rattle.std.proofs.Common.{◌≡◌, ℕ, refl, Option, Some, None, List, ◌∷◌, ◌++◌, replicate, take, drop}
+use Rattle.std.proofs.Common.{◌≡◌, ℕ, refl, Some, None, List, ◌∷◌, ◌++◌, replicate}
 use Rattle.std.specs.List.{repeat}
 use Rattle.disk_model.specs.Disk.{sector_in}
 use Rattle.image_model.specs.CommitId.{commit_id, commit_number, number_of, id_in}
 use Rattle.image_model.specs.Geometry.{Shape, entry_size, entries_per_sector, section_entries}
-use Rattle.image_model.specs.Section.{Entry, is_used, entry_at, parts_of}
+use Rattle.image_model.specs.Section.{is_used, entry_at}
 use Rattle.image_model.specs.Sectors.{bytes_of}
 use Rattle.journal_section.specs.Entries.{entries_of}
-use Rattle.journal_section.specs.Pieces.{with_piece, with_pieces}
+use Rattle.journal_section.specs.Pieces.{with_pieces}
 
 abbrev shape : Shape
 shape = record { spb = 1; tag_size = 32 }

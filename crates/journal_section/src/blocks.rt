@@ -12,7 +12,7 @@ use commit_id::Shape;
 /// Puts the bytes of entry `n`'s block into `out`, by one copy: of each sector the first 504 from its data
 /// sectors, and the last 8 from the entry.
 ///
-/// Source: Linux, `drivers/md/dm-integrity.c`, `do_journal_write`.
+/// Source: Linux, `drivers/md/dm-integrity.c`, `restore_last_bytes`.
 pub fn block_bytes(shape: Shape, meta: &[u8], parts: &[u8], n: u64, out: &mut [u8])
     requires shape { IsShape shape }
     requires meta { length meta.now ≡ 4096 }

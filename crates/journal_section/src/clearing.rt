@@ -11,7 +11,7 @@ use commit_id::Shape;
 /// Makes section `i` empty of commit number `number`: each entry is unused, and each byte that nothing
 /// names is zero.
 ///
-/// Source: Linux, `drivers/md/dm-integrity.c`, `init_journal`. Own: the zeros.
+/// Source: Linux, `drivers/md/dm-integrity.c`, `init_journal`.
 pub fn clear(shape: Shape, i: u64, number: u8, bytes: &mut [u8])
     requires shape { IsShape shape }
     requires section { i < 2 ^ 20 }

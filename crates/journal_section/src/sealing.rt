@@ -9,7 +9,7 @@ use commit_id::{Shape, id};
 
 /// Writes the commit ids of commit number `number` on all sectors of section `i`, and nothing else.
 ///
-/// Source: Linux, `drivers/md/dm-integrity.c`, `rw_section_mac` and `dm_integrity_commit_id`.
+/// Source: Linux, `drivers/md/dm-integrity.c`, `integrity_commit`.
 pub fn seal(shape: Shape, i: u64, number: u8, bytes: &mut [u8])
     requires shape { IsShape shape }
     requires section { i < 2 ^ 20 }

@@ -1,4 +1,4 @@
-use Rattle.std.proofs.Common.{◌≡◌, ℕ, ◌+◌, ◌*◌, ◌-◌, ◌++◌, List, refl, ap, ◌∙◌, arith}
+use Rattle.std.proofs.Common.{◌≡◌, ◌+◌, ◌*◌, ◌-◌, ◌++◌, refl, arith}
 use Rattle.commit_id.specs.Shape.{shape_of}
 use Rattle.commit_id.proofs.ShapeLemmas.{shape_holds}
 use Rattle.image_model.specs.Section.{entry_from}

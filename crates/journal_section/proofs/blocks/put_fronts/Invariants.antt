@@ -1,4 +1,4 @@
-use Rattle.std.proofs.Common.{◌≡◌, ℕ, ◌+◌, ◌*◌, ◌%◌, ◌<◌, ◌≤◌, slice_index}
+use Rattle.std.proofs.Common.{◌≡◌, ℕ, ◌*◌, ◌%◌, ◌<◌, ◌≤◌, slice_index}
 use Rattle.journal_section.proofs.blocks.put_fronts.Given as goal
 
 -- The sectors so far have the block's bytes, and all else is as it was.

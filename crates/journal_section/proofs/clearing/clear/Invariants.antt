@@ -1,4 +1,4 @@
-use Rattle.std.proofs.Common.{◌≡◌, ℕ, ◌+◌, ◌-◌, ◌^◌, ◌<◌, slice_index}
+use Rattle.std.proofs.Common.{◌≡◌, ℕ, ◌+◌, ◌<◌, slice_index}
 use Rattle.commit_id.specs.Shape.{shape_of}
 use Rattle.image_model.specs.Section.{entry_from}
 use Rattle.journal_section.specs.Entries.{IsWithin}

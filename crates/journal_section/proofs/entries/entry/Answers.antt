@@ -1,8 +1,8 @@
-use Rattle.std.proofs.Common.{◌≡◌, ◌≢◌, ℕ, ◌+◌, ◌*◌, ◌-◌, ◌^◌, ◌∙◌, ap, arith}
+use Rattle.std.proofs.Common.{◌≡◌, ◌+◌, ◌*◌, ◌-◌, ◌∙◌, ap, arith}
 use Rattle.commit_id.specs.Shape.{shape_of}
 use Rattle.commit_id.proofs.ShapeLemmas.{shape_holds}
 use Rattle.image_model.specs.Section.{entry_from}
-use Rattle.image_model.specs.Sectors.{piece, number_in}
+use Rattle.image_model.specs.Sectors.{number_in}
 use Rattle.image_model.proofs.SectorLemmas.{number_in-piece}
 use Rattle.journal_section.proofs.ShapeLemmas.{entry_low}
 use Rattle.journal_section.proofs.ViewLemmas.{view_of-none, view_of-some}

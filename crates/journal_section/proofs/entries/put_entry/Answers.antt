@@ -1,8 +1,8 @@
-use Rattle.std.proofs.Common.{◌≡◌, ◌+◌, ◌-◌, ◌++◌, ℕ, List, take, drop, ap, ◌∙◌, arith}
+use Rattle.std.proofs.Common.{◌+◌, ◌-◌, ◌++◌, ℕ, List, take, drop, ap, ◌∙◌, arith}
 use Rattle.std.proofs.lemmas.List.{drop-drop}
 use Rattle.commit_id.specs.Shape.{shape_of}
 use Rattle.commit_id.proofs.ShapeLemmas.{shape_holds}
-use Rattle.image_model.specs.Section.{Entry, entry_from}
+use Rattle.image_model.specs.Section.{Entry}
 use Rattle.journal_section.specs.Pieces.{with_piece}
 use Rattle.journal_section.proofs.PutLemmas.{IsPut, puts_entry}
 use Rattle.journal_section.proofs.ShapeLemmas.{entry_low}

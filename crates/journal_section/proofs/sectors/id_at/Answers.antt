@@ -1,4 +1,4 @@
-use Rattle.std.proofs.Common.{◌≡◌, ◌+◌, ◌*◌, ◌∙◌, sym, ap, length, arith}
+use Rattle.std.proofs.Common.{◌+◌, ◌*◌, ◌∙◌, sym, ap, arith}
 use Rattle.image_model.specs.Sectors.{number_in}
 use Rattle.image_model.proofs.SectorLemmas.{number_in-piece}
 use Rattle.journal_section.proofs.SectorsLemmas.{id_in-sector_in}

@@ -1,4 +1,4 @@
-use Rattle.std.proofs.Common.{◌≡◌, ◌+◌, ◌*◌, ◌-◌, ◌∙◌, sym, ap, take, drop, length, arith}
+use Rattle.std.proofs.Common.{◌≡◌, ◌+◌, ◌*◌, ◌-◌, take, drop, arith}
 use Rattle.image_model.proofs.SectorLemmas.{length-piece}
 use Rattle.journal_section.proofs.SectorsLemmas.{zero_bytes-each}
 use Rattle.journal_section.proofs.sectors.is_zero.Goals as goal
