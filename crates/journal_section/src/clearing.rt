@@ -4,7 +4,7 @@ ghost use Rattle.commit_id.specs.Shape.{shape_of, IsShape};
 ghost use Rattle.image_model.specs.Section.{entry_from};
 ghost use Rattle.journal_section.specs.Entries.{BearsNumber, HoldsEntries, IsWithin};
 
-use crate::places::{entry_from, put};
+use crate::places::{HIGH_HALF, entry_from, put};
 use crate::sealing::seal;
 use commit_id::Shape;
 
@@ -23,7 +23,7 @@ pub fn clear(shape: Shape, i: u64, number: u8, bytes: &mut [u8])
 {
     bytes.fill(0);
     for n in 0..shape.entries {
-        put(bytes, entry_from(shape, n) + 4, &[0xff; 4]);
+        put(bytes, entry_from(shape, n) + HIGH_HALF, &[0xff; 4]);
     }
     seal(shape, i, number, bytes);
 }

@@ -9,7 +9,7 @@ ghost use Rattle.journal_section.specs.View.{view_of};
 ghost use Rattle.journal_section.specs.Fields.{HasFields};
 
 use crate::blocks::put_fronts;
-use crate::places::{ID_FROM, SECTOR, WORD, entry_from, put, put_number};
+use crate::places::{HIGH_HALF, ID_FROM, SECTOR, WORD, entry_from, put, put_number};
 use byteorder::{ByteOrder, LittleEndian};
 use commit_id::Shape;
 use hmac_tag::Tag;
@@ -40,7 +40,7 @@ pub fn entry(shape: Shape, meta: &[u8], n: u64) -> Option<EntryView>
         ≡ option_map view_of (slice_index_or (entries_of (shape_of shape) (meta.now ++ parts)) n None) }
 {
     let from = entry_from(shape, n);
-    if LittleEndian::read_u32(&meta[from + 4..]) == UNUSED {
+    if LittleEndian::read_u32(&meta[from + HIGH_HALF..]) == UNUSED {
         return None;
     }
     let tag = from + tag_from(shape);

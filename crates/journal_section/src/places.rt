@@ -24,6 +24,11 @@ pub(crate) const ID_FROM: usize = 504;
 /// Source: Linux, `drivers/md/dm-integrity.c`, `commit_id_t` and `struct journal_entry`.
 pub(crate) const WORD: usize = 8;
 
+/// The byte of an entry where the higher half of its sector's number begins.
+///
+/// Source: Linux, `drivers/md/dm-integrity.c`, `struct journal_entry`.
+pub(crate) const HIGH_HALF: usize = 4;
+
 /// How many metadata sectors a section has.
 ///
 /// Source: Linux, `drivers/md/dm-integrity.c`, `JOURNAL_BLOCK_SECTORS`.
@@ -38,6 +43,8 @@ pub(crate) fn entry_from(shape: Shape, n: u64) -> usize
 
     ensures place { result ≡ entry_from (shape_of shape) n }
     ensures fits { result + shape.entry ≤ 4096 }
+
+    // How large an entry is, for those who index in it.
     ensures size { shape.entry ≡ entry_size (shape_of shape) }
     ensures fields { 8 + 8 * shape.spb + shape.tag ≤ shape.entry }
     ensures spb { shape.spb ≤ 8 }

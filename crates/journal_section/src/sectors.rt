@@ -33,9 +33,9 @@ pub fn is_zero(bytes: &[u8], j: u64) -> bool
 ///
 /// Source: Linux, `drivers/md/dm-integrity.c`, `find_commit_seq`.
 pub fn number(bytes: &[u8], i: u64, j: u64) -> Option<u8>
+    requires bytes { 512 * (j + 1) ≤ length bytes.now }
     requires section { i < 2 ^ 20 }
-    requires sector { 512 * (j + 1) ≤ length bytes.now }
-    requires place { j < 2 ^ 20 }
+    requires sector { j < 2 ^ 20 }
 
     ensures { result ≡ commit_number i j (sector_in bytes.now j) }
 {
