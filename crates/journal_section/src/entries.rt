@@ -1,5 +1,5 @@
 //! The entries of a section, put and read.
-ghost use Rattle.std.specs.Prelude.{◌≡◌, ℕ, ◌+◌, ◌*◌, ◌^◌, ◌<◌, ◌≤◌, ◌++◌, List, length, None, slice_index_or};
+ghost use Rattle.std.specs.Prelude.{◌≡◌, ℕ, ◌+◌, ◌*◌, ◌^◌, ◌<◌, ◌≤◌, List, length, take, None, slice_index_or};
 ghost use Rattle.std.specs.Option.{option_map};
 ghost use Rattle.commit_id.specs.Shape.{shape_of, IsShape};
 ghost use Rattle.image_model.specs.Section.{Entry};
@@ -36,8 +36,8 @@ pub fn entry(shape: Shape, meta: &[u8], n: u64) -> Option<EntryView>
     requires meta { length meta.now ≡ 4096 }
     requires n { n < shape.entries }
 
-    ensures { (parts : List ℕ) → result
-        ≡ option_map view_of (slice_index_or (entries_of (shape_of shape) (meta.now ++ parts)) n None) }
+    ensures { (bytes : List ℕ) → take 4096 bytes ≡ meta.now
+        → result ≡ option_map view_of (slice_index_or (entries_of (shape_of shape) bytes) n None) }
 {
     let from = entry_from(shape, n);
     if LittleEndian::read_u32(&meta[from + HIGH_HALF..]) == UNUSED {

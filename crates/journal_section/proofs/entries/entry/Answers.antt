@@ -16,8 +16,8 @@ returns-then-read_u32 c =
     let from = c.entry_from-from.result + 4 in
     let word = c.read_u32.ensures ∙ number_in-piece meta 0 4 from _ (omega arith)
     ∙ ap (λ at. number_in meta at 4) (let place : from + 0 ≡ entry_from shape c.args.n + 4 = omega arith in place) in
-    λ parts. view_of-none shape meta parts c.args.n c.read_u32.result (shape_holds c.args.shape c.requires.shape).2
-    (entry_low c.args.shape c.args.n c.requires.shape c.requires.n) c.requires.meta word (omega arith)
+    λ bytes front. view_of-none shape meta bytes c.args.n c.read_u32.result (shape_holds c.args.shape c.requires.shape).2
+    (entry_low c.args.shape c.args.n c.requires.shape c.requires.n) front word (omega arith)
 
 pub returns : goal.returns
 returns c =
@@ -36,5 +36,5 @@ returns c =
     let place : tag_from ≡ entry_from shape c.args.n + 8 + 8 * c.args.shape.spb = omega arith in
     let tag = rw (size, place) at c.from_bytes.ensures in
     let used = c.if-read_u32.false in
-    λ parts. view_of-some shape meta parts c.from_bytes.result c.args.n c.read_u32.result c.read_u64.result (shape_holds c.args.shape c.requires.shape).2
-    (entry_low c.args.shape c.args.n c.requires.shape c.requires.n) c.requires.meta word (λ ones. used (ones)) sector tag
+    λ bytes front. view_of-some shape meta bytes c.from_bytes.result c.args.n c.read_u32.result c.read_u64.result (shape_holds c.args.shape c.requires.shape).2
+    (entry_low c.args.shape c.args.n c.requires.shape c.requires.n) front word used sector tag
