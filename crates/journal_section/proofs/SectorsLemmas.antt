@@ -1,10 +1,9 @@
 -- What the sectors of a section bear.
-use Rattle.std.proofs.Common.{◌≡◌, ◌↔◌, inl, inr, ℕ, ◌+◌, ◌*◌, ◌%◌, ◌^◌, ◌<◌, ◌≤◌, List, length, slice_index, replicate, sym, ap, ◌∙◌, arith, Some}
+use Rattle.std.proofs.Common.{◌≡◌, inl, inr, ℕ, ◌+◌, ◌*◌, ◌%◌, ◌^◌, ◌<◌, ◌≤◌, List, length, slice_index, sym, ap, ◌∙◌, arith, Some}
 use Rattle.std.proofs.lemmas.Bool.{cases_eq, cases_lt}
-use Rattle.std.proofs.lemmas.List.{same_lists, get_or-replicate, get_or_default, length-replicate}
 use Rattle.disk_model.specs.Disk.{sector_in}
 use Rattle.image_model.specs.CommitId.{commit_id, commit_number, id_in, number_of}
-use Rattle.image_model.specs.Sectors.{number_in, bytes_of, zero_bytes}
+use Rattle.image_model.specs.Sectors.{number_in, bytes_of}
 use Rattle.image_model.proofs.CommitIdLemmas.{commit_id-low, number_of-commit_id}
 use Rattle.image_model.proofs.SectorLemmas.{number_in-piece, length-bytes_of}
 use Rattle.journal_section.specs.Pieces.{with_piece}
@@ -20,15 +19,6 @@ pub commit_number-written : (bytes : List ℕ) (i j number : ℕ) → i < 2 ^ 20
     → number_in bytes (512 * j + 504) 8 ≡ commit_id i j number → commit_number i j (sector_in bytes j) ≡ Some number
 commit_number-written bytes i j number low_i low_j low is =
     ap (number_of i j) (id_in-sector_in bytes j ∙ is) ∙ number_of-commit_id i j number low_i low_j low
-
--- So many bytes are zero each exactly where they are so many zeros.
-pub zero_bytes-each : (bytes : List ℕ) (count : ℕ) → length bytes ≡ count
-    → ((k : ℕ) → k < length bytes → slice_index bytes k ≡ 0) ↔ (bytes ≡ zero_bytes count)
-zero_bytes-each bytes count size = (
-  λ each. same_lists bytes (replicate count 0) (size ∙ sym (length-replicate count 0)) (λ k other inside.
-      get_or_default bytes k other 0 inside ∙ each k inside ∙ sym (get_or-replicate count k 0 other (omega arith))),
-  λ is k inside. ap (λ all. slice_index all k) is ∙ get_or-replicate count k 0 0 (omega arith),
-)
 
 -- ---- a seal, sector by sector
 

@@ -1,8 +1,8 @@
 //! What the sectors of a section bear.
-ghost use Rattle.std.specs.Prelude.{◌≡◌, ◌↔◌, ◌+◌, ◌*◌, ◌^◌, ◌<◌, ◌≤◌, EachIndex, IsTrue, length, slice_index};
+ghost use Rattle.std.specs.Prelude.{◌≡◌, ◌+◌, ◌*◌, ◌^◌, ◌<◌, ◌≤◌, length};
 ghost use Rattle.disk_model.specs.Disk.{sector_in};
 ghost use Rattle.image_model.specs.CommitId.{commit_number, id_in};
-ghost use Rattle.image_model.specs.Sectors.{zero_bytes};
+ghost use Rattle.image_model.specs.Grid.{is_zero_sector};
 
 use crate::places::{ID_FROM, SECTOR};
 use byteorder::{ByteOrder, LittleEndian};
@@ -23,7 +23,7 @@ pub fn id_at(bytes: &[u8], j: u64) -> u64
 pub fn is_zero(bytes: &[u8], j: u64) -> bool
     requires { 512 * (j + 1) ≤ length bytes.now }
 
-    ensures { IsTrue result ↔ (sector_in bytes.now j ≡ zero_bytes 512) }
+    ensures { result ≡ is_zero_sector (sector_in bytes.now j) }
 {
     let from = SECTOR * j as usize;
     are_zero(&bytes[from..from + SECTOR])
@@ -44,7 +44,7 @@ pub fn number(bytes: &[u8], i: u64, j: u64) -> Option<u8>
 
 /// Whether all bytes are zero.
 fn are_zero(bytes: &[u8]) -> bool
-    ensures { IsTrue result ↔ EachIndex bytes.now (λ k. slice_index bytes.now k ≡ 0) }
+    ensures { result ≡ is_zero_sector bytes.now }
 {
     bytes.iter().all(|byte| *byte == 0)
 }
