@@ -1,0 +1,5 @@
+pub mod Entries
+pub mod Pieces
+pub mod View
+pub mod Fields
+pub mod SectionLaws
