@@ -19,7 +19,9 @@ fn trouble(disk: &mut MemDisk, given: &mut Given<'_>, status: u8) -> Result<(), 
 }
 
 #[test]
-fn with_ample_memory_a_run_has_each_status_but_7(rt: HostRuntime) -> Result<(), Fail> {
+fn with_ample_memory_a_run_has_each_status_but_7_and_touches_no_key(
+    rt: HostRuntime,
+) -> Result<(), Fail> {
     let alloc = rt.alloc();
     let small = small_disk(alloc, SECTORS)?;
     for status in 0..=6 {

@@ -1,7 +1,24 @@
 //! Images that are of the one form, and images that are not.
 use crate::running::{Given, run};
-use crate::small_disk::{SECTORS, copy_of, flip, small_disk, zero_disk};
+use crate::small_disk::{SECTORS, copy_of, flip, sector_of, small_disk, zero_disk};
+use sha2::{Digest, Sha256};
 use std::test::Fail;
+
+#[test]
+fn the_disk_is_the_stored_small_image(rt: HostRuntime) -> Result<(), Fail> {
+    let mut disk = small_disk(rt.alloc(), SECTORS)?;
+    let mut hasher = Sha256::new();
+    for at in 0..SECTORS {
+        hasher.update(sector_of(&mut disk, at)?);
+    }
+    let digest = hex::encode(rt.alloc(), hasher.finalize())?;
+    // Source: sha256sum of GNU coreutils, over crates/integrity_main/data/small.
+    assert_eq!(rt;
+        digest.as_str(),
+        "eb3a99161ac693c296c36a9b0a4bde80049e287d21f16e2c09d90f73fa744ddd"
+    );
+    Ok(())
+}
 
 #[test]
 fn each_bit_of_the_first_64_bytes_tells_the_form(rt: HostRuntime) -> Result<(), Fail> {

@@ -27,7 +27,7 @@ pub enum Cut {
 /// Every kind of cut.
 pub const CUTS: [Cut; 4] = [Cut::Oldest, Cut::Newest, Cut::NewestData, Cut::NewestTags];
 
-/// The image that a cut leaves, of so many filled blocks.
+/// The image that a cut leaves. The blocks are those that were filled, so that they may have several candidates.
 pub fn image_after(
     alloc: Global,
     disk: &MemDisk,
@@ -74,9 +74,9 @@ struct Left {
     later: u8,
 }
 
-/// What may be left where the text of so many lines stands whole. Of the next line a part may be there.
+/// What may be left where the text of so many lines stands whole. Of the next line a part may be there, or all of it.
 ///
-/// Own: docs/COMMANDS.md; the third line is the flush, and the fourth fills block 2 again.
+/// Source: docs/COMMANDS.md, "What is printed". The third line is the flush, and the fourth fills block 2 again.
 fn left_after(lines: usize) -> [Left; 3] {
     let [one, two, eight] = match lines {
         0 => [(0, 0xaa), (0, 0xaa), (0, 0)],

@@ -64,12 +64,8 @@ const WRONG_VALUES: [&str; 51] = [
     "fill 0 1 -5",
 ];
 
-/// Wrong words and spaces.
-const WRONG_WORDS: [&str; 50] = [
-    "",
-    " ",
-    "#",
-    "# a comment",
+/// Wrong words, and what is no space.
+const WRONG_WORDS: [&str; 32] = [
     "\r",
     "\t",
     // Words that begin no line.
@@ -83,11 +79,6 @@ const WRONG_WORDS: [&str; 50] = [
     "FLUSH",
     "flus",
     "flushflush",
-    "write 0 5a*512",
-    "start read 0 1",
-    "serve 1",
-    "take 1",
-    "step commit",
     "closed",
     "0 1",
     // A word is missing.
@@ -103,10 +94,28 @@ const WRONG_WORDS: [&str; 50] = [
     "read 0 1 5a",
     "read 0 1 fua",
     "fill 0 1 5a 5a",
-    "fill 0 1 5a fua",
     "flush 0",
     "flush fua",
-    // Spaces and what is none.
+    // Spaces that are none.
+    "read\t0 1",
+    "read 0\t1",
+    "read 0 1\t",
+    "read 0 1\r",
+    "flush\r",
+];
+
+/// Lines of other forms: empty ones, comments, lines of the other modes, and more spaces than one.
+const OTHER_FORMS: [&str; 18] = [
+    "",
+    " ",
+    "#",
+    "# a comment",
+    "write 0 5a*512",
+    "start read 0 1",
+    "serve 1",
+    "take 1",
+    "step commit",
+    "fill 0 1 5a fua",
     " read 0 1",
     "read 0 1 ",
     "read  0 1",
@@ -115,11 +124,6 @@ const WRONG_WORDS: [&str; 50] = [
     "fill 0 1 5a ",
     " flush",
     "flush ",
-    "read\t0 1",
-    "read 0\t1",
-    "read 0 1\t",
-    "read 0 1\r",
-    "flush\r",
 ];
 
 /// Expects of a script where it is refused, and that the text of the lines before stands whole.
@@ -161,9 +165,18 @@ fn a_line_with_a_wrong_value_is_refused(rt: HostRuntime) -> Result<(), Fail> {
 }
 
 #[test]
-fn a_line_with_wrong_words_or_spaces_is_refused(rt: HostRuntime) -> Result<(), Fail> {
+fn a_line_with_wrong_words_is_refused(rt: HostRuntime) -> Result<(), Fail> {
     let small = small_disk(rt.alloc(), SECTORS)?;
     for line in &WRONG_WORDS {
+        expect_refused(&rt, rt.alloc(), &small, line)?;
+    }
+    Ok(())
+}
+
+#[test]
+fn a_line_of_another_form_is_refused(rt: HostRuntime) -> Result<(), Fail> {
+    let small = small_disk(rt.alloc(), SECTORS)?;
+    for line in &OTHER_FORMS {
         expect_refused(&rt, rt.alloc(), &small, line)?;
     }
     Ok(())

@@ -59,7 +59,8 @@ impl Ended {
     }
 }
 
-/// Runs the program's call. Its key is never touched, and memory is ample: the status is not 7.
+/// Runs the program's call. No run touches its key, and none wants memory where it is ample.
+// It is built once, whatever the number of tests.
 #[inline(never)]
 pub fn run(
     rt: &impl Abort,

@@ -17,19 +17,23 @@ const ROOM: u64 = 256;
 /// Source: Linux, drivers/md/dm-integrity.c, struct superblock.
 const SUPERBLOCK: &str = "696e7465677274000403200001000000500000000000000008000000000f0000";
 
-/// The sector where the data of `block` lie. Areas have 8 sectors of tags and then 8 blocks, from sector 96 on.
+/// The last block of the small image.
+const LAST_BLOCK: u64 = 79;
+
+/// The sector where the data of `block` lie. From sector 96 on there come areas, each of 8 sectors of tags and then 8
+/// blocks.
 ///
 /// Source: Linux, Documentation/admin-guide/device-mapper/dm-integrity.rst, the layout of the device.
 pub fn data_at(block: u64) -> u64 {
-    104 + block.min(79) / 8 * 16 + block % 8
+    104 + block.min(LAST_BLOCK) / 8 * 16 + block % 8
 }
 
 /// The sector where the tag of `block` stands, among those of its area.
 pub fn tag_at(block: u64) -> u64 {
-    96 + block.min(79) / 8 * 16
+    96 + block.min(LAST_BLOCK) / 8 * 16
 }
 
-/// The digest of a block's number and its bytes.
+/// The digest of a block's number, as 8 bytes with the lowest first, and its bytes: its tag, where these are right.
 ///
 /// Source: FIPS 180-4, section 6.2.
 pub fn digest_of(block: u64, bytes: &[u8; 512]) -> [u8; 32] {
@@ -99,15 +103,21 @@ fn put(disk: &mut MemDisk, at: u64, bytes: &[u8; 512]) -> Result<(), Failed> {
     Ok(())
 }
 
-/// Flips a bit of a byte of a sector, and settles it.
-pub fn flip(disk: &mut MemDisk, at: u64, byte: usize, bit: u8) -> Result<(), Failed> {
+/// The bytes of a sector. One that is not on the disk fails too.
+pub fn sector_of(disk: &mut MemDisk, at: u64) -> Result<[u8; 512], Failed> {
     if at >= disk.sectors() {
         return Err(Failed);
     }
     let mut sector = [0; 512];
     disk.read_run(at, &mut sector)?;
+    Ok(sector)
+}
+
+/// Flips a bit of a byte of a sector, and syncs the disk.
+pub fn flip(disk: &mut MemDisk, at: u64, byte: usize, bit: u8) -> Result<(), Failed> {
+    let mut sector = sector_of(disk, at)?;
     flip_bit(&mut sector, byte, bit);
-    disk.write_run(at, &sector)?;
+    put(disk, at, &sector)?;
     disk.sync()
 }
 

@@ -24,16 +24,6 @@ const WRONG: [&str; 68] = [
     "integrity --run small --mode D",
     "integrity  small --mode D",
     "integrity frob small --mode D",
-    "integrity format small --mode J",
-    "integrity format small --mode D",
-    "integrity dump small",
-    "integrity check small",
-    "integrity check small --mode D",
-    "integrity exercise small 7 1000",
-    "integrity resize small",
-    "integrity salvage small",
-    "integrity mirror small second --mode D",
-    "integrity nbd small --mode D",
     // An image that begins as an option does.
     "integrity run - --mode D",
     "integrity run -- --mode D",
@@ -52,27 +42,21 @@ const WRONG: [&str; 68] = [
     "integrity run small  D",
     // Another mode.
     "integrity run small --mode X",
-    "integrity run small --mode J",
-    "integrity run small --mode B",
-    "integrity run small --mode R",
     "integrity run small --mode d",
     "integrity run small --mode DD",
     "integrity run small --mode -D",
     "integrity run small --mode ",
     "integrity run small --mode \u{ff24}",
     // An option and its mode as one word.
-    "integrity run small --mode=D",
     "integrity run small --mode=D D",
     "integrity run small --modeD",
     // A word too many.
     "integrity run small --mode D ",
     "integrity run small --mode D D",
     "integrity run small --mode D --mode D",
-    "integrity run small --mode D --integrity sha256",
     "integrity run small second --mode D",
     "integrity integrity run small --mode D",
     // Another order.
-    "integrity run --mode D small",
     "integrity --mode D run small",
     "integrity small run --mode D",
     "integrity run small D --mode",
@@ -82,6 +66,23 @@ const WRONG: [&str; 68] = [
     "integrity help",
     "integrity run small --mode D --help",
     "integrity --version",
+    // Commands, modes and options that are not there, and forms that are none.
+    "integrity format small --mode J",
+    "integrity format small --mode D",
+    "integrity dump small",
+    "integrity check small",
+    "integrity check small --mode D",
+    "integrity exercise small 7 1000",
+    "integrity resize small",
+    "integrity salvage small",
+    "integrity mirror small second --mode D",
+    "integrity nbd small --mode D",
+    "integrity run small --mode J",
+    "integrity run small --mode B",
+    "integrity run small --mode R",
+    "integrity run small --mode=D",
+    "integrity run small --mode D --integrity sha256",
+    "integrity run --mode D small",
 ];
 
 #[test]
@@ -104,12 +105,10 @@ fn words_that_are_no_command_are_refused_before_any_call(rt: HostRuntime) -> Res
 }
 
 /// Words of the one command: any name of the program, and any name of an image that does not begin as an option does.
-const RIGHT: [&str; 9] = [
+const RIGHT: [&str; 7] = [
     "integrity run small --mode D",
     "/bin/integrity run /images/small --mode D",
     " run small --mode D",
-    "-h run small --mode D",
-    "help run small --mode D",
     "integrity run ./-small --mode D",
     "integrity run run --mode D",
     "integrity run D --mode D",
