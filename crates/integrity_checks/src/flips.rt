@@ -1,40 +1,42 @@
 //! Bits that were flipped in blocks and in tags.
-use crate::running::{Given, run};
-use crate::small_disk::{
-    SECTORS, copy_of, data_at, digest_of, flip, flip_bit, hex_of, small_disk, tag_at, tag_of,
-};
-use sector_disk::MemDisk;
+use crate::leaving::fault_text;
+use crate::running::{Case, expect};
+use crate::small_disk::{Flip, data_at, digest_of, flip_bit, hex_of, tag_at, tag_of};
 use std::alloc::Global;
 use std::process::Abort;
 use std::test::Fail;
 
+/// Blocks that are full of one byte, and their tags.
+///
+/// Source: hashlib of Python 3.11, `sha256` over the number of a block, as 8 bytes with the lowest first, and its bytes.
+const TAGS: [(u64, u8, &str); 4] = [
+    (
+        0,
+        0,
+        "20aa497d9bd4c19e851e3df6e386700faada213db38acf7679f6365832830b3d",
+    ),
+    (
+        5,
+        0,
+        "12020819aa2d407f8d97c04a9fbcdbbe903ef964b6f63acd1d092f036bafe699",
+    ),
+    (
+        5,
+        0xaa,
+        "b555b83371af2141df2fade2f5a7989d6672a49011864e3f7a984275ebb74bd0",
+    ),
+    (
+        79,
+        0x5a,
+        "6fd9671f87ab0fe7eb5da7570e8faa0b3577aeba3be0d8cdfeb209cb3b8727a6",
+    ),
+];
+
 #[test]
 fn tags_are_those_that_others_compute(rt: HostRuntime) -> Result<(), Fail> {
-    // Source: hashlib of Python 3.11, sha256(number.to_bytes(8, "little") + bytes([value]) * 512).
-    for (block, value, digest) in [
-        (
-            0,
-            0,
-            "20aa497d9bd4c19e851e3df6e386700faada213db38acf7679f6365832830b3d",
-        ),
-        (
-            5,
-            0,
-            "12020819aa2d407f8d97c04a9fbcdbbe903ef964b6f63acd1d092f036bafe699",
-        ),
-        (
-            5,
-            0xaa,
-            "b555b83371af2141df2fade2f5a7989d6672a49011864e3f7a984275ebb74bd0",
-        ),
-        (
-            79,
-            0x5a,
-            "6fd9671f87ab0fe7eb5da7570e8faa0b3577aeba3be0d8cdfeb209cb3b8727a6",
-        ),
-    ] {
-        let tag = hex_of(rt.alloc(), &tag_of(block, value))?;
-        assert_eq!(rt; tag.as_str(), digest, "block {block} of {value:02x}");
+    for (block, value, digits) in &TAGS {
+        let tag = hex_of(rt.alloc(), &tag_of(*block, *value))?;
+        assert_eq!(rt; tag.as_str(), *digits, "block {block}");
     }
     Ok(())
 }
@@ -53,24 +55,14 @@ const BLOCKS: [(u64, u64, usize); 8] = [
 
 #[test]
 fn a_flipped_bit_of_a_block_is_told_with_both_tags(rt: HostRuntime) -> Result<(), Fail> {
-    let alloc = rt.alloc();
-    let small = small_disk(alloc, SECTORS)?;
-    for (block, other, byte) in &BLOCKS {
+    for (block, other, byte) in BLOCKS {
         for bit in 0..8 {
-            let mut disk = copy_of(alloc, &small)?;
-            flip(&mut disk, data_at(*block), *byte, bit)?;
+            let at = data_at(block);
+            let flip = Flip { at, byte, bit };
             let mut bytes = [0; 512];
-            flip_bit(&mut bytes, *byte, bit);
-            let stored = hex_of(alloc, &tag_of(*block, 0))?;
-            let computed = hex_of(alloc, &digest_of(*block, &bytes))?;
-            expect_fault(
-                &rt,
-                alloc,
-                &mut disk,
-                (*block, *other),
-                stored.as_str(),
-                computed.as_str(),
-            )?;
+            flip_bit(&mut bytes, flip);
+            let tags = [tag_of(block, 0), digest_of(block, &bytes)];
+            expect_fault(&rt, rt.alloc(), block, other, flip, tags)?;
         }
     }
     Ok(())
@@ -78,59 +70,43 @@ fn a_flipped_bit_of_a_block_is_told_with_both_tags(rt: HostRuntime) -> Result<()
 
 #[test]
 fn a_flipped_bit_of_a_tag_is_told_with_both_tags(rt: HostRuntime) -> Result<(), Fail> {
-    let alloc = rt.alloc();
-    let small = small_disk(alloc, SECTORS)?;
-    for (block, other, byte) in &BLOCKS {
+    for (block, other, byte) in BLOCKS {
         for bit in 0..8 {
-            let mut disk = copy_of(alloc, &small)?;
-            let byte = *byte % 32;
-            flip(
-                &mut disk,
-                tag_at(*block),
-                (*block as usize % 8) * 32 + byte,
-                bit,
-            )?;
-            let mut tag = tag_of(*block, 0);
-            flip_bit(&mut tag, byte, bit);
-            let stored = hex_of(alloc, &tag)?;
-            let computed = hex_of(alloc, &tag_of(*block, 0))?;
-            expect_fault(
-                &rt,
-                alloc,
-                &mut disk,
-                (*block, *other),
-                stored.as_str(),
-                computed.as_str(),
-            )?;
+            let at = tag_at(block);
+            let byte = byte % 32;
+            let mut tag = tag_of(block, 0);
+            flip_bit(&mut tag, Flip { at, byte, bit });
+            let byte = 32 * (block as usize % 8) + byte;
+            let tags = [tag, tag_of(block, 0)];
+            expect_fault(&rt, rt.alloc(), block, other, Flip { at, byte, bit }, tags)?;
         }
     }
     Ok(())
 }
 
-/// Expects that a block is told with both tags, that another one is untouched, and that a fill mends the block.
+/// Expects that a block is told with its stored tag and that of its bytes, that another block is untouched, and that a
+/// fill mends the block.
 fn expect_fault(
     rt: &impl Abort,
     alloc: Global,
-    disk: &mut MemDisk,
-    blocks: (u64, u64),
-    stored: &str,
-    computed: &str,
+    block: u64,
+    other: u64,
+    flip: Flip,
+    tags: [[u8; 32]; 2],
 ) -> Result<(), Fail> {
-    let (block, other) = blocks;
     let script = format!(in alloc;
         "read {block} 1\nread {other} 1\nfill {block} 1 aa\nread {block} 1\n"
     )?;
+    let [stored, computed] = tags;
+    let fault = fault_text(alloc, block, &stored, &computed)?;
     let text = format!(in alloc;
-        "fault block {block} stored {stored} computed {computed}\n\
-        ok read {other} 1 00*512\nok write {block} 1\nok read {block} 1 aa*512\nclosed\n"
+        "{fault}ok read {other} 1 00*512\nok write {block} 1\nok read {block} 1 aa*512\nclosed\n"
     )?;
-    let ended = run(rt, alloc, disk, Given::script(script.as_str()))?;
-    assert!(rt; ended.is(1, text.as_str()), "{script:?}: {ended:?}");
-    let script = format!(in alloc; "read {block} 1\nread {other} 1\n")?;
-    let text = format!(in alloc; "ok read {block} 1 aa*512\nok read {other} 1 00*512\nclosed\n")?;
-    let ended = run(rt, alloc, disk, Given::script(script.as_str()))?;
-    assert!(rt; ended.is(0, text.as_str()), "{script:?}: {ended:?}");
-    Ok(())
+    let case = Case {
+        flips: &[flip],
+        ..Case::of(script.as_str())
+    };
+    expect(rt, alloc, &case, 1, text.as_str())
 }
 
 /// What a script prints of an image with three flipped bits.
@@ -155,17 +131,33 @@ ok flush\n\
 ok read 10 70 00*35840\n\
 closed\n";
 
+/// The lowest bit of the first byte of block 5, the highest bit of the last byte of the tag of block 6, and a bit of
+/// block 9, of another area.
+const THREE_FLIPS: [Flip; 3] = [
+    Flip {
+        at: 109,
+        byte: 0,
+        bit: 0,
+    },
+    Flip {
+        at: 96,
+        byte: 6 * 32 + 31,
+        bit: 7,
+    },
+    Flip {
+        at: 121,
+        byte: 100,
+        bit: 3,
+    },
+];
+
 #[test]
 fn the_first_differing_block_of_a_read_is_told(rt: HostRuntime) -> Result<(), Fail> {
-    let alloc = rt.alloc();
-    let mut disk = small_disk(alloc, SECTORS)?;
-    // The lowest bit of the first byte of block 5, the highest one of the last byte of its neighbour's tag, and a
-    // bit of a block of another area.
-    flip(&mut disk, 109, 0, 0)?;
-    flip(&mut disk, 96, 6 * 32 + 31, 7)?;
-    flip(&mut disk, 121, 100, 3)?;
-    let script = "read 0 5\nread 0 80\nread 4 2\nread 6 4\nread 7 2\nread 9 1\nflush\nread 10 70\n";
-    let ended = run(&rt, alloc, &mut disk, Given::script(script))?;
-    assert!(rt; ended.is(1, FIRST_FAULTS), "{ended:?}");
-    Ok(())
+    let case = Case {
+        flips: &THREE_FLIPS,
+        ..Case::of(
+            "read 0 5\nread 0 80\nread 4 2\nread 6 4\nread 7 2\nread 9 1\nflush\nread 10 70\n",
+        )
+    };
+    expect(&rt, rt.alloc(), &case, 1, FIRST_FAULTS)
 }

@@ -1,17 +1,13 @@
 //! Images that are of the one form, and images that are not.
-use crate::running::{Given, run};
-use crate::small_disk::{SECTORS, copy_of, flip, sector_of, small_disk, zero_disk};
-use sha2::{Digest, Sha256};
+use crate::running::{Case, expect, run};
+use crate::small_disk::{Flip, SECTORS, digest_of_disk, hex_of, small_disk};
+use sector_disk::MemDisk;
 use std::test::Fail;
 
 #[test]
 fn the_disk_is_the_stored_small_image(rt: HostRuntime) -> Result<(), Fail> {
-    let mut disk = small_disk(rt.alloc(), SECTORS)?;
-    let mut hasher = Sha256::new();
-    for at in 0..SECTORS {
-        hasher.update(sector_of(&mut disk, at)?);
-    }
-    let digest = hex::encode(rt.alloc(), hasher.finalize())?;
+    let mut disk = small_disk(rt.alloc(), SECTORS, &[])?;
+    let digest = hex_of(rt.alloc(), &digest_of_disk(&mut disk)?)?;
     // Source: sha256sum of GNU coreutils, over crates/integrity_main/data/small.
     assert_eq!(rt;
         digest.as_str(),
@@ -20,28 +16,23 @@ fn the_disk_is_the_stored_small_image(rt: HostRuntime) -> Result<(), Fail> {
     Ok(())
 }
 
+// Among these is the flag of another padding, which makes 0x18 of the flags from byte 24 on.
 #[test]
 fn each_bit_of_the_first_64_bytes_tells_the_form(rt: HostRuntime) -> Result<(), Fail> {
-    let alloc = rt.alloc();
-    let small = small_disk(alloc, SECTORS)?;
     for byte in 0..64 {
         for bit in 0..8 {
-            let mut disk = copy_of(alloc, &small)?;
-            flip(&mut disk, 0, byte, bit)?;
-            let ended = run(&rt, alloc, &mut disk, Given::script("read 4 3\n"))?;
-            assert!(rt;
-                ended.is(3, "fault image form\n"),
-                "byte {byte}, bit {bit}: {ended:?}"
-            );
+            let case = Case {
+                flips: &[Flip { at: 0, byte, bit }],
+                ..Case::of("read 4 3\n")
+            };
+            expect(&rt, rt.alloc(), &case, 3, "fault image form\n")?;
         }
     }
     Ok(())
 }
 
 #[test]
-fn bytes_behind_the_first_64_do_not_tell_the_form(rt: HostRuntime) -> Result<(), Fail> {
-    let alloc = rt.alloc();
-    let small = small_disk(alloc, SECTORS)?;
+fn other_bytes_do_not_tell_the_form(rt: HostRuntime) -> Result<(), Fail> {
     // Behind the superblock's fields, in its other sectors, and in the journal.
     for (at, byte) in [
         (0, 64),
@@ -52,59 +43,42 @@ fn bytes_behind_the_first_64_do_not_tell_the_form(rt: HostRuntime) -> Result<(),
         (8, 0),
         (95, 511),
     ] {
-        let mut disk = copy_of(alloc, &small)?;
-        flip(&mut disk, at, byte, 0)?;
-        let ended = run(&rt, alloc, &mut disk, Given::script("read 4 3\n"))?;
-        assert!(rt;
-            ended.is(0, "ok read 4 3 00*1536\nclosed\n"),
-            "sector {at}, byte {byte}: {ended:?}"
-        );
+        let case = Case {
+            flips: &[Flip { at, byte, bit: 0 }],
+            ..Case::of("read 4 3\n")
+        };
+        expect(&rt, rt.alloc(), &case, 0, "ok read 4 3 00*1536\nclosed\n")?;
     }
-    Ok(())
-}
-
-#[test]
-fn the_padding_of_keyed_tags_is_another_form(rt: HostRuntime) -> Result<(), Fail> {
-    let alloc = rt.alloc();
-    let mut disk = small_disk(alloc, SECTORS)?;
-    // The flags, from byte 24 on, are 0x8. They become 0x18.
-    flip(&mut disk, 0, 24, 4)?;
-    let ended = run(&rt, alloc, &mut disk, Given::script("read 4 3\n"))?;
-    assert!(rt; ended.is(3, "fault image form\n"), "{ended:?}");
     Ok(())
 }
 
 #[test]
 fn a_disk_has_at_least_256_sectors(rt: HostRuntime) -> Result<(), Fail> {
-    let alloc = rt.alloc();
-    for sectors in [0, 1, 2, 8, 96, 254, 255] {
-        let mut disk = small_disk(alloc, sectors)?;
-        let ended = run(&rt, alloc, &mut disk, Given::script("read 4 3\n"))?;
-        assert!(rt;
-            ended.is(3, "fault image form\n"),
-            "{sectors} sectors: {ended:?}"
-        );
-    }
     let script = "fill 79 1 aa\nread 78 2\n";
     let text = "ok write 79 1\nok read 78 2 00*512,aa*512\nclosed\n";
-    for sectors in [256, 257, 300, 4096] {
-        let mut disk = small_disk(alloc, sectors)?;
-        let ended = run(&rt, alloc, &mut disk, Given::script(script))?;
-        assert!(rt; ended.is(0, text), "{sectors} sectors: {ended:?}");
+    for (sectors, status, text) in [
+        (0, 3, "fault image form\n"),
+        (1, 3, "fault image form\n"),
+        (96, 3, "fault image form\n"),
+        (255, 3, "fault image form\n"),
+        (256, 0, text),
+        (257, 0, text),
+        (300, 0, text),
+        (4096, 0, text),
+    ] {
+        let case = Case {
+            sectors,
+            ..Case::of(script)
+        };
+        expect(&rt, rt.alloc(), &case, status, text)?;
     }
     Ok(())
 }
 
 #[test]
 fn a_disk_of_zeros_is_no_image(rt: HostRuntime) -> Result<(), Fail> {
-    let alloc = rt.alloc();
-    for sectors in [0, 1, 256, 4096] {
-        let mut disk = zero_disk(alloc, sectors)?;
-        let ended = run(&rt, alloc, &mut disk, Given::script("read 4 3\n"))?;
-        assert!(rt;
-            ended.is(3, "fault image form\n"),
-            "{sectors} sectors: {ended:?}"
-        );
-    }
+    let mut disk = MemDisk::new(rt.alloc(), SECTORS, 8)?;
+    let ended = run(&rt, rt.alloc(), &mut disk, &Case::of("read 4 3\n"))?;
+    assert!(rt; ended.is(3, "fault image form\n"), "{ended:?}");
     Ok(())
 }

@@ -1,5 +1,5 @@
 //! A script of fills with a flush between them, and what it may leave where it does not come to its end.
-use crate::running::{Ended, Given, run};
+use crate::running::{Case, Ended, Fails, disk_of, run};
 use crate::small_disk::{data_at, hex_of, image_of, tag_at, tag_of};
 use sector_disk::{Disk, MemDisk};
 use std::alloc::{AllocError, Global};
@@ -11,6 +11,16 @@ pub const SCRIPT: &str = "fill 1 2 aa\nfill 8 1 bb\nflush\nfill 2 1 cc\n";
 
 /// What the script prints.
 pub const TEXT: &str = "ok write 1 2\nok write 8 1\nok flush\nok write 2 1\nclosed\n";
+
+/// The blocks that the script fills.
+pub const FILLED: [u64; 3] = [1, 2, 8];
+
+/// Reads of all the other blocks.
+const OTHERS: &str = "read 0 1\nread 3 5\nread 9 71\n";
+
+/// What they print.
+const OTHERS_TEXT: &str =
+    "ok read 0 1 00*512\nok read 3 5 00*2560\nok read 9 71 00*36352\nclosed\n";
 
 /// The most candidates of a sector that are looked for.
 const MOST_CANDIDATES: u32 = 8;
@@ -121,57 +131,113 @@ pub fn is_read(
         let text = format!(in alloc; "ok read {block} 1 {value:02x}*512\nclosed\n")?;
         return Ok(ended.is(0, text.as_str()));
     }
-    let stored = hex_of(alloc, &tag_of(block, tagged))?;
-    let computed = hex_of(alloc, &tag_of(block, value))?;
-    let text = format!(in alloc;
-        "fault block {block} stored {stored} computed {computed}\nclosed\n"
-    )?;
-    Ok(ended.is(1, text.as_str()))
+    let text = fault_text(alloc, block, &tag_of(block, tagged), &tag_of(block, value))?;
+    Ok(ended.status == 1 && ended.text.as_str().strip_suffix("closed\n") == Some(text.as_str()))
 }
 
-/// How a read of a block ends.
+/// What a read prints of a block whose stored tag is not that of its bytes.
+pub fn fault_text(
+    alloc: Global,
+    block: u64,
+    stored: &[u8; 32],
+    computed: &[u8; 32],
+) -> Result<String, AllocError> {
+    let stored = hex_of(alloc, stored)?;
+    let computed = hex_of(alloc, computed)?;
+    format!(in alloc; "fault block {block} stored {stored} computed {computed}\n")
+}
+
+/// How a read of a block ends on an image.
 pub fn read_block(
     rt: &impl Abort,
     alloc: Global,
-    disk: &mut MemDisk,
+    image: &mut MemDisk,
     block: u64,
 ) -> Result<Ended, Fail> {
     let script = format!(in alloc; "read {block} 1\n")?;
-    run(rt, alloc, disk, Given::script(script.as_str()))
+    run(rt, alloc, image, &Case::of(script.as_str()))
 }
 
-/// Expects of each cut what may be left where the text of so many lines of the script stands whole.
-pub fn expect_left(
+/// Expects of the image that a cut leaves what a block is full of, and that it has the tag of that. The filled blocks are
+/// those of `image_after`.
+pub fn expect_block(
     rt: &impl Abort,
     alloc: Global,
     disk: &MemDisk,
-    lines: usize,
-    case: &str,
+    cut: Cut,
+    filled: &[u64],
+    block: u64,
+    value: u8,
 ) -> Result<(), Fail> {
-    for cut in CUTS {
-        let mut image = image_after(alloc, disk, cut, &[1, 2, 8])?;
-        let others = Given::script("read 0 1\nread 3 5\nread 9 71\n");
-        let ended = run(rt, alloc, &mut image, others)?;
-        assert!(rt;
-            ended.is(
-                0,
-                "ok read 0 1 00*512\nok read 3 5 00*2560\nok read 9 71 00*36352\nclosed\n"
-            ),
-            "{case}, {cut:?}: {ended:?}"
-        );
-        for left in left_after(lines) {
-            let ended = read_block(rt, alloc, &mut image, left.block)?;
-            assert!(rt; left.allows(alloc, &ended)?, "{case}, {cut:?}: {ended:?}");
-        }
+    let mut image = image_after(alloc, disk, cut, filled)?;
+    let ended = read_block(rt, alloc, &mut image, block)?;
+    assert!(rt;
+        is_read(alloc, block, value, value, &ended)?,
+        "{cut:?}: {ended:?}"
+    );
+    Ok(())
+}
+
+/// Expects of an image what may be left where the text of so many lines of the script stands whole.
+fn expect_image(
+    rt: &impl Abort,
+    alloc: Global,
+    image: &mut MemDisk,
+    lines: usize,
+    fails: Fails,
+) -> Result<(), Fail> {
+    let ended = run(rt, alloc, image, &Case::of(OTHERS))?;
+    assert!(rt; ended.is(0, OTHERS_TEXT), "{fails:?}: {ended:?}");
+    for left in left_after(lines) {
+        let ended = read_block(rt, alloc, image, left.block)?;
+        assert!(rt; left.allows(alloc, &ended)?, "{fails:?}: {ended:?}");
     }
     Ok(())
 }
 
-/// How many lines there are in a text that begins the whole one and ends where a line does. None where it is no such
-/// text.
-pub fn lines_in(text: &str, whole: &str) -> Option<usize> {
-    let is_whole = text.is_empty() || text.ends_with('\n');
-    (is_whole && whole.starts_with(text)).then_some(newlines(text))
+/// Expects of each cut what may be left where the text of so many lines of the script stands whole.
+fn expect_left(
+    rt: &impl Abort,
+    alloc: Global,
+    disk: &MemDisk,
+    lines: usize,
+    fails: Fails,
+) -> Result<(), Fail> {
+    for cut in CUTS {
+        let mut image = image_after(alloc, disk, cut, &FILLED)?;
+        expect_image(rt, alloc, &mut image, lines, fails)?;
+    }
+    Ok(())
+}
+
+/// Runs the script where something fails, and expects a status, and a last line behind whole lines of its text, and what
+/// the cuts may leave then. It tells how many lines stand whole, or None where nothing has failed.
+pub fn lines_of_run(
+    rt: &impl Abort,
+    alloc: Global,
+    fails: Fails,
+    status: u8,
+    last: &str,
+) -> Result<Option<usize>, Fail> {
+    let case = Case::failing(SCRIPT, fails);
+    let mut disk = disk_of(alloc, &case)?;
+    let ended = run(rt, alloc, &mut disk, &case)?;
+    if ended.is(0, TEXT) {
+        return Ok(None);
+    }
+    let lines = ended.text.as_str().strip_suffix(last).and_then(lines_in);
+    assert!(rt;
+        ended.status == status && lines.is_some(),
+        "{fails:?}: {ended:?}"
+    );
+    let lines = lines.unwrap_or(0);
+    expect_left(rt, alloc, &disk, lines, fails)?;
+    Ok(Some(lines))
+}
+
+/// How many lines of the script's text stand whole in a text that is a part of it from the front. None where it is none.
+fn lines_in(text: &str) -> Option<usize> {
+    TEXT.starts_with(text).then_some(newlines(text))
 }
 
 /// How many lines end in a text.

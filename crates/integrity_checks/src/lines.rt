@@ -1,7 +1,5 @@
 //! Lines that are none of the script, and where lines end.
-use crate::running::{Given, run};
-use crate::small_disk::{SECTORS, copy_of, small_disk};
-use sector_disk::MemDisk;
+use crate::running::{Case, expect};
 use std::alloc::Global;
 use std::process::Abort;
 use std::test::Fail;
@@ -104,9 +102,8 @@ const WRONG_WORDS: [&str; 32] = [
     "flush\r",
 ];
 
-/// Lines of other forms: empty ones, comments, lines of the other modes, and more spaces than one.
-const OTHER_FORMS: [&str; 18] = [
-    "",
+/// Lines of other forms: of spaces, comments, lines of the other modes, and more spaces than one.
+const OTHER_FORMS: [&str; 17] = [
     " ",
     "#",
     "# a comment",
@@ -126,66 +123,60 @@ const OTHER_FORMS: [&str; 18] = [
     "flush ",
 ];
 
-/// Expects of a script where it is refused, and that the text of the lines before stands whole.
-fn expect_refusal(
-    rt: &impl Abort,
-    alloc: Global,
-    disk: &MemDisk,
-    script: &str,
-    text: &str,
-) -> Result<(), Fail> {
-    let mut disk = copy_of(alloc, disk)?;
-    let ended = run(rt, alloc, &mut disk, Given::script(script))?;
-    assert!(rt; ended.is(2, text), "{script:?}: {ended:?}");
-    Ok(())
+/// Expects that a line is refused in the first place and behind a good line, and that no later line is run.
+fn expect_refused(rt: &impl Abort, alloc: Global, line: &str) -> Result<(), Fail> {
+    let first = format!(in alloc; "{line}\nread 4 3\n")?;
+    expect(
+        rt,
+        alloc,
+        &Case::of(first.as_str()),
+        2,
+        "fault line 1 form\n",
+    )?;
+    let second = format!(in alloc; "read 4 3\n{line}\nread 4 3\n")?;
+    expect(rt, alloc, &Case::of(second.as_str()), 2, SECOND)
 }
 
-/// Expects that a line is refused in the first place and behind a good line, and that no later line is run.
-fn expect_refused(rt: &impl Abort, alloc: Global, disk: &MemDisk, line: &str) -> Result<(), Fail> {
-    let script = format!(in alloc; "{line}\nread 4 3\n")?;
-    expect_refusal(rt, alloc, disk, script.as_str(), "fault line 1 form\n")?;
-    let script = format!(in alloc; "read 4 3\n{line}\nread 4 3\n")?;
-    let text = "ok read 4 3 00*1536\nfault line 2 form\n";
-    expect_refusal(rt, alloc, disk, script.as_str(), text)?;
-    // What stands behind the last newline is a line only where it has a byte.
-    if !line.is_empty() {
-        let script = format!(in alloc; "read 4 3\n{line}")?;
-        expect_refusal(rt, alloc, disk, script.as_str(), text)?;
-    }
-    Ok(())
+/// Expects that a line is refused that the script's end ends.
+fn expect_last_refused(rt: &impl Abort, alloc: Global, line: &str) -> Result<(), Fail> {
+    let script = format!(in alloc; "read 4 3\n{line}")?;
+    expect(rt, alloc, &Case::of(script.as_str()), 2, SECOND)
 }
+
+/// What a good line prints, with the refusal of the second one.
+const SECOND: &str = "ok read 4 3 00*1536\nfault line 2 form\n";
 
 #[test]
 fn a_line_with_a_wrong_value_is_refused(rt: HostRuntime) -> Result<(), Fail> {
-    let small = small_disk(rt.alloc(), SECTORS)?;
     for line in &WRONG_VALUES {
-        expect_refused(&rt, rt.alloc(), &small, line)?;
+        expect_refused(&rt, rt.alloc(), line)?;
+        expect_last_refused(&rt, rt.alloc(), line)?;
     }
     Ok(())
 }
 
 #[test]
 fn a_line_with_wrong_words_is_refused(rt: HostRuntime) -> Result<(), Fail> {
-    let small = small_disk(rt.alloc(), SECTORS)?;
     for line in &WRONG_WORDS {
-        expect_refused(&rt, rt.alloc(), &small, line)?;
+        expect_refused(&rt, rt.alloc(), line)?;
+        expect_last_refused(&rt, rt.alloc(), line)?;
     }
     Ok(())
 }
 
 #[test]
 fn a_line_of_another_form_is_refused(rt: HostRuntime) -> Result<(), Fail> {
-    let small = small_disk(rt.alloc(), SECTORS)?;
+    // Without a byte there is no line behind the last newline.
+    expect_refused(&rt, rt.alloc(), "")?;
     for line in &OTHER_FORMS {
-        expect_refused(&rt, rt.alloc(), &small, line)?;
+        expect_refused(&rt, rt.alloc(), line)?;
+        expect_last_refused(&rt, rt.alloc(), line)?;
     }
     Ok(())
 }
 
 #[test]
 fn a_line_that_is_no_text_is_refused(rt: HostRuntime) -> Result<(), Fail> {
-    let alloc = rt.alloc();
-    let small = small_disk(alloc, SECTORS)?;
     let scripts: [&[u8]; 5] = [
         b"\xff\n",
         b"read 4 3\xff\n",
@@ -194,13 +185,11 @@ fn a_line_that_is_no_text_is_refused(rt: HostRuntime) -> Result<(), Fail> {
         b"\0",
     ];
     for script in scripts {
-        let mut disk = copy_of(alloc, &small)?;
-        let given = Given {
+        let case = Case {
             script,
-            ..Given::script("")
+            ..Case::of("")
         };
-        let ended = run(&rt, alloc, &mut disk, given)?;
-        assert!(rt; ended.is(2, "fault line 1 form\n"), "{script:?}: {ended:?}");
+        expect(&rt, rt.alloc(), &case, 2, "fault line 1 form\n")?;
     }
     Ok(())
 }
@@ -228,25 +217,19 @@ const LATER: [(&str, &str); 5] = [
 fn lines_count_from_1_and_those_before_the_refused_one_are_run(
     rt: HostRuntime,
 ) -> Result<(), Fail> {
-    let small = small_disk(rt.alloc(), SECTORS)?;
     for (script, text) in &LATER {
-        expect_refusal(&rt, rt.alloc(), &small, script, text)?;
+        expect(&rt, rt.alloc(), &Case::of(script), 2, text)?;
     }
     Ok(())
 }
 
 #[test]
 fn a_line_above_its_bound_is_refused(rt: HostRuntime) -> Result<(), Fail> {
-    let alloc = rt.alloc();
-    let small = small_disk(alloc, SECTORS)?;
-    let text = "ok read 4 3 00*1536\nfault line 2 form\n";
-    // The most bytes of a line, one more, and many more, with and without a newline behind.
+    // The most bytes of a line, one more, and many more.
     for size in [65_536, 65_537, 1_000_000] {
-        let long = "a".repeat(alloc, size)?;
-        let script = format!(in alloc; "read 4 3\n{long}")?;
-        expect_refusal(&rt, alloc, &small, script.as_str(), text)?;
-        let script = format!(in alloc; "read 4 3\n{long}\nread 4 3\n")?;
-        expect_refusal(&rt, alloc, &small, script.as_str(), text)?;
+        let line = "a".repeat(rt.alloc(), size)?;
+        expect_refused(&rt, rt.alloc(), line.as_str())?;
+        expect_last_refused(&rt, rt.alloc(), line.as_str())?;
     }
     Ok(())
 }

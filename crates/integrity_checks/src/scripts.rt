@@ -1,6 +1,5 @@
 //! What scripts print where nothing fails, and how runs end.
-use crate::running::{Given, run};
-use crate::small_disk::{SECTORS, small_disk};
+use crate::running::{Case, expect};
 use std::test::Fail;
 
 /// Scripts, and what they print.
@@ -55,11 +54,8 @@ const SCRIPTS: [(&str, &str); 16] = [
 
 #[test]
 fn a_script_prints_the_text_of_its_lines(rt: HostRuntime) -> Result<(), Fail> {
-    let alloc = rt.alloc();
     for (script, text) in &SCRIPTS {
-        let mut disk = small_disk(alloc, SECTORS)?;
-        let ended = run(&rt, alloc, &mut disk, Given::script(script))?;
-        assert!(rt; ended.is(0, text), "{script:?}: {ended:?}");
+        expect(&rt, rt.alloc(), &Case::of(script), 0, text)?;
     }
     Ok(())
 }

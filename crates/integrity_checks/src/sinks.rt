@@ -1,7 +1,6 @@
 //! A sink that fails, at each call and at each byte of the text.
-use crate::leaving::{CUTS, SCRIPT, TEXT, expect_left, image_after, newlines, read_block};
-use crate::running::{Given, run};
-use crate::small_disk::{SECTORS, copy_of, small_disk};
+use crate::leaving::{CUTS, TEXT, expect_block, lines_of_run, newlines};
+use crate::running::{Case, Fails, NONE, disk_of, run};
 use std::test::Fail;
 
 /// How many calls a sink has at most in a run.
@@ -9,21 +8,16 @@ const MOST_CALLS: u64 = 64;
 
 #[test]
 fn a_line_is_not_run_before_the_text_of_the_last_one_stands(rt: HostRuntime) -> Result<(), Fail> {
-    let alloc = rt.alloc();
-    let mut disk = small_disk(alloc, SECTORS)?;
-    let given = Given {
-        sink_fails: Some(1),
-        ..Given::script("fill 5 1 aa\nfill 6 1 bb\n")
+    let fails = Fails {
+        sink: Some(1),
+        ..NONE
     };
-    let ended = run(&rt, alloc, &mut disk, given)?;
+    let case = Case::failing("fill 5 1 aa\nfill 6 1 bb\n", fails);
+    let mut disk = disk_of(rt.alloc(), &case)?;
+    let ended = run(&rt, rt.alloc(), &mut disk, &case)?;
     assert!(rt; ended.is(6, ""), "{ended:?}");
     for cut in CUTS {
-        let mut image = image_after(alloc, &disk, cut, &[5, 6])?;
-        let ended = read_block(&rt, alloc, &mut image, 6)?;
-        assert!(rt;
-            ended.is(0, "ok read 6 1 00*512\nclosed\n"),
-            "{cut:?}: {ended:?}"
-        );
+        expect_block(&rt, rt.alloc(), &disk, cut, &[5, 6], 6, 0)?;
     }
     Ok(())
 }
@@ -32,55 +26,33 @@ fn a_line_is_not_run_before_the_text_of_the_last_one_stands(rt: HostRuntime) -> 
 fn a_failure_of_each_sink_call_leaves_the_lines_that_were_told(
     rt: HostRuntime,
 ) -> Result<(), Fail> {
-    let alloc = rt.alloc();
-    let small = small_disk(alloc, SECTORS)?;
     for call in 1..=MOST_CALLS {
-        let case = format!(in alloc; "sink call {call}")?;
-        let mut disk = copy_of(alloc, &small)?;
-        let given = Given {
-            sink_fails: Some(call),
-            ..Given::script(SCRIPT)
+        let fails = Fails {
+            sink: Some(call),
+            ..NONE
         };
-        let ended = run(&rt, alloc, &mut disk, given)?;
-        if ended.status == 0 {
-            assert!(rt; ended.is(0, TEXT), "{case}: {ended:?}");
+        if lines_of_run(&rt, rt.alloc(), fails, 6, "")?.is_none() {
+            assert!(rt;
+                call > 5,
+                "four lines and the last one are told by five calls at least"
+            );
             return Ok(());
         }
-        assert!(rt;
-            ended.status == 6 && TEXT.starts_with(ended.text.as_str()),
-            "{case}: {ended:?}"
-        );
-        expect_left(
-            &rt,
-            alloc,
-            &disk,
-            newlines(ended.text.as_str()),
-            case.as_str(),
-        )?;
     }
     Err(Fail::from("each run has met a failure"))
 }
 
 #[test]
 fn a_sink_that_is_full_leaves_the_lines_that_were_told(rt: HostRuntime) -> Result<(), Fail> {
-    let alloc = rt.alloc();
-    let small = small_disk(alloc, SECTORS)?;
     for room in 0..TEXT.len() {
-        let case = format!(in alloc; "room for {room} bytes")?;
-        let mut disk = copy_of(alloc, &small)?;
-        let given = Given {
-            room,
-            ..Given::script(SCRIPT)
-        };
-        let ended = run(&rt, alloc, &mut disk, given)?;
-        assert!(rt; ended.is_cut_to(room, 6, TEXT), "{case}: {ended:?}");
-        expect_left(
-            &rt,
-            alloc,
-            &disk,
-            newlines(ended.text.as_str()),
-            case.as_str(),
-        )?;
+        let fails = Fails { room, ..NONE };
+        let told = lines_of_run(&rt, rt.alloc(), fails, 6, "")?;
+        assert_eq!(rt; told, lines_within(room), "room for {room} bytes");
     }
     Ok(())
+}
+
+/// How many lines of the script's text end within so many bytes.
+fn lines_within(room: usize) -> Option<usize> {
+    TEXT.get(..room).map(newlines)
 }

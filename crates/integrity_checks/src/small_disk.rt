@@ -1,7 +1,7 @@
 //! The small image on a disk in memory: 80 blocks of 512 zero bytes with their tags.
 //!
 //! It is made from the layout that the kernel's documentation gives, and by none of the program's code.
-use sector_disk::{Disk, Failed, MemDisk, Memory};
+use sector_disk::{Disk, Failed, MemDisk};
 use sha2::{Digest, Sha256};
 use std::alloc::{AllocError, Global};
 use std::test::Fail;
@@ -16,6 +16,14 @@ const ROOM: u64 = 256;
 ///
 /// Source: Linux, drivers/md/dm-integrity.c, struct superblock.
 const SUPERBLOCK: &str = "696e7465677274000403200001000000500000000000000008000000000f0000";
+
+/// A bit of a byte of a sector, the lowest bit being 0.
+#[derive(Clone, Copy, Debug)]
+pub struct Flip {
+    pub at: u64,
+    pub byte: usize,
+    pub bit: u8,
+}
 
 /// The last block of the small image.
 const LAST_BLOCK: u64 = 79;
@@ -53,28 +61,28 @@ pub fn hex_of(alloc: Global, tag: &[u8; 32]) -> Result<String, AllocError> {
     hex::encode(alloc, tag)
 }
 
-/// Makes a disk of so many sectors of zeros.
-pub fn zero_disk(alloc: Global, sectors: u64) -> Result<MemDisk, Memory> {
-    MemDisk::new(alloc, sectors, ROOM)
-}
-
-/// Makes a disk of so many sectors. Those of a small image that it has are the image's.
-pub fn small_disk(alloc: Global, sectors: u64) -> Result<MemDisk, Fail> {
-    let mut disk = zero_disk(alloc, sectors)?;
-    let mut first = [0; 512];
-    hex::decode_to_slice(SUPERBLOCK, &mut first[..32])?;
-    put(&mut disk, 0, &first)?;
-    for area in 0..10 {
-        put(&mut disk, 96 + 16 * area, &tags_of(area))?;
+/// Makes a disk of so many sectors. Those of the small image that it has are the image's, but for the flipped bits.
+/// Nothing is recorded of it.
+pub fn small_disk(alloc: Global, sectors: u64, flips: &[Flip]) -> Result<MemDisk, Fail> {
+    let mut disk = MemDisk::new(alloc, sectors, ROOM)?;
+    write_image(&mut disk)?;
+    for flip in flips {
+        flip_on(&mut disk, *flip)?;
     }
     disk.sync()?;
-    Ok(disk)
+    let choice = vec![in alloc; 0; sectors as usize]?;
+    image_of(alloc, &disk, &choice)
 }
 
-/// A disk of the oldest candidates of another one: the same disk where nothing is pending. No call of it is to fail.
-pub fn copy_of(alloc: Global, disk: &MemDisk) -> Result<MemDisk, Fail> {
-    let choice = vec![in alloc; 0; disk.sectors() as usize]?;
-    image_of(alloc, disk, &choice)
+/// Writes the small image.
+fn write_image(disk: &mut MemDisk) -> Result<(), Fail> {
+    let mut first = [0; 512];
+    hex::decode_to_slice(SUPERBLOCK, &mut first[..32])?;
+    put(disk, 0, &first)?;
+    for area in 0..10 {
+        put(disk, 96 + 16 * area, &tags_of(area))?;
+    }
+    Ok(())
 }
 
 /// The disk that a cut leaves, with the chosen candidate of each sector.
@@ -104,7 +112,7 @@ fn put(disk: &mut MemDisk, at: u64, bytes: &[u8; 512]) -> Result<(), Failed> {
 }
 
 /// The bytes of a sector. One that is not on the disk fails too.
-pub fn sector_of(disk: &mut MemDisk, at: u64) -> Result<[u8; 512], Failed> {
+fn sector_of(disk: &mut MemDisk, at: u64) -> Result<[u8; 512], Failed> {
     if at >= disk.sectors() {
         return Err(Failed);
     }
@@ -113,17 +121,25 @@ pub fn sector_of(disk: &mut MemDisk, at: u64) -> Result<[u8; 512], Failed> {
     Ok(sector)
 }
 
-/// Flips a bit of a byte of a sector, and syncs the disk.
-pub fn flip(disk: &mut MemDisk, at: u64, byte: usize, bit: u8) -> Result<(), Failed> {
-    let mut sector = sector_of(disk, at)?;
-    flip_bit(&mut sector, byte, bit);
-    put(disk, at, &sector)?;
-    disk.sync()
+/// Flips a bit of the disk.
+fn flip_on(disk: &mut MemDisk, flip: Flip) -> Result<(), Failed> {
+    let mut sector = sector_of(disk, flip.at)?;
+    flip_bit(&mut sector, flip);
+    put(disk, flip.at, &sector)
 }
 
-/// Flips a bit of a byte, where there is that byte.
-pub fn flip_bit(bytes: &mut [u8], byte: usize, bit: u8) {
-    if let Some(byte) = bytes.get_mut(byte) {
-        *byte ^= 1 << (bit % 8);
+/// Flips the bit of a byte, where there is that byte.
+pub fn flip_bit(bytes: &mut [u8], flip: Flip) {
+    if let Some(byte) = bytes.get_mut(flip.byte) {
+        *byte ^= 1 << (flip.bit % 8);
     }
+}
+
+/// The digest of all sectors of a disk.
+pub fn digest_of_disk(disk: &mut MemDisk) -> Result<[u8; 32], Failed> {
+    let mut hasher = Sha256::new();
+    for at in 0..disk.sectors() {
+        hasher.update(sector_of(disk, at)?);
+    }
+    Ok(hasher.finalize())
 }

@@ -1,6 +1,5 @@
 //! The words of the one command that there is, and words that are no command.
-use crate::running::{Given, run};
-use crate::small_disk::{SECTORS, copy_of, small_disk};
+use crate::running::{Case, Fails, NONE, expect};
 use std::test::Fail;
 
 /// Words that are no command, parted by spaces. The first row has no word at all.
@@ -87,19 +86,18 @@ const WRONG: [&str; 68] = [
 
 #[test]
 fn words_that_are_no_command_are_refused_before_any_call(rt: HostRuntime) -> Result<(), Fail> {
-    let alloc = rt.alloc();
-    let small = small_disk(alloc, SECTORS)?;
+    // Every call of the disk would fail, and so would the first one of the script's source.
+    let fails = Fails {
+        stop: Some(0),
+        script: Some(1),
+        ..NONE
+    };
     for words in &WRONG {
-        // Every call of the disk would fail, and so would the first one of the script's source.
-        let mut disk = copy_of(alloc, &small)?;
-        disk.stop_after(0);
-        let given = Given {
+        let case = Case {
             words,
-            script_fails: Some(1),
-            ..Given::script("read 4 3\n")
+            ..Case::failing("read 4 3\n", fails)
         };
-        let ended = run(&rt, alloc, &mut disk, given)?;
-        assert!(rt; ended.is(2, "fault words\n"), "{words:?}: {ended:?}");
+        expect(&rt, rt.alloc(), &case, 2, "fault words\n")?;
     }
     Ok(())
 }
@@ -117,19 +115,12 @@ const RIGHT: [&str; 7] = [
 
 #[test]
 fn any_image_can_be_named_that_is_no_option(rt: HostRuntime) -> Result<(), Fail> {
-    let alloc = rt.alloc();
-    let small = small_disk(alloc, SECTORS)?;
     for words in &RIGHT {
-        let mut disk = copy_of(alloc, &small)?;
-        let given = Given {
+        let case = Case {
             words,
-            ..Given::script("read 4 3\n")
+            ..Case::of("read 4 3\n")
         };
-        let ended = run(&rt, alloc, &mut disk, given)?;
-        assert!(rt;
-            ended.is(0, "ok read 4 3 00*1536\nclosed\n"),
-            "{words:?}: {ended:?}"
-        );
+        expect(&rt, rt.alloc(), &case, 0, "ok read 4 3 00*1536\nclosed\n")?;
     }
     Ok(())
 }
