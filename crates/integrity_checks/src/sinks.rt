@@ -1,0 +1,58 @@
+//! A sink that fails, at each call and at each byte of the text.
+use crate::leaving::{CUTS, TEXT, expect_block, lines_of_run, newlines};
+use crate::running::{Case, Fails, NONE, disk_of, run};
+use std::test::Fail;
+
+/// How many calls a sink has at most in a run.
+const MOST_CALLS: u64 = 64;
+
+#[test]
+fn a_line_is_not_run_before_the_text_of_the_last_one_stands(rt: HostRuntime) -> Result<(), Fail> {
+    let fails = Fails {
+        sink: Some(1),
+        ..NONE
+    };
+    let case = Case::failing("fill 5 1 aa\nfill 6 1 bb\n", fails);
+    let mut disk = disk_of(rt.alloc(), &case)?;
+    let ended = run(&rt, rt.alloc(), &mut disk, &case)?;
+    assert!(rt; ended.is(6, ""), "{ended:?}");
+    for cut in CUTS {
+        expect_block(&rt, rt.alloc(), &disk, cut, &[5, 6], 6, 0)?;
+    }
+    Ok(())
+}
+
+#[test]
+fn a_failure_of_each_sink_call_leaves_the_lines_that_were_told(
+    rt: HostRuntime,
+) -> Result<(), Fail> {
+    for call in 1..=MOST_CALLS {
+        let fails = Fails {
+            sink: Some(call),
+            ..NONE
+        };
+        if lines_of_run(&rt, rt.alloc(), fails, 6, "")?.is_none() {
+            assert!(rt;
+                call > 5,
+                "four lines and the last one are told by five calls at least"
+            );
+            return Ok(());
+        }
+    }
+    Err(Fail::from("each run has met a failure"))
+}
+
+#[test]
+fn a_sink_that_is_full_leaves_the_lines_that_were_told(rt: HostRuntime) -> Result<(), Fail> {
+    for room in 0..TEXT.len() {
+        let fails = Fails { room, ..NONE };
+        let told = lines_of_run(&rt, rt.alloc(), fails, 6, "")?;
+        assert_eq!(rt; told, lines_within(room), "room for {room} bytes");
+    }
+    Ok(())
+}
+
+/// How many lines of the script's text end within so many bytes.
+fn lines_within(room: usize) -> Option<usize> {
+    TEXT.get(..room).map(newlines)
+}
