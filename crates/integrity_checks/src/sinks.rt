@@ -1,6 +1,6 @@
 //! A sink that fails, at each call and at each byte of the text.
 use crate::leaving::{CUTS, TEXT, expect_block, lines_of_run, newlines};
-use crate::running::{Case, Fails, NONE, disk_of, run};
+use crate::running::{Case, Fails, NONE, disk_of, expect_on};
 use std::test::Fail;
 
 /// How many calls a sink has at most in a run.
@@ -14,8 +14,7 @@ fn a_line_is_not_run_before_the_text_of_the_last_one_stands(rt: HostRuntime) -> 
     };
     let case = Case::failing("fill 5 1 aa\nfill 6 1 bb\n", fails);
     let mut disk = disk_of(rt.alloc(), &case)?;
-    let ended = run(&rt, rt.alloc(), &mut disk, &case)?;
-    assert!(rt; ended.is(6, ""), "{ended:?}");
+    expect_on(&rt, rt.alloc(), &mut disk, &case, 6, "")?;
     for cut in CUTS {
         expect_block(&rt, rt.alloc(), &disk, cut, &[5, 6], 6, 0)?;
     }
