@@ -5,8 +5,8 @@ use std::alloc::Global;
 use std::process::Abort;
 use std::test::Fail;
 
-/// What the script prints with a stop after 0, 1, 2 .. sector writes. A block is
-/// written by two sectors: its own, and that of its tag.
+/// What the script prints with a stop after 0, 1, 2 .. sector writes. A block is written by two sectors: its own, and that
+/// of its tag.
 const TEXTS: [&str; 9] = [
     "fault disk\n",
     "fault disk\n",
