@@ -95,16 +95,17 @@ const WITHIN: [Long; 2] = [
     },
 ];
 
-/// Scripts of a byte or two more. The newline of a line stands behind the bound, and of a last line 65536 bytes stand before
-/// it, or 65537.
-const BEYOND: [Long; 3] = [
-    Long {
-        times: 1_677_720,
-        lines: "flush\nread 70 10\n",
-        size: 0,
-        status: 2,
-        told: "ok flush\nfault script long\n",
-    },
+/// A script of a byte more, which is the newline of a line.
+const BEYOND: [Long; 1] = [Long {
+    times: 1_677_720,
+    lines: "flush\nread 70 10\n",
+    size: 0,
+    status: 2,
+    told: "ok flush\nfault script long\n",
+}];
+
+/// Scripts of a byte or two more, of whose last line 65536 bytes stand within the bound, or 65537.
+const LONG_LINES: [Long; 2] = [
     Long {
         times: 1_671_166,
         lines: "read 1 70\nread 1 70\n",
@@ -184,8 +185,13 @@ fn a_script_of_16777216_bytes_is_run(rt: HostRuntime) -> Result<(), Fail> {
 }
 
 #[test]
-fn of_a_longer_script_the_lines_within_the_bound_are_run(rt: HostRuntime) -> Result<(), Fail> {
+fn a_line_that_ends_behind_the_bound_is_not_run(rt: HostRuntime) -> Result<(), Fail> {
     expect_ends(&rt, rt.alloc(), &BEYOND)
+}
+
+#[test]
+fn a_long_line_is_told_as_such_up_to_the_bound(rt: HostRuntime) -> Result<(), Fail> {
+    expect_ends(&rt, rt.alloc(), &LONG_LINES)
 }
 
 /// Whether a run has told whole lines and then that its source has failed.
