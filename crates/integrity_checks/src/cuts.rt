@@ -1,47 +1,69 @@
 //! A stop of the disk at each of its sector writes.
-use crate::leaving::{Cut, FILLED, SCRIPT, expect_block, lines_of_run};
-use crate::running::{Case, Fails, NONE, disk_of, run};
+use crate::leaving::{Cut, FILLED, SCRIPT, TEXT, expect_block, lines_of_run};
+use crate::running::{Case, Fails, NONE, disk_of, expect, run};
 use std::alloc::Global;
 use std::process::Abort;
 use std::test::Fail;
 
-/// How many lines of the script stand whole in its text, with a stop after 0, 1, 2 .. sector writes. A block is written by
-/// two sectors: its own, and that of its tag.
-const STOPS: [usize; 9] = [0, 0, 0, 0, 1, 1, 2, 3, 4];
+/// What the script prints with a stop after 0, 1, 2 .. sector writes. A block is written by two sectors: its own, and that
+/// of its tag.
+const TEXTS: [&str; 9] = [
+    "fault disk\n",
+    "fault disk\n",
+    "fault disk\n",
+    "fault disk\n",
+    "ok write 1 2\nfault disk\n",
+    "ok write 1 2\nfault disk\n",
+    "ok write 1 2\nok write 8 1\nfault disk\n",
+    "ok write 1 2\nok write 8 1\nok flush\nfault disk\n",
+    "ok write 1 2\nok write 8 1\nok flush\nok write 2 1\nfault disk\n",
+];
 
 /// A stop after so many sector writes.
-fn stop_after(writes: u64) -> Fails {
+fn stop_after(writes: usize) -> Fails {
     Fails {
-        stop: Some(writes),
+        stop: Some(writes as u64),
         ..NONE
     }
 }
 
 #[test]
 fn a_stop_at_each_write_keeps_what_was_flushed(rt: HostRuntime) -> Result<(), Fail> {
-    for (writes, lines) in STOPS.iter().enumerate() {
-        let fails = stop_after(writes as u64);
-        let told = lines_of_run(&rt, rt.alloc(), fails, 4, "fault disk\n")?;
-        assert_eq!(rt; told, Some(*lines), "stop after {writes}");
+    for (writes, text) in TEXTS.iter().enumerate() {
+        expect(
+            &rt,
+            rt.alloc(),
+            &Case::failing(SCRIPT, stop_after(writes)),
+            4,
+            text,
+        )?;
+        lines_of_run(&rt, rt.alloc(), stop_after(writes), 4, "fault disk\n")?;
     }
     Ok(())
+}
+
+#[test]
+fn a_stop_that_is_not_reached_changes_nothing(rt: HostRuntime) -> Result<(), Fail> {
+    expect(
+        &rt,
+        rt.alloc(),
+        &Case::failing(SCRIPT, stop_after(9)),
+        0,
+        TEXT,
+    )
 }
 
 /// Expects what the script's blocks are full of where a cut follows a stop after so many sector writes.
 fn expect_values(
     rt: &impl Abort,
     alloc: Global,
-    writes: u64,
+    writes: usize,
     cut: Cut,
     values: [u8; 3],
 ) -> Result<(), Fail> {
     let case = Case::failing(SCRIPT, stop_after(writes));
     let mut disk = disk_of(alloc, &case)?;
-    let ended = run(rt, alloc, &mut disk, &case)?;
-    assert!(rt;
-        (ended.status == 0) == (writes > 8),
-        "stop after {writes}: {ended:?}"
-    );
+    let _ = run(rt, alloc, &mut disk, &case)?;
     for (block, value) in FILLED.into_iter().zip(values) {
         expect_block(rt, alloc, &disk, cut, &FILLED, block, value)?;
     }

@@ -1,6 +1,6 @@
 //! A failure of each call of the disk and of the script's source.
 use crate::leaving::{Cut, expect_block, lines_of_run};
-use crate::running::{Case, Fails, NONE, disk_of, run};
+use crate::running::{Case, Fails, NONE, disk_of, expect_on};
 use std::alloc::Global;
 use std::process::Abort;
 use std::test::Fail;
@@ -84,10 +84,6 @@ fn expect_end(
     };
     let case = Case::failing(script, fails);
     let mut disk = disk_of(alloc, &case)?;
-    let ended = run(rt, alloc, &mut disk, &case)?;
-    assert!(rt;
-        ended.is(5, text),
-        "{script:?}, source call {call}: {ended:?}"
-    );
+    expect_on(rt, alloc, &mut disk, &case, 5, text)?;
     expect_block(rt, alloc, &disk, Cut::Newest, &[4, 5], 5, 0)
 }

@@ -2,7 +2,7 @@
 use crate::leaving::fault_text;
 use crate::running::{Case, expect};
 use crate::small_disk::{Flip, data_at, digest_of, flip_bit, hex_of, tag_at, tag_of};
-use std::alloc::Global;
+use std::alloc::{AllocError, Global};
 use std::process::Abort;
 use std::test::Fail;
 
@@ -94,19 +94,27 @@ fn expect_fault(
     flip: Flip,
     tags: [[u8; 32]; 2],
 ) -> Result<(), Fail> {
-    let script = format!(in alloc;
-        "read {block} 1\nread {other} 1\nfill {block} 1 aa\nread {block} 1\n"
-    )?;
+    let script = script_of(alloc, block, other)?;
     let [stored, computed] = tags;
     let fault = fault_text(alloc, block, &stored, &computed)?;
-    let text = format!(in alloc;
-        "{fault}ok read {other} 1 00*512\nok write {block} 1\nok read {block} 1 aa*512\nclosed\n"
-    )?;
+    let text = text_of(alloc, fault.as_str(), block, other)?;
     let case = Case {
         flips: &[flip],
         ..Case::of(script.as_str())
     };
     expect(rt, alloc, &case, 1, text.as_str())
+}
+
+/// Reads a block and another one, and then fills the block and reads it.
+fn script_of(alloc: Global, block: u64, other: u64) -> Result<String, AllocError> {
+    format!(in alloc; "read {block} 1\nread {other} 1\nfill {block} 1 aa\nread {block} 1\n")
+}
+
+/// What this prints, where the first read tells a fault.
+fn text_of(alloc: Global, fault: &str, block: u64, other: u64) -> Result<String, AllocError> {
+    format!(in alloc;
+        "{fault}ok read {other} 1 00*512\nok write {block} 1\nok read {block} 1 aa*512\nclosed\n"
+    )
 }
 
 /// What a script prints of an image with three flipped bits.

@@ -1,5 +1,5 @@
 //! Images that are of the one form, and images that are not.
-use crate::running::{Case, expect, run};
+use crate::running::{Case, expect, expect_on};
 use crate::small_disk::{Flip, SECTORS, digest_of_disk, hex_of, small_disk};
 use sector_disk::MemDisk;
 use std::test::Fail;
@@ -78,7 +78,6 @@ fn a_disk_has_at_least_256_sectors(rt: HostRuntime) -> Result<(), Fail> {
 #[test]
 fn a_disk_of_zeros_is_no_image(rt: HostRuntime) -> Result<(), Fail> {
     let mut disk = MemDisk::new(rt.alloc(), SECTORS, 8)?;
-    let ended = run(&rt, rt.alloc(), &mut disk, &Case::of("read 4 3\n"))?;
-    assert!(rt; ended.is(3, "fault image form\n"), "{ended:?}");
-    Ok(())
+    let case = Case::of("read 4 3\n");
+    expect_on(&rt, rt.alloc(), &mut disk, &case, 3, "fault image form\n")
 }

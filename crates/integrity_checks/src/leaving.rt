@@ -225,7 +225,7 @@ pub fn lines_of_run(
     if ended.is(0, TEXT) {
         return Ok(None);
     }
-    let lines = ended.text.as_str().strip_suffix(last).and_then(lines_in);
+    let lines = lines_before(ended.text.as_str(), last);
     assert!(rt;
         ended.status == status && lines.is_some(),
         "{fails:?}: {ended:?}"
@@ -235,9 +235,12 @@ pub fn lines_of_run(
     Ok(Some(lines))
 }
 
-/// How many lines of the script's text stand whole in a text that is a part of it from the front. None where it is none.
-fn lines_in(text: &str) -> Option<usize> {
-    TEXT.starts_with(text).then_some(newlines(text))
+/// How many lines of the script's text stand in this one before its last line. None where it is no such text. Without a
+/// last line the text may be cut off within a line.
+fn lines_before(text: &str, last: &str) -> Option<usize> {
+    let lines = text.strip_suffix(last)?;
+    let is_whole = last.is_empty() || lines.is_empty() || lines.ends_with('\n');
+    (is_whole && TEXT.starts_with(lines)).then_some(newlines(lines))
 }
 
 /// How many lines end in a text.

@@ -2,7 +2,7 @@
 use crate::small_disk::{Flip, SECTORS, small_disk};
 use crate::untouched_key::UntouchedKey;
 use integrity_tool::integrity;
-use sector_disk::MemDisk;
+use sector_disk::{MemDisk, Memory};
 use std::alloc::{AllocError, Global};
 use std::process::Abort;
 use std::test::Fail;
@@ -103,9 +103,38 @@ pub fn disk_of(alloc: Global, case: &Case<'_>) -> Result<MemDisk, Fail> {
     Ok(disk)
 }
 
-/// Runs the program's call. No run touches its key, and none wants memory where it is ample.
+/// Makes the sink of a case.
+fn sink_of(alloc: Global, fails: Fails) -> Result<MemSink, Memory> {
+    let mut out = MemSink::new(alloc, fails.room)?;
+    if let Some(call) = fails.sink {
+        out.fail_at(&[call]);
+    }
+    Ok(out)
+}
+
+/// Makes the program's call, and tells its status. No run touches its key, and none wants memory where it is ample.
 // It is built once, whatever the number of tests.
 #[inline(never)]
+fn call(
+    rt: &impl Abort,
+    alloc: Global,
+    words: &[String],
+    disk: &mut MemDisk,
+    case: &Case<'_>,
+    out: &mut MemSink,
+) -> u8 {
+    let mut key = UntouchedKey { calls: 0 };
+    let mut script = MemSource::new(case.script);
+    if let Some(call) = case.fails.script {
+        script.fail_at(&[call]);
+    }
+    let status = integrity(alloc, words, disk, &mut key, &mut script, out);
+    assert_eq!(rt; key.calls, 0, "the key is not touched");
+    assert_ne!(rt; status, 7, "memory is ample");
+    status
+}
+
+/// Runs the program's call on a disk.
 pub fn run(
     rt: &impl Abort,
     alloc: Global,
@@ -113,18 +142,8 @@ pub fn run(
     case: &Case<'_>,
 ) -> Result<Ended, Fail> {
     let words = words_of(alloc, case.words)?;
-    let mut key = UntouchedKey { calls: 0 };
-    let mut script = MemSource::new(case.script);
-    if let Some(call) = case.fails.script {
-        script.fail_at(&[call]);
-    }
-    let mut out = MemSink::new(alloc, case.fails.room)?;
-    if let Some(call) = case.fails.sink {
-        out.fail_at(&[call]);
-    }
-    let status = integrity(alloc, &words, disk, &mut key, &mut script, &mut out);
-    assert_eq!(rt; key.calls, 0, "the key is not touched");
-    assert_ne!(rt; status, 7, "memory is ample");
+    let mut out = sink_of(alloc, case.fails)?;
+    let status = call(rt, alloc, &words, disk, case, &mut out);
     let text = str::from_utf8(out.bytes())?.to_string(alloc)?;
     Ok(Ended { status, text })
 }
@@ -143,7 +162,19 @@ pub fn expect(
     status: u8,
     text: &str,
 ) -> Result<(), Fail> {
-    let ended = run_case(rt, alloc, case)?;
+    expect_on(rt, alloc, &mut disk_of(alloc, case)?, case, status, text)
+}
+
+/// Expects of a case the status and the text of its run on a disk.
+pub fn expect_on(
+    rt: &impl Abort,
+    alloc: Global,
+    disk: &mut MemDisk,
+    case: &Case<'_>,
+    status: u8,
+    text: &str,
+) -> Result<(), Fail> {
+    let ended = run(rt, alloc, disk, case)?;
     let script = str::from_utf8(case.script);
     assert!(rt;
         ended.is(status, text),

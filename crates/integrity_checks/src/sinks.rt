@@ -1,6 +1,6 @@
 //! A sink that fails, at each call and at each byte of the text.
-use crate::leaving::{CUTS, TEXT, expect_block, lines_of_run, newlines};
-use crate::running::{Case, Fails, NONE, disk_of, run};
+use crate::leaving::{CUTS, SCRIPT, TEXT, expect_block, lines_of_run};
+use crate::running::{Case, Fails, NONE, disk_of, expect_on, run_case};
 use std::test::Fail;
 
 /// How many calls a sink has at most in a run.
@@ -14,8 +14,7 @@ fn a_line_is_not_run_before_the_text_of_the_last_one_stands(rt: HostRuntime) -> 
     };
     let case = Case::failing("fill 5 1 aa\nfill 6 1 bb\n", fails);
     let mut disk = disk_of(rt.alloc(), &case)?;
-    let ended = run(&rt, rt.alloc(), &mut disk, &case)?;
-    assert!(rt; ended.is(6, ""), "{ended:?}");
+    expect_on(&rt, rt.alloc(), &mut disk, &case, 6, "")?;
     for cut in CUTS {
         expect_block(&rt, rt.alloc(), &disk, cut, &[5, 6], 6, 0)?;
     }
@@ -46,13 +45,12 @@ fn a_failure_of_each_sink_call_leaves_the_lines_that_were_told(
 fn a_sink_that_is_full_leaves_the_lines_that_were_told(rt: HostRuntime) -> Result<(), Fail> {
     for room in 0..TEXT.len() {
         let fails = Fails { room, ..NONE };
-        let told = lines_of_run(&rt, rt.alloc(), fails, 6, "")?;
-        assert_eq!(rt; told, lines_within(room), "room for {room} bytes");
+        let ended = run_case(&rt, rt.alloc(), &Case::failing(SCRIPT, fails))?;
+        assert!(rt;
+            ended.is_cut_to(room, 6, TEXT),
+            "room for {room} bytes: {ended:?}"
+        );
+        lines_of_run(&rt, rt.alloc(), fails, 6, "")?;
     }
     Ok(())
-}
-
-/// How many lines of the script's text end within so many bytes.
-fn lines_within(room: usize) -> Option<usize> {
-    TEXT.get(..room).map(newlines)
 }
