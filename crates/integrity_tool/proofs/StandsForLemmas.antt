@@ -74,7 +74,7 @@ StandsFor-opened c nothing = record {
 
 -- ---- changes
 
-left_at_rest : (c : Content) (h : History) → StandsFor c h → EachImage (λ image. MayBeLeftDirect small_blocks.tag small_blocks.blocks h (small_cells image)) c
+pub left_at_rest : (c : Content) (h : History) → StandsFor c h → EachImage (λ image. MayBeLeftDirect small_blocks.tag small_blocks.blocks h (small_cells image)) c
 left_at_rest c h stands image is = record { flushed = λ b below not. stands.settled b below not image is }
 
 left_begun : (c : Content) (h : History) (changes : List Change) → StandsFor c h → EachImage (λ image. MayBeLeftDirect small_blocks.tag small_blocks.blocks (begun changes h) (small_cells image)) c

@@ -106,4 +106,4 @@ tells_early start before ending status SinkRose (Some run) later (Some d) E (Ok 
     (record { ending = ending; is_status = is; run = run; leaves = leaves; last = inl refl })
 tells_early start before ending status SinkRose (Some run) later (Some d) E (Err e) is leaves written rose err =
     subst (λ (o : Option (List ℕ)). IsSomeAnd o (λ after. Tells start before after status SinkRose d)) (sym err.held)
-    (record { ending = ending; is_status = is; run = run; leaves = leaves; last = inr (rose, err.count, refl) })
+    (record { ending = ending; is_status = is; run = run; leaves = leaves; last = inr (rose, err.count, err.short, refl) })

@@ -1,5 +1,5 @@
 -- What the functions say that run a script: what the disk shows, what a line does, and what the end of the run is.
-use Rattle.std.specs.Prelude.{◌≡◌, ◌⊎◌, ℕ, ◌+◌, ◌<◌, Bool, List, [], length, Option, None, Some, Result, Ok, Err}
+use Rattle.std.specs.Prelude.{◌≡◌, ◌⊎◌, ℕ, ◌+◌, Bool, List, [], length, Option, None, Some, Result, Ok, Err}
 use Rattle.std.specs.Option.{option_map}
 use Rattle.stream_io.specs.Stream.{with_bytes, AddsPrefix}
 use Rattle.device_model.specs.Ending.{Ending, Complete}
@@ -8,11 +8,10 @@ use Rattle.integrity_tool.specs.Ended.{ending_of}
 use Rattle.integrity_tool.specs.Form.{small_blocks}
 use Rattle.integrity_tool.specs.Grammar.{line_bytes, IsRunnable}
 use Rattle.integrity_tool.specs.Line.{line_of}
-use Rattle.integrity_tool.specs.Script.{TakesLine, BeginsWithNone}
+use Rattle.integrity_tool.specs.Script.{TakesLine, IsWithinBound, BeginsRefused, CrossesBound}
 use Rattle.integrity_tool.specs.declared.ended.Ended.{Ended}
 use Rattle.integrity_tool.specs.declared.ended.Ended.TheVariants.{Words, Line, Length, Image, Disk, Sink, Memory}
 use Rattle.integrity_tool.specs.declared.line.Line.{Line as ReadLine}
-use Rattle.integrity_tool.specs.declared.line_reader.TheConstants.{MOST_SCRIPT}
 
 -- What a line that was run left in the sink: its text, or where the sink failed a part of it, else nothing.
 abbrev pub Prints : LineResult → Option (List ℕ) → Option (List ℕ) → Result Bool Ended → Type 0
@@ -25,9 +24,11 @@ Prints line old new (Err ended) = new ≡ old
 abbrev pub FindsNext : ℕ → ℕ → List ℕ → List ℕ → Result (Option ReadLine) Ended → Type 0
 FindsNext number taken before after (Ok (Some line)) =
     IsRunnable small_blocks.blocks (line_of line) × TakesLine before (line_bytes (line_of line)) after
+    × IsWithinBound (taken + length before) after
 FindsNext number taken before after (Ok None) = before ≡ []
-FindsNext number taken before after (Err (Line refused)) = (refused ≡ number) × BeginsWithNone small_blocks.blocks before
-FindsNext number taken before after (Err Length) = MOST_SCRIPT < taken + length before
+FindsNext number taken before after (Err (Line refused)) =
+    (refused ≡ number) × BeginsRefused small_blocks.blocks (taken + length before) before
+FindsNext number taken before after (Err Length) = CrossesBound (taken + length before) before
 FindsNext number taken before after (Err ended) = Unit {0}
 
 -- What can end the run of one line.

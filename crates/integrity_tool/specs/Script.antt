@@ -1,9 +1,10 @@
 -- A script as lines: each ends at a newline or at the script's end.
 -- Own: the bounds of a script and of a line.
-use Rattle.std.specs.Prelude.{◌≡◌, ◌≢◌, ◌⊎◌, ℕ, List, [], ◌∷◌, ◌++◌, flat_map}
+use Rattle.std.specs.Prelude.{◌≡◌, ◌≢◌, ◌⊎◌, ℕ, ◌+◌, ◌≤◌, List, [], ◌∷◌, ◌++◌, length, flat_map}
 use Rattle.std.specs.List.{All}
 use Rattle.device_model.specs.Transcript.{Line}
-use Rattle.integrity_tool.specs.Grammar.{line_bytes, IsRunnable}
+use Rattle.integrity_tool.specs.Grammar.{line_bytes, IsRunnable, IsLine}
+use Rattle.integrity_tool.specs.declared.line_reader.TheConstants.{MOST_LINE, MOST_SCRIPT}
 
 -- No byte of it is a newline.
 abbrev pub HasNoNewline : List ℕ → Type 0
@@ -28,3 +29,22 @@ pub record BeginsWith (blocks : ℕ) (script : List ℕ) (lines : List Line) (re
 abbrev pub BeginsWithNone : ℕ → List ℕ → Type 0
 BeginsWithNone blocks rest =
     (rest ≢ []) × ((line : Line) → IsRunnable blocks line → (after : List ℕ) → ¬ TakesLine rest (line_bytes line) after)
+
+-- ---- the bounds, where `rest` is left of a script of `size` bytes
+
+-- All that stands before is within the bound of a script.
+abbrev pub IsWithinBound : ℕ → List ℕ → Type 0
+IsWithinBound size rest = size ≤ MOST_SCRIPT + length rest
+
+-- Within the bound it begins with a line that cannot be run, or with one byte more than a line may have.
+abbrev pub BeginsRefused : ℕ → ℕ → List ℕ → Type 0
+BeginsRefused blocks size rest =
+    (bytes : List ℕ) × (after : List ℕ) × IsWithinBound size after
+    × ((TakesLine rest bytes after × ((line : Line) → ¬ IsLine blocks bytes line))
+    ⊎ ((rest ≡ bytes ++ after) × HasNoNewline bytes × (length bytes ≡ MOST_LINE + 1)))
+
+-- No newline stands in it up to the bound, and it goes on behind that.
+abbrev pub CrossesBound : ℕ → List ℕ → Type 0
+CrossesBound size rest =
+    (bytes : List ℕ) × (after : List ℕ) × (size ≡ MOST_SCRIPT + length after) × (rest ≡ bytes ++ after)
+    × HasNoNewline bytes × (length bytes ≤ MOST_LINE) × (after ≢ [])

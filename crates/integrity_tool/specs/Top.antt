@@ -64,10 +64,10 @@ MayBeLeft start later =
     NarrowsImages start.content later
     ⊎ (IsRunWords start.words × HasForm start × IsLeftBy (last_image start.content) start.script later)
 
--- The sink got the run, and then the last line of what ended it early: whole, or where the sink failed a part of it.
+-- The sink got the run, and then the last line of what ended it early: whole, or where the sink failed not all of it.
 pub record Tells (start : Start) (before after : List ℕ) (status : ℕ) (SinkRose : Type 0) (later : Content) : Type 0 where
   pub ending : Ending
   pub is_status : status ≡ status_of ending
   pub run : List ℕ
   pub leaves : Leaves start before run ending later
-  pub last : (after ≡ run ++ fault_text ending) ⊎ (SinkRose × (count : ℕ) × (after ≡ run ++ take count (fault_text ending)))
+  pub last : (after ≡ run ++ fault_text ending) ⊎ (SinkRose × (count : ℕ) × (count < length (fault_text ending)) × (after ≡ run ++ take count (fault_text ending)))

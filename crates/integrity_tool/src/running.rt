@@ -341,6 +341,8 @@ fn either(a: bool, b: bool) -> bool
 
 /// Syncs the disk, and then prints that it is closed.
 fn close<D: Disk, O: Sink>(disk: &mut D, out: &mut O) -> Result<(), Ended>
+    ensures synced { OnOk result (content_now (D.moments disk.new)
+        ≡ option_map newest_only (content_now (D.moments disk.old))) }
     ensures closed { OnOk result (O.held out.new ≡ option_map (with_bytes closed_text) (O.held out.old)) }
 
     ensures disk { result ≡ Err Ended.Disk

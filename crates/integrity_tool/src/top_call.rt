@@ -54,6 +54,9 @@ pub fn integrity<D: Disk + Named, K: Source + Named, S: Source, O: Sink>(
     ensures script { result ≡ 5 → Rose (S.faults script.old) (S.faults script.new) }
     ensures sink { result ≡ 6 → Rose (O.faults out.old) (O.faults out.new) }
 
+    // The key is left as it is.
+    ensures key { _key.new ≡ _key.old }
+
     // What 0 and 1 say of the words and the image.
     ensures ran { result ≤ 1 → IsRunWords (map string_bytes words.now) }
     ensures form { result ≤ 1 → ForSome (content_now (D.moments disk.old)) (λ c.

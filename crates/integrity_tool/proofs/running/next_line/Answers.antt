@@ -19,12 +19,12 @@ returns-in-Ok-LongScript-clause-next g c =
 pub returns-in-Ok-LongLine-clause-next : goal.returns-in-Ok-LongLine-clause-next
 returns-in-Ok-LongLine-clause-next g c =
     let found = rw c.in-Ok-LongLine.field-0-is at c.in-Ok-LongLine.ensures.found in
-    told_weaker _ _ _ _ found (λ left later. next_is_long c.args.number c.args.reader.now c.next_line.new.self (c.args.reader.now.unread ++ left) (c.next_line.new.self.unread ++ later))
+    told_weaker _ _ _ _ found (λ left later. next_is_long c.args.number c.args.reader.now c.next_line.new.self (c.args.reader.now.unread ++ left) (c.next_line.new.self.unread ++ later) c.next_line.ensures.within)
 
 pub returns-in-Some-clause-next : goal.returns-in-Some-clause-next
 returns-in-Some-clause-next g c =
     let found = rw c.in-Ok-Line.field-0-is at c.in-Ok-Line.ensures.found in
-    told_weaker _ _ _ _ found (λ left later h. next_is_line c.args.number c.args.reader.now c.next_line.new.self c.in-Some.line (c.args.reader.now.unread ++ left) (c.next_line.new.self.unread ++ later) h (rw c.line.ensures at c.in-Some.ensures.some))
+    told_weaker _ _ _ _ found (λ left later h. next_is_line c.args.number c.args.reader.now c.next_line.new.self c.in-Some.line (c.args.reader.now.unread ++ left) (c.next_line.new.self.unread ++ later) c.next_line.ensures.within h (rw c.line.ensures at c.in-Some.ensures.some))
 
 pub returns-in-Some-clause-counted : goal.returns-in-Some-clause-counted
 returns-in-Some-clause-counted g c =
@@ -34,4 +34,4 @@ returns-in-Some-clause-counted g c =
 pub returns-in-None-clause-next : goal.returns-in-None-clause-next
 returns-in-None-clause-next g c =
     let found = rw c.in-Ok-Line.field-0-is at c.in-Ok-Line.ensures.found in
-    told_weaker _ _ _ _ found (λ left later h. next_is_refused c.args.number c.args.reader.now c.next_line.new.self (c.args.reader.now.unread ++ left) (c.next_line.new.self.unread ++ later) h (rw c.line.ensures at c.in-None.ensures.none))
+    told_weaker _ _ _ _ found (λ left later h. next_is_refused c.args.number c.args.reader.now c.next_line.new.self (c.args.reader.now.unread ++ left) (c.next_line.new.self.unread ++ later) c.next_line.ensures.within h (rw c.line.ensures at c.in-None.ensures.none))

@@ -1,4 +1,4 @@
-use Rattle.std.proofs.Common.{◌++◌, ◌∷◌, [], inl, inr, Some, Ok, Err, rules, refl, ap}
+use Rattle.std.proofs.Common.{◌++◌, ◌∷◌, [], inl, inr, Some, Ok, Err, rules, refl, ap, ◌∙◌}
 use Rattle.std.proofs.lemmas.Result.{err_from_is_err_and}
 use Rattle.disk_model.specs.Moments.{content_now, FromStart}
 use Rattle.disk_model.proofs.MomentsLemmas.{adds_then, sync_adds, no_moment, EachMoment-then, EachMoment-weaker}
@@ -6,13 +6,14 @@ use Rattle.device_model.specs.History.{Flushed}
 use Rattle.device_model.specs.Transcript.{line_result}
 use Rattle.integrity_tool.specs.Form.{small_blocks}
 use Rattle.integrity_tool.specs.Line.{line_of}
-use Rattle.disk_model.specs.Disk.{OnlyAdds, last_image}
+use Rattle.std.specs.Option.{option_map}
+use Rattle.disk_model.specs.Disk.{OnlyAdds, last_image, newest_only}
 use Rattle.integrity_tool.specs.Standing.{IsOfBlock}
 use Rattle.integrity_tool.specs.Leaving.{IsLeftBy}
 use Rattle.integrity_tool.specs.Running.{FindsNext}
 use Rattle.integrity_tool.specs.declared.ended.Ended.{Ended}
-use Rattle.integrity_tool.proofs.StandsForLemmas.{MayBeCut-none, flush_moments}
-use Rattle.integrity_tool.proofs.RunningLemmas.{both_told, both_later, told_here, holds_at_end, left_meanwhile, session, ends_at_next, ends_in_line, ends_by_close, goes_on_counted, ends_complete, first_way, first_taken, IsTaken-line, IsTaken-refused}
+use Rattle.integrity_tool.proofs.StandsForLemmas.{MayBeCut-none, flush_stands, flush_moments}
+use Rattle.integrity_tool.proofs.RunningLemmas.{both_told, both_later, within_script, told_here, holds_at_end, left_meanwhile, session, ends_at_next, ends_in_line, ends_by_close, goes_on_counted, ends_complete, first_way, first_taken, IsTaken-line, IsTaken-refused}
 use Rattle.integrity_tool.proofs.running.run_script.Goals as goal
 
 pub returns-in_err-line-clause-runs : goal.returns-in_err-line-clause-runs
@@ -29,8 +30,8 @@ returns-in_err-fault-clause-runs g c content told script told_script before told
     (λ left later way found.
     let s = session content script before c.loop-line.number c.loop-line.found_fault (c.loop-line.room.reader.unread ++ left) (g.O.Sink.held c.loop-line.out) (content_now (g.D.Disk.moments c.loop-line.disk)) way.0 in
     told_here _ _ _ way.0.stands (λ d told_now stands.
-    ends_in_line content script before c.loop-line.number c.loop-line.found_fault (c.loop-line.room.reader.unread ++ left) (g.O.Sink.held c.loop-line.out) (content_now (g.D.Disk.moments c.loop-line.disk)) way.0 _ _ (inl (line_of c.in-Some.line, c.next_line.new.reader.unread ++ later, found.0, found.1, refl)) (holds_at_end _ d told_now (MayBeCut-none d s.history _ stands) (c.in_err-fault.ensures.moments d s told_now stands))
-    c.loop-line.room.reader.taken (c.next_line.new.reader.unread ++ later) c.in-Some.line _ _ found (c.in_err-fault.ensures.prints d s told_now stands) c.in_err-fault.ensures.others)))
+    ends_in_line content script before c.loop-line.number c.loop-line.found_fault (c.loop-line.room.reader.unread ++ left) (g.O.Sink.held c.loop-line.out) (content_now (g.D.Disk.moments c.loop-line.disk)) way.0 _ _ (inl (line_of c.in-Some.line, c.next_line.new.reader.unread ++ later, found.0, found.1, within_script script (c.loop-line.room.reader.unread ++ left) (c.next_line.new.reader.unread ++ later) c.loop-line.room.reader.taken way.1 found.2, refl)) (holds_at_end _ d told_now (MayBeCut-none d s.history _ stands) (c.in_err-fault.ensures.moments d s told_now stands))
+    c.loop-line.room.reader.taken (c.next_line.new.reader.unread ++ later) c.in-Some.line _ _ way.1 found (c.in_err-fault.ensures.prints d s told_now stands) c.in_err-fault.ensures.others)))
 
 pub returns-in_err-fault-clause-moments : goal.returns-in_err-fault-clause-moments
 returns-in_err-fault-clause-moments g c content told script told_script before told_before =
@@ -39,7 +40,7 @@ returns-in_err-fault-clause-moments g c content told script told_script before t
     let s = session content script before c.loop-line.number c.loop-line.found_fault (c.loop-line.room.reader.unread ++ left) (g.O.Sink.held c.loop-line.out) (content_now (g.D.Disk.moments c.loop-line.disk)) way.0 in
     told_here _ _ _ way.0.stands (λ d told_now stands.
     EachMoment-then (c.loop-line.invariant.moments content script before told told_script told_before)
-    (EachMoment-weaker (left_meanwhile content script before c.loop-line.number c.loop-line.found_fault (c.loop-line.room.reader.unread ++ left) (g.O.Sink.held c.loop-line.out) (content_now (g.D.Disk.moments c.loop-line.disk)) way.0 (line_result small_blocks s (line_of c.in-Some.line)).changes (inl (line_of c.in-Some.line, c.next_line.new.reader.unread ++ later, found.0, found.1, refl))) (c.run_line.ensures.moments d s told_now stands))))
+    (EachMoment-weaker (left_meanwhile content script before c.loop-line.number c.loop-line.found_fault (c.loop-line.room.reader.unread ++ left) (g.O.Sink.held c.loop-line.out) (content_now (g.D.Disk.moments c.loop-line.disk)) way.0 (line_result small_blocks s (line_of c.in-Some.line)).changes (inl (line_of c.in-Some.line, c.next_line.new.reader.unread ++ later, found.0, found.1, within_script script (c.loop-line.room.reader.unread ++ left) (c.next_line.new.reader.unread ++ later) c.loop-line.room.reader.taken way.1 found.2, refl))) (c.run_line.ensures.moments d s told_now stands))))
 
 pub loop-line-preserved : goal.loop-line-preserved
 loop-line-preserved g c = record {
@@ -62,7 +63,7 @@ loop-line-preserved g c = record {
       let s = session content script before c.loop-line.number c.loop-line.found_fault (c.loop-line.room.reader.unread ++ left) (g.O.Sink.held c.loop-line.out) (content_now (g.D.Disk.moments c.loop-line.disk)) way.0 in
       told_here _ _ _ way.0.stands (λ d told_now stands.
       EachMoment-then (c.loop-line.invariant.moments content script before told told_script told_before)
-      (EachMoment-weaker (left_meanwhile content script before c.loop-line.number c.loop-line.found_fault (c.loop-line.room.reader.unread ++ left) (g.O.Sink.held c.loop-line.out) (content_now (g.D.Disk.moments c.loop-line.disk)) way.0 (line_result small_blocks s (line_of c.in-Some.line)).changes (inl (line_of c.in-Some.line, c.next_line.new.reader.unread ++ later, found.0, found.1, refl))) (c.run_line.ensures.moments d s told_now stands))));
+      (EachMoment-weaker (left_meanwhile content script before c.loop-line.number c.loop-line.found_fault (c.loop-line.room.reader.unread ++ left) (g.O.Sink.held c.loop-line.out) (content_now (g.D.Disk.moments c.loop-line.disk)) way.0 (line_result small_blocks s (line_of c.in-Some.line)).changes (inl (line_of c.in-Some.line, c.next_line.new.reader.unread ++ later, found.0, found.1, within_script script (c.loop-line.room.reader.unread ++ left) (c.next_line.new.reader.unread ++ later) c.loop-line.room.reader.taken way.1 found.2, refl))) (c.run_line.ensures.moments d s told_now stands))));
   places = adds_then IsOfBlock c.loop-line.invariant.places c.run_line.ensures.places;
   disk_later = search rules;
   script_later = search rules;
@@ -96,7 +97,7 @@ returns-clause-runs g c content told script told_script before told_before =
     let s = session content script before c.loop-line.number c.loop-line.found_fault (c.loop-line.room.reader.unread ++ left) (g.O.Sink.held c.loop-line.out) (content_now (g.D.Disk.moments c.loop-line.disk)) way.0 in
     told_here _ _ _ way.0.stands (λ d told_now stands.
     ends_complete content script before c.loop-line.number c.loop-line.found_fault (c.loop-line.room.reader.unread ++ left) (g.O.Sink.held c.loop-line.out) (content_now (g.D.Disk.moments c.loop-line.disk)) way.0 _ (Flushed ∷ []) (inr (inl (found, refl))) (holds_at_end _ d told_now (MayBeCut-none d s.history (Flushed ∷ []) stands) (flush_moments d s.history told_now stands c.close.ensures.moments))
-    _ found c.in_ok-close.ensures.closed))
+    _ found c.in_ok-close.ensures.closed (flush_stands d s.history _ (c.in_ok-close.ensures.synced ∙ ap (option_map newest_only) told_now) stands)))
 
 pub returns-clause-moments : goal.returns-clause-moments
 returns-clause-moments g c content told script told_script before told_before =
