@@ -7,20 +7,20 @@ use Rattle.std.proofs.lemmas.List.{take-append-drop, length-drop}
 use Rattle.disk_model.specs.Disk.{Content, Image, HasNothingPending, last_image}
 use Rattle.stream_io.specs.Stream.{with_bytes, AddsPrefix}
 use Rattle.device_model.specs.Ending.{Ending, Complete, RefusedLine, RefusedLength, DiskFailed, ScriptFailed, SinkFailed, LineForm}
-use Rattle.device_model.specs.Transcript.{Line as ScriptLine, Session, session_of, line_result, after_line, find_faults, closed_text, read_text}
+use Rattle.device_model.specs.Transcript.{Line as ScriptLine, Fill, Read, Flush, Session, session_of, line_result, after_line, find_faults, closed_text, read_text}
 use Rattle.device_model.specs.History.{Change, Flushed, cells_now, with_change}
 use Rattle.device_model.specs.Reply.{Reply, read_reply}
 use Rattle.device_model.proofs.ReplyLemmas.{read_reply-same}
 use Rattle.device_model.proofs.TranscriptLemmas.{after_lines-push, transcript-push, find_faults-push}
 use Rattle.integrity_tool.specs.Ended.{ending_of}
 use Rattle.integrity_tool.specs.Form.{small_blocks, small_cells}
-use Rattle.integrity_tool.specs.Grammar.{IsLine}
+use Rattle.integrity_tool.specs.Grammar.{IsLine, IsRunnable}
 use Rattle.integrity_tool.specs.Line.{line_of, IsNoLine}
 use Rattle.integrity_tool.specs.Lines.{LineReading, FindsLine, FindsWholeLine, FindsLongLine, FindsLongScript}
 use Rattle.integrity_tool.specs.Outcome.{printed, IsNextText, EndsBy}
 use Rattle.integrity_tool.specs.Running.{Prints, FindsNext, EndsLine, EndsScript, RefusesScript}
-use Rattle.integrity_tool.specs.Leaving.{session_after, IsNextChanges, IsLeftBy, IsClosed, RunsAndLeaves}
-use Rattle.integrity_tool.specs.Standing.{StandsFor, MayBeCut}
+use Rattle.integrity_tool.specs.Leaving.{session_after, IsNextChanges, IsLeftBy, IsClosed, IsOfLine, IsOfScript, RunsAndLeaves}
+use Rattle.integrity_tool.specs.Standing.{StandsFor, MayBeCut, IsOfBlock}
 use Rattle.integrity_tool.proofs.StandsForLemmas.{StandsFor-opened, MayBeCut-none, left_at_rest}
 use Rattle.integrity_tool.specs.Top.{IsRefusedScript}
 use Rattle.integrity_tool.specs.Script.{TakesLine, BeginsWith, BeginsWithNone, IsWithinBound, BeginsRefused, CrossesBound}
@@ -182,6 +182,24 @@ first_way c script before reader held now empty told_before told nothing = rw (e
 
 pub first_taken : (script : List ℕ) (reader : LineReading) → reader ≡ record { unread = []; line = []; taken = 0 } → IsTaken script (reader.unread ++ script) × (reader.taken + length (reader.unread ++ script) ≡ length script)
 first_taken script reader empty = rw empty (IsTaken-none script, omega arith)
+
+-- A line that can be run fills blocks that are there.
+pub line_of_block : (line : ScriptLine) → IsRunnable small_blocks.blocks line → (s : ℕ) (x : List ℕ) → IsOfLine line s x → IsOfBlock s x
+line_of_block (Fill first count byte) runnable s x is = (is.0, omega arith, omega (arith, is.2, runnable.1), is.3)
+line_of_block (Read first count) runnable s x is = absurd is
+line_of_block Flush runnable s x is = absurd is
+
+-- The next line is one of the script.
+pub line_of_script : (script rest after : List ℕ) (number taken : ℕ) (line : ReadLine) → IsTaken script rest × (taken + length rest ≡ length script) → FindsNext number taken rest after (Ok (Some line))
+    → (s : ℕ) (x : List ℕ) → IsOfLine (line_of line) s x → IsOfScript script s x
+line_of_script script rest after number taken line way found s x is = (
+  way.0.lines,
+  line_of line,
+  after,
+  BeginsWith-push small_blocks.blocks script rest after way.0.lines (line_of line) way.0.begins found.0 found.1,
+  within_script script rest after taken way.1 found.2,
+  is,
+)
 
 -- What follows from what is told of a disk.
 pub told_here : (o : Option Content) (P : Content → Type 0) (R : Type 0) → IsSomeAnd o P → ((d : Content) → o ≡ Some d → P d → R) → R

@@ -1,5 +1,5 @@
 -- What a write of one block leaves of the others, in every image.
-use Rattle.std.proofs.Common.{◌≡◌, ◌≢◌, ◌⊎◌, inl, inr, ⊎_elim, subst, ℕ, suc, ◌+◌, ◌<◌, ◌≤◌, List, [], ◌++◌, length, take, drop, if◌then◌else◌, nat_eq, refl, sym, ◌∙◌, ap, arith, length-append, length-drop, append-nil, Option, Some, None, IsSomeAnd}
+use Rattle.std.proofs.Common.{◌≡◌, ◌≢◌, ◌⊎◌, inl, inr, ⊎_elim, subst, ℕ, suc, ◌+◌, ◌≤◌, List, [], ◌++◌, length, take, drop, if◌then◌else◌, nat_eq, refl, sym, ◌∙◌, ap, arith, length-append, length-drop, append-nil, Option, Some, None, IsSomeAnd}
 use Rattle.std.specs.List.{Contains}
 use Rattle.std.proofs.Math.Seq.{drop-append_seam}
 use Rattle.std.proofs.lemmas.Bool.{cases_eq, cases_lt, eq-eqb, ne_eqb}
@@ -16,7 +16,7 @@ use Rattle.image_model.specs.Geometry.{data_at, tag_at}
 use Rattle.image_model.specs.Sectors.{piece}
 use Rattle.image_model.proofs.TagLemmas.{length-tag_of}
 use Rattle.integrity_tool.specs.Form.{small_blocks, small_cells, small_geometry}
-use Rattle.integrity_tool.specs.Standing.{IsSettled, KeepsOthers, WritesBlock, WritesTag, IsOfBlock, with_tag, tagged_cell}
+use Rattle.integrity_tool.specs.Standing.{IsSettled, KeepsOthers, WritesBlock, WritesTag, IsOfBlocks, with_tag, tagged_cell}
 use Rattle.integrity_tool.proofs.SmallImage.{data_at-small, tag_sector-small, tag_byte-small}
 
 -- ---- a tag in its sector
@@ -279,10 +279,10 @@ block_written c between (Some d) n at bytes tag one place is now writes =
 
 -- ---- which sectors change
 
-pub data_places : {a b : List Content} (n at : ℕ) (bytes : List ℕ) → at ≡ data_at small_geometry n → n < small_blocks.blocks → length bytes ≡ 512
-    → EachMoment a b (FromStart a (AddsSome at bytes)) → EachMoment a b (FromStart a (OnlyAdds IsOfBlock))
-data_places n at bytes place below one each = write_adds IsOfBlock at bytes each (λ s x is. (n, below, inl ((IsOfRun-one at bytes s x one is).0 ∙ place)))
+pub data_places : {a b : List Content} (n at : ℕ) (bytes : List ℕ) → at ≡ data_at small_geometry n → length bytes ≡ 512
+    → EachMoment a b (FromStart a (AddsSome at bytes)) → EachMoment a b (FromStart a (OnlyAdds (IsOfBlocks n 1)))
+data_places n at bytes place one each = write_adds (IsOfBlocks n 1) at bytes each (λ s x is. (n, omega arith, omega arith, inl ((IsOfRun-one at bytes s x one is).0 ∙ place)))
 
-pub tag_places : {a b : List Content} (n at : ℕ) (bytes : List ℕ) → at ≡ tag_sector n → n < small_blocks.blocks → length bytes ≡ 512
-    → EachMoment a b (FromStart a (AddsSome at bytes)) → EachMoment a b (FromStart a (OnlyAdds IsOfBlock))
-tag_places n at bytes place below one each = write_adds IsOfBlock at bytes each (λ s x is. (n, below, inr ((IsOfRun-one at bytes s x one is).0 ∙ place)))
+pub tag_places : {a b : List Content} (n at : ℕ) (bytes : List ℕ) → at ≡ tag_sector n → length bytes ≡ 512
+    → EachMoment a b (FromStart a (AddsSome at bytes)) → EachMoment a b (FromStart a (OnlyAdds (IsOfBlocks n 1)))
+tag_places n at bytes place one each = write_adds (IsOfBlocks n 1) at bytes each (λ s x is. (n, omega arith, omega arith, inr ((IsOfRun-one at bytes s x one is).0 ∙ place)))

@@ -11,7 +11,6 @@ use Rattle.stream_io.specs.Stream.{with_bytes, AddsPrefix}
 use Rattle.device_model.specs.Ending.{Ending, Complete, fault_text, status_of}
 use Rattle.integrity_tool.specs.Ended.{ending_of}
 use Rattle.integrity_tool.specs.Leaving.{RunsAndLeaves}
-use Rattle.integrity_tool.specs.Standing.{IsOfBlock}
 use Rattle.integrity_tool.specs.Top.{Start, HasForm, EndsBeforeScript, Leaves, Tells, NarrowsImages}
 use Rattle.integrity_tool.specs.Words.{IsRunWords}
 use Rattle.integrity_tool.specs.declared.ended.Ended.{Ended}
@@ -49,9 +48,9 @@ pub NarrowsImages-same : (c : Content) → NarrowsImages c c
 NarrowsImages-same c = record { each = λ image is. is }
 
 -- What is added since the start of the call, where the disk tells its content.
-pub adds_from : {a b : List Content} (first now : Content) → content_now a ≡ Some now → OnlyAdds IsOfBlock first now → EachMoment a b (FromStart a (OnlyAdds IsOfBlock)) → EachMoment a b (OnlyAdds IsOfBlock first)
-adds_from first now told adds each =
-    EachMoment-weaker (λ d from. OnlyAdds-join IsOfBlock first now d adds (subst (λ (o : Option Content). IsSomeAnd o (λ start. OnlyAdds IsOfBlock start d)) told from)) each
+pub adds_from : {a b : List Content} (W : ℕ → List ℕ → Type 0) (first now : Content) → content_now a ≡ Some now → OnlyAdds W first now → EachMoment a b (FromStart a (OnlyAdds W)) → EachMoment a b (OnlyAdds W first)
+adds_from W first now told adds each =
+    EachMoment-weaker (λ d from. OnlyAdds-join W first now d adds (subst (λ (o : Option Content). IsSomeAnd o (λ start. OnlyAdds W start d)) told from)) each
 
 -- ---- what is printed
 

@@ -1,15 +1,15 @@
 -- What the run of a script leaves on the disk, at its end and at each moment of it.
-use Rattle.std.specs.Prelude.{◌≡◌, ◌⊎◌, ℕ, List, [], ◌∷◌, length}
+use Rattle.std.specs.Prelude.{◌≡◌, ◌⊎◌, ℕ, List, [], ◌∷◌, ◌++◌, length}
 use Rattle.disk_model.specs.Disk.{Content, EachImage, Image}
 use Rattle.device_model.specs.Cut.{MayBeLeftDirect}
 use Rattle.device_model.specs.Ending.{Ending, Complete}
 use Rattle.device_model.specs.History.{Change, History, Flushed, with_change}
-use Rattle.device_model.specs.Transcript.{Line, Session, session_of, after_lines, line_result}
+use Rattle.device_model.specs.Transcript.{Line, Fill, Session, session_of, after_lines, line_result}
 use Rattle.integrity_tool.specs.Form.{small_blocks, small_cells}
 use Rattle.integrity_tool.specs.Grammar.{line_bytes, IsRunnable}
 use Rattle.integrity_tool.specs.Outcome.{Runs}
 use Rattle.integrity_tool.specs.Script.{TakesLine, BeginsWith, IsWithinBound}
-use Rattle.integrity_tool.specs.Standing.{MayBeCut}
+use Rattle.integrity_tool.specs.Standing.{IsOfBlocks, MayBeCut}
 
 -- The session after some lines on the blocks of an image.
 abbrev pub session_after : Image → List Line → Session
@@ -47,3 +47,14 @@ pub record RunsAndLeaves (image : Image) (script printed_before printed_after : 
   pub next : IsNextChanges image (length script) runs.lines runs.rest changes
   pub cut : MayBeCut (session_after image runs.lines).history changes c
   pub closed : IsClosed ending (session_after image runs.lines).history c
+
+-- The sector holds the data or the tag of a block that the line fills.
+abbrev pub IsOfLine : Line → ℕ → List ℕ → Type 0
+IsOfLine (Fill first count byte) = IsOfBlocks first count
+IsOfLine line = λ sector candidate. ⊥
+
+-- The sector holds the data or the tag of a block that a line of the script fills.
+abbrev pub IsOfScript : List ℕ → ℕ → List ℕ → Type 0
+IsOfScript script sector candidate =
+    (before : List Line) × (line : Line) × (rest : List ℕ) × BeginsWith small_blocks.blocks script (before ++ line ∷ []) rest
+    × IsWithinBound (length script) rest × IsOfLine line sector candidate

@@ -55,7 +55,11 @@ pub record MayBeCut (h : History) (changes : List Change) (c : Content) : Type 0
   pub parts : changes ≡ done ++ more
   pub each : EachImage (λ image. MayBeLeftDirect small_blocks.tag small_blocks.blocks (begun more (with_changes done h)) (small_cells image)) c
 
+-- The sector holds the data or the tag of one of these blocks.
+abbrev pub IsOfBlocks : ℕ → ℕ → ℕ → List ℕ → Type 0
+IsOfBlocks first count sector candidate =
+    (b : ℕ) × (first ≤ b) × (b < first + count) × ((sector ≡ data_at small_geometry b) ⊎ (sector ≡ (tag_at small_geometry b).0))
+
 -- The sector holds the data or the tag of a block. The superblock and the journal do not.
 abbrev pub IsOfBlock : ℕ → List ℕ → Type 0
-IsOfBlock sector candidate =
-    (b : ℕ) × (b < small_blocks.blocks) × ((sector ≡ data_at small_geometry b) ⊎ (sector ≡ (tag_at small_geometry b).0))
+IsOfBlock sector candidate = IsOfBlocks 0 small_blocks.blocks sector candidate

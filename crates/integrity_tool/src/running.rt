@@ -11,10 +11,10 @@ ghost use Rattle.device_model.specs.Transcript.{Fill, Read, Flush, Session, afte
 ghost use Rattle.integrity_tool.specs.Form.{small_blocks};
 ghost use Rattle.integrity_tool.specs.Grammar.{IsRunnable};
 ghost use Rattle.integrity_tool.specs.Line.{line_of};
-ghost use Rattle.integrity_tool.specs.Leaving.{IsLeftBy, RunsAndLeaves};
+ghost use Rattle.integrity_tool.specs.Leaving.{IsLeftBy, IsOfLine, IsOfScript, RunsAndLeaves};
 ghost use Rattle.integrity_tool.specs.Reading.{reply_of, IsSmallRule};
 ghost use Rattle.integrity_tool.specs.Running.{Prints, FindsNext, EndsLine, EndsScript, RefusesScript, ending_by};
-ghost use Rattle.integrity_tool.specs.Standing.{IsOfBlock, MayBeCut, StandsFor};
+ghost use Rattle.integrity_tool.specs.Standing.{IsOfBlock, IsOfBlocks, MayBeCut, StandsFor};
 ghost use Rattle.integrity_tool.specs.Top.{IsRefusedScript};
 ghost use Rattle.stream_io.specs.Stream.{with_bytes, AddsPrefix};
 ghost use Rattle.integrity_tool.specs.Text.{longest_text};
@@ -105,6 +105,8 @@ pub fn run_script<D: Disk, S: Source, O: Sink>(
         (IsLeftBy (last_image c) left)))) }
     ensures places { EachMoment (D.moments disk.old) (D.moments disk.new)
         (FromStart (D.moments disk.old) (OnlyAdds IsOfBlock)) }
+    ensures filled { ForSome (S.left script.old) (λ left. EachMoment (D.moments disk.old) (D.moments disk.new)
+        (FromStart (D.moments disk.old) (OnlyAdds (IsOfScript left)))) }
 {
     let mut found_fault = false;
     let mut number = 1;
@@ -182,7 +184,7 @@ fn run_line<D: Disk, O: Sink>(
     ensures moments { (c : Content) (s : Session) → content_now (D.moments disk.old) ≡ Some c → StandsFor c s.history
         → EachMoment (D.moments disk.old) (D.moments disk.new) (MayBeCut s.history (line_result small_blocks s (line_of line)).changes) }
     ensures places { EachMoment (D.moments disk.old) (D.moments disk.new)
-        (FromStart (D.moments disk.old) (OnlyAdds IsOfBlock)) }
+        (FromStart (D.moments disk.old) (OnlyAdds (IsOfLine (line_of line)))) }
 {
     match line {
         Line::Fill { first, count, byte } => run_fill(disk, out, maker, first, count, byte, text),
@@ -222,7 +224,7 @@ fn run_fill<D: Disk, O: Sink>(
     ensures moments { (c : Content) (s : Session) → content_now (D.moments disk.old) ≡ Some c → StandsFor c s.history
         → EachMoment (D.moments disk.old) (D.moments disk.new) (MayBeCut s.history (line_result small_blocks s (Fill first count byte)).changes) }
     ensures places { EachMoment (D.moments disk.old) (D.moments disk.new)
-        (FromStart (D.moments disk.old) (OnlyAdds IsOfBlock)) }
+        (FromStart (D.moments disk.old) (OnlyAdds (IsOfBlocks first count))) }
 {
     let Ok(()) = fill_blocks(disk, maker, first, count, byte) else {
         return Err(Ended::Disk);
@@ -255,7 +257,7 @@ fn run_flush<D: Disk, O: Sink>(disk: &mut D, out: &mut O, text: &mut Vec<u8>) ->
     ensures moments { (c : Content) (s : Session) → content_now (D.moments disk.old) ≡ Some c → StandsFor c s.history
         → EachMoment (D.moments disk.old) (D.moments disk.new) (MayBeCut s.history (line_result small_blocks s Flush).changes) }
     ensures places { EachMoment (D.moments disk.old) (D.moments disk.new)
-        (FromStart (D.moments disk.old) (OnlyAdds IsOfBlock)) }
+        (FromStart (D.moments disk.old) (OnlyAdds (IsOfLine Flush))) }
 {
     let Ok(()) = disk.sync() else {
         return Err(Ended::Disk);

@@ -6,6 +6,7 @@ ghost use Rattle.disk_model.specs.Causes.{Rose};
 ghost use Rattle.disk_model.specs.Disk.{OnlyAdds, last_image, newest_only};
 ghost use Rattle.disk_model.specs.Moments.{content_now, EachMoment, FromStart};
 ghost use Rattle.integrity_tool.specs.Form.{IsOfForm};
+ghost use Rattle.integrity_tool.specs.Leaving.{IsOfScript};
 ghost use Rattle.integrity_tool.specs.Running.{RefusesScript, ending_by};
 ghost use Rattle.integrity_tool.specs.Standing.{IsOfBlock};
 ghost use Rattle.integrity_tool.specs.Top.{start_of, IsRefusedScript, Leaves, MayBeLeft, Tells};
@@ -74,13 +75,15 @@ pub fn integrity<D: Disk + Named, K: Source + Named, S: Source, O: Sink>(
         → ¬ Rose (D.faults disk.old) (D.faults disk.new) → ¬ Rose (S.faults script.old) (S.faults script.new)
         → ¬ Rose (O.faults out.old) (O.faults out.new) → (result ≤ 1 ⊎ result ≡ 7))) }
 
-    // Each image at each moment of the call is one of those at its start, or one that a cut may leave of the lines run,
-    // and only sectors of blocks change.
+    // Each image at each moment of the call is one of those at its start, or one that a cut may leave of the lines run.
+    // Only sectors of blocks change, and only of those that the script fills.
     ensures moments { ForSome (content_now (D.moments disk.old)) (λ c. ForSome (S.left script.old) (λ left.
         ForSome (O.held out.old) (λ before. EachMoment (D.moments disk.old) (D.moments disk.new)
         (MayBeLeft (start_of (map string_bytes words.now) (D.sectors disk.old) c left))))) }
     ensures places { ForSome (content_now (D.moments disk.old)) (λ c.
         EachMoment (D.moments disk.old) (D.moments disk.new) (OnlyAdds IsOfBlock c)) }
+    ensures filled { ForSome (content_now (D.moments disk.old)) (λ c. ForSome (S.left script.old) (λ left.
+        EachMoment (D.moments disk.old) (D.moments disk.new) (OnlyAdds (IsOfScript left) c))) }
 {
     match run(alloc, words, disk, script, out) {
         Ok(found_fault) => complete_status(found_fault),
@@ -130,6 +133,8 @@ fn run<D: Disk + Named, S: Source, O: Sink>(
         (MayBeLeft (start_of (map string_bytes words.now) (D.sectors disk.old) c left))))) }
     ensures places { ForSome (content_now (D.moments disk.old)) (λ c.
         EachMoment (D.moments disk.old) (D.moments disk.new) (OnlyAdds IsOfBlock c)) }
+    ensures filled { ForSome (content_now (D.moments disk.old)) (λ c. ForSome (S.left script.old) (λ left.
+        EachMoment (D.moments disk.old) (D.moments disk.new) (OnlyAdds (IsOfScript left) c))) }
 {
     let Some(image) = image_to_run(words) else {
         return Err(Ended::Words);

@@ -8,7 +8,7 @@ ghost use Rattle.device_model.specs.History.{History, with_changes};
 ghost use Rattle.device_model.specs.Transcript.{filled};
 ghost use Rattle.integrity_tool.specs.Form.{small_blocks};
 ghost use Rattle.integrity_tool.specs.Reading.{IsSmallRule};
-ghost use Rattle.integrity_tool.specs.Standing.{IsOfBlock, KeepsOthers, MayBeCut, StandsFor, WritesBlock, WritesTag, tagged_cell, with_tag};
+ghost use Rattle.integrity_tool.specs.Standing.{IsOfBlocks, KeepsOthers, MayBeCut, StandsFor, WritesBlock, WritesTag, tagged_cell, with_tag};
 
 use crate::small_image::{SMALL_BLOCKS, SMALL_SECTORS, TAG_SIZE, data_at, tag_byte, tag_sector};
 use hmac_tag::{Tag, TagMaker};
@@ -39,7 +39,7 @@ pub fn write_block<D: Disk>(
     ensures moments { EachMoment (D.moments disk.old) (D.moments disk.new)
         (FromStart (D.moments disk.old) (KeepsOthers block)) }
     ensures places { EachMoment (D.moments disk.old) (D.moments disk.new)
-        (FromStart (D.moments disk.old) (OnlyAdds IsOfBlock)) }
+        (FromStart (D.moments disk.old) (OnlyAdds (IsOfBlocks block 1))) }
 {
     disk.write_run(data_at(block), bytes)?;
     write_tag(disk, block, &maker.tag(block, bytes))
@@ -65,7 +65,7 @@ fn write_tag<D: Disk>(disk: &mut D, block: u64, tag: &Tag) -> Result<(), Failed>
     ensures moments { EachMoment (D.moments disk.old) (D.moments disk.new)
         (FromStart (D.moments disk.old) (KeepsOthers block)) }
     ensures places { EachMoment (D.moments disk.old) (D.moments disk.new)
-        (FromStart (D.moments disk.old) (OnlyAdds IsOfBlock)) }
+        (FromStart (D.moments disk.old) (OnlyAdds (IsOfBlocks block 1))) }
 {
     let at = tag_sector(block);
     let mut tags = [0; 512];
@@ -111,7 +111,7 @@ pub fn fill_blocks<D: Disk>(
     ensures moments { (c : Content) (h : History) (ticket : ℕ) → content_now (D.moments disk.old) ≡ Some c → StandsFor c h
         → EachMoment (D.moments disk.old) (D.moments disk.new) (MayBeCut h (filled small_blocks ticket first count byte)) }
     ensures places { EachMoment (D.moments disk.old) (D.moments disk.new)
-        (FromStart (D.moments disk.old) (OnlyAdds IsOfBlock)) }
+        (FromStart (D.moments disk.old) (OnlyAdds (IsOfBlocks first count))) }
 {
     let bytes = [byte; 512];
     for block in first..first + count {

@@ -2,7 +2,8 @@ use Rattle.std.proofs.Common.{ap, ◌∙◌}
 use Rattle.std.specs.Option.{option_map}
 use Rattle.disk_model.specs.Disk.{newest_only}
 use Rattle.disk_model.proofs.MomentsLemmas.{sync_adds}
-use Rattle.integrity_tool.specs.Standing.{IsOfBlock}
+use Rattle.device_model.specs.Transcript.{Flush}
+use Rattle.integrity_tool.specs.Leaving.{IsOfLine}
 use Rattle.integrity_tool.proofs.StandsForLemmas.{flush_stands, flush_moments}
 use Rattle.integrity_tool.proofs.running.run_flush.Goals as goal
 
@@ -16,7 +17,7 @@ pub returns-in-Err-clause-moments : goal.returns-in-Err-clause-moments
 returns-in-Err-clause-moments g c content s told stands = flush_moments content s.history told stands c.sync.ensures.moments
 
 pub returns-in-Ok-put_all-clause-places : goal.returns-in-Ok-put_all-clause-places
-returns-in-Ok-put_all-clause-places g c = sync_adds IsOfBlock (g.met.D.Disk.reads_an_image c.args.disk.now) c.sync.ensures.moments
+returns-in-Ok-put_all-clause-places g c = sync_adds (IsOfLine Flush) (g.met.D.Disk.reads_an_image c.args.disk.now) c.sync.ensures.moments
 
 pub returns-in-Err-clause-places : goal.returns-in-Err-clause-places
-returns-in-Err-clause-places g c = sync_adds IsOfBlock (g.met.D.Disk.reads_an_image c.args.disk.now) c.sync.ensures.moments
+returns-in-Err-clause-places g c = sync_adds (IsOfLine Flush) (g.met.D.Disk.reads_an_image c.args.disk.now) c.sync.ensures.moments

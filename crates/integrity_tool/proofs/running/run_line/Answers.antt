@@ -17,3 +17,9 @@ returns-in-Flush-clause-stands g c content s told stands = rw c.in-Flush.is (c.r
 
 pub returns-in-Flush-clause-moments : goal.returns-in-Flush-clause-moments
 returns-in-Flush-clause-moments g c content s told stands = rw c.in-Flush.is (c.run_flush.ensures.moments content s told stands)
+
+pub returns-in-Fill-clause-places : goal.returns-in-Fill-clause-places
+returns-in-Fill-clause-places g c = rw c.in-Fill.is c.run_fill.ensures.places
+
+pub returns-in-Flush-clause-places : goal.returns-in-Flush-clause-places
+returns-in-Flush-clause-places g c = rw c.in-Flush.is c.run_flush.ensures.places

@@ -1,7 +1,7 @@
 use Rattle.std.proofs.Common.{◌++◌, ◌∷◌, [], inl, inr, Some, Ok, Err, rules, refl, ap, ◌∙◌}
 use Rattle.std.proofs.lemmas.Result.{err_from_is_err_and}
 use Rattle.disk_model.specs.Moments.{content_now, FromStart}
-use Rattle.disk_model.proofs.MomentsLemmas.{adds_then, sync_adds, no_moment, EachMoment-then, EachMoment-weaker}
+use Rattle.disk_model.proofs.MomentsLemmas.{adds_then, adds_wider, sync_adds, no_moment, EachMoment-then, EachMoment-weaker}
 use Rattle.device_model.specs.History.{Flushed}
 use Rattle.device_model.specs.Transcript.{line_result}
 use Rattle.integrity_tool.specs.Form.{small_blocks}
@@ -9,11 +9,11 @@ use Rattle.integrity_tool.specs.Line.{line_of}
 use Rattle.std.specs.Option.{option_map}
 use Rattle.disk_model.specs.Disk.{OnlyAdds, last_image, newest_only}
 use Rattle.integrity_tool.specs.Standing.{IsOfBlock}
-use Rattle.integrity_tool.specs.Leaving.{IsLeftBy}
+use Rattle.integrity_tool.specs.Leaving.{IsLeftBy, IsOfLine, IsOfScript}
 use Rattle.integrity_tool.specs.Running.{FindsNext}
 use Rattle.integrity_tool.specs.declared.ended.Ended.{Ended}
 use Rattle.integrity_tool.proofs.StandsForLemmas.{MayBeCut-none, flush_stands, flush_moments}
-use Rattle.integrity_tool.proofs.RunningLemmas.{both_told, both_later, within_script, told_here, holds_at_end, left_meanwhile, session, ends_at_next, ends_in_line, ends_by_close, goes_on_counted, ends_complete, first_way, first_taken, IsTaken-line, IsTaken-refused}
+use Rattle.integrity_tool.proofs.RunningLemmas.{both_told, both_later, within_script, line_of_block, line_of_script, told_here, holds_at_end, left_meanwhile, session, ends_at_next, ends_in_line, ends_by_close, goes_on_counted, ends_complete, first_way, first_taken, IsTaken-line, IsTaken-refused}
 use Rattle.integrity_tool.proofs.running.run_script.Goals as goal
 
 pub returns-in_err-line-clause-runs : goal.returns-in_err-line-clause-runs
@@ -64,7 +64,12 @@ loop-line-preserved g c = record {
       told_here _ _ _ way.0.stands (λ d told_now stands.
       EachMoment-then (c.loop-line.invariant.moments content script before told told_script told_before)
       (EachMoment-weaker (left_meanwhile content script before c.loop-line.number c.loop-line.found_fault (c.loop-line.room.reader.unread ++ left) (g.O.Sink.held c.loop-line.out) (content_now (g.D.Disk.moments c.loop-line.disk)) way.0 (line_result small_blocks s (line_of c.in-Some.line)).changes (inl (line_of c.in-Some.line, c.next_line.new.reader.unread ++ later, found.0, found.1, within_script script (c.loop-line.room.reader.unread ++ left) (c.next_line.new.reader.unread ++ later) c.loop-line.room.reader.taken way.1 found.2, refl))) (c.run_line.ensures.moments d s told_now stands))));
-  places = adds_then IsOfBlock c.loop-line.invariant.places c.run_line.ensures.places;
+  places = adds_then IsOfBlock c.loop-line.invariant.places (adds_wider (IsOfLine (line_of c.in-Some.line)) IsOfBlock (line_of_block (line_of c.in-Some.line) (rw c.in-Some.is at c.in_ok-line.ensures.runnable)) c.run_line.ensures.places);
+  filled = λ script told_script.
+      both_told _ _ _ _ _ (c.loop-line.invariant.taken script told_script) (rw c.in-Some.is at c.in_ok-line.ensures.next)
+      (λ left later way (found : FindsNext c.loop-line.number c.loop-line.room.reader.taken (c.loop-line.room.reader.unread ++ left) (c.next_line.new.reader.unread ++ later) (Ok (Some c.in-Some.line))).
+      adds_then (IsOfScript script) (c.loop-line.invariant.filled script told_script)
+      (adds_wider (IsOfLine (line_of c.in-Some.line)) (IsOfScript script) (line_of_script script (c.loop-line.room.reader.unread ++ left) (c.next_line.new.reader.unread ++ later) c.loop-line.number c.loop-line.room.reader.taken c.in-Some.line way found) c.run_line.ensures.places));
   disk_later = search rules;
   script_later = search rules;
   sink_later = search rules;
@@ -127,6 +132,7 @@ loop-line-init g c = record {
   sectors = search rules;
   moments = λ content script before told told_script told_before. no_moment (g.D.Disk.moments c.args.disk.now) (IsLeftBy (last_image content) script);
   places = no_moment (g.D.Disk.moments c.args.disk.now) (FromStart (g.D.Disk.moments c.args.disk.now) (OnlyAdds IsOfBlock));
+  filled = λ script told_script. no_moment (g.D.Disk.moments c.args.disk.now) (FromStart (g.D.Disk.moments c.args.disk.now) (OnlyAdds (IsOfScript script)));
   disk_later = search rules;
   script_later = search rules;
   sink_later = search rules;
@@ -136,10 +142,26 @@ pub returns-in_err-line-clause-places : goal.returns-in_err-line-clause-places
 returns-in_err-line-clause-places g c = c.loop-line.invariant.places
 
 pub returns-in_err-fault-clause-places : goal.returns-in_err-fault-clause-places
-returns-in_err-fault-clause-places g c = adds_then IsOfBlock c.loop-line.invariant.places c.run_line.ensures.places
+returns-in_err-fault-clause-places g c = adds_then IsOfBlock c.loop-line.invariant.places (adds_wider (IsOfLine (line_of c.in-Some.line)) IsOfBlock (line_of_block (line_of c.in-Some.line) (rw c.in-Some.is at c.in_ok-line.ensures.runnable)) c.run_line.ensures.places)
 
 pub returns-in_err-close-clause-places : goal.returns-in_err-close-clause-places
 returns-in_err-close-clause-places g c = adds_then IsOfBlock c.loop-line.invariant.places (sync_adds IsOfBlock (g.met.D.Disk.reads_an_image c.loop-line.disk) c.close.ensures.moments)
 
 pub returns-clause-places : goal.returns-clause-places
 returns-clause-places g c = adds_then IsOfBlock c.loop-line.invariant.places (sync_adds IsOfBlock (g.met.D.Disk.reads_an_image c.loop-line.disk) c.close.ensures.moments)
+
+pub returns-in_err-line-clause-filled : goal.returns-in_err-line-clause-filled
+returns-in_err-line-clause-filled g c script told_script = c.loop-line.invariant.filled script told_script
+
+pub returns-in_err-fault-clause-filled : goal.returns-in_err-fault-clause-filled
+returns-in_err-fault-clause-filled g c script told_script =
+    both_told _ _ _ _ _ (c.loop-line.invariant.taken script told_script) (rw c.in-Some.is at c.in_ok-line.ensures.next)
+    (λ left later way (found : FindsNext c.loop-line.number c.loop-line.room.reader.taken (c.loop-line.room.reader.unread ++ left) (c.next_line.new.reader.unread ++ later) (Ok (Some c.in-Some.line))).
+    adds_then (IsOfScript script) (c.loop-line.invariant.filled script told_script)
+    (adds_wider (IsOfLine (line_of c.in-Some.line)) (IsOfScript script) (line_of_script script (c.loop-line.room.reader.unread ++ left) (c.next_line.new.reader.unread ++ later) c.loop-line.number c.loop-line.room.reader.taken c.in-Some.line way found) c.run_line.ensures.places))
+
+pub returns-in_err-close-clause-filled : goal.returns-in_err-close-clause-filled
+returns-in_err-close-clause-filled g c script told_script = adds_then (IsOfScript script) (c.loop-line.invariant.filled script told_script) (sync_adds (IsOfScript script) (g.met.D.Disk.reads_an_image c.loop-line.disk) c.close.ensures.moments)
+
+pub returns-clause-filled : goal.returns-clause-filled
+returns-clause-filled g c script told_script = adds_then (IsOfScript script) (c.loop-line.invariant.filled script told_script) (sync_adds (IsOfScript script) (g.met.D.Disk.reads_an_image c.loop-line.disk) c.close.ensures.moments)

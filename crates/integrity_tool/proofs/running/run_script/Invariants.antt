@@ -3,7 +3,7 @@ use Rattle.std.specs.Option.{ForSome}
 use Rattle.disk_model.specs.Disk.{Content, OnlyAdds, last_image}
 use Rattle.disk_model.specs.Moments.{content_now, EachMoment, FromStart}
 use Rattle.integrity_tool.specs.Standing.{IsOfBlock}
-use Rattle.integrity_tool.specs.Leaving.{IsLeftBy}
+use Rattle.integrity_tool.specs.Leaving.{IsLeftBy, IsOfScript}
 use Rattle.integrity_tool.specs.declared.line_reader.TheConstants.{MOST_SCRIPT}
 use Rattle.integrity_tool.proofs.RunningLemmas.{IsUnderWay, IsTaken}
 use Rattle.integrity_tool.proofs.running.run_script.Given as goal
@@ -21,6 +21,7 @@ invariant-loop-line g l = record {
   moments : (c : Content) (script before : List ℕ) → content_now (g.D.Disk.moments l.fn.disk) ≡ Some c → g.S.Source.left l.fn.script ≡ Some script → g.O.Sink.held l.fn.out ≡ Some before
       → EachMoment (g.D.Disk.moments l.fn.disk) (g.D.Disk.moments l.disk) (IsLeftBy (last_image c) script);
   places : EachMoment (g.D.Disk.moments l.fn.disk) (g.D.Disk.moments l.disk) (FromStart (g.D.Disk.moments l.fn.disk) (OnlyAdds IsOfBlock));
+  filled : (script : List ℕ) → g.S.Source.left l.fn.script ≡ Some script → EachMoment (g.D.Disk.moments l.fn.disk) (g.D.Disk.moments l.disk) (FromStart (g.D.Disk.moments l.fn.disk) (OnlyAdds (IsOfScript script)));
   disk_later : g.D.Counted.faults l.fn.disk ≤ g.D.Counted.faults l.disk;
   script_later : g.S.Counted.faults l.fn.script ≤ g.S.Counted.faults l.script;
   sink_later : g.O.Counted.faults l.fn.out ≤ g.O.Counted.faults l.out;

@@ -7,6 +7,7 @@ use Rattle.disk_model.specs.Moments.{content_now}
 use Rattle.disk_model.proofs.DiskLemmas.{synced_has_nothing_pending, OnlyAdds-none, newest_only-adds}
 use Rattle.disk_model.proofs.MomentsLemmas.{sync_adds, EachMoment-kept, EachMoment-then, EachMoment-weaker}
 use Rattle.device_model.specs.Ending.{RefusedWords, DiskFailed, NoMemory}
+use Rattle.integrity_tool.specs.Leaving.{IsOfScript}
 use Rattle.integrity_tool.specs.Standing.{IsOfBlock}
 use Rattle.integrity_tool.specs.declared.ended.Ended.{Ended}
 use Rattle.std.proofs.lemmas.Bool.{true≢false}
@@ -88,12 +89,32 @@ pub returns-in_err-open-clause-places : goal.returns-in_err-open-clause-places
 returns-in_err-open-clause-places g c content told =
     let same = g.met.D.Disk.same_moments c.args.disk.now c.bind.new.self content c.bind.ensures.same told in
     EachMoment-then (EachMoment-kept (OnlyAdds IsOfBlock content) same)
-    (adds_from content content (ap content_now same ∙ told) (OnlyAdds-none IsOfBlock content) (sync_adds IsOfBlock (g.met.D.Disk.reads_an_image c.bind.new.self) c.open.ensures.moments))
+    (adds_from IsOfBlock content content (ap content_now same ∙ told) (OnlyAdds-none IsOfBlock content) (sync_adds IsOfBlock (g.met.D.Disk.reads_an_image c.bind.new.self) c.open.ensures.moments))
 
 pub returns-clause-places : goal.returns-clause-places
 returns-clause-places g c content told =
     let same = g.met.D.Disk.same_moments c.args.disk.now c.bind.new.self content c.bind.ensures.same told in
     let now = ap content_now same ∙ told in
     EachMoment-then (EachMoment-kept (OnlyAdds IsOfBlock content) same)
-    (EachMoment-then (adds_from content content now (OnlyAdds-none IsOfBlock content) (sync_adds IsOfBlock (g.met.D.Disk.reads_an_image c.bind.new.self) c.open.ensures.moments))
-    (adds_from content (newest_only content) (c.in_ok-open.ensures.synced ∙ ap (option_map newest_only) now) (newest_only-adds IsOfBlock content (g.met.D.Disk.reads_an_image c.args.disk.now content told)) c.run_script.ensures.places))
+    (EachMoment-then (adds_from IsOfBlock content content now (OnlyAdds-none IsOfBlock content) (sync_adds IsOfBlock (g.met.D.Disk.reads_an_image c.bind.new.self) c.open.ensures.moments))
+    (adds_from IsOfBlock content (newest_only content) (c.in_ok-open.ensures.synced ∙ ap (option_map newest_only) now) (newest_only-adds IsOfBlock content (g.met.D.Disk.reads_an_image c.args.disk.now content told)) c.run_script.ensures.places))
+
+pub returns-then-is_err-clause-filled : goal.returns-then-is_err-clause-filled
+returns-then-is_err-clause-filled g c content told script told_script = EachMoment-kept (OnlyAdds (IsOfScript script) content) (g.met.D.Disk.same_moments c.args.disk.now c.bind.new.self content c.bind.ensures.same told)
+
+pub returns-in_default-new-clause-filled : goal.returns-in_default-new-clause-filled
+returns-in_default-new-clause-filled g c content told script told_script = EachMoment-kept (OnlyAdds (IsOfScript script) content) (g.met.D.Disk.same_moments c.args.disk.now c.bind.new.self content c.bind.ensures.same told)
+
+pub returns-in_err-open-clause-filled : goal.returns-in_err-open-clause-filled
+returns-in_err-open-clause-filled g c content told script told_script =
+    let same = g.met.D.Disk.same_moments c.args.disk.now c.bind.new.self content c.bind.ensures.same told in
+    EachMoment-then (EachMoment-kept (OnlyAdds (IsOfScript script) content) same)
+    (adds_from (IsOfScript script) content content (ap content_now same ∙ told) (OnlyAdds-none (IsOfScript script) content) (sync_adds (IsOfScript script) (g.met.D.Disk.reads_an_image c.bind.new.self) c.open.ensures.moments))
+
+pub returns-clause-filled : goal.returns-clause-filled
+returns-clause-filled g c content told script told_script =
+    let same = g.met.D.Disk.same_moments c.args.disk.now c.bind.new.self content c.bind.ensures.same told in
+    let now = ap content_now same ∙ told in
+    EachMoment-then (EachMoment-kept (OnlyAdds (IsOfScript script) content) same)
+    (EachMoment-then (adds_from (IsOfScript script) content content now (OnlyAdds-none (IsOfScript script) content) (sync_adds (IsOfScript script) (g.met.D.Disk.reads_an_image c.bind.new.self) c.open.ensures.moments))
+    (adds_from (IsOfScript script) content (newest_only content) (c.in_ok-open.ensures.synced ∙ ap (option_map newest_only) now) (newest_only-adds (IsOfScript script) content (g.met.D.Disk.reads_an_image c.args.disk.now content told)) (c.run_script.ensures.filled script told_script)))

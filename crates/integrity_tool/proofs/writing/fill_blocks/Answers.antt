@@ -2,11 +2,11 @@ use Rattle.std.proofs.Common.{rules, ◌≡◌, ◌+◌, ◌-◌, ℕ, IsSomeAnd
 use Rattle.std.proofs.lemmas.Result.{err_from_is_err_and}
 use Rattle.disk_model.specs.Disk.{OnlyAdds}
 use Rattle.disk_model.specs.Moments.{content_now, FromStart}
-use Rattle.disk_model.proofs.MomentsLemmas.{adds_then, no_moment, EachMoment-then}
+use Rattle.disk_model.proofs.MomentsLemmas.{adds_then, adds_wider, no_moment, EachMoment-then}
 use Rattle.device_model.specs.History.{with_changes}
 use Rattle.device_model.specs.Transcript.{filled}
 use Rattle.integrity_tool.specs.Form.{small_blocks}
-use Rattle.integrity_tool.specs.Standing.{IsOfBlock, MayBeCut, StandsFor}
+use Rattle.integrity_tool.specs.Standing.{IsOfBlocks, MayBeCut, StandsFor}
 use Rattle.integrity_tool.proofs.TopLemmas.{Rose-earlier}
 use Rattle.integrity_tool.proofs.StandsForLemmas.{fill_goes_on, fill_moments, fill_begins}
 use Rattle.integrity_tool.proofs.writing.fill_blocks.Goals as goal
@@ -15,7 +15,7 @@ pub loop-block-init : goal.loop-block-init
 loop-block-init g c = record {
   stands = λ content h ticket told stands. rw told (fill_begins content h ticket c.args.first (c.args.first - c.args.first) c.args.byte (omega arith) stands);
   moments = λ content h ticket told stands. no_moment (g.D.Disk.moments c.args.disk.now) (MayBeCut h (filled small_blocks ticket c.args.first c.args.count c.args.byte));
-  places = no_moment (g.D.Disk.moments c.args.disk.now) (FromStart (g.D.Disk.moments c.args.disk.now) (OnlyAdds IsOfBlock));
+  places = no_moment (g.D.Disk.moments c.args.disk.now) (FromStart (g.D.Disk.moments c.args.disk.now) (OnlyAdds (IsOfBlocks c.args.first c.args.count)));
   sectors = search rules;
   later = search rules;
 }
@@ -49,7 +49,7 @@ loop-block-preserved g c = record {
       EachMoment-then (c.loop-block.invariant.moments content h ticket told stands)
       (fill_moments _ h ticket c.args.first (c.loop-block.block - c.args.first) c.args.count c.loop-block.block c.args.byte refl (omega arith) (omega arith)
       (c.loop-block.invariant.stands content h ticket told stands) c.write_block.ensures.moments);
-  places = adds_then IsOfBlock c.loop-block.invariant.places c.write_block.ensures.places;
+  places = adds_then (IsOfBlocks c.args.first c.args.count) c.loop-block.invariant.places (adds_wider (IsOfBlocks c.loop-block.block 1) (IsOfBlocks c.args.first c.args.count) (λ s x is. (is.0, omega (arith, is.1), omega (arith, is.2), is.3)) c.write_block.ensures.places);
   sectors = search rules;
   later = search rules;
 }
@@ -70,7 +70,7 @@ pub returns-clause-moments : goal.returns-clause-moments
 returns-clause-moments g c content h ticket told stands = c.loop-block.invariant.moments content h ticket told stands
 
 pub returns-in_err-write_block-clause-places : goal.returns-in_err-write_block-clause-places
-returns-in_err-write_block-clause-places g c = adds_then IsOfBlock c.loop-block.invariant.places c.write_block.ensures.places
+returns-in_err-write_block-clause-places g c = adds_then (IsOfBlocks c.args.first c.args.count) c.loop-block.invariant.places (adds_wider (IsOfBlocks c.loop-block.block 1) (IsOfBlocks c.args.first c.args.count) (λ s x is. (is.0, omega (arith, is.1), omega (arith, is.2), is.3)) c.write_block.ensures.places)
 
 pub returns-clause-places : goal.returns-clause-places
 returns-clause-places g c = c.loop-block.invariant.places

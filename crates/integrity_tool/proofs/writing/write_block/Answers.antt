@@ -1,6 +1,6 @@
 use Rattle.integrity_tool.proofs.StandingLemmas.{data_places}
 use Rattle.disk_model.proofs.MomentsLemmas.{adds_then}
-use Rattle.integrity_tool.specs.Standing.{IsOfBlock}
+use Rattle.integrity_tool.specs.Standing.{IsOfBlocks}
 use Rattle.std.proofs.Common.{length, ap, ◌∙◌, arith, None}
 use Rattle.std.proofs.lemmas.Result.{on_ok_weaker}
 use Rattle.std.specs.Option.{option_map}
@@ -33,8 +33,8 @@ returns-clause-moments g c =
     c.write_tag.ensures.moments
 
 pub returns-in_err-write_run-clause-places : goal.returns-in_err-write_run-clause-places
-returns-in_err-write_run-clause-places g c = data_places c.args.block c.data_at.result c.args.bytes.now c.data_at.ensures.sector c.requires.block (omega arith) c.write_run.ensures.moments
+returns-in_err-write_run-clause-places g c = data_places c.args.block c.data_at.result c.args.bytes.now c.data_at.ensures.sector (omega arith) c.write_run.ensures.moments
 
 pub returns-clause-places : goal.returns-clause-places
 returns-clause-places g c =
-    adds_then IsOfBlock (data_places c.args.block c.data_at.result c.args.bytes.now c.data_at.ensures.sector c.requires.block (omega arith) c.write_run.ensures.moments) c.write_tag.ensures.places
+    adds_then (IsOfBlocks c.args.block 1) (data_places c.args.block c.data_at.result c.args.bytes.now c.data_at.ensures.sector (omega arith) c.write_run.ensures.moments) c.write_tag.ensures.places

@@ -22,4 +22,4 @@ returns-clause-moments g c =
 
 pub returns-clause-places : goal.returns-clause-places
 returns-clause-places g c =
-    rw (sym c.read_run.ensures.kept) (tag_places c.args.block c.tag_sector-at.result c.insert_tag.new.tags c.tag_sector-at.ensures.sector c.requires.block (omega arith) c.write_run.ensures.moments)
+    rw (sym c.read_run.ensures.kept) (tag_places c.args.block c.tag_sector-at.result c.insert_tag.new.tags c.tag_sector-at.ensures.sector (omega arith) c.write_run.ensures.moments)
