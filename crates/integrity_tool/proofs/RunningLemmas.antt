@@ -141,6 +141,15 @@ pub record IsUnderWay (image : Image) (script before : List ℕ) (number : ℕ) 
   pub holds : held ≡ Some (before ++ printed image lines)
   pub stands : IsSomeAnd now (λ d. StandsFor d (session_after image lines).history)
 
+-- The same, whatever the sink tells: some sink would hold the texts of these lines.
+pub record IsFollowed (image : Image) (script : List ℕ) (number : ℕ) (found_fault : Bool) (rest : List ℕ) (now : Option Content) : Type 0 where
+  pub held : Option (List ℕ)
+  pub way : IsUnderWay image script [] number found_fault rest held now
+
+pub followed_by : (image : Image) (script : List ℕ) (number : ℕ) (found_fault : Bool) (rest : List ℕ) (held : Option (List ℕ)) (now : Option Content) (Counted : Type 0) → IsUnderWay image script [] number found_fault rest held now × Counted
+    → IsFollowed image script number found_fault rest now × Counted
+followed_by image script number found_fault rest held now Counted w = (record { held = held; way = w.0 }, w.1)
+
 -- So much of the script was taken in lines that can be run, whatever the disk and the sink tell.
 pub record IsTaken (script rest : List ℕ) : Type 0 where
   pub lines : List ScriptLine

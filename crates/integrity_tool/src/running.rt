@@ -101,8 +101,7 @@ pub fn run_script<D: Disk, S: Source, O: Sink>(
     ensures sectors { D.sectors disk.new ≡ D.sectors disk.old }
 
     ensures moments { ForSome (content_now (D.moments disk.old)) (λ c. ForSome (S.left script.old) (λ left.
-        ForSome (O.held out.old) (λ before. EachMoment (D.moments disk.old) (D.moments disk.new)
-        (IsLeftBy (last_image c) left)))) }
+        EachMoment (D.moments disk.old) (D.moments disk.new) (IsLeftBy (last_image c) left))) }
     ensures places { EachMoment (D.moments disk.old) (D.moments disk.new)
         (FromStart (D.moments disk.old) (OnlyAdds IsOfBlock)) }
     ensures filled { ForSome (S.left script.old) (λ left. EachMoment (D.moments disk.old) (D.moments disk.new)

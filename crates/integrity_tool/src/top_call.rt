@@ -78,8 +78,8 @@ pub fn integrity<D: Disk + Named, K: Source + Named, S: Source, O: Sink>(
     // Each image at each moment of the call is one of those at its start, or one that a cut may leave of the lines run.
     // Only sectors of blocks change, and only of those that the script fills.
     ensures moments { ForSome (content_now (D.moments disk.old)) (λ c. ForSome (S.left script.old) (λ left.
-        ForSome (O.held out.old) (λ before. EachMoment (D.moments disk.old) (D.moments disk.new)
-        (MayBeLeft (start_of (map string_bytes words.now) (D.sectors disk.old) c left))))) }
+        EachMoment (D.moments disk.old) (D.moments disk.new)
+        (MayBeLeft (start_of (map string_bytes words.now) (D.sectors disk.old) c left)))) }
     ensures places { ForSome (content_now (D.moments disk.old)) (λ c.
         EachMoment (D.moments disk.old) (D.moments disk.new) (OnlyAdds IsOfBlock c)) }
     ensures filled { ForSome (content_now (D.moments disk.old)) (λ c. ForSome (S.left script.old) (λ left.
@@ -129,8 +129,8 @@ fn run<D: Disk + Named, S: Source, O: Sink>(
     ensures sink_later { O.faults out.old ≤ O.faults out.new }
 
     ensures moments { ForSome (content_now (D.moments disk.old)) (λ c. ForSome (S.left script.old) (λ left.
-        ForSome (O.held out.old) (λ before. EachMoment (D.moments disk.old) (D.moments disk.new)
-        (MayBeLeft (start_of (map string_bytes words.now) (D.sectors disk.old) c left))))) }
+        EachMoment (D.moments disk.old) (D.moments disk.new)
+        (MayBeLeft (start_of (map string_bytes words.now) (D.sectors disk.old) c left)))) }
     ensures places { ForSome (content_now (D.moments disk.old)) (λ c.
         EachMoment (D.moments disk.old) (D.moments disk.new) (OnlyAdds IsOfBlock c)) }
     ensures filled { ForSome (content_now (D.moments disk.old)) (λ c. ForSome (S.left script.old) (λ left.

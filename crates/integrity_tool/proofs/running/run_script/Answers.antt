@@ -7,13 +7,14 @@ use Rattle.device_model.specs.Transcript.{line_result}
 use Rattle.integrity_tool.specs.Form.{small_blocks}
 use Rattle.integrity_tool.specs.Line.{line_of}
 use Rattle.std.specs.Option.{option_map}
+use Rattle.stream_io.specs.Stream.{with_bytes}
 use Rattle.disk_model.specs.Disk.{OnlyAdds, last_image, newest_only}
 use Rattle.integrity_tool.specs.Standing.{IsOfBlock}
 use Rattle.integrity_tool.specs.Leaving.{IsLeftBy, IsOfLine, IsOfScript}
 use Rattle.integrity_tool.specs.Running.{FindsNext}
 use Rattle.integrity_tool.specs.declared.ended.Ended.{Ended}
 use Rattle.integrity_tool.proofs.StandsForLemmas.{MayBeCut-none, flush_stands, flush_moments}
-use Rattle.integrity_tool.proofs.RunningLemmas.{both_told, both_later, within_script, line_of_block, line_of_script, told_here, holds_at_end, left_meanwhile, session, ends_at_next, ends_in_line, ends_by_close, goes_on_counted, ends_complete, first_way, first_taken, IsTaken-line, IsTaken-refused}
+use Rattle.integrity_tool.proofs.RunningLemmas.{both_told, both_later, within_script, line_of_block, line_of_script, told_here, holds_at_end, left_meanwhile, session, ends_at_next, ends_in_line, ends_by_close, goes_on_counted, ends_complete, followed_by, first_way, first_taken, IsTaken-line, IsTaken-refused}
 use Rattle.integrity_tool.proofs.running.run_script.Goals as goal
 
 pub returns-in_err-line-clause-runs : goal.returns-in_err-line-clause-runs
@@ -34,13 +35,13 @@ returns-in_err-fault-clause-runs g c content told script told_script before told
     c.loop-line.room.reader.taken (c.next_line.new.reader.unread ++ later) c.in-Some.line _ _ way.1 found (c.in_err-fault.ensures.prints d s told_now stands) c.in_err-fault.ensures.others)))
 
 pub returns-in_err-fault-clause-moments : goal.returns-in_err-fault-clause-moments
-returns-in_err-fault-clause-moments g c content told script told_script before told_before =
-    both_told _ _ _ _ _ (c.loop-line.invariant.way content script before told told_script told_before) (rw c.in-Some.is at c.in_ok-line.ensures.next)
+returns-in_err-fault-clause-moments g c content told script told_script =
+    both_told _ _ _ _ _ (c.loop-line.invariant.followed content script told told_script) (rw c.in-Some.is at c.in_ok-line.ensures.next)
     (λ left later way (found : FindsNext c.loop-line.number c.loop-line.room.reader.taken (c.loop-line.room.reader.unread ++ left) (c.next_line.new.reader.unread ++ later) (Ok (Some c.in-Some.line))).
-    let s = session content script before c.loop-line.number c.loop-line.found_fault (c.loop-line.room.reader.unread ++ left) (g.O.Sink.held c.loop-line.out) (content_now (g.D.Disk.moments c.loop-line.disk)) way.0 in
-    told_here _ _ _ way.0.stands (λ d told_now stands.
-    EachMoment-then (c.loop-line.invariant.moments content script before told told_script told_before)
-    (EachMoment-weaker (left_meanwhile content script before c.loop-line.number c.loop-line.found_fault (c.loop-line.room.reader.unread ++ left) (g.O.Sink.held c.loop-line.out) (content_now (g.D.Disk.moments c.loop-line.disk)) way.0 (line_result small_blocks s (line_of c.in-Some.line)).changes (inl (line_of c.in-Some.line, c.next_line.new.reader.unread ++ later, found.0, found.1, within_script script (c.loop-line.room.reader.unread ++ left) (c.next_line.new.reader.unread ++ later) c.loop-line.room.reader.taken way.1 found.2, refl))) (c.run_line.ensures.moments d s told_now stands))))
+    let s = session content script [] c.loop-line.number c.loop-line.found_fault (c.loop-line.room.reader.unread ++ left) way.0.held (content_now (g.D.Disk.moments c.loop-line.disk)) way.0.way in
+    told_here _ _ _ way.0.way.stands (λ d told_now stands.
+    EachMoment-then (c.loop-line.invariant.moments content script told told_script)
+    (EachMoment-weaker (left_meanwhile content script [] c.loop-line.number c.loop-line.found_fault (c.loop-line.room.reader.unread ++ left) way.0.held (content_now (g.D.Disk.moments c.loop-line.disk)) way.0.way (line_result small_blocks s (line_of c.in-Some.line)).changes (inl (line_of c.in-Some.line, c.next_line.new.reader.unread ++ later, found.0, found.1, within_script script (c.loop-line.room.reader.unread ++ left) (c.next_line.new.reader.unread ++ later) c.loop-line.room.reader.taken way.1 found.2, refl))) (c.run_line.ensures.moments d s told_now stands))))
 
 pub loop-line-preserved : goal.loop-line-preserved
 loop-line-preserved g c = record {
@@ -57,13 +58,21 @@ loop-line-preserved g c = record {
   numbered = search rules;
   within = search rules;
   sectors = search rules;
-  moments = λ content script before told told_script told_before.
-      both_told _ _ _ _ _ (c.loop-line.invariant.way content script before told told_script told_before) (rw c.in-Some.is at c.in_ok-line.ensures.next)
+  followed = λ content script told told_script.
+      both_later _ _ _ _ _ _ (c.loop-line.invariant.followed content script told told_script) (rw c.in-Some.is at c.in_ok-line.ensures.next) ((rw c.in-Some.is at c.in_ok-line.ensures.counted) refl)
+      (λ left later way found counted.
+      let s = session content script [] c.loop-line.number c.loop-line.found_fault (c.loop-line.room.reader.unread ++ left) way.0.held (content_now (g.D.Disk.moments c.loop-line.disk)) way.0.way in
+      told_here _ _ _ way.0.way.stands (λ d told_now stands.
+      let held = option_map (with_bytes (line_result small_blocks s (line_of c.in-Some.line)).text) way.0.held in
+      followed_by _ _ _ _ _ held _ _ (goes_on_counted content script [] c.loop-line.number c.loop-line.found_fault (c.loop-line.room.reader.unread ++ left) way.0.held (content_now (g.D.Disk.moments c.loop-line.disk)) way.0.way c.loop-line.room.reader.taken c.next_line.new.reader.taken (c.next_line.new.reader.unread ++ later) c.in-Some.line _ _ _ held _ found
+      (refl, (c.in_ok-fault.ensures.prints d s told_now stands).1) c.either-found_fault.ensures refl (c.in_ok-fault.ensures.stands d s told_now stands) counted way.1)));
+  moments = λ content script told told_script.
+      both_told _ _ _ _ _ (c.loop-line.invariant.followed content script told told_script) (rw c.in-Some.is at c.in_ok-line.ensures.next)
       (λ left later way (found : FindsNext c.loop-line.number c.loop-line.room.reader.taken (c.loop-line.room.reader.unread ++ left) (c.next_line.new.reader.unread ++ later) (Ok (Some c.in-Some.line))).
-      let s = session content script before c.loop-line.number c.loop-line.found_fault (c.loop-line.room.reader.unread ++ left) (g.O.Sink.held c.loop-line.out) (content_now (g.D.Disk.moments c.loop-line.disk)) way.0 in
-      told_here _ _ _ way.0.stands (λ d told_now stands.
-      EachMoment-then (c.loop-line.invariant.moments content script before told told_script told_before)
-      (EachMoment-weaker (left_meanwhile content script before c.loop-line.number c.loop-line.found_fault (c.loop-line.room.reader.unread ++ left) (g.O.Sink.held c.loop-line.out) (content_now (g.D.Disk.moments c.loop-line.disk)) way.0 (line_result small_blocks s (line_of c.in-Some.line)).changes (inl (line_of c.in-Some.line, c.next_line.new.reader.unread ++ later, found.0, found.1, within_script script (c.loop-line.room.reader.unread ++ left) (c.next_line.new.reader.unread ++ later) c.loop-line.room.reader.taken way.1 found.2, refl))) (c.run_line.ensures.moments d s told_now stands))));
+      let s = session content script [] c.loop-line.number c.loop-line.found_fault (c.loop-line.room.reader.unread ++ left) way.0.held (content_now (g.D.Disk.moments c.loop-line.disk)) way.0.way in
+      told_here _ _ _ way.0.way.stands (λ d told_now stands.
+      EachMoment-then (c.loop-line.invariant.moments content script told told_script)
+      (EachMoment-weaker (left_meanwhile content script [] c.loop-line.number c.loop-line.found_fault (c.loop-line.room.reader.unread ++ left) way.0.held (content_now (g.D.Disk.moments c.loop-line.disk)) way.0.way (line_result small_blocks s (line_of c.in-Some.line)).changes (inl (line_of c.in-Some.line, c.next_line.new.reader.unread ++ later, found.0, found.1, within_script script (c.loop-line.room.reader.unread ++ left) (c.next_line.new.reader.unread ++ later) c.loop-line.room.reader.taken way.1 found.2, refl))) (c.run_line.ensures.moments d s told_now stands))));
   places = adds_then IsOfBlock c.loop-line.invariant.places (adds_wider (IsOfLine (line_of c.in-Some.line)) IsOfBlock (line_of_block (line_of c.in-Some.line) (rw c.in-Some.is at c.in_ok-line.ensures.runnable)) c.run_line.ensures.places);
   filled = λ script told_script.
       both_told _ _ _ _ _ (c.loop-line.invariant.taken script told_script) (rw c.in-Some.is at c.in_ok-line.ensures.next)
@@ -87,13 +96,13 @@ returns-in_err-close-clause-runs g c content told script told_script before told
     (λ e. (c.in_err-close.ensures.disk (ap (λ (x : Ended). Err x) e)).1) (λ e. (c.in_err-close.ensures.sink (ap (λ (x : Ended). Err x) e)).1))))
 
 pub returns-in_err-close-clause-moments : goal.returns-in_err-close-clause-moments
-returns-in_err-close-clause-moments g c content told script told_script before told_before =
-    both_told _ _ _ _ _ (c.loop-line.invariant.way content script before told told_script told_before) (rw c.in_default.is at c.in_ok-line.ensures.next)
+returns-in_err-close-clause-moments g c content told script told_script =
+    both_told _ _ _ _ _ (c.loop-line.invariant.followed content script told told_script) (rw c.in_default.is at c.in_ok-line.ensures.next)
     (λ left later way found.
-    let s = session content script before c.loop-line.number c.loop-line.found_fault (c.loop-line.room.reader.unread ++ left) (g.O.Sink.held c.loop-line.out) (content_now (g.D.Disk.moments c.loop-line.disk)) way.0 in
-    told_here _ _ _ way.0.stands (λ d told_now stands.
-    EachMoment-then (c.loop-line.invariant.moments content script before told told_script told_before)
-    (EachMoment-weaker (left_meanwhile content script before c.loop-line.number c.loop-line.found_fault (c.loop-line.room.reader.unread ++ left) (g.O.Sink.held c.loop-line.out) (content_now (g.D.Disk.moments c.loop-line.disk)) way.0 (Flushed ∷ []) (inr (inl (found, refl)))) (flush_moments d s.history told_now stands c.close.ensures.moments))))
+    let s = session content script [] c.loop-line.number c.loop-line.found_fault (c.loop-line.room.reader.unread ++ left) way.0.held (content_now (g.D.Disk.moments c.loop-line.disk)) way.0.way in
+    told_here _ _ _ way.0.way.stands (λ d told_now stands.
+    EachMoment-then (c.loop-line.invariant.moments content script told told_script)
+    (EachMoment-weaker (left_meanwhile content script [] c.loop-line.number c.loop-line.found_fault (c.loop-line.room.reader.unread ++ left) way.0.held (content_now (g.D.Disk.moments c.loop-line.disk)) way.0.way (Flushed ∷ []) (inr (inl (found, refl)))) (flush_moments d s.history told_now stands c.close.ensures.moments))))
 
 pub returns-clause-runs : goal.returns-clause-runs
 returns-clause-runs g c content told script told_script before told_before =
@@ -105,13 +114,13 @@ returns-clause-runs g c content told script told_script before told_before =
     _ found c.in_ok-close.ensures.closed (flush_stands d s.history _ (c.in_ok-close.ensures.synced ∙ ap (option_map newest_only) told_now) stands)))
 
 pub returns-clause-moments : goal.returns-clause-moments
-returns-clause-moments g c content told script told_script before told_before =
-    both_told _ _ _ _ _ (c.loop-line.invariant.way content script before told told_script told_before) (rw c.in_default.is at c.in_ok-line.ensures.next)
+returns-clause-moments g c content told script told_script =
+    both_told _ _ _ _ _ (c.loop-line.invariant.followed content script told told_script) (rw c.in_default.is at c.in_ok-line.ensures.next)
     (λ left later way found.
-    let s = session content script before c.loop-line.number c.loop-line.found_fault (c.loop-line.room.reader.unread ++ left) (g.O.Sink.held c.loop-line.out) (content_now (g.D.Disk.moments c.loop-line.disk)) way.0 in
-    told_here _ _ _ way.0.stands (λ d told_now stands.
-    EachMoment-then (c.loop-line.invariant.moments content script before told told_script told_before)
-    (EachMoment-weaker (left_meanwhile content script before c.loop-line.number c.loop-line.found_fault (c.loop-line.room.reader.unread ++ left) (g.O.Sink.held c.loop-line.out) (content_now (g.D.Disk.moments c.loop-line.disk)) way.0 (Flushed ∷ []) (inr (inl (found, refl)))) (flush_moments d s.history told_now stands c.close.ensures.moments))))
+    let s = session content script [] c.loop-line.number c.loop-line.found_fault (c.loop-line.room.reader.unread ++ left) way.0.held (content_now (g.D.Disk.moments c.loop-line.disk)) way.0.way in
+    told_here _ _ _ way.0.way.stands (λ d told_now stands.
+    EachMoment-then (c.loop-line.invariant.moments content script told told_script)
+    (EachMoment-weaker (left_meanwhile content script [] c.loop-line.number c.loop-line.found_fault (c.loop-line.room.reader.unread ++ left) way.0.held (content_now (g.D.Disk.moments c.loop-line.disk)) way.0.way (Flushed ∷ []) (inr (inl (found, refl)))) (flush_moments d s.history told_now stands c.close.ensures.moments))))
 
 pub returns-in_err-line-clause-refused : goal.returns-in_err-line-clause-refused
 returns-in_err-line-clause-refused g c =
@@ -120,7 +129,7 @@ returns-in_err-line-clause-refused g c =
     (λ left later way found. IsTaken-refused script (c.loop-line.room.reader.unread ++ left) (c.next_line.new.reader.unread ++ later) c.loop-line.number c.loop-line.room.reader.taken c.in_err-line.field-0.0 way found refuses))
 
 pub returns-in_err-line-clause-moments : goal.returns-in_err-line-clause-moments
-returns-in_err-line-clause-moments g c content told script told_script before told_before = c.loop-line.invariant.moments content script before told told_script told_before
+returns-in_err-line-clause-moments g c content told script told_script = c.loop-line.invariant.moments content script told told_script
 
 pub loop-line-init : goal.loop-line-init
 loop-line-init g c = record {
@@ -130,7 +139,9 @@ loop-line-init g c = record {
   numbered = search rules;
   within = search rules;
   sectors = search rules;
-  moments = λ content script before told told_script told_before. no_moment (g.D.Disk.moments c.args.disk.now) (IsLeftBy (last_image content) script);
+  followed = λ content script told told_script.
+      rw told_script (followed_by _ _ _ _ _ (Some []) _ _ (first_way content script [] c.args.room.now.reader (Some []) (content_now (g.D.Disk.moments c.args.disk.now)) c.requires.room refl told (c.requires.settled content told)));
+  moments = λ content script told told_script. no_moment (g.D.Disk.moments c.args.disk.now) (IsLeftBy (last_image content) script);
   places = no_moment (g.D.Disk.moments c.args.disk.now) (FromStart (g.D.Disk.moments c.args.disk.now) (OnlyAdds IsOfBlock));
   filled = λ script told_script. no_moment (g.D.Disk.moments c.args.disk.now) (FromStart (g.D.Disk.moments c.args.disk.now) (OnlyAdds (IsOfScript script)));
   disk_later = search rules;

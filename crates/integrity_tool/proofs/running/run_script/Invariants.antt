@@ -5,7 +5,7 @@ use Rattle.disk_model.specs.Moments.{content_now, EachMoment, FromStart}
 use Rattle.integrity_tool.specs.Standing.{IsOfBlock}
 use Rattle.integrity_tool.specs.Leaving.{IsLeftBy, IsOfScript}
 use Rattle.integrity_tool.specs.declared.line_reader.TheConstants.{MOST_SCRIPT}
-use Rattle.integrity_tool.proofs.RunningLemmas.{IsUnderWay, IsTaken}
+use Rattle.integrity_tool.proofs.RunningLemmas.{IsUnderWay, IsFollowed, IsTaken}
 use Rattle.integrity_tool.proofs.running.run_script.Given as goal
 
 abbrev pub invariant-loop-line : goal.invariant-loop-line
@@ -18,7 +18,10 @@ invariant-loop-line g l = record {
   numbered : l.number ≤ l.room.reader.taken + 1;
   within : l.room.reader.taken ≤ MOST_SCRIPT;
   sectors : g.D.Disk.sectors l.disk ≡ g.D.Disk.sectors l.fn.disk;
-  moments : (c : Content) (script before : List ℕ) → content_now (g.D.Disk.moments l.fn.disk) ≡ Some c → g.S.Source.left l.fn.script ≡ Some script → g.O.Sink.held l.fn.out ≡ Some before
+  followed : (c : Content) (script : List ℕ) → content_now (g.D.Disk.moments l.fn.disk) ≡ Some c → g.S.Source.left l.fn.script ≡ Some script
+      → IsSomeAnd (g.S.Source.left l.script) (λ left. IsFollowed (last_image c) script l.number l.found_fault (l.room.reader.unread ++ left) (content_now (g.D.Disk.moments l.disk))
+      × (l.room.reader.taken + length (l.room.reader.unread ++ left) ≡ length script));
+  moments : (c : Content) (script : List ℕ) → content_now (g.D.Disk.moments l.fn.disk) ≡ Some c → g.S.Source.left l.fn.script ≡ Some script
       → EachMoment (g.D.Disk.moments l.fn.disk) (g.D.Disk.moments l.disk) (IsLeftBy (last_image c) script);
   places : EachMoment (g.D.Disk.moments l.fn.disk) (g.D.Disk.moments l.disk) (FromStart (g.D.Disk.moments l.fn.disk) (OnlyAdds IsOfBlock));
   filled : (script : List ℕ) → g.S.Source.left l.fn.script ≡ Some script → EachMoment (g.D.Disk.moments l.fn.disk) (g.D.Disk.moments l.disk) (FromStart (g.D.Disk.moments l.fn.disk) (OnlyAdds (IsOfScript script)));

@@ -26,7 +26,7 @@ returns-then-is_err-clause-runs g c content told script told_script before told_
     rw (told_before, now) (nothing_run (start_of (map string_bytes c.args.words.now) (g.D.Disk.sectors c.args.disk.now) content script) before DiskFailed (Some content) (c.in-Some.ensures.some.0 refl) (NarrowsImages-same content))
 
 pub returns-then-is_err-clause-moments : goal.returns-then-is_err-clause-moments
-returns-then-is_err-clause-moments g c content told script told_script before told_before =
+returns-then-is_err-clause-moments g c content told script told_script =
     EachMoment-kept (MayBeLeft (start_of (map string_bytes c.args.words.now) (g.D.Disk.sectors c.args.disk.now) content script)) (g.met.D.Disk.same_moments c.args.disk.now c.bind.new.self content c.bind.ensures.same told)
 
 pub returns-in_default-new-clause-runs : goal.returns-in_default-new-clause-runs
@@ -35,7 +35,7 @@ returns-in_default-new-clause-runs g c content told script told_script before to
     rw (told_before, now) (nothing_run (start_of (map string_bytes c.args.words.now) (g.D.Disk.sectors c.args.disk.now) content script) before NoMemory (Some content) (c.in-Some.ensures.some.0 refl) (NarrowsImages-same content))
 
 pub returns-in_default-new-clause-moments : goal.returns-in_default-new-clause-moments
-returns-in_default-new-clause-moments g c content told script told_script before told_before =
+returns-in_default-new-clause-moments g c content told script told_script =
     EachMoment-kept (MayBeLeft (start_of (map string_bytes c.args.words.now) (g.D.Disk.sectors c.args.disk.now) content script)) (g.met.D.Disk.same_moments c.args.disk.now c.bind.new.self content c.bind.ensures.same told)
 
 pub returns-in_err-open-clause-runs : goal.returns-in_err-open-clause-runs
@@ -47,7 +47,7 @@ returns-in_err-open-clause-runs g c content told script told_script before told_
     (λ is form. c.in_err-open.ensures.image (ap (λ (x : Ended). Err x) is) content now (rw (g.met.D.Disk.same_sectors c.args.disk.now c.bind.new.self content c.bind.ensures.same told) form)) c.in_err-open.ensures.others (holds_at_end (NarrowsImages content) content now (NarrowsImages-same content) each))
 
 pub returns-in_err-open-clause-moments : goal.returns-in_err-open-clause-moments
-returns-in_err-open-clause-moments g c content told script told_script before told_before =
+returns-in_err-open-clause-moments g c content told script told_script =
     let same = g.met.D.Disk.same_moments c.args.disk.now c.bind.new.self content c.bind.ensures.same told in
     let now = ap content_now same ∙ told in
     EachMoment-then (EachMoment-kept (MayBeLeft (start_of (map string_bytes c.args.words.now) (g.D.Disk.sectors c.args.disk.now) content script)) same)
@@ -71,13 +71,13 @@ returns-clause-form g c =
     rw (sym (g.met.D.Disk.same_sectors c.args.disk.now c.bind.new.self content c.bind.ensures.same told)) (c.in_ok-open.ensures.form content now))
 
 pub returns-clause-moments : goal.returns-clause-moments
-returns-clause-moments g c content told script told_script before told_before =
+returns-clause-moments g c content told script told_script =
     let same = g.met.D.Disk.same_moments c.args.disk.now c.bind.new.self content c.bind.ensures.same told in
     let now = ap content_now same ∙ told in
     let narrows = narrows_synced content (g.met.D.Disk.reads_an_image c.args.disk.now content told) in
     EachMoment-then (EachMoment-kept (MayBeLeft (start_of (map string_bytes c.args.words.now) (g.D.Disk.sectors c.args.disk.now) content script)) same)
     (EachMoment-then (EachMoment-weaker (λ d is. inl is) (each_of_sync content content now narrows c.open.ensures.moments))
-    (EachMoment-weaker (λ d is. inr ((c.in-Some.ensures.some.0 refl), (rw (sym (g.met.D.Disk.same_sectors c.args.disk.now c.bind.new.self content c.bind.ensures.same told)) (c.in_ok-open.ensures.form content now)), is)) (c.run_script.ensures.moments (newest_only content) (c.in_ok-open.ensures.synced ∙ ap (option_map newest_only) now) script told_script before told_before)))
+    (EachMoment-weaker (λ d is. inr ((c.in-Some.ensures.some.0 refl), (rw (sym (g.met.D.Disk.same_sectors c.args.disk.now c.bind.new.self content c.bind.ensures.same told)) (c.in_ok-open.ensures.form content now)), is)) (c.run_script.ensures.moments (newest_only content) (c.in_ok-open.ensures.synced ∙ ap (option_map newest_only) now) script told_script)))
 
 pub returns-then-is_err-clause-places : goal.returns-then-is_err-clause-places
 returns-then-is_err-clause-places g c content told = EachMoment-kept (OnlyAdds IsOfBlock content) (g.met.D.Disk.same_moments c.args.disk.now c.bind.new.self content c.bind.ensures.same told)
