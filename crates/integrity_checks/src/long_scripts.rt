@@ -181,7 +181,12 @@ fn a_line_may_stand_across_what_is_read_at_a_time(rt: HostRuntime) -> Result<(),
 
 #[test]
 fn a_script_of_16777216_bytes_is_run(rt: HostRuntime) -> Result<(), Fail> {
-    expect_ends(&rt, rt.alloc(), &WITHIN)
+    expect_ends(&rt, rt.alloc(), &WITHIN[..1])
+}
+
+#[test]
+fn a_last_line_without_a_newline_may_end_at_the_bound(rt: HostRuntime) -> Result<(), Fail> {
+    expect_ends(&rt, rt.alloc(), &WITHIN[1..])
 }
 
 #[test]
@@ -190,8 +195,15 @@ fn a_line_that_ends_behind_the_bound_is_not_run(rt: HostRuntime) -> Result<(), F
 }
 
 #[test]
-fn a_long_line_is_told_as_such_up_to_the_bound(rt: HostRuntime) -> Result<(), Fail> {
-    expect_ends(&rt, rt.alloc(), &LONG_LINES)
+fn a_line_that_is_not_long_within_the_bound_is_not_told_as_such(
+    rt: HostRuntime,
+) -> Result<(), Fail> {
+    expect_ends(&rt, rt.alloc(), &LONG_LINES[..1])
+}
+
+#[test]
+fn a_line_that_is_long_within_the_bound_is_told_as_such(rt: HostRuntime) -> Result<(), Fail> {
+    expect_ends(&rt, rt.alloc(), &LONG_LINES[1..])
 }
 
 /// Whether a run has told whole lines and then that its source has failed.
