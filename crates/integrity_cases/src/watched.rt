@@ -1,0 +1,223 @@
+//! Objects in memory that count what is asked of them. They hand each call on, and tell nothing of their content.
+ghost use Rattle.std.specs.Prelude.{⊤, None, []};
+ghost use Rattle.std.proofs.lemmas.Option.{none-some};
+
+use sector_disk::{Counted, Disk, Failed, MemDisk, Named};
+use std::alloc::{AllocError, Global};
+use stream_io::{MemSink, MemSource, Sink, Source};
+
+/// What was asked of a disk.
+#[derive(Drop)]
+pub struct Seen {
+    /// How many sectors were written by calls that succeeded.
+    pub writes: u64,
+    /// How many syncs succeeded.
+    pub syncs: u64,
+    /// How many calls failed.
+    pub failed: u64,
+    /// Of each sector, how many candidates such calls have added since the last sync.
+    pub added: Vec<u32>,
+    /// The first sector of the last write that failed since then, and how many sectors it was to write.
+    pub torn: (u64, u64),
+    /// Whether no write was begun since the last sync.
+    pub is_settled: bool,
+}
+
+impl Seen {
+    /// Takes note of a write.
+    fn note_write(&mut self, at: u64, count: u64, done: bool) {
+        self.is_settled = false;
+        if !done {
+            self.torn = (at, count);
+            self.failed = self.failed.saturating_add(1);
+            return;
+        }
+        for k in 0..count {
+            if let Some(added) = self.added.get_mut(at.saturating_add(k) as usize) {
+                *added = added.saturating_add(1);
+            }
+        }
+        self.writes = self.writes.saturating_add(count);
+    }
+
+    /// Takes note of a sync.
+    fn note_sync(&mut self, done: bool) {
+        if !done {
+            self.failed = self.failed.saturating_add(1);
+            return;
+        }
+        self.syncs = self.syncs.saturating_add(1);
+        self.added.fill(0);
+        self.torn = (0, 0);
+        self.is_settled = true;
+    }
+}
+
+/// A disk in memory, with what was asked of it.
+#[derive(Drop)]
+pub struct WatchedDisk {
+    pub disk: MemDisk,
+    pub seen: Seen,
+    /// Whether a sync that would change nothing is not handed on. It is counted all the same.
+    skips_syncs: bool,
+}
+
+impl WatchedDisk {
+    /// Watches a disk from now on. A sync is handed on where it has something to settle, or where each has to be counted:
+    /// so a long script of flushes takes no memory.
+    pub fn new(alloc: Global, disk: MemDisk, skips_syncs: bool) -> Result<WatchedDisk, AllocError> {
+        let added = vec![in alloc; 0; disk.sectors() as usize]?;
+        let seen = Seen {
+            writes: 0,
+            syncs: 0,
+            failed: 0,
+            added,
+            torn: (0, 0),
+            is_settled: false,
+        };
+        Ok(WatchedDisk {
+            disk,
+            seen,
+            skips_syncs,
+        })
+    }
+}
+
+impl Counted for WatchedDisk {
+    ghost use Rattle.sector_disk.specs.MemDisk.{record_of};
+
+    ghost faults = { λ d. (record_of d.disk).plan.faults };
+
+    ghost tells_same = { λ a b. ⊤ };
+}
+
+impl Named for WatchedDisk {
+    fn bind(&mut self, name: &str) -> Result<(), Failed> {
+        self.disk.bind(name)
+    }
+}
+
+impl Disk for WatchedDisk {
+    ghost use Rattle.sector_disk.specs.MemDisk.{record_of};
+
+    ghost sectors = { λ d. (record_of d.disk).sectors };
+
+    ghost moments = { λ d. [] };
+
+    fn sectors(&self) -> u64 {
+        self.disk.sectors()
+    }
+
+    fn read_run(&mut self, at: u64, buffer: &mut [u8]) -> Result<(), Failed> {
+        let answer = self.disk.read_run(at, buffer);
+        if answer.is_err() {
+            self.seen.failed = self.seen.failed.saturating_add(1);
+        }
+        answer
+    }
+
+    fn write_run(&mut self, at: u64, bytes: &[u8]) -> Result<(), Failed> {
+        let answer = self.disk.write_run(at, bytes);
+        self.seen
+            .note_write(at, bytes.len() as u64 / 512, answer.is_ok());
+        answer
+    }
+
+    fn sync(&mut self) -> Result<(), Failed> {
+        if self.skips_syncs && self.seen.is_settled {
+            self.seen.note_sync(true);
+            return Ok(());
+        }
+        let answer = self.disk.sync();
+        self.seen.note_sync(answer.is_ok());
+        answer
+    }
+
+    ghost reads_an_image = { λ disk c told. absurd (none-some c told) };
+
+    ghost same_moments = { λ a b c same told. absurd (none-some c told) };
+
+    ghost same_sectors = { λ a b c same told. absurd (none-some c told) };
+}
+
+/// A source in memory, with what was asked of it.
+#[derive(Drop)]
+pub struct WatchedSource<'b> {
+    pub source: MemSource<'b>,
+    /// How many calls there were, those of `bind` included.
+    pub calls: u64,
+    /// How many calls failed.
+    pub failed: u64,
+}
+
+impl<'b> WatchedSource<'b> {
+    /// Watches a source of these bytes.
+    pub fn new(bytes: &'b [u8]) -> WatchedSource<'b> {
+        WatchedSource {
+            source: MemSource::new(bytes),
+            calls: 0,
+            failed: 0,
+        }
+    }
+}
+
+impl Counted for WatchedSource<'_> {
+    ghost faults = { λ s. s.source.plan.faults };
+
+    ghost tells_same = { λ a b. ⊤ };
+}
+
+impl Named for WatchedSource<'_> {
+    fn bind(&mut self, name: &str) -> Result<(), Failed> {
+        self.calls = self.calls.saturating_add(1);
+        self.source.bind(name)
+    }
+}
+
+impl Source for WatchedSource<'_> {
+    ghost left = { λ s. None };
+
+    fn read(&mut self, buffer: &mut [u8]) -> Result<usize, Failed> {
+        self.calls = self.calls.saturating_add(1);
+        let answer = self.source.read(buffer);
+        if answer.is_err() {
+            self.failed = self.failed.saturating_add(1);
+        }
+        answer
+    }
+
+    ghost same_left = { λ a b bytes same told. absurd (none-some bytes told) };
+}
+
+/// A sink in memory, with what was asked of it.
+#[derive(Drop)]
+pub struct WatchedSink {
+    pub sink: MemSink,
+    /// How many calls failed.
+    pub failed: u64,
+}
+
+impl WatchedSink {
+    /// Watches a sink.
+    pub fn new(sink: MemSink) -> WatchedSink {
+        WatchedSink { sink, failed: 0 }
+    }
+}
+
+impl Counted for WatchedSink {
+    ghost faults = { λ s. s.sink.plan.faults };
+
+    ghost tells_same = { λ a b. ⊤ };
+}
+
+impl Sink for WatchedSink {
+    ghost held = { λ s. None };
+
+    fn write(&mut self, bytes: &[u8]) -> Result<usize, Failed> {
+        let answer = self.sink.write(bytes);
+        if answer.is_err() {
+            self.failed = self.failed.saturating_add(1);
+        }
+        answer
+    }
+}
