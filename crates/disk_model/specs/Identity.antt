@@ -1,7 +1,9 @@
 -- What an object outside is: the name that it is bound to, and of a disk how many sectors it has.
 -- Own: an object is bound to a name before anything is asked of it, and what has this name can be told before that.
 use Rattle.std.specs.Prelude.{◌≡◌, ℕ, ◌≤◌, List}
+use Rattle.std.specs.Option.{ForSome}
 use Rattle.disk_model.specs.Disk.{Content}
+use Rattle.disk_model.specs.Moments.{content_now}
 
 -- The name that an object is bound to: none yet; one; or, as an object in memory, whichever it is given.
 pub data Binding : Type 0 where
@@ -35,3 +37,7 @@ pub record HasSectors (least : ℕ) (disk : DiskIdentity) : Type 0 where
 pub record NamedDisk : Type 0 where
   pub sectors : ℕ
   pub moments : List Content
+
+-- A disk of so many sectors with these moments is what stood under a name, where this was told.
+pub record IsThere (named : NamedDisk) (sectors : ℕ) (moments : List Content) : Type 0 where
+  pub is : ForSome (content_now named.moments) (λ c. named ≡ record { sectors = sectors; moments = moments })
