@@ -2,7 +2,9 @@
 //!
 //! It tells nothing of its content: that a file keeps what was written is a condition, and no theorem.
 ghost use Rattle.std.specs.Prelude.{◌≡◌, ◌*◌, ◌^◌, ◌<◌, [], ⊤, IfOk};
+ghost use Rattle.std.proofs.Common.{refl};
 ghost use Rattle.std.proofs.lemmas.Option.{none-some};
+ghost use Rattle.disk_model.specs.Identity.{AnyName};
 
 use crate::faults::count_error;
 use crate::opening::open_apart;
@@ -42,7 +44,9 @@ impl<R: Files + Drop> FileDisk<R> {
 impl<R: Files + Drop> Counted for FileDisk<R> {
     ghost faults = { λ disk. disk.faults };
 
-    ghost tells_same = { λ a b. ⊤ };
+    ghost binding = { λ disk. AnyName };
+
+    ghost tells_same = { λ name a b. ⊤ };
 }
 
 impl<R: Files + Drop> Named for FileDisk<R> {
@@ -58,9 +62,11 @@ impl<R: Files + Drop> Disk for FileDisk<R>
 where
     R::File: FileExt,
 {
-    ghost sectors = { λ disk. disk.sectors };
+    ghost identity = { λ disk. record { name = AnyName; sectors = disk.sectors } };
 
     ghost moments = { λ disk. [] };
+
+    ghost named = { λ disk name. record { sectors = disk.sectors; moments = [] } };
 
     fn sectors(&self) -> u64 {
         self.sectors
@@ -92,9 +98,13 @@ where
 
     ghost reads_an_image = { λ disk c told. absurd (none-some c told) };
 
-    ghost same_moments = { λ a b c same told. absurd (none-some c told) };
+    ghost whole_sectors = { λ disk c sector x told low has. absurd (none-some c told) };
 
-    ghost same_sectors = { λ a b c same told. absurd (none-some c told) };
+    ghost identity_name = { λ disk. refl };
+
+    ghost named_if_bound = { λ disk name bound. refl };
+
+    ghost same_named = { λ name a b c same told. absurd (none-some c told) };
 }
 
 /// Opens a file for reads and writes, and tells how many whole sectors it has.

@@ -1,6 +1,9 @@
 -- What the top call promises of its status, its text and its disk.
 use Rattle.std.specs.Prelude.{◌≡◌, ◌⊎◌, ℕ, ◌<◌, List, ◌++◌, length, take}
+use Rattle.std.specs.Option.{ForSome}
 use Rattle.disk_model.specs.Disk.{Content, Image, IsImage, last_image}
+use Rattle.disk_model.specs.Identity.{NamedDisk}
+use Rattle.disk_model.specs.Moments.{content_now}
 use Rattle.device_model.specs.Ending.{Ending, RefusedWords, RefusedImage, DiskFailed, NoMemory, status_of, fault_text}
 use Rattle.device_model.specs.Transcript.{Line}
 use Rattle.integrity_tool.specs.Form.{IsOfForm, small_blocks}
@@ -18,6 +21,10 @@ pub record Start : Type 0 where
 
 abbrev pub start_of : List (List ℕ) → ℕ → Content → List ℕ → Start
 start_of words sectors content script = record { words = words; sectors = sectors; content = content; script = script }
+
+-- A disk that is bound is what stood under its name, where this was told: so many sectors, and these moments.
+pub record IsThere (named : NamedDisk) (sectors : ℕ) (moments : List Content) : Type 0 where
+  pub is : ForSome (content_now named.moments) (λ c. named ≡ record { sectors = sectors; moments = moments })
 
 -- The disk's image is of the form that there is.
 abbrev pub HasForm : Start → Type 0

@@ -5,6 +5,7 @@ ghost use Rattle.std.specs.Prelude.{◌≡◌, ◌≢◌, ◌⊎◌, ◌||◌, �
 ghost use Rattle.std.specs.Option.{ForSome, option_map};
 ghost use Rattle.disk_model.specs.Causes.{HasCause, Rose};
 ghost use Rattle.disk_model.specs.Disk.{Content, HasNothingPending, OnlyAdds, last_image, newest_only};
+ghost use Rattle.disk_model.specs.Identity.{HasSectors, IsBound};
 ghost use Rattle.disk_model.specs.Moments.{content_now, EachMoment, FromStart};
 ghost use Rattle.device_model.specs.Reply.{read_reply};
 ghost use Rattle.device_model.specs.Transcript.{Fill, Read, Flush, Session, after_line, line_result, read_text, is_fault, closed_text};
@@ -82,7 +83,7 @@ pub fn run_script<D: Disk, S: Source, O: Sink>(
 ) -> Result<bool, Ended>
     requires maker { IsSmallRule maker.now }
     requires room { room.old.reader ≡ record { unread = []; line = []; taken = 0 } }
-    requires disk { SMALL_SECTORS ≤ D.sectors disk.old }
+    requires disk { HasSectors SMALL_SECTORS (D.identity disk.old) }
     requires settled { ForSome (content_now (D.moments disk.old)) HasNothingPending }
 
     ensures runs { ForSome (content_now (D.moments disk.old)) (λ c. ForSome (S.left script.old) (λ left.
@@ -98,7 +99,7 @@ pub fn run_script<D: Disk, S: Source, O: Sink>(
     ensures disk_later { D.faults disk.old ≤ D.faults disk.new }
     ensures script_later { S.faults script.old ≤ S.faults script.new }
     ensures sink_later { O.faults out.old ≤ O.faults out.new }
-    ensures sectors { D.sectors disk.new ≡ D.sectors disk.old }
+    ensures identity { D.identity disk.new ≡ D.identity disk.old }
 
     ensures moments { ForSome (content_now (D.moments disk.old)) (λ c. ForSome (S.left script.old) (λ left.
         EachMoment (D.moments disk.old) (D.moments disk.new) (IsLeftBy (last_image c) left))) }
@@ -162,7 +163,7 @@ fn run_line<D: Disk, O: Sink>(
 ) -> Result<bool, Ended>
     requires maker { IsSmallRule maker.now }
     requires line { IsRunnable small_blocks.blocks (line_of line) }
-    requires disk { SMALL_SECTORS ≤ D.sectors disk.old }
+    requires disk { HasSectors SMALL_SECTORS (D.identity disk.old) }
     requires bytes { length bytes.old ≡ SMALL_SIZE }
     requires text { longest_text SMALL_SIZE ≤ vec_capacity text.old }
 
@@ -177,7 +178,7 @@ fn run_line<D: Disk, O: Sink>(
 
     ensures disk_later { D.faults disk.old ≤ D.faults disk.new }
     ensures sink_later { O.faults out.old ≤ O.faults out.new }
-    ensures sectors { D.sectors disk.new ≡ D.sectors disk.old }
+    ensures identity { D.identity disk.new ≡ D.identity disk.old }
     ensures capacity { vec_capacity text.old ≤ vec_capacity text.new }
 
     ensures moments { (c : Content) (s : Session) → content_now (D.moments disk.old) ≡ Some c → StandsFor c s.history
@@ -204,7 +205,7 @@ fn run_fill<D: Disk, O: Sink>(
 ) -> Result<bool, Ended>
     requires maker { IsSmallRule maker.now }
     requires range { first + count ≤ SMALL_BLOCKS }
-    requires disk { SMALL_SECTORS ≤ D.sectors disk.old }
+    requires disk { HasSectors SMALL_SECTORS (D.identity disk.old) }
     requires text { longest_text SMALL_SIZE ≤ vec_capacity text.old }
 
     ensures prints { (s : Session) → Prints (line_result small_blocks s (Fill first count byte)) (O.held out.old) (O.held out.new) result }
@@ -217,7 +218,7 @@ fn run_fill<D: Disk, O: Sink>(
 
     ensures disk_later { D.faults disk.old ≤ D.faults disk.new }
     ensures sink_later { O.faults out.old ≤ O.faults out.new }
-    ensures sectors { D.sectors disk.new ≡ D.sectors disk.old }
+    ensures identity { D.identity disk.new ≡ D.identity disk.old }
     ensures capacity { vec_capacity text.old ≤ vec_capacity text.new }
 
     ensures moments { (c : Content) (s : Session) → content_now (D.moments disk.old) ≡ Some c → StandsFor c s.history
@@ -238,6 +239,7 @@ fn run_fill<D: Disk, O: Sink>(
 
 /// Syncs the disk and prints that it is done.
 fn run_flush<D: Disk, O: Sink>(disk: &mut D, out: &mut O, text: &mut Vec<u8>) -> Result<bool, Ended>
+    requires disk { IsBound (D.identity disk.old).name }
     requires text { longest_text SMALL_SIZE ≤ vec_capacity text.old }
 
     ensures prints { (s : Session) → Prints (line_result small_blocks s Flush) (O.held out.old) (O.held out.new) result }
@@ -250,7 +252,7 @@ fn run_flush<D: Disk, O: Sink>(disk: &mut D, out: &mut O, text: &mut Vec<u8>) ->
 
     ensures disk_later { D.faults disk.old ≤ D.faults disk.new }
     ensures sink_later { O.faults out.old ≤ O.faults out.new }
-    ensures sectors { D.sectors disk.new ≡ D.sectors disk.old }
+    ensures identity { D.identity disk.new ≡ D.identity disk.old }
     ensures capacity { vec_capacity text.old ≤ vec_capacity text.new }
 
     ensures moments { (c : Content) (s : Session) → content_now (D.moments disk.old) ≡ Some c → StandsFor c s.history
@@ -281,7 +283,7 @@ fn run_read<D: Disk, O: Sink>(
 ) -> Result<bool, Ended>
     requires maker { IsSmallRule maker.now }
     requires range { first + count ≤ SMALL_BLOCKS }
-    requires disk { SMALL_SECTORS ≤ D.sectors disk.old }
+    requires disk { HasSectors SMALL_SECTORS (D.identity disk.old) }
     requires bytes { length bytes.old ≡ SMALL_SIZE }
     requires text { longest_text SMALL_SIZE ≤ vec_capacity text.old }
 
@@ -294,7 +296,7 @@ fn run_read<D: Disk, O: Sink>(
 
     ensures disk_later { D.faults disk.old ≤ D.faults disk.new }
     ensures sink_later { O.faults out.old ≤ O.faults out.new }
-    ensures sectors { D.sectors disk.new ≡ D.sectors disk.old }
+    ensures identity { D.identity disk.new ≡ D.identity disk.old }
     ensures kept { D.moments disk.new ≡ D.moments disk.old }
     ensures capacity { vec_capacity text.old ≤ vec_capacity text.new }
 {
@@ -342,6 +344,8 @@ fn either(a: bool, b: bool) -> bool
 
 /// Syncs the disk, and then prints that it is closed.
 fn close<D: Disk, O: Sink>(disk: &mut D, out: &mut O) -> Result<(), Ended>
+    requires { IsBound (D.identity disk.old).name }
+
     ensures synced { OnOk result (content_now (D.moments disk.new)
         ≡ option_map newest_only (content_now (D.moments disk.old))) }
     ensures closed { OnOk result (O.held out.new ≡ option_map (with_bytes closed_text) (O.held out.old)) }
@@ -354,7 +358,7 @@ fn close<D: Disk, O: Sink>(disk: &mut D, out: &mut O) -> Result<(), Ended>
 
     ensures disk_later { D.faults disk.old ≤ D.faults disk.new }
     ensures sink_later { O.faults out.old ≤ O.faults out.new }
-    ensures sectors { D.sectors disk.new ≡ D.sectors disk.old }
+    ensures identity { D.identity disk.new ≡ D.identity disk.old }
 
     ensures moments { EachMoment (D.moments disk.old) (D.moments disk.new)
         (FromStart (D.moments disk.old) (λ start c. c ≡ newest_only start)) }

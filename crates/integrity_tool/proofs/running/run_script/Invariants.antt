@@ -17,7 +17,7 @@ invariant-loop-line g l = record {
       × (l.room.reader.taken + length (l.room.reader.unread ++ left) ≡ length script)));
   numbered : l.number ≤ l.room.reader.taken + 1;
   within : l.room.reader.taken ≤ MOST_SCRIPT;
-  sectors : g.D.Disk.sectors l.disk ≡ g.D.Disk.sectors l.fn.disk;
+  identity : g.D.Disk.identity l.disk ≡ g.D.Disk.identity l.fn.disk;
   followed : (c : Content) (script : List ℕ) → content_now (g.D.Disk.moments l.fn.disk) ≡ Some c → g.S.Source.left l.fn.script ≡ Some script
       → IsSomeAnd (g.S.Source.left l.script) (λ left. IsFollowed (last_image c) script l.number l.found_fault (l.room.reader.unread ++ left) (content_now (g.D.Disk.moments l.disk))
       × (l.room.reader.taken + length (l.room.reader.unread ++ left) ≡ length script));
