@@ -56,7 +56,15 @@ impl Lines {
             let times = format!(in alloc; "{count} * ")?;
             self.out.push_str(times.as_str())?;
         }
-        self.out.push_str(self.last.as_str().trim_end())
+        self.out.push_str(without_newline(self.last.as_str()))
+    }
+}
+
+/// A line without the newline that ends it.
+fn without_newline(line: &str) -> &str {
+    match line.strip_suffix('\n') {
+        Some(text) => text,
+        None => line,
     }
 }
 

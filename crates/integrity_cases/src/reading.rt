@@ -37,8 +37,20 @@ pub fn apply(alloc: Global, case: &mut Case, word: &str, text: &str) -> Result<(
         "show" => case.shows.push(show_of(text)?)?,
         "first" => case.shows.push(reopened(alloc, Candidates::First, text)?)?,
         "last" => case.shows.push(reopened(alloc, Candidates::Last, text)?)?,
-        "expect" => case.expected = Some(text.to_string(alloc)?),
+        "expect" => put_expected(alloc, &mut case.expected, text)?,
         _ => return Err(LineFault::NoWord),
+    }
+    Ok(())
+}
+
+/// Adds a line to what a case is to show.
+fn put_expected(alloc: Global, expected: &mut Option<String>, text: &str) -> Result<(), LineFault> {
+    match expected {
+        Some(lines) => {
+            lines.push_str("\n")?;
+            lines.push_str(text)?;
+        }
+        None => *expected = Some(text.to_string(alloc)?),
     }
     Ok(())
 }

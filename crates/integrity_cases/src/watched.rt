@@ -1,6 +1,8 @@
 //! Objects in memory that count what is asked of them. They hand each call on, and tell nothing of their content.
 ghost use Rattle.std.specs.Prelude.{⊤, None, []};
+ghost use Rattle.std.proofs.Common.{refl};
 ghost use Rattle.std.proofs.lemmas.Option.{none-some};
+ghost use Rattle.disk_model.specs.Identity.{AnyName};
 
 use sector_disk::{Counted, Disk, Failed, MemDisk, Named};
 use std::alloc::{AllocError, Global};
@@ -88,7 +90,9 @@ impl Counted for WatchedDisk {
 
     ghost faults = { λ d. (record_of d.disk).plan.faults };
 
-    ghost tells_same = { λ a b. ⊤ };
+    ghost binding = { λ watched. AnyName };
+
+    ghost tells_same = { λ name a b. ⊤ };
 }
 
 impl Named for WatchedDisk {
@@ -100,9 +104,11 @@ impl Named for WatchedDisk {
 impl Disk for WatchedDisk {
     ghost use Rattle.sector_disk.specs.MemDisk.{record_of};
 
-    ghost sectors = { λ d. (record_of d.disk).sectors };
+    ghost identity = { λ d. record { name = AnyName; sectors = (record_of d.disk).sectors } };
 
     ghost moments = { λ d. [] };
+
+    ghost named = { λ d name. record { sectors = (record_of d.disk).sectors; moments = [] } };
 
     fn sectors(&self) -> u64 {
         self.disk.sectors()
@@ -135,9 +141,13 @@ impl Disk for WatchedDisk {
 
     ghost reads_an_image = { λ disk c told. absurd (none-some c told) };
 
-    ghost same_moments = { λ a b c same told. absurd (none-some c told) };
+    ghost whole_sectors = { λ disk c sector x told low has. absurd (none-some c told) };
 
-    ghost same_sectors = { λ a b c same told. absurd (none-some c told) };
+    ghost identity_name = { λ disk. refl };
+
+    ghost named_if_bound = { λ disk name bound. refl };
+
+    ghost same_named = { λ name a b c same told. absurd (none-some c told) };
 }
 
 /// A source in memory, with what was asked of it.
@@ -164,7 +174,9 @@ impl<'b> WatchedSource<'b> {
 impl Counted for WatchedSource<'_> {
     ghost faults = { λ s. s.source.plan.faults };
 
-    ghost tells_same = { λ a b. ⊤ };
+    ghost binding = { λ watched. AnyName };
+
+    ghost tells_same = { λ name a b. ⊤ };
 }
 
 impl Named for WatchedSource<'_> {
@@ -177,6 +189,8 @@ impl Named for WatchedSource<'_> {
 impl Source for WatchedSource<'_> {
     ghost left = { λ s. None };
 
+    ghost named = { λ s name. None };
+
     fn read(&mut self, buffer: &mut [u8]) -> Result<usize, Failed> {
         self.calls = self.calls.saturating_add(1);
         let answer = self.source.read(buffer);
@@ -186,7 +200,9 @@ impl Source for WatchedSource<'_> {
         answer
     }
 
-    ghost same_left = { λ a b bytes same told. absurd (none-some bytes told) };
+    ghost named_if_bound = { λ s name bound. refl };
+
+    ghost same_named = { λ name a b bytes same told. absurd (none-some bytes told) };
 }
 
 /// A sink in memory, with what was asked of it.
@@ -207,7 +223,9 @@ impl WatchedSink {
 impl Counted for WatchedSink {
     ghost faults = { λ s. s.sink.plan.faults };
 
-    ghost tells_same = { λ a b. ⊤ };
+    ghost binding = { λ watched. AnyName };
+
+    ghost tells_same = { λ name a b. ⊤ };
 }
 
 impl Sink for WatchedSink {
