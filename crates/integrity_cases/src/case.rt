@@ -1,8 +1,7 @@
 //! What a case asks for.
+use crate::watched::Fails;
+use anyhow::Result;
 use std::alloc::{AllocError, Global};
-
-/// How many bytes of text a sink takes where a case does not say it.
-const ROOM: u64 = 65_536;
 
 /// Which disk a run begins with.
 #[derive(Clone, Copy)]
@@ -22,10 +21,10 @@ pub enum Start {
 pub enum Candidates {
     First,
     Last,
-    /// Of sectors of data the last one, and of all others the first.
+    /// Of sectors of blocks the last one, and of all others the first.
     LastData,
-    /// Of sectors of tags the last one, and of all others the first.
-    LastTags,
+    /// Of sectors of blocks the first one, and of all others the last.
+    FirstData,
     /// Of every second sector the last one, and of all others the first.
     Alternate,
     Middle,
@@ -36,7 +35,7 @@ pub const CHOICES: [Candidates; 6] = [
     Candidates::First,
     Candidates::Last,
     Candidates::LastData,
-    Candidates::LastTags,
+    Candidates::FirstData,
     Candidates::Alternate,
     Candidates::Middle,
 ];
@@ -45,68 +44,34 @@ pub const CHOICES: [Candidates; 6] = [
 #[derive(Clone, Copy)]
 pub enum Edit {
     /// A byte of a sector is set.
-    Set { at: u64, byte: u64, value: u8 },
+    Set { at: u64, byte: u64, value: u64 },
     /// A bit of a byte of a sector is flipped, 0 being the lowest.
-    Flip { at: u64, byte: u64, bit: u8 },
+    Flip { at: u64, byte: u64, bit: u64 },
 }
 
-/// What has calls that can fail.
-#[derive(Clone, Copy, PartialEq, Eq)]
-pub enum Part {
+/// So many bytes of a sector, from one on.
+#[derive(Clone, Copy)]
+pub struct Piece {
+    pub at: u64,
+    pub first: u64,
+    pub count: u64,
+}
+
+/// What can fail.
+#[derive(Clone, Copy)]
+pub enum Kind {
+    /// A call of the disk.
     Disk,
+    /// A call of the script's source.
     Source,
+    /// A call of the sink.
     Sink,
+    /// A call of the key's source.
     Key,
-}
-
-/// What fails in a run. Calls are numbered from 1.
-#[derive(Clone, Copy)]
-pub struct Fails {
-    pub disk: Option<u64>,
-    pub source: Option<u64>,
-    pub sink: Option<u64>,
-    pub key: Option<u64>,
-    /// After how many sector writes the disk stops.
-    pub stop: Option<u64>,
-    /// How many bytes of text the sink takes.
-    pub room: u64,
-}
-
-impl Fails {
-    /// These, where the call of a part with this number fails.
-    pub fn with_call(self, part: Part, call: u64) -> Fails {
-        match part {
-            Part::Disk => Fails {
-                disk: Some(call),
-                ..self
-            },
-            Part::Source => Fails {
-                source: Some(call),
-                ..self
-            },
-            Part::Sink => Fails {
-                sink: Some(call),
-                ..self
-            },
-            Part::Key => Fails {
-                key: Some(call),
-                ..self
-            },
-        }
-    }
-}
-
-/// What is tried one after the other.
-#[derive(Clone, Copy)]
-pub enum Each {
-    /// A failure of each call of a part.
-    Call(Part),
-    /// A stop of the disk after each number of sector writes.
+    /// The disk, after so many sector writes.
     Stop,
-    /// Each room of the sink.
+    /// The sink, that has room for so many bytes.
     Room,
-    /// A flip of each bit of so many bytes of a sector.
-    Bit { at: u64, first: u64, count: u64 },
 }
 
 /// What is shown after a run.
@@ -114,15 +79,11 @@ pub enum Each {
 pub enum Show {
     /// The SHA-256 of all sectors, as reads give them.
     Digest,
-    /// So many bytes of a sector.
-    Bytes {
-        at: u64,
-        first: u64,
-        count: u64,
-    },
+    /// Some bytes, as reads give them.
+    Bytes(Piece),
     /// How many sectors were written, and how many syncs were made.
     Writes,
-    /// What a script prints that is run on an image of what is left.
+    /// What a script prints on an image of what is left.
     Reopened {
         candidates: Candidates,
         script: Vec<u8>,
@@ -138,41 +99,69 @@ pub struct Case {
     pub key: Vec<u8>,
     pub script: Vec<u8>,
     pub fails: Fails,
-    pub eaches: Vec<Each>,
+    pub kinds: Vec<Kind>,
+    pub bits: Vec<Piece>,
     pub shows: Vec<Show>,
     /// What the case is to show, where it says so.
     pub expected: Option<String>,
 }
 
 impl Case {
-    /// An empty script on the small image, with the words of the one command that there is. Nothing fails.
-    pub fn new(alloc: Global) -> Result<Case, AllocError> {
+    /// A script on the small image, with the words of the one command that there is. Nothing fails.
+    pub fn new(alloc: Global, script: Vec<u8>) -> Result<Case, AllocError> {
+        let mut words = Vec::new(alloc);
+        for word in ["integrity", "run", "small", "--mode", "D"] {
+            words.push(word.to_string(alloc)?)?;
+        }
         Ok(Case {
             start: Start::Small { sectors: 256 },
             edits: Vec::new(alloc),
-            words: run_words(alloc)?,
+            words,
             key: Vec::new(alloc),
-            script: Vec::new(alloc),
-            fails: Fails {
-                disk: None,
-                source: None,
-                sink: None,
-                key: None,
-                stop: None,
-                room: ROOM,
-            },
-            eaches: Vec::new(alloc),
+            script,
+            fails: Fails::NONE,
+            kinds: Vec::new(alloc),
+            bits: Vec::new(alloc),
             shows: Vec::new(alloc),
             expected: None,
         })
     }
 }
 
-/// The words of the one command that there is.
-pub fn run_words(alloc: Global) -> Result<Vec<String>, AllocError> {
-    let mut words = Vec::new(alloc);
-    for word in ["integrity", "run", "small", "--mode", "D"] {
-        words.push(word.to_string(alloc)?)?;
+/// The kind of failure that has this name.
+pub fn kind_of(name: &str) -> Option<Kind> {
+    match name {
+        "disk" => Some(Kind::Disk),
+        "source" => Some(Kind::Source),
+        "sink" => Some(Kind::Sink),
+        "key" => Some(Kind::Key),
+        "stop" => Some(Kind::Stop),
+        "room" => Some(Kind::Room),
+        _ => None,
     }
-    Ok(words)
+}
+
+/// The name of a kind of failure.
+pub fn name_of(kind: Kind) -> &'static str {
+    match kind {
+        Kind::Disk => "disk",
+        Kind::Source => "source",
+        Kind::Sink => "sink",
+        Kind::Key => "key",
+        Kind::Stop => "stop",
+        Kind::Room => "room",
+    }
+}
+
+/// These failures, and one of a kind with this number in place of another one.
+pub fn with_failure(mut fails: Fails, kind: Kind, number: u64) -> Fails {
+    match kind {
+        Kind::Disk => fails.disk = Some(number),
+        Kind::Source => fails.source = Some(number),
+        Kind::Sink => fails.sink = Some(number),
+        Kind::Key => fails.key = Some(number),
+        Kind::Stop => fails.stop = Some(number),
+        Kind::Room => fails.room = number,
+    }
+    fails
 }

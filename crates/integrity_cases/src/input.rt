@@ -1,8 +1,8 @@
 //! Cases and tables of a text, and their lines.
 use crate::case::Case;
-use crate::outcome::Group;
 use crate::reading::{apply, cut};
 use crate::session::Session;
+use crate::telling::{Repeated, add, put_rows};
 use anyhow::{Context, Result, bail};
 use std::alloc::{AllocError, Global};
 
@@ -13,100 +13,62 @@ struct Line {
     text: String,
 }
 
-/// What a block is.
-#[derive(Clone, Copy, PartialEq, Eq)]
-enum Kind {
-    Case,
-    Table,
-}
-
-/// A case or a table: the line that begins it, and those below.
+/// A case or a table: the word and the name that begin it, and the lines below.
 #[derive(Drop)]
 struct Block {
-    kind: Kind,
+    is_case: bool,
     number: usize,
     name: String,
     lines: Vec<Line>,
-}
-
-/// The blocks of a text.
-#[derive(Drop)]
-struct Blocks {
-    cases: Vec<Block>,
-    tables: Vec<Block>,
 }
 
 /// Runs the cases of a text, and tells what each shows.
 pub fn run_text(alloc: Global, session: &mut Session, text: &str) -> Result<String> {
     let blocks = blocks_of(alloc, text)?;
     let mut told = String::new(alloc);
-    for case in &blocks.cases {
-        let shown = run_block(alloc, session, &blocks.tables, case)?;
-        told.push_str(shown.as_str())?;
+    for block in &blocks {
+        if block.is_case {
+            let shown = run_block(alloc, session, &blocks, block)?;
+            told.push_str(shown.as_str())?;
+        }
     }
     Ok(told)
 }
 
-/// Parts a text into its blocks. Empty lines, and those that begin with `#`, say nothing.
-fn blocks_of(alloc: Global, text: &str) -> Result<Blocks> {
-    let mut blocks = Blocks {
-        cases: Vec::new(alloc),
-        tables: Vec::new(alloc),
-    };
-    let mut block: Option<Block> = None;
+/// Parts a text into its blocks.
+fn blocks_of(alloc: Global, text: &str) -> Result<Vec<Block>> {
+    let mut blocks: Vec<Block> = Vec::new(alloc);
     for (k, line) in text.split('\n').enumerate() {
         let number = k.saturating_add(1);
-        let line = line.trim_start();
-        if line.is_empty() || line.starts_with('#') {
-            continue;
-        }
-        let (word, name) = cut(line);
-        if word == "case" || word == "table" {
-            keep(&mut blocks, block.take())?;
-            block = Some(begun(alloc, number, word, name)?);
-        } else {
-            add_line(alloc, &mut block, number, line)?;
-        }
+        add_line(alloc, &mut blocks, number, line.trim_start()).context(format_args!(
+            "line {number}"
+        ))?;
     }
-    keep(&mut blocks, block.take())?;
     Ok(blocks)
 }
 
-/// The block that a line begins.
-fn begun(alloc: Global, number: usize, word: &str, name: &str) -> Result<Block> {
-    Ok(Block {
-        kind: if word == "case" {
-            Kind::Case
-        } else {
-            Kind::Table
-        },
-        number,
-        name: name.to_string(alloc)?,
-        lines: Vec::new(alloc),
-    })
-}
-
-/// Adds a line to the block that was begun last.
-fn add_line(alloc: Global, block: &mut Option<Block>, number: usize, line: &str) -> Result<()> {
+/// Adds a line, which may begin a block. An empty line, and one that begins with `#`, says nothing.
+fn add_line(alloc: Global, blocks: &mut Vec<Block>, number: usize, line: &str) -> Result<()> {
+    if line.is_empty() || line.starts_with('#') {
+        return Ok(());
+    }
     if line.ends_with(' ') {
-        bail!("line {number}: it ends with a space");
+        bail!("it ends with a space");
     }
-    match block {
-        Some(block) => block.lines.push(Line {
+    let (word, name) = cut(line);
+    if word == "case" || word == "table" {
+        blocks.push(Block {
+            is_case: word == "case",
             number,
-            text: line.to_string(alloc)?,
-        })?,
-        None => bail!("line {number}: it stands before any case"),
+            name: name.to_string(alloc)?,
+            lines: Vec::new(alloc),
+        })?;
+        return Ok(());
     }
-    Ok(())
-}
-
-/// Keeps a block that has come to its end.
-fn keep(blocks: &mut Blocks, block: Option<Block>) -> Result<()> {
-    match block {
-        Some(block) if block.kind == Kind::Table => blocks.tables.push(block)?,
-        Some(block) => blocks.cases.push(block)?,
-        None => {}
+    let text = line.to_string(alloc)?;
+    match blocks.last_mut() {
+        Some(block) => block.lines.push(Line { number, text })?,
+        None => bail!("it stands before any case"),
     }
     Ok(())
 }
@@ -115,37 +77,37 @@ fn keep(blocks: &mut Blocks, block: Option<Block>) -> Result<()> {
 fn run_block(
     alloc: Global,
     session: &mut Session,
-    tables: &[Block],
+    blocks: &[Block],
     block: &Block,
 ) -> Result<String> {
-    let mut group = Group::new(alloc, "  ", "rows");
-    match table_of(tables, block)? {
-        None => run_row(alloc, session, block, "", &mut group)?,
+    let mut rows = Vec::new(alloc);
+    match table_of(blocks, block)? {
+        None => run_row(alloc, session, block, "", &mut rows)?,
         Some(table) => {
             for row in &table.lines {
                 let (word, text) = cut(row.text.as_str());
                 if word != "row" {
                     bail!("line {}: it is no row", row.number);
                 }
-                run_row(alloc, session, block, text, &mut group)?;
+                run_row(alloc, session, block, text, &mut rows)?;
             }
         }
     }
-    let shown = group.finish(alloc)?;
-    if shown.is_empty() {
-        return Ok(shown);
+    let mut told = String::new(alloc);
+    if !rows.is_empty() {
+        told.push_str(block.name.as_str())?;
+        put_rows(alloc, &mut told, &rows, "rows", "  ")?;
+        told.push_str("\n")?;
     }
-    let name = block.name.as_str();
-    Ok(format!(in alloc; "{name}\n{shown}")?)
+    Ok(told)
 }
 
 /// The table that a case names.
-fn table_of<'b>(tables: &'b [Block], block: &Block) -> Result<Option<&'b Block>> {
+fn table_of<'b>(blocks: &'b [Block], block: &Block) -> Result<Option<&'b Block>> {
     for line in &block.lines {
-        let (word, name) = cut(line.text.as_str());
-        if word == "for" {
-            for table in tables {
-                if table.name.as_str() == name {
+        if let Some(name) = line.text.as_str().strip_prefix("for ") {
+            for table in blocks {
+                if !table.is_case && table.name.as_str() == name {
                     return Ok(Some(table));
                 }
             }
@@ -155,26 +117,28 @@ fn table_of<'b>(tables: &'b [Block], block: &Block) -> Result<Option<&'b Block>>
     Ok(None)
 }
 
-/// Runs a case with a row's columns in its place.
+/// Runs a case with a row's columns in their places.
 fn run_row(
     alloc: Global,
     session: &mut Session,
     block: &Block,
     row: &str,
-    group: &mut Group,
+    rows: &mut Vec<Repeated>,
 ) -> Result<()> {
-    let case = case_of(alloc, block, row)?;
     let number = block.number;
+    let case = case_of(alloc, block, row)?;
     let shown = session
         .run_case(alloc, &case)
         .context(format_args!("line {number}"))?;
     match &case.expected {
-        None => group.add(alloc, row, shown)?,
-        Some(expected) if expected.as_str() == shown.as_str() => session.judge.count_expected(),
+        None => add(alloc, rows, row, shown.as_str())?,
+        Some(expected) if expected.as_str() == shown.as_str() => {
+            session.counts.expected = session.counts.expected.saturating_add(1);
+        }
         Some(expected) => {
-            session.judge.count_wrong();
+            session.counts.wrong = session.counts.wrong.saturating_add(1);
             let fault = format!(in alloc; "WRONG line {number}: {shown}\nexpected {expected}")?;
-            group.add(alloc, row, fault)?;
+            add(alloc, rows, row, fault.as_str())?;
         }
     }
     Ok(())
@@ -182,16 +146,21 @@ fn run_row(
 
 /// The case that a block says, with these columns.
 fn case_of(alloc: Global, block: &Block, row: &str) -> Result<Case> {
-    let mut case = Case::new(alloc)?;
+    let mut case = Case::new(alloc, Vec::new(alloc))?;
     for line in &block.lines {
         let number = line.number;
-        let text = filled(alloc, line.text.as_str(), row)?;
-        let (word, rest) = cut(text.as_str());
-        if word != "for" {
-            apply(alloc, &mut case, word, rest).context(format_args!("line {number}"))?;
-        }
+        apply_line(alloc, &mut case, line, row).context(format_args!("line {number}"))?;
     }
     Ok(case)
+}
+
+/// Adds to a case what a line says, with these columns.
+fn apply_line(alloc: Global, case: &mut Case, line: &Line, row: &str) -> Result<()> {
+    let text = filled(alloc, line.text.as_str(), row)?;
+    if text.as_str().starts_with("for ") {
+        return Ok(());
+    }
+    apply(alloc, case, text.as_str())
 }
 
 /// A line with the columns of a row in the places of `{1}`, `{2}` and so on.

@@ -1,242 +1,7 @@
 //! What must hold of a run that met a failure, computed from its script and from the disk that it began with.
-use crate::disks::bytes_of;
-use crate::held::{Content, Held, is_ending, is_newline, told_lines};
-use crate::small_image::{
-    BLOCKS, SUPERBLOCK, data_at, digest_of, is_of_data, is_of_tags, tag_at, tag_byte,
-};
-use anyhow::Result;
-use sector_disk::MemDisk;
+use crate::small_image::{BLOCKS, data_of, digest_of, is_small, put_block, tag_of};
+use anyhow::{Result, bail};
 use std::alloc::{AllocError, Global};
-use std::collections::BTreeMap;
-use thiserror::Error;
-
-/// What is wrong with a run, or with what it left.
-#[derive(Clone, Copy, Debug, Error)]
-pub enum Wrong {
-    #[error("no call failed, and yet the run is not the undisturbed one")]
-    Differs,
-    #[error("the status is not that of the failure")]
-    Status,
-    #[error("the text is no part of the undisturbed one with the line of the failure behind it")]
-    Text,
-    #[error("a line of the text is not that of its line of the script")]
-    Line,
-    #[error("the key was touched")]
-    Key,
-    #[error("there was no memory")]
-    Memory,
-    #[error("block {block} holds what it was not to hold")]
-    Data { block: u64 },
-    #[error("the tag of block {block} is not that of what it was to hold")]
-    Tag { block: u64 },
-    #[error("sector {at} has changed, and is no block's")]
-    Sector { at: u64 },
-    #[error("the disk has another size")]
-    Size,
-    #[error("a reopening does not read what is left")]
-    Reopened,
-    #[error("each run met a failure")]
-    Endless,
-}
-
-/// The disk that a run began with.
-#[derive(Drop)]
-pub struct Base {
-    pub bytes: Vec<u8>,
-    /// The tags that the blocks' bytes have, where the disk is a small image. Else there are none.
-    pub digests: Vec<[u8; 32]>,
-}
-
-impl Base {
-    /// Looks at a disk.
-    pub fn of(alloc: Global, disk: &mut MemDisk) -> Result<Base> {
-        let bytes = bytes_of(alloc, disk)?;
-        let mut digests = Vec::new(alloc);
-        if is_small(&bytes) {
-            for block in 0..BLOCKS {
-                digests.push(digest_of(block, data_of(&bytes, block)))?;
-            }
-        }
-        Ok(Base { bytes, digests })
-    }
-
-    /// Whether it is a small image.
-    pub fn is_small(&self) -> bool {
-        !self.digests.is_empty()
-    }
-}
-
-/// Whether these are the bytes of a small image: by the size, and by the first 64 bytes.
-fn is_small(bytes: &[u8]) -> bool {
-    bytes.len() >= 131_072
-        && bytes.starts_with(&SUPERBLOCK)
-        && run_at(bytes, 32, 32).iter().all(|byte| *byte == 0)
-}
-
-/// The bytes from one on, where there are so many.
-pub fn run_at(bytes: &[u8], from: usize, count: usize) -> &[u8] {
-    match bytes.get(from..from.saturating_add(count)) {
-        Some(run) => run,
-        None => &[],
-    }
-}
-
-/// The byte where a sector begins.
-pub fn place_of(sector: u64) -> usize {
-    (sector as usize).saturating_mul(512)
-}
-
-/// The data of a block.
-pub fn data_of(bytes: &[u8], block: u64) -> &[u8] {
-    run_at(bytes, place_of(data_at(block)), 512)
-}
-
-/// The tag that stands on a disk for a block.
-pub fn tag_of(bytes: &[u8], block: u64) -> &[u8] {
-    let from = place_of(tag_at(block)).saturating_add(tag_byte(block));
-    run_at(bytes, from, 32)
-}
-
-/// The tags of blocks that are full of one byte, each computed once.
-#[derive(Drop)]
-pub struct Tags {
-    known: BTreeMap<(u64, u8), [u8; 32]>,
-}
-
-impl Tags {
-    /// None is known.
-    pub fn new(alloc: Global) -> Tags {
-        Tags {
-            known: BTreeMap::new(alloc),
-        }
-    }
-
-    /// The tag of a block that is full of a byte.
-    pub fn full(&mut self, block: u64, byte: u8) -> Result<[u8; 32], AllocError> {
-        if let Some(tag) = self.known.get(&(block, byte)) {
-            return Ok(*tag);
-        }
-        let tag = digest_of(block, &[byte; 512]);
-        self.known.insert((block, byte), tag)?;
-        Ok(tag)
-    }
-
-    /// Whether a tag is the one of a block that holds this.
-    fn is_tag(
-        &mut self,
-        base: &Base,
-        block: u64,
-        content: Content,
-        tag: &[u8],
-    ) -> Result<bool, AllocError> {
-        match content {
-            Content::Start => Ok(tag == tag_of(&base.bytes, block)),
-            Content::Full(byte) => Ok(tag == self.full(block, byte)?.as_slice()),
-        }
-    }
-}
-
-/// Whether the data of a block are these.
-fn is_data(base: &Base, block: u64, content: Content, data: &[u8]) -> bool {
-    match content {
-        Content::Start => data == data_of(&base.bytes, block),
-        Content::Full(byte) => data.iter().all(|other| *other == byte),
-    }
-}
-
-/// What may be left of a block: what the last flush settled, and what later fills gave it.
-fn contents_of(alloc: Global, held: &Held, block: u64) -> Result<Vec<Content>, AllocError> {
-    let mut contents = Vec::new(alloc);
-    if let Some(content) = held.settled.get(block as usize) {
-        contents.push(*content)?;
-    }
-    for fill in &held.later {
-        if fill.has(block) {
-            contents.push(Content::Full(fill.byte))?;
-        }
-    }
-    Ok(contents)
-}
-
-/// Looks at the bytes of an image that may be left: each block has the data and the tag of what it may hold, and nothing
-/// else has changed.
-pub fn judge_image(
-    alloc: Global,
-    base: &Base,
-    held: &Held,
-    tags: &mut Tags,
-    image: &[u8],
-) -> Result<Option<Wrong>, AllocError> {
-    if let Some(wrong) = judge_others(base, image) {
-        return Ok(Some(wrong));
-    }
-    if !base.is_small() {
-        return Ok(None);
-    }
-    for block in 0..BLOCKS {
-        let contents = contents_of(alloc, held, block)?;
-        let data = data_of(image, block);
-        if !contents
-            .iter()
-            .any(|content| is_data(base, block, *content, data))
-        {
-            return Ok(Some(Wrong::Data { block }));
-        }
-        if !has_tag(base, tags, block, &contents, tag_of(image, block))? {
-            return Ok(Some(Wrong::Tag { block }));
-        }
-    }
-    Ok(None)
-}
-
-/// Whether a tag is the one of a block that holds any of these.
-fn has_tag(
-    base: &Base,
-    tags: &mut Tags,
-    block: u64,
-    contents: &[Content],
-    tag: &[u8],
-) -> Result<bool, AllocError> {
-    for content in contents {
-        if tags.is_tag(base, block, *content, tag)? {
-            return Ok(true);
-        }
-    }
-    Ok(false)
-}
-
-/// Looks at what is no block and no tag.
-fn judge_others(base: &Base, image: &[u8]) -> Option<Wrong> {
-    if base.bytes.len() != image.len() {
-        return Some(Wrong::Size);
-    }
-    for (k, (old, new)) in base.bytes.chunks(512).zip(image.chunks(512)).enumerate() {
-        let at = k as u64;
-        let from = if base.is_small() { kept_from(at) } else { 0 };
-        if old.get(from..) != new.get(from..) {
-            return Some(Wrong::Sector { at });
-        }
-    }
-    None
-}
-
-/// From which byte on a sector of a small image has neither data nor tags.
-fn kept_from(at: u64) -> usize {
-    if is_of_data(at) {
-        512
-    } else if is_of_tags(at) {
-        256
-    } else {
-        0
-    }
-}
-
-/// What a run printed, and its status.
-#[derive(Clone, Copy)]
-pub struct Told<'t> {
-    pub status: u8,
-    pub text: &'t [u8],
-}
 
 /// The failure that a run met.
 #[derive(Clone, Copy)]
@@ -245,93 +10,260 @@ pub enum Met {
     Disk,
     Source,
     Sink,
+    /// The sink has no room beyond so many bytes.
+    Full { room: u64 },
     Key,
 }
 
-/// Looks at the status and the text of a run that met a failure, beside those of the undisturbed run. Where the sink has
-/// room for so many bytes only, it holds as many.
-pub fn judge_text(
-    undisturbed: Told<'_>,
-    told: Told<'_>,
-    met: Met,
-    room: Option<u64>,
-) -> Option<Wrong> {
-    match (met, room) {
-        (Met::Nothing, _) => judge_same(undisturbed, told),
-        (Met::Disk, _) => judge_ending(undisturbed, told, 4, b"fault disk\n"),
-        (Met::Source, _) => judge_ending(undisturbed, told, 5, b"fault script\n"),
-        (Met::Key, _) => judge_ending(undisturbed, told, 5, b"fault key\n"),
-        (Met::Sink, Some(room)) if told.text.len() as u64 != room => Some(Wrong::Text),
-        (Met::Sink, _) => judge_cut(undisturbed, told),
-    }
+/// A status and a text.
+#[derive(Clone, Copy)]
+pub struct Told<'t> {
+    pub status: u8,
+    pub text: &'t str,
 }
 
-fn judge_same(undisturbed: Told<'_>, told: Told<'_>) -> Option<Wrong> {
-    let same = told.status == undisturbed.status && told.text == undisturbed.text;
-    (!same).then_some(Wrong::Differs)
-}
-
-/// The text is whole lines that the undisturbed one begins with, and then the line of the failure.
-fn judge_ending(undisturbed: Told<'_>, told: Told<'_>, status: u8, line: &[u8]) -> Option<Wrong> {
+/// Looks at the status and the text of a run that met a failure, beside those of the undisturbed run: the status is that
+/// of the failure, and the text whole lines that the undisturbed one begins with, and then the line of the failure.
+///
+/// Where the sink failed the text stops anywhere before its end. If only the last line is not whole, and tells another
+/// cause, the status is that of this cause.
+pub fn judge_text(undisturbed: Told<'_>, told: Told<'_>, met: Met) -> Result<()> {
+    let (status, line) = match met {
+        Met::Nothing => (undisturbed.status, ""),
+        Met::Disk => (4, "fault disk\n"),
+        Met::Source => (5, "fault script\n"),
+        Met::Key => (5, "fault key\n"),
+        Met::Full { room } if told.text.len() as u64 != room => bail!("the sink is not full"),
+        Met::Sink | Met::Full { .. } => {
+            let is_last = told_lines(told.text) == told_lines(undisturbed.text);
+            let is_other = undisturbed.status >= 2 && is_last;
+            (if is_other { undisturbed.status } else { 6 }, "")
+        }
+    };
     if told.status != status {
-        return Some(Wrong::Status);
+        bail!("the status is not that of the failure");
     }
     let Some(before) = told.text.strip_suffix(line) else {
-        return Some(Wrong::Text);
+        bail!("the text does not end with the line of the failure");
     };
-    let is_whole = before.is_empty() || before.ends_with(b"\n");
-    let is_part = before.len() < undisturbed.text.len() && undisturbed.text.starts_with(before);
-    (!is_whole || !is_part).then_some(Wrong::Text)
-}
-
-/// The text is what the undisturbed one begins with, and not all of it. Where the last line alone is missing the status
-/// may be that of the undisturbed run: its cause came first.
-fn judge_cut(undisturbed: Told<'_>, told: Told<'_>) -> Option<Wrong> {
-    let is_part = told.text.len() < undisturbed.text.len()
-        && undisturbed.text.starts_with(told.text);
-    if !is_part {
-        return Some(Wrong::Text);
+    let is_whole = line.is_empty() || before.is_empty() || before.ends_with('\n');
+    if !is_whole || !undisturbed.text.starts_with(before) {
+        bail!("the text is no part of the undisturbed one");
     }
-    let ends_before = undisturbed.status >= 2
-        && told_lines(told.text) == told_lines(undisturbed.text);
-    let wanted = if ends_before { undisturbed.status } else { 6 };
-    (told.status != wanted).then_some(Wrong::Status)
+    let is_all = before.len() == undisturbed.text.len();
+    match met {
+        Met::Nothing if !is_all => bail!("nothing failed, and the text is not the undisturbed one"),
+        Met::Nothing => Ok(()),
+        _ if is_all => bail!("the text is the undisturbed one"),
+        _ => Ok(()),
+    }
 }
 
-/// Looks whether each whole line of a text is that of its line of the script.
-pub fn judge_lines(script: &[u8], text: &[u8]) -> Option<Wrong> {
-    for (line, told) in script
-        .split(is_newline)
-        .zip(text.split_inclusive(is_newline))
-    {
-        if is_ending(told) || !told.ends_with(b"\n") {
-            return None;
-        }
-        if !is_told(line, told) {
-            return Some(Wrong::Line);
+/// How many lines of the script a text tells whole. The last line of a run tells none.
+fn told_lines(text: &str) -> usize {
+    let mut told = 0usize;
+    for line in text.split_inclusive('\n') {
+        let is_block = line.starts_with("fault block ");
+        let is_last = line == "closed\n" || (line.starts_with("fault ") && !is_block);
+        if line.ends_with('\n') && !is_last {
+            told = told.saturating_add(1);
         }
     }
-    None
+    told
 }
 
-/// Whether a line of a text is one that a line of a script prints.
-fn is_told(line: &[u8], told: &[u8]) -> bool {
-    if line == b"flush".as_slice() {
-        return told == b"ok flush\n".as_slice();
+/// The images that lines of a script give, of which a cut leaves each block's data and tag from any: what the last flush
+/// has settled that the text tells, and behind it what each later fill gives, up to the one that may have begun.
+pub fn images_after(
+    alloc: Global,
+    base: &[u8],
+    script: &str,
+    text: &str,
+) -> Result<Vec<Vec<u8>>, AllocError> {
+    let told = told_lines(text);
+    let mut images = Vec::new(alloc);
+    images.push(base.to_vec(alloc)?)?;
+    for (k, line) in script.split('\n').enumerate() {
+        if k > told {
+            break;
+        }
+        if line == "flush" && k < told {
+            settle(&mut images)?;
+        }
+        if let Some(fill) = line.strip_prefix("fill ") {
+            add_fill(&mut images, fill)?;
+        }
     }
-    if let Some(range) = line.strip_prefix(b"read ") {
-        return told.starts_with(b"fault block ") || is_reply(told, b"ok read ", range);
+    if text.ends_with("closed\n") {
+        settle(&mut images)?;
     }
-    match line.strip_prefix(b"fill ") {
-        Some([range @ .., b' ', _, _]) => is_reply(told, b"ok write ", range),
-        _ => false,
+    Ok(images)
+}
+
+/// Leaves the last image alone.
+fn settle(images: &mut Vec<Vec<u8>>) -> Result<(), AllocError> {
+    if let Some(last) = images.pop() {
+        images.clear();
+        images.push(last)?;
+    }
+    Ok(())
+}
+
+/// Adds the last image with a fill.
+fn add_fill(images: &mut Vec<Vec<u8>>, fill: &str) -> Result<(), AllocError> {
+    if let Some(last) = images.last() {
+        let mut image = last.clone()?;
+        fill_image(&mut image, fill);
+        images.push(image)?;
+    }
+    Ok(())
+}
+
+/// Fills blocks of an image: the text has the first block, how many there are, and the byte.
+fn fill_image(image: &mut [u8], text: &str) {
+    let Some((first, rest)) = text.split_once(' ') else {
+        return;
+    };
+    let Some((count, byte)) = rest.split_once(' ') else {
+        return;
+    };
+    let (Ok(first), Ok(count), Ok(byte)) = (
+        first.parse::<u64>(),
+        count.parse::<u64>(),
+        u8::from_str_radix(byte, 16),
+    ) else {
+        return;
+    };
+    let data = [byte; 512];
+    for block in 0..BLOCKS {
+        if block >= first && block - first < count {
+            put_block(image, block, &data, &digest_of(block, &data));
+        }
     }
 }
 
-/// Whether a line of a text is this reply for a range of blocks.
-fn is_reply(told: &[u8], reply: &[u8], range: &[u8]) -> bool {
-    match told.strip_prefix(reply) {
-        Some(rest) => rest.starts_with(range),
-        None => false,
+/// Looks at the bytes of what is left: the data of each block, and its tag, are those of one of the images, and all else
+/// is as in the first of them.
+pub fn judge_left(alloc: Global, images: &[Vec<u8>], left: &[u8]) -> Result<()> {
+    let Some(settled) = images.first() else {
+        return Ok(());
+    };
+    let mut rest = left.to_vec(alloc)?;
+    for block in 0..BLOCKS {
+        let (data, tag) = (data_of(left, block), tag_of(left, block));
+        let mut has_data = false;
+        let mut has_tag = false;
+        for image in images {
+            if data_of(image, block) == data {
+                has_data = true;
+            }
+            if tag_of(image, block) == tag {
+                has_tag = true;
+            }
+        }
+        if !has_data {
+            bail!("block {block} holds what it was not to hold");
+        }
+        if !has_tag {
+            bail!("the tag of block {block} is not that of what it was to hold");
+        }
+        put_block(
+            &mut rest,
+            block,
+            data_of(settled, block),
+            tag_of(settled, block),
+        );
     }
+    if rest.as_slice() != settled.as_slice() {
+        bail!("a sector has changed where no block and no tag stands");
+    }
+    Ok(())
+}
+
+/// A script that reads each block alone.
+pub fn reads(alloc: Global) -> Result<Vec<u8>, AllocError> {
+    let mut script = Vec::new(alloc);
+    for block in 0..BLOCKS {
+        let line = format!(in alloc; "read {block} 1\n")?;
+        script.extend_from_slice(line.as_bytes())?;
+    }
+    Ok(script)
+}
+
+/// The tags that the blocks of an image have by their bytes.
+pub fn digests_of(alloc: Global, image: &[u8]) -> Result<Vec<[u8; 32]>, AllocError> {
+    let mut digests = Vec::new(alloc);
+    for block in 0..BLOCKS {
+        digests.push(digest_of(block, data_of(image, block)))?;
+    }
+    Ok(digests)
+}
+
+/// Looks at what the reads of all blocks have told of what is left, beside its bytes. The tags are those of the image that
+/// the run began with.
+pub fn judge_reads(
+    alloc: Global,
+    base: &[u8],
+    digests: &[[u8; 32]],
+    left: &[u8],
+    told: Told<'_>,
+) -> Result<()> {
+    if !is_small(left) {
+        if told.status != 3 || told.text != "fault image form\n" {
+            bail!("what is left is no image, and is read");
+        }
+        return Ok(());
+    }
+    let mut status = 0;
+    for (line, block) in told.text.split_inclusive('\n').zip(0..BLOCKS) {
+        let data = data_of(left, block);
+        let digest = match digests.get(block as usize) {
+            Some(digest) if data == data_of(base, block) => *digest,
+            _ => digest_of(block, data),
+        };
+        if tag_of(left, block) != digest.as_slice() {
+            status = 1;
+        }
+        if !is_reply(alloc, left, block, &digest, line)? {
+            bail!("a read of block {block} does not give what is left");
+        }
+    }
+    if told.status != status || !told.text.ends_with("\nclosed\n") {
+        bail!("reads of what is left do not come to their end");
+    }
+    Ok(())
+}
+
+/// Whether a line is what a read of a block prints, where its data have this tag.
+fn is_reply(
+    alloc: Global,
+    image: &[u8],
+    block: u64,
+    digest: &[u8; 32],
+    line: &str,
+) -> Result<bool, AllocError> {
+    let stored = tag_of(image, block);
+    let wanted = if stored == digest.as_slice() {
+        let runs = runs_of(alloc, data_of(image, block))?;
+        format!(in alloc; "ok read {block} 1 {runs}\n")?
+    } else {
+        let stored = hex::encode(alloc, stored)?;
+        let computed = hex::encode(alloc, digest)?;
+        format!(in alloc; "fault block {block} stored {stored} computed {computed}\n")?
+    };
+    Ok(line == wanted.as_str())
+}
+
+/// The runs of like bytes.
+fn runs_of(alloc: Global, bytes: &[u8]) -> Result<String, AllocError> {
+    let mut out = String::new(alloc);
+    for run in bytes.chunk_by(|a, b| *a == *b) {
+        if let Some(byte) = run.first() {
+            let comma = if out.is_empty() { "" } else { "," };
+            let count = run.len();
+            let run = format!(in alloc; "{comma}{byte:02x}*{count}")?;
+            out.push_str(run.as_str())?;
+        }
+    }
+    Ok(out)
 }

@@ -1,56 +1,25 @@
 //! Reads what the lines of a case say.
-use crate::case::{Candidates, Case, Each, Edit, Part, Show, Start};
-use std::alloc::{AllocError, Global};
-use thiserror::Error;
+use crate::case::{Candidates, Case, Edit, Piece, Show, Start, kind_of, with_failure};
+use anyhow::{Result, bail};
+use std::alloc::Global;
 
-/// Why a line is none of a case.
-#[derive(Debug, Drop, Error)]
-pub enum LineFault {
-    #[error("it begins with no word of a case")]
-    NoWord,
-    #[error("a word or a number is missing, or is none that can stand there")]
-    NoArgument,
-    #[error("a backslash stands before neither x and two hexadecimal digits nor -")]
-    NoEscape,
-    #[error("a word of the command line is no UTF-8")]
-    NoText,
-    #[error("there is a word too many")]
-    TooMany,
-    #[error("there is no memory")]
-    Memory(#[from(alloc)] AllocError),
-}
-
-/// Adds to a case what a line says, that begins with this word.
-pub fn apply(alloc: Global, case: &mut Case, word: &str, text: &str) -> Result<(), LineFault> {
+/// Adds to a case what a line says.
+pub fn apply(alloc: Global, case: &mut Case, line: &str) -> Result<()> {
+    let (word, text) = cut(line);
     match word {
-        "disk" => case.start = start_of(text)?,
-        "set" | "flip" => case.edits.push(edit_of(word, text)?)?,
         "words" => case.words = words_of(alloc, text)?,
         "key" => case.key = bytes_of(alloc, text)?,
-        "line" | "lines" | "text" | "texts" => {
-            put_script(alloc, &mut case.script, word, text)?;
+        "line" => put_script(alloc, &mut case.script, 1, text, "\n")?,
+        "text" => put_script(alloc, &mut case.script, 1, text, "")?,
+        "lines" | "texts" => {
+            let (times, text) = cut(text);
+            let end = if word == "lines" { "\n" } else { "" };
+            put_script(alloc, &mut case.script, times.parse::<u64>()?, text, end)?;
         }
-        "fail" => apply_failure(case, text)?,
-        "stop" => case.fails.stop = Some(last_number(text)?),
-        "room" => case.fails.room = last_number(text)?,
-        "each" => case.eaches.push(each_of(text)?)?,
-        "show" => case.shows.push(show_of(text)?)?,
-        "first" => case.shows.push(reopened(alloc, Candidates::First, text)?)?,
-        "last" => case.shows.push(reopened(alloc, Candidates::Last, text)?)?,
+        "first" => put_reopened(alloc, case, Candidates::First, text)?,
+        "last" => put_reopened(alloc, case, Candidates::Last, text)?,
         "expect" => put_expected(alloc, &mut case.expected, text)?,
-        _ => return Err(LineFault::NoWord),
-    }
-    Ok(())
-}
-
-/// Adds a line to what a case is to show.
-fn put_expected(alloc: Global, expected: &mut Option<String>, text: &str) -> Result<(), LineFault> {
-    match expected {
-        Some(lines) => {
-            lines.push_str("\n")?;
-            lines.push_str(text)?;
-        }
-        None => *expected = Some(text.to_string(alloc)?),
+        _ => apply_numbers(alloc, case, line)?,
     }
     Ok(())
 }
@@ -63,201 +32,160 @@ pub fn cut(text: &str) -> (&str, &str) {
     }
 }
 
-/// The number that the text begins with, and what stands behind it.
-fn first_number(text: &str) -> Result<(u64, &str), LineFault> {
-    let (word, rest) = cut(text);
-    match word.parse::<u64>() {
-        Ok(number) => Ok((number, rest)),
-        Err(_) => Err(LineFault::NoArgument),
-    }
-}
-
-/// The one number that the text is.
-fn last_number(text: &str) -> Result<u64, LineFault> {
-    let (number, rest) = first_number(text)?;
-    end(rest)?;
-    Ok(number)
-}
-
-/// Expects that nothing is left.
-fn end(text: &str) -> Result<(), LineFault> {
-    if text.is_empty() {
-        Ok(())
-    } else {
-        Err(LineFault::TooMany)
-    }
-}
-
-fn start_of(text: &str) -> Result<Start, LineFault> {
-    let (word, rest) = cut(text);
-    match word {
-        "small" => Ok(Start::Small {
-            sectors: last_number(rest)?,
-        }),
-        "zeros" => Ok(Start::Zeros {
-            sectors: last_number(rest)?,
-        }),
-        "left" => {
-            end(rest)?;
-            Ok(Start::Left)
+/// Adds what a line says that is words with numbers behind them.
+fn apply_numbers(alloc: Global, case: &mut Case, line: &str) -> Result<()> {
+    let mut words = String::new(alloc);
+    let mut numbers: Vec<u64> = Vec::new(alloc);
+    for word in line.split(' ') {
+        match word.parse::<u64>() {
+            Ok(number) => numbers.push(number)?,
+            Err(_) => {
+                words.push_str(if words.is_empty() { "" } else { " " })?;
+                words.push_str(word)?;
+            }
         }
-        "first" => {
-            end(rest)?;
-            Ok(Start::ImageOfLeft(Candidates::First))
-        }
-        "last" => {
-            end(rest)?;
-            Ok(Start::ImageOfLeft(Candidates::Last))
-        }
-        _ => Err(LineFault::NoArgument),
+    }
+    match numbers.as_slice() {
+        [] => apply_words(case, words.as_str()),
+        [number] => apply_number(case, words.as_str(), *number),
+        [at, first, last] => apply_three(case, words.as_str(), *at, *first, *last),
+        _ => bail!("so many numbers stand behind no word"),
     }
 }
 
-fn edit_of(word: &str, text: &str) -> Result<Edit, LineFault> {
-    let (at, rest) = first_number(text)?;
-    let (byte, rest) = first_number(rest)?;
-    if word == "set" {
-        let value = byte_of(rest.as_bytes())?;
-        return Ok(Edit::Set { at, byte, value });
+/// Adds what words alone say.
+fn apply_words(case: &mut Case, words: &str) -> Result<()> {
+    if let Some(name) = words.strip_prefix("each ") {
+        let Some(kind) = kind_of(name) else {
+            bail!("there is nothing that fails of this name");
+        };
+        case.kinds.push(kind)?;
+        return Ok(());
     }
-    let Ok(bit) = u8::try_from(last_number(rest)?) else {
-        return Err(LineFault::NoArgument);
+    match words {
+        "disk left" => case.start = Start::Left,
+        "disk first" => case.start = Start::ImageOfLeft(Candidates::First),
+        "disk last" => case.start = Start::ImageOfLeft(Candidates::Last),
+        "show digest" => case.shows.push(Show::Digest)?,
+        "show writes" => case.shows.push(Show::Writes)?,
+        _ => bail!("it is no line of a case"),
+    }
+    Ok(())
+}
+
+/// Adds what words with one number say.
+fn apply_number(case: &mut Case, words: &str, number: u64) -> Result<()> {
+    match words {
+        "disk small" => case.start = Start::Small { sectors: number },
+        "disk zeros" => case.start = Start::Zeros { sectors: number },
+        _ => {
+            let name = match words.strip_prefix("fail ") {
+                Some(name) => name,
+                None => words,
+            };
+            let Some(kind) = kind_of(name) else {
+                bail!("it is no line of a case with one number");
+            };
+            case.fails = with_failure(case.fails, kind, number);
+        }
+    }
+    Ok(())
+}
+
+/// Adds what words with three numbers say.
+fn apply_three(case: &mut Case, words: &str, at: u64, first: u64, last: u64) -> Result<()> {
+    let piece = Piece {
+        at,
+        first,
+        count: last,
     };
-    Ok(Edit::Flip { at, byte, bit })
-}
-
-/// The byte that two hexadecimal digits are.
-fn byte_of(digits: &[u8]) -> Result<u8, LineFault> {
-    let mut byte = [0];
-    match hex::decode_to_slice(digits, &mut byte) {
-        Ok(()) => Ok(byte[0]),
-        Err(_) => Err(LineFault::NoArgument),
+    match words {
+        "set" => case.edits.push(Edit::Set {
+            at,
+            byte: first,
+            value: last,
+        })?,
+        "flip" => case.edits.push(Edit::Flip {
+            at,
+            byte: first,
+            bit: last,
+        })?,
+        "each bit" => case.bits.push(piece)?,
+        "show bytes" => case.shows.push(Show::Bytes(piece))?,
+        _ => bail!("it is no line of a case with three numbers"),
     }
+    Ok(())
 }
 
 /// The words that are parted by spaces. Of no text there are none.
-fn words_of(alloc: Global, text: &str) -> Result<Vec<String>, LineFault> {
+fn words_of(alloc: Global, text: &str) -> Result<Vec<String>> {
+    let bytes = bytes_of(alloc, text)?;
+    let Ok(line) = str::from_utf8(&bytes) else {
+        bail!("a word is no UTF-8");
+    };
     let mut words = Vec::new(alloc);
-    if text.is_empty() {
-        return Ok(words);
-    }
-    for word in text.split(' ') {
-        let bytes = bytes_of(alloc, word)?;
-        let Ok(word) = str::from_utf8(&bytes) else {
-            return Err(LineFault::NoText);
-        };
-        words.push(word.to_string(alloc)?)?;
+    if !line.is_empty() {
+        for word in line.split(' ') {
+            words.push(word.to_string(alloc)?)?;
+        }
     }
     Ok(words)
 }
 
 /// The bytes of a text. `\x0a` stands for a byte, and `\-` for nothing.
-fn bytes_of(alloc: Global, text: &str) -> Result<Vec<u8>, LineFault> {
+fn bytes_of(alloc: Global, text: &str) -> Result<Vec<u8>> {
     let mut bytes = Vec::new(alloc);
     for (k, piece) in text.split('\\').enumerate() {
-        if k == 0 {
-            bytes.extend_from_slice(piece.as_bytes())?;
-        } else {
-            put_escape(&mut bytes, piece.as_bytes())?;
+        let piece = piece.as_bytes();
+        match piece {
+            _ if k == 0 => bytes.extend_from_slice(piece)?,
+            [b'-', rest @ ..] => bytes.extend_from_slice(rest)?,
+            [b'x', high, low, rest @ ..] => {
+                let mut byte = [0];
+                if hex::decode_to_slice(&[*high, *low], &mut byte).is_err() {
+                    bail!("two hexadecimal digits are to stand behind a backslash and x");
+                }
+                bytes.extend_from_slice(&byte)?;
+                bytes.extend_from_slice(rest)?;
+            }
+            _ => bail!("a backslash stands before neither x nor -"),
         }
     }
     Ok(bytes)
 }
 
-/// Puts what stands behind a backslash.
-fn put_escape(bytes: &mut Vec<u8>, piece: &[u8]) -> Result<(), LineFault> {
-    match piece {
-        [b'-', rest @ ..] => bytes.extend_from_slice(rest)?,
-        [b'x', high, low, rest @ ..] => {
-            let Ok(byte) = byte_of(&[*high, *low]) else {
-                return Err(LineFault::NoEscape);
-            };
-            bytes.push(byte)?;
-            bytes.extend_from_slice(rest)?;
-        }
-        _ => return Err(LineFault::NoEscape),
-    }
-    Ok(())
-}
-
-/// Puts lines, or bytes without a newline, once or so many times.
+/// Puts a text so many times, each with what ends it.
 fn put_script(
     alloc: Global,
     script: &mut Vec<u8>,
-    word: &str,
+    times: u64,
     text: &str,
-) -> Result<(), LineFault> {
-    let (times, text) = match word {
-        "lines" | "texts" => first_number(text)?,
-        _ => (1, text),
-    };
+    end: &str,
+) -> Result<()> {
     let mut bytes = bytes_of(alloc, text)?;
-    if word == "line" || word == "lines" {
-        bytes.push(b'\n')?;
-    }
+    bytes.extend_from_slice(end.as_bytes())?;
     for _ in 0..times {
         script.extend_from_slice(&bytes)?;
     }
     Ok(())
 }
 
-/// The part of this name.
-fn part_of(word: &str) -> Option<Part> {
-    match word {
-        "disk" => Some(Part::Disk),
-        "source" => Some(Part::Source),
-        "sink" => Some(Part::Sink),
-        "key" => Some(Part::Key),
-        _ => None,
-    }
-}
-
-fn apply_failure(case: &mut Case, text: &str) -> Result<(), LineFault> {
-    let (word, rest) = cut(text);
-    let call = last_number(rest)?;
-    let Some(part) = part_of(word) else {
-        return Err(LineFault::NoArgument);
-    };
-    case.fails = case.fails.with_call(part, call);
+/// Has shown what a script of one line prints on an image of what is left.
+fn put_reopened(alloc: Global, case: &mut Case, candidates: Candidates, text: &str) -> Result<()> {
+    let mut script = bytes_of(alloc, text)?;
+    script.push(b'\n')?;
+    case.shows.push(Show::Reopened { candidates, script })?;
     Ok(())
 }
 
-fn each_of(text: &str) -> Result<Each, LineFault> {
-    let (word, rest) = cut(text);
-    if word == "bit" {
-        let (at, rest) = first_number(rest)?;
-        let (first, rest) = first_number(rest)?;
-        let count = last_number(rest)?;
-        return Ok(Each::Bit { at, first, count });
+/// Adds a line to what a case is to show.
+fn put_expected(alloc: Global, expected: &mut Option<String>, text: &str) -> Result<()> {
+    match expected {
+        Some(lines) => {
+            lines.push_str("\n")?;
+            lines.push_str(text)?;
+        }
+        None => *expected = Some(text.to_string(alloc)?),
     }
-    end(rest)?;
-    match (word, part_of(word)) {
-        (_, Some(part)) => Ok(Each::Call(part)),
-        ("stop", _) => Ok(Each::Stop),
-        ("room", _) => Ok(Each::Room),
-        _ => Err(LineFault::NoArgument),
-    }
-}
-
-fn show_of(text: &str) -> Result<Show, LineFault> {
-    let (word, rest) = cut(text);
-    if word == "bytes" {
-        let (at, rest) = first_number(rest)?;
-        let (first, rest) = first_number(rest)?;
-        let count = last_number(rest)?;
-        return Ok(Show::Bytes { at, first, count });
-    }
-    end(rest)?;
-    match word {
-        "digest" => Ok(Show::Digest),
-        "writes" => Ok(Show::Writes),
-        _ => Err(LineFault::NoArgument),
-    }
-}
-
-/// A script of one line that is run on an image of what is left.
-fn reopened(alloc: Global, candidates: Candidates, text: &str) -> Result<Show, LineFault> {
-    let mut script = bytes_of(alloc, text)?;
-    script.push(b'\n')?;
-    Ok(Show::Reopened { candidates, script })
+    Ok(())
 }

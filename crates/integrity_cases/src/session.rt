@@ -1,147 +1,160 @@
 //! Runs cases one after the other, and tells what each shows.
-use crate::case::{Case, Each, Edit, Start, run_words};
-use crate::disks::{copy_of, edited, image_left, small, zeros};
-use crate::judging::Base;
-use crate::outcome::{Group, outcome_of};
-use crate::running::{Ended, Given, run};
-use crate::showing::told_of;
-use crate::small_image::SECTORS;
-use crate::trying::{Judge, Trial, try_each};
+use crate::case::{Case, Edit, Piece, Start};
+use crate::disks::{bytes_of, disk_of, image_left};
+use crate::running::{Ended, run};
+use crate::small_image::small_image;
+use crate::telling::{add, outcome_of, put_rows, told_of};
+use crate::trying::{Counts, Trial, try_each};
 use crate::watched::WatchedDisk;
 use anyhow::{Result, bail};
-use sector_disk::MemDisk;
 use std::alloc::Global;
 
 /// What cases share.
 #[derive(Drop)]
 pub struct Session {
-    small: MemDisk,
+    small: Vec<u8>,
     /// What the last case left.
     left: Option<WatchedDisk>,
-    pub judge: Judge,
+    pub counts: Counts,
 }
 
 impl Session {
     /// No case was run yet.
     pub fn new(alloc: Global) -> Result<Session> {
         Ok(Session {
-            small: small(alloc, SECTORS)?,
+            small: small_image(alloc)?,
             left: None,
-            judge: Judge::new(alloc, run_words(alloc)?)?,
-        })
-    }
-
-    /// The disk that a case begins with.
-    fn disk_of(&mut self, alloc: Global, case: &Case) -> Result<MemDisk> {
-        let disk = match case.start {
-            Start::Small { sectors: SECTORS } => copy_of(alloc, &self.small)?,
-            Start::Small { sectors } => small(alloc, sectors)?,
-            Start::Zeros { sectors } => zeros(alloc, sectors)?,
-            Start::Left => return self.take_left(case),
-            Start::ImageOfLeft(candidates) => match &self.left {
-                Some(left) => image_left(alloc, left, candidates)?,
-                None => bail!("no case has left a disk"),
+            counts: Counts {
+                runs: 0,
+                images: 0,
+                wrong: 0,
+                expected: 0,
             },
-        };
-        if case.edits.is_empty() {
-            return Ok(disk);
-        }
-        edited(alloc, disk, &case.edits)
-    }
-
-    /// The disk that the last case left, with all its candidates.
-    fn take_left(&mut self, case: &Case) -> Result<MemDisk> {
-        if !case.edits.is_empty() || !case.eaches.is_empty() {
-            bail!("a disk that was left is neither edited nor tried");
-        }
-        match self.left.take() {
-            Some(left) => {
-                let WatchedDisk { disk, .. } = left;
-                Ok(disk)
-            }
-            None => bail!("no case has left a disk"),
-        }
+        })
     }
 
     /// Runs a case, and tells what it shows.
     pub fn run_case(&mut self, alloc: Global, case: &Case) -> Result<String> {
-        let disk = self.disk_of(alloc, case)?;
-        let (ended, told) = if case.eaches.is_empty() {
-            run_once(alloc, &mut self.judge, case, disk)?
-        } else {
-            run_each(alloc, &mut self.judge, case, disk)?
-        };
+        self.counts.runs = self.counts.runs.saturating_add(1);
+        if let Start::Left = case.start {
+            let Some(WatchedDisk { disk, .. }) = self.left.take() else {
+                bail!("no case has left a disk");
+            };
+            let ended = run(alloc, case, case.fails, disk)?;
+            let told = told_of(alloc, case, &ended)?;
+            self.left = Some(ended.disk);
+            return Ok(told);
+        }
+        let base = base_of(alloc, &self.small, &self.left, case)?;
+        self.run_on(alloc, case, base)
+    }
+
+    /// Runs a case on a disk with these bytes, and tries on it what the case wants to be tried.
+    fn run_on(&mut self, alloc: Global, case: &Case, base: Vec<u8>) -> Result<String> {
+        let ended = run(alloc, case, case.fails, disk_of(alloc, &base)?)?;
+        let mut told = told_of(alloc, case, &ended)?;
+        for piece in &case.bits {
+            try_bits(alloc, &mut self.counts, case, &base, *piece, &mut told)?;
+        }
+        if !case.kinds.is_empty() {
+            try_kinds(alloc, &mut self.counts, case, base, &ended, &mut told)?;
+        }
         self.left = Some(ended.disk);
         Ok(told)
     }
 }
 
-/// Runs a case on a disk, and tells what it shows.
-fn run_once(
+/// Tries each kind of failure that a case names, and tells it.
+fn try_kinds(
     alloc: Global,
-    judge: &mut Judge,
+    counts: &mut Counts,
     case: &Case,
-    disk: MemDisk,
-) -> Result<(Ended, String)> {
-    judge.count_run();
-    let ended = run(alloc, Given::of(case, case.fails), disk)?;
-    let told = told_of(alloc, judge, case, &ended)?;
-    Ok((ended, told))
-}
-
-/// Runs a case on a copy of a disk, and then tries all that it asks for.
-fn run_each(
-    alloc: Global,
-    judge: &mut Judge,
-    case: &Case,
-    mut disk: MemDisk,
-) -> Result<(Ended, String)> {
-    let base = Base::of(alloc, &mut disk)?;
-    let copy = copy_of(alloc, &disk)?;
-    let (ended, mut told) = run_once(alloc, judge, case, copy)?;
-    let trial = Trial {
-        case,
-        disk: &disk,
-        base: &base,
-        undisturbed: &ended,
-    };
-    for each in &case.eaches {
-        let wrong = judge.wrong;
-        let tried = match *each {
-            Each::Bit { at, first, count } => try_bits(alloc, judge, trial, at, first, count)?,
-            other => try_each(alloc, judge, trial, other)?,
-        };
+    base: Vec<u8>,
+    undisturbed: &Ended,
+    told: &mut String,
+) -> Result<()> {
+    let trial = Trial::new(alloc, case, base)?;
+    for kind in &case.kinds {
+        let wrong = counts.wrong;
+        let tried = try_each(alloc, counts, &trial, case, undisturbed, *kind)?;
         // A case that says what it is to show leaves open how much was tried.
-        if case.expected.is_none() || judge.wrong > wrong {
-            told.push_str("\n")?;
+        if case.expected.is_none() || counts.wrong > wrong {
             told.push_str(tried.as_str())?;
         }
     }
-    Ok((ended, told))
+    Ok(())
 }
 
-/// Runs a case once for each bit of some bytes, with this bit flipped.
+/// The bytes of the disk that a case begins with.
+fn base_of(
+    alloc: Global,
+    small: &[u8],
+    left: &Option<WatchedDisk>,
+    case: &Case,
+) -> Result<Vec<u8>> {
+    let mut bytes = match case.start {
+        Start::Small { sectors } => {
+            let mut bytes = small.to_vec(alloc)?;
+            bytes.resize((sectors as usize).saturating_mul(512), 0)?;
+            bytes
+        }
+        Start::Zeros { sectors } => vec![in alloc; 0; (sectors as usize).saturating_mul(512)]?,
+        Start::ImageOfLeft(candidates) => match left {
+            Some(left) => bytes_of(alloc, &mut image_left(alloc, left, candidates)?)?,
+            None => bail!("no case has left a disk"),
+        },
+        Start::Left => bail!("a disk that was left has no bytes of its own"),
+    };
+    for edit in &case.edits {
+        edit_bytes(&mut bytes, *edit)?;
+    }
+    Ok(bytes)
+}
+
+/// Changes a byte of a disk.
+fn edit_bytes(bytes: &mut [u8], edit: Edit) -> Result<()> {
+    let (at, byte) = match edit {
+        Edit::Set { at, byte, .. } | Edit::Flip { at, byte, .. } => (at, byte),
+    };
+    let from = at.saturating_mul(512).saturating_add(byte) as usize;
+    let Some(place) = bytes.get_mut(from) else {
+        bail!("the disk has no byte {byte} of sector {at}");
+    };
+    *place = match edit {
+        Edit::Set { value, .. } => (value % 256) as u8,
+        Edit::Flip { bit, .. } => *place ^ (1 << (bit % 8)),
+    };
+    Ok(())
+}
+
+/// Runs a case once for each bit of some bytes, with this bit flipped, and tells how the runs end.
 fn try_bits(
     alloc: Global,
-    judge: &mut Judge,
-    trial: Trial<'_>,
-    at: u64,
-    first: u64,
-    count: u64,
-) -> Result<String> {
-    let mut group = Group::new(alloc, "", "bits");
-    for k in 0..count {
-        let byte = first.saturating_add(k);
+    counts: &mut Counts,
+    case: &Case,
+    base: &[u8],
+    piece: Piece,
+    told: &mut String,
+) -> Result<()> {
+    let mut rows = Vec::new(alloc);
+    for k in 0..piece.count {
+        let byte = piece.first.saturating_add(k);
         for bit in 0..8 {
-            let copy = copy_of(alloc, trial.disk)?;
-            let disk = edited(alloc, copy, &[Edit::Flip { at, byte, bit }])?;
-            judge.count_run();
-            let ended = run(alloc, Given::of(trial.case, trial.case.fails), disk)?;
-            let outcome = outcome_of(alloc, ended.status, ended.text())?;
+            let at = piece.at;
+            counts.runs = counts.runs.saturating_add(1);
+            let outcome = outcome_at(alloc, case, base, Edit::Flip { at, byte, bit })?;
             let label = format!(in alloc; "byte {byte} bit {bit}")?;
-            group.add(alloc, label.as_str(), outcome)?;
+            add(alloc, &mut rows, label.as_str(), outcome.as_str())?;
         }
     }
-    let told = group.finish(alloc)?;
-    Ok(told.as_str().trim_end().to_string(alloc)?)
+    put_rows(alloc, told, &rows, "bits", "")?;
+    Ok(())
+}
+
+/// How a case ends on a disk with one more edit.
+fn outcome_at(alloc: Global, case: &Case, base: &[u8], edit: Edit) -> Result<String> {
+    let mut bytes = base.to_vec(alloc)?;
+    edit_bytes(&mut bytes, edit)?;
+    let ended = run(alloc, case, case.fails, disk_of(alloc, &bytes)?)?;
+    Ok(outcome_of(alloc, &ended)?)
 }

@@ -4,9 +4,34 @@ ghost use Rattle.std.proofs.Common.{refl};
 ghost use Rattle.std.proofs.lemmas.Option.{none-some};
 ghost use Rattle.disk_model.specs.Identity.{AnyName};
 
-use sector_disk::{Counted, Disk, Failed, MemDisk, Named};
+use sector_disk::{Counted, Disk, Failed, MemDisk, Memory, Named};
 use std::alloc::{AllocError, Global};
 use stream_io::{MemSink, MemSource, Sink, Source};
+
+/// What fails in a run. Calls are numbered from 1.
+#[derive(Clone, Copy)]
+pub struct Fails {
+    pub disk: Option<u64>,
+    pub source: Option<u64>,
+    pub sink: Option<u64>,
+    pub key: Option<u64>,
+    /// After how many sector writes the disk stops.
+    pub stop: Option<u64>,
+    /// How many bytes of text the sink takes.
+    pub room: u64,
+}
+
+impl Fails {
+    /// Nothing fails.
+    pub const NONE: Fails = Fails {
+        disk: None,
+        source: None,
+        sink: None,
+        key: None,
+        stop: None,
+        room: 65_536,
+    };
+}
 
 /// What was asked of a disk.
 #[derive(Drop)]
@@ -65,10 +90,18 @@ pub struct WatchedDisk {
 }
 
 impl WatchedDisk {
-    /// Watches a disk from now on. A sync is handed on where it has something to settle, or where each has to be counted:
-    /// so a long script of flushes takes no memory.
-    pub fn new(alloc: Global, disk: MemDisk, skips_syncs: bool) -> Result<WatchedDisk, AllocError> {
+    /// Watches a disk from now on, which fails so. Where each sync does not have to be counted, one is handed on only if
+    /// it has something to settle: so a long script of flushes takes no memory.
+    pub fn new(alloc: Global, mut disk: MemDisk, fails: Fails) -> Result<WatchedDisk, AllocError> {
         let added = vec![in alloc; 0; disk.sectors() as usize]?;
+        let skips_syncs = fails.disk.is_none() && fails.stop.is_none();
+        disk.stop_after(match fails.stop {
+            Some(writes) => writes,
+            None => u64::MAX,
+        });
+        if let Some(call) = fails.disk {
+            disk.fail_at(&[call]);
+        }
         let seen = Seen {
             writes: 0,
             syncs: 0,
@@ -161,10 +194,14 @@ pub struct WatchedSource<'b> {
 }
 
 impl<'b> WatchedSource<'b> {
-    /// Watches a source of these bytes.
-    pub fn new(bytes: &'b [u8]) -> WatchedSource<'b> {
+    /// Watches a source of these bytes, of which a call may fail.
+    pub fn new(bytes: &'b [u8], failing: Option<u64>) -> WatchedSource<'b> {
+        let mut source = MemSource::new(bytes);
+        if let Some(call) = failing {
+            source.fail_at(&[call]);
+        }
         WatchedSource {
-            source: MemSource::new(bytes),
+            source,
             calls: 0,
             failed: 0,
         }
@@ -214,9 +251,13 @@ pub struct WatchedSink {
 }
 
 impl WatchedSink {
-    /// Watches a sink.
-    pub fn new(sink: MemSink) -> WatchedSink {
-        WatchedSink { sink, failed: 0 }
+    /// Watches a sink, which fails so.
+    pub fn new(alloc: Global, fails: Fails) -> Result<WatchedSink, Memory> {
+        let mut sink = MemSink::new(alloc, fails.room as usize)?;
+        if let Some(call) = fails.sink {
+            sink.fail_at(&[call]);
+        }
+        Ok(WatchedSink { sink, failed: 0 })
     }
 }
 

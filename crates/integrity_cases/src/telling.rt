@@ -1,0 +1,161 @@
+//! What a run and a case show, as text.
+use crate::case::{Candidates, Case, Show};
+use crate::disks::{bytes_of, image_left};
+use crate::running::{Ended, run};
+use crate::small_image::run_at;
+use crate::watched::Fails;
+use anyhow::Result;
+use sha2::{Digest, Sha256};
+use std::alloc::{AllocError, Global};
+
+/// A text that comes so many times in a row, and the label of the first.
+#[derive(Drop)]
+pub struct Repeated {
+    pub label: String,
+    pub text: String,
+    pub count: u64,
+}
+
+/// Adds a text to those before.
+pub fn add(
+    alloc: Global,
+    texts: &mut Vec<Repeated>,
+    label: &str,
+    text: &str,
+) -> Result<(), AllocError> {
+    if let Some(last) = texts.last_mut() {
+        if last.text.as_str() == text {
+            last.count = last.count.saturating_add(1);
+            return Ok(());
+        }
+    }
+    texts.push(Repeated {
+        label: label.to_string(alloc)?,
+        text: text.to_string(alloc)?,
+        count: 1,
+    })?;
+    Ok(())
+}
+
+/// The status, and behind it the lines of the text, parted by ` / `. Of lines that repeat, one stands with their number;
+/// a last line that no newline ends has two dots behind it.
+pub fn outcome_of(alloc: Global, ended: &Ended) -> Result<String, AllocError> {
+    let status = ended.status;
+    let text = ended.text.as_str();
+    if text.is_empty() {
+        return format!(in alloc; "{status}");
+    }
+    let whole = match text.strip_suffix('\n') {
+        Some(whole) => whole,
+        None => text,
+    };
+    let mut lines = Vec::new(alloc);
+    for line in whole.split('\n') {
+        add(alloc, &mut lines, "", line)?;
+    }
+    let mut out = format!(in alloc; "{status}")?;
+    for (k, line) in lines.iter().enumerate() {
+        out.push_str(if k == 0 { " " } else { " / " })?;
+        put_times(alloc, &mut out, line.count)?;
+        out.push_str(line.text.as_str())?;
+    }
+    if whole.len() == text.len() {
+        out.push_str(" ..")?;
+    }
+    Ok(out)
+}
+
+/// Puts how often a line comes, if it comes more than once.
+fn put_times(alloc: Global, out: &mut String, count: u64) -> Result<(), AllocError> {
+    if count == 1 {
+        return Ok(());
+    }
+    let times = format!(in alloc; "{count} * ")?;
+    out.push_str(times.as_str())
+}
+
+/// Puts what rows, or bits, have shown, each on lines of its own. Those that showed the same in a row are told once.
+pub fn put_rows(
+    alloc: Global,
+    out: &mut String,
+    rows: &[Repeated],
+    name: &str,
+    indent: &str,
+) -> Result<(), AllocError> {
+    let inner = format!(in alloc; "\n{indent}  ")?;
+    for row in rows {
+        let shown = row.text.as_str().replace(alloc, "\n", inner.as_str())?;
+        let line = row_told(alloc, row, name, shown.as_str())?;
+        out.push_str("\n")?;
+        out.push_str(indent)?;
+        out.push_str(line.as_str())?;
+    }
+    Ok(())
+}
+
+/// What a row has shown, behind its label or the number of those alike.
+fn row_told(alloc: Global, row: &Repeated, name: &str, shown: &str) -> Result<String, AllocError> {
+    let (label, count) = (row.label.as_str(), row.count);
+    if count > 1 {
+        format!(in alloc; "{count} {name}: {shown}")
+    } else if label.is_empty() {
+        shown.to_string(alloc)
+    } else {
+        format!(in alloc; "{label}: {shown}")
+    }
+}
+
+/// How a run has ended, and below it what the case shows.
+pub fn told_of(alloc: Global, case: &Case, ended: &Ended) -> Result<String> {
+    let mut told = outcome_of(alloc, ended)?;
+    if ended.key_calls > 0 {
+        told.push_str("\nthe key was touched")?;
+    }
+    for show in &case.shows {
+        told.push_str("\n")?;
+        let line = shown(alloc, show, ended)?;
+        told.push_str(line.as_str())?;
+    }
+    Ok(told)
+}
+
+/// What is shown of a run.
+fn shown(alloc: Global, show: &Show, ended: &Ended) -> Result<String> {
+    let mut image = image_left(alloc, &ended.disk, Candidates::Last)?;
+    let bytes = bytes_of(alloc, &mut image)?;
+    match show {
+        Show::Digest => {
+            let digest = hex::encode(alloc, Sha256::digest(&bytes))?;
+            Ok(format!(in alloc; "digest {digest}")?)
+        }
+        Show::Bytes(piece) => {
+            let (at, first) = (piece.at, piece.first);
+            let from = at.saturating_mul(512).saturating_add(first) as usize;
+            let run = hex::encode(alloc, run_at(&bytes, from, piece.count as usize))?;
+            Ok(format!(in alloc; "sector {at} from byte {first}: {run}")?)
+        }
+        Show::Writes => {
+            let (writes, syncs) = (ended.disk.seen.writes, ended.disk.seen.syncs);
+            Ok(format!(in alloc; "{writes} sectors written, {syncs} syncs")?)
+        }
+        Show::Reopened { candidates, script } => reopened(alloc, ended, *candidates, script),
+    }
+}
+
+/// How a script ends on an image of what is left.
+fn reopened(
+    alloc: Global,
+    ended: &Ended,
+    candidates: Candidates,
+    script: &Vec<u8>,
+) -> Result<String> {
+    let name = match candidates {
+        Candidates::First => "first",
+        _ => "last",
+    };
+    let image = image_left(alloc, &ended.disk, candidates)?;
+    let case = Case::new(alloc, script.clone()?)?;
+    let again = run(alloc, &case, Fails::NONE, image)?;
+    let outcome = outcome_of(alloc, &again)?;
+    Ok(format!(in alloc; "{name}: {outcome}")?)
+}
