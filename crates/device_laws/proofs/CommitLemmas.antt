@@ -1,7 +1,7 @@
 -- A commit, on the counts, the disk and the ring.
-use Rattle.std.proofs.Common.{◌≡◌, inl, inr, ℕ, zero, suc, ◌+◌, ◌-◌, ◌*◌, ◌%◌, ◌<◌, ◌≤◌, min, Bool, true, false, if◌then◌else◌, refl, sym, ◌∙◌, ap, subst, arith, Option, Some, None, List, [], ◌∷◌, ◌++◌, length, take, drop, map, length-append, length-take, length-drop, append_assoc}
+use Rattle.std.proofs.Common.{◌≡◌, inl, inr, ℕ, zero, suc, ◌+◌, ◌-◌, ◌%◌, ◌<◌, ◌≤◌, Bool, true, false, if◌then◌else◌, refl, sym, ◌∙◌, ap, subst, arith, Option, Some, None, List, [], ◌∷◌, ◌++◌, length, take, drop, map, length-append, length-take, length-drop, append_assoc}
 use Rattle.std.specs.List.{AllByRecursion, list_any, range_with_len}
-use Rattle.std.proofs.lemmas.Bool.{cases_Bool, true≢false, false≢true}
+use Rattle.std.proofs.lemmas.Bool.{cases_Bool, false≢true}
 use Rattle.std.proofs.lemmas.List.{map-append, drop-drop, drop-append-le}
 use Rattle.std.proofs.lemmas.List.FromFn.{length-range_with_len}
 use Rattle.std.proofs.lemmas.Option.{none-some, same_Some}
@@ -10,26 +10,26 @@ use Rattle.image_model.specs.Walk.{ring}
 use Rattle.device_model.specs.History.{History}
 use Rattle.device_model.specs.Journal.{SectionCounts, JournalCounts, is_uncommitted, closed_end, committed_batch, commit}
 use Rattle.device_model.specs.Mode.{DeviceFormat}
+use Rattle.place_model.specs.Journal.{entries_in}
+use Rattle.place_model.proofs.JournalLemmas.{entries_in-same}
+use Rattle.place_model.proofs.EachLemmas.{all_append, all_take, all_drop}
 use Rattle.journal_model.specs.Batch.{AreSections}
 use Rattle.journal_model.specs.Cuts.{next_after}
-use Rattle.journal_model.specs.Entries.{entries_in}
 use Rattle.journal_model.specs.HistoryOf.{IsHistoryOf}
-use Rattle.journal_model.specs.JournaledDisk.{JournaledDisk, IsSound, Rests}
+use Rattle.journal_model.specs.JournaledDisk.{JournaledDisk}
 use Rattle.journal_model.specs.Steps.{IsBatch, IsFreeBut, brought, with_batch, batch_entries, committed}
 use Rattle.journal_model.proofs.BatchLemmas.{batch_law, section_is}
 use Rattle.journal_model.proofs.CommittedLemmas.{ring_after, new_in, old_below, old_behind, rests_after, sound_after}
 use Rattle.journal_model.proofs.FreeLemmas.{kept_law}
 use Rattle.journal_model.proofs.HistoryLemmas.{history_committed}
-use Rattle.journal_model.proofs.ImageLemmas.{entries_in-same}
-use Rattle.journal_model.proofs.PlaceLemmas.{all_append, all_take, all_drop}
 use Rattle.journal_model.proofs.RingLemmas.{ring_rest}
 use Rattle.journal_model.specs.View.{IsRingOf}
 use Rattle.journal_model.proofs.ViewLemmas.{ring_law}
 use Rattle.device_laws.specs.CountLaws.{IdleCommitLaw, CommitLaw}
-use Rattle.device_laws.specs.Device.{IsFormatOf, AreOpened, AreCounts, IsJournalRing, IsJournalOf}
+use Rattle.device_laws.specs.Device.{AreCounts, IsJournalRing, IsJournalOf}
 use Rattle.device_laws.specs.Ring.{JournalRing, joined, uncommitted, view_of, batch_of, opened_at, with_commit, freed, committed_counts}
 use Rattle.device_laws.proofs.CountLemmas.{AreDone, done-front, closed_end-front, any-front, batch-front, some_opened, closed_end-opened, IsBatchCounts, batch-opened, counts-append}
-use Rattle.device_laws.proofs.RingLemmas.{joined-append, joined-take, joined-drop, joined-map, map_run-same, map-same, run_of, length-counts, next_mod, placed_part, committed_low}
+use Rattle.device_laws.proofs.RingLemmas.{joined-append, joined-take, joined-drop, joined-map, map_run-same, map-same, run_of, length-counts, next_mod, placed_part}
 
 all_run : (P : ℕ → Type 0) (from count : ℕ) → ((i : ℕ) → from ≤ i → i < from + count → P i) → AllByRecursion P (range_with_len from count)
 all_run P from zero f = tt

@@ -1,14 +1,14 @@
 -- The counts of a ring, section by section.
-use Rattle.std.proofs.Common.{◌≡◌, ◌⊎◌, inl, inr, ℕ, zero, suc, ◌+◌, ◌-◌, ◌*◌, ◌%◌, ◌<◌, ◌≤◌, ◌==◌, min, Bool, true, false, not, ◌&&◌, ◌||◌, ltb, leb, cond, if◌then◌else◌, refl, sym, ◌∙◌, ap, subst, arith, Option, Some, None, option_map, List, [], ◌∷◌, ◌++◌, length, take, drop, map, sum_by, length-append, append_assoc}
-use Rattle.std.specs.List.{AllByRecursion, flat_map, list_any}
-use Rattle.std.proofs.lemmas.Bool.{cases_Bool, cases_lt, cases_eq, true≢false, false≢true, and_left, ltb-true, ltb-false, lt-ltb, le-ltb, leb-true, leb-false, le-leb, lt-leb, eq-eqb, ne_eqb}
+use Rattle.std.proofs.Common.{◌≡◌, inl, inr, ℕ, zero, suc, ◌+◌, ◌-◌, ◌%◌, ◌<◌, ◌≤◌, min, Bool, true, false, ◌||◌, ltb, leb, cond, if◌then◌else◌, refl, sym, ◌∙◌, ap, subst, arith, Option, Some, None, option_map, List, [], ◌∷◌, ◌++◌, length, take, drop, map, sum_by, length-append}
+use Rattle.std.specs.List.{AllByRecursion, list_any}
+use Rattle.std.proofs.lemmas.Bool.{cases_Bool, cases_lt, true≢false, false≢true, and_left, lt-ltb, le-ltb, le-leb, lt-leb, eq-eqb, ne_eqb}
 use Rattle.std.proofs.lemmas.List.{length-map, map-append}
 use Rattle.std.proofs.lemmas.List.Sums.{sum_by-cons, sum_by-append}
 use Rattle.image_model.specs.Geometry.{Geometry}
 use Rattle.image_model.specs.Section.{Entry}
-use Rattle.device_model.specs.Journal.{SectionState, Open, Closed, Committed, Free, SectionCounts, is_open, is_uncommitted, is_committed, is_unfreed, has_open_end, with_entry, opened_with, closed_end, committed_batch, is_unplaced, place_oldest, is_all_placed, as_settled}
+use Rattle.device_model.specs.Journal.{SectionState, Open, Closed, Committed, Free, SectionCounts, is_open, is_uncommitted, is_committed, has_open_end, with_entry, opened_with, closed_end, committed_batch, place_oldest, is_all_placed, as_settled}
 use Rattle.device_model.proofs.RingLemmas.{unfreed_weight, mod-suc}
-use Rattle.journal_model.proofs.PlaceLemmas.{all_append}
+use Rattle.place_model.proofs.EachLemmas.{all_append}
 use Rattle.journal_model.specs.View.{takes_more, put_last}
 use Rattle.device_laws.specs.Device.{IsOpened, AreOpened}
 use Rattle.device_laws.specs.Ring.{joined, unplaced_from, block_of, committed_counts}

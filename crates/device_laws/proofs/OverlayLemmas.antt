@@ -1,25 +1,22 @@
 -- The overlay of a device in journal mode.
-use Rattle.std.proofs.Common.{◌≡◌, ◌⊎◌, inl, inr, ℕ, zero, suc, ◌+◌, ◌-◌, ◌*◌, ◌<◌, ◌≤◌, ◌==◌, ltb, leb, Bool, true, false, if◌then◌else◌, refl, sym, ◌∙◌, ap, subst, arith, Option, Some, None, List, [], ◌∷◌, ◌++◌, length, take, drop, slice_get, length-append, length-take, append_assoc}
+use Rattle.std.proofs.Common.{◌≡◌, ◌⊎◌, inl, inr, ℕ, zero, suc, ◌+◌, ◌-◌, ◌*◌, ◌<◌, ◌≤◌, ◌==◌, ltb, leb, Bool, true, false, if◌then◌else◌, refl, sym, ◌∙◌, ap, subst, arith, Option, Some, None, List, [], ◌∷◌, ◌++◌, length, take, drop, slice_get, length-append, append_assoc}
 use Rattle.std.specs.Option.{option_or}
-use Rattle.std.proofs.lemmas.Bool.{cases_Bool, eqb-true, eqb-false, ltb-true, ltb-false, ne_eqb, eq-eqb, leb-true}
+use Rattle.std.proofs.lemmas.Bool.{cases_Bool, eqb-true, eqb-false, ltb-true, ltb-false, ne_eqb}
 use Rattle.std.proofs.lemmas.List.{take-append-drop, drop-append-le, drop-drop, drop_all, drop_at, length-take-le}
 use Rattle.std.proofs.lemmas.Option.{none-some, same_Some, slice_get_within}
 use Rattle.image_model.specs.Cells.{last_entry}
 use Rattle.image_model.specs.Geometry.{Geometry}
 use Rattle.image_model.specs.Section.{Entry}
-use Rattle.device_model.specs.History.{History, cells_now}
-use Rattle.journal_model.specs.Entries.{cell_of}
+use Rattle.place_model.proofs.TagsLemmas.{same_product}
 use Rattle.journal_model.specs.JournaledDisk.{JournaledDisk, IsSound}
-use Rattle.journal_model.specs.Steps.{batch_entries, committed, placed_one, settled_all}
+use Rattle.journal_model.specs.Steps.{batch_entries, committed}
 use Rattle.journal_model.proofs.EntriesLemmas.{last_entry-append, last_entry-none, last_entry-some, cell_after-some}
-use Rattle.journal_model.proofs.StepLemmas.{same_product}
 use Rattle.journal_model.specs.View.{takes_more, put_last}
-use Rattle.device_laws.specs.Device.{IsJournalRing, IsJournalOf}
-use Rattle.device_laws.specs.OverlayLaws.{all_entries, IsNewestAt, IsOverlayOf, none_newest, with_newest, kept_from, OverlayBegins, OverlayPut, OverlayCommitted, OverlaySettled, OverlayReadLaw, PlaceNumberLaw}
-use Rattle.device_laws.specs.PromiseLaws.{newest_entry}
+use Rattle.device_laws.specs.Device.{IsJournalRing}
+use Rattle.device_laws.specs.OverlayLaws.{all_entries, IsNewestAt, IsOverlayOf, with_newest, kept_from, OverlayBegins, OverlayPut, OverlayCommitted, OverlaySettled, OverlayReadLaw, PlaceNumberLaw}
 use Rattle.device_laws.specs.Ring.{JournalRing, joined, uncommitted, empty_ring, with_put, batch_of, with_commit, with_settle, unplaced_from, freed}
 use Rattle.device_laws.proofs.PromiseLemmas.{cell_is, last_entry-here, split_at}
-use Rattle.device_laws.proofs.RingLemmas.{joined-append, joined-push, joined-put_last, split, held_at, committed_low}
+use Rattle.device_laws.proofs.RingLemmas.{joined-append, joined-push, joined-put_last, split, held_at}
 
 -- ---- lists
 

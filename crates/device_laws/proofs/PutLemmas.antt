@@ -1,9 +1,9 @@
 -- An entry that is put.
-use Rattle.std.proofs.Common.{◌≡◌, inl, inr, ℕ, zero, suc, ◌+◌, ◌-◌, ◌*◌, ◌/◌, ◌%◌, ◌<◌, ◌≤◌, ltb, Bool, true, false, not, ◌&&◌, ◌||◌, if◌then◌else◌, refl, sym, ◌∙◌, ap, subst, arith, Option, Some, None, List, [], ◌∷◌, ◌++◌, length, take, drop, map, count_by, sum_by, length-append, append_assoc}
+use Rattle.std.proofs.Common.{◌≡◌, inl, inr, ℕ, ◌+◌, ◌-◌, ◌*◌, ◌/◌, ◌%◌, ◌<◌, ◌≤◌, ltb, Bool, true, false, ◌||◌, if◌then◌else◌, refl, sym, ◌∙◌, ap, subst, arith, Option, Some, None, List, [], ◌∷◌, ◌++◌, length, count_by, length-append, append_assoc}
 use Rattle.std.specs.Option.{is_some}
 use Rattle.std.specs.List.{AllByRecursion}
 use Rattle.std.proofs.Math.Nat.{mul-le-mul_right}
-use Rattle.std.proofs.lemmas.Bool.{cases_Bool, true≢false, false≢true, ltb-true}
+use Rattle.std.proofs.lemmas.Bool.{cases_Bool, false≢true, ltb-true}
 use Rattle.std.proofs.lemmas.Nat.{div-mul-add, mod-mul-add}
 use Rattle.std.proofs.lemmas.Option.{none-some, same_Some}
 use Rattle.image_model.specs.Cells.{salt_of}
@@ -11,15 +11,15 @@ use Rattle.image_model.specs.Section.{Entry}
 use Rattle.device_model.specs.History.{BlockWrite, History, Written, with_change}
 use Rattle.device_model.specs.Journal.{SectionCounts, JournalCounts, is_unfreed, has_open_end, with_entry, opened_with, put}
 use Rattle.device_model.specs.Mode.{DeviceFormat}
+use Rattle.place_model.proofs.EachLemmas.{all_append}
 use Rattle.journal_model.specs.Entries.{IsBlockEntry}
 use Rattle.journal_model.specs.HistoryOf.{IsHistoryOf, entry_of_write}
 use Rattle.journal_model.specs.JournaledDisk.{JournaledDisk}
 use Rattle.journal_model.proofs.HistoryLemmas.{history_put}
-use Rattle.journal_model.proofs.PlaceLemmas.{all_append}
 use Rattle.journal_model.specs.View.{takes_more, put_last}
 use Rattle.device_laws.specs.CountLaws.{HasRoomLaw, PutLaw}
 use Rattle.device_laws.specs.Device.{AreOpened, AreCounts, IsJournalRing, IsJournalOf}
-use Rattle.device_laws.specs.Ring.{JournalRing, joined, uncommitted, has_room, with_put, freed, block_of, committed_counts}
+use Rattle.device_laws.specs.Ring.{JournalRing, uncommitted, has_room, with_put, freed, block_of, committed_counts}
 use Rattle.device_laws.proofs.CommitLemmas.{front, sections_are, front-done, front-then}
 use Rattle.device_laws.proofs.CountLemmas.{has_open_end-front, has_open_end-opened, with_entry-front, count-all, opened-put_last, opened-push}
 use Rattle.device_laws.proofs.RingLemmas.{joined-push, joined-put_last, length-put_last, all-put_last, some-put_last}

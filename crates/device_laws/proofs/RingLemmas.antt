@@ -1,20 +1,20 @@
 -- The entries of a ring, and where its sections lie.
-use Rattle.std.proofs.Common.{◌≡◌, inl, inr, ℕ, zero, suc, ◌+◌, ◌-◌, ◌*◌, ◌/◌, ◌%◌, ◌<◌, ◌≤◌, ◌==◌, min, Bool, true, false, if◌then◌else◌, refl, sym, ◌∙◌, ap, subst, arith, List, [], ◌∷◌, ◌++◌, length, take, drop, map, get_or, length-append, length-take, length-drop, append_assoc, append-nil}
+use Rattle.std.proofs.Common.{◌≡◌, inl, inr, ℕ, zero, suc, ◌+◌, ◌-◌, ◌*◌, ◌/◌, ◌%◌, ◌<◌, ◌≤◌, Bool, true, refl, sym, ◌∙◌, ap, arith, List, [], ◌∷◌, ◌++◌, length, take, drop, map, get_or, length-append, length-drop, append_assoc, append-nil}
 use Rattle.std.specs.List.{AllByRecursion, flat_map, range_with_len}
 use Rattle.std.proofs.Math.Seq.{drop-append_seam, take-append_seam}
-use Rattle.std.proofs.lemmas.Bool.{cases_Bool, cases_eq, true≢false, false≢true, eq-eqb, ne_eqb}
-use Rattle.std.proofs.lemmas.List.{length-map, map-append, take-append-drop, drop-drop, drop-append-le}
+use Rattle.std.proofs.lemmas.Bool.{cases_eq, false≢true, eq-eqb, ne_eqb}
+use Rattle.std.proofs.lemmas.List.{take-append-drop}
 use Rattle.std.proofs.lemmas.List.Concat.{flat_map-append}
 use Rattle.std.proofs.lemmas.Nat.{div-add-mod', mod-mul-add, mod_below}
 use Rattle.image_model.specs.Geometry.{Geometry}
 use Rattle.image_model.specs.Section.{Entry}
 use Rattle.image_model.specs.Walk.{ring}
+use Rattle.place_model.specs.Journal.{entries_in}
+use Rattle.place_model.proofs.EachLemmas.{all_append}
 use Rattle.journal_model.specs.Cuts.{next_after}
-use Rattle.journal_model.specs.Entries.{entries_in}
-use Rattle.journal_model.specs.JournaledDisk.{JournaledDisk, IsSound, Rests}
-use Rattle.journal_model.specs.Steps.{IsFreeBut, oldest, placed_one, settled_all}
+use Rattle.journal_model.specs.JournaledDisk.{JournaledDisk, IsSound}
+use Rattle.journal_model.specs.Steps.{oldest}
 use Rattle.journal_model.proofs.FreeLemmas.{kept_entries_law}
-use Rattle.journal_model.proofs.PlaceLemmas.{all_append, all_drop}
 use Rattle.journal_model.specs.View.{takes_more, put_last}
 use Rattle.device_laws.specs.Device.{IsJournalRing}
 use Rattle.device_laws.specs.Ring.{JournalRing, joined, committed_counts, freed}

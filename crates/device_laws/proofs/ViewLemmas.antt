@@ -1,11 +1,10 @@
 -- What the ring of a device shows.
-use Rattle.std.proofs.Common.{◌≡◌, ◌⊎◌, inl, inr, ℕ, ◌+◌, ◌<◌, ltb, Bool, true, false, ◌||◌, refl, sym, ◌∙◌, ap, arith, List, ◌++◌, length, take, length-append, length-take}
+use Rattle.std.proofs.Common.{◌≡◌, inl, inr, ℕ, ◌+◌, ltb, refl, ap, arith, ◌++◌, length, take, length-append, length-take}
 use Rattle.std.proofs.lemmas.Bool.{or_cases, or_right, ltb-true, lt-ltb}
-use Rattle.journal_model.specs.JournaledDisk.{JournaledDisk}
 use Rattle.journal_model.specs.View
 use Rattle.journal_model.specs.View.{RingView, takes_more}
 use Rattle.device_laws.specs.CountLaws.{ViewLaw, ViewCommitLaw, ViewPutLaw, ViewRoomLaw}
-use Rattle.device_laws.specs.Ring.{JournalRing, view_of, batch_of}
+use Rattle.device_laws.specs.Ring.{view_of, batch_of}
 
 pub view_law : ViewLaw
 view_law d r is = record {

@@ -1,6 +1,6 @@
 -- The ring of a device in journal mode, by the entries of its sections.
 -- Own: sections are opened, committed and freed in the order of the ring.
-use Rattle.std.specs.Prelude.{ℕ, zero, suc, ◌+◌, ◌-◌, ◌/◌, ◌<◌, ◌≤◌, min, ltb, leb, Bool, true, false, not, ◌&&◌, ◌||◌, if◌then◌else◌, List, [], ◌∷◌, ◌++◌, length, take, drop, map, get_or}
+use Rattle.std.specs.Prelude.{ℕ, ◌+◌, ◌-◌, ◌/◌, min, ltb, leb, Bool, true, false, ◌||◌, if◌then◌else◌, List, [], ◌∷◌, ◌++◌, length, take, drop, map, get_or}
 use Rattle.std.specs.List.{flat_map}
 use Rattle.image_model.specs.Geometry.{Geometry}
 use Rattle.image_model.specs.Section.{Entry}

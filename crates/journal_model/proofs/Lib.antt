@@ -2,7 +2,6 @@ pub mod Runs
 pub mod CutLemmas
 pub mod CutEnds
 pub mod EntriesLemmas
-pub mod ImageLemmas
 pub mod RingLemmas
 pub mod PlaceLemmas
 pub mod CutOfLemmas

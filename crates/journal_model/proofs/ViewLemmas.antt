@@ -3,6 +3,7 @@ use Rattle.std.proofs.Common.{◌≡◌, ℕ, ◌+◌, ◌≤◌, sym, ◌∙◌
 use Rattle.std.specs.List.{AllByRecursion, flat_map}
 use Rattle.image_model.specs.Cells.{salt_of}
 use Rattle.image_model.specs.Section.{Entry}
+use Rattle.place_model.proofs.EachLemmas.{all_take, all_drop, all_append}
 use Rattle.journal_model.specs.Batch.{AreSections}
 use Rattle.journal_model.specs.Cuts.{next_after, number_after}
 use Rattle.journal_model.specs.Entries.{IsBlockEntry}
@@ -11,7 +12,6 @@ use Rattle.journal_model.specs.Steps.{IsBatch, batch_entries, committed}
 use Rattle.journal_model.proofs.BatchLemmas.{has_sections}
 use Rattle.journal_model.proofs.CommittedLemmas.{rests_after}
 use Rattle.journal_model.proofs.FreeLemmas.{room_law, kept_law}
-use Rattle.journal_model.proofs.PlaceLemmas.{all_take, all_drop, all_append}
 use Rattle.journal_model.specs.View.{RingView, IsRingOf, RingLaw, next_batch, next_entries, with_commit}
 
 all_joined : (P : Entry → Type 0) (xs : List (List Entry)) → AllByRecursion (AllByRecursion P) xs → AllByRecursion P (flat_map (λ entries. entries) xs)
