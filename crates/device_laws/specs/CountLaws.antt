@@ -1,14 +1,20 @@
 -- What each step does to a device in journal mode: to its counts, its disk and its ring.
-use Rattle.std.specs.Prelude.{◌≡◌, ◌⊎◌, ℕ, ◌<◌, Bool, true, List, [], length, Option, Some, None, is_some, filter_map}
+use Rattle.std.specs.Prelude.{◌≡◌, ◌⊎◌, ℕ, ◌<◌, Bool, true, false, List, [], length, Option, Some, None, is_some, filter_map}
 use Rattle.disk_model.specs.Disk.{Content}
 use Rattle.image_model.specs.Cells.{Cell}
 use Rattle.image_model.specs.Geometry.{Shape, section_entries}
 use Rattle.image_model.specs.Section.{Entry}
 use Rattle.device_model.specs.History.{BlockWrite, History, Written, Flushed, with_change}
 use Rattle.device_model.specs.Journal.{SectionCounts, JournalCounts, put, commit, commit_all, place, settle}
-use Rattle.device_model.specs.Mode.{DeviceFormat}
+use Rattle.device_model.specs.Mode.{DeviceFormat, Journal}
 use Rattle.device_model.specs.Progress.{opened_device}
 use Rattle.device_model.specs.RoomLaws.{commits}
+use Rattle.place_model.specs.Format.{DiskFormat}
+use Rattle.place_model.specs.Opened.{device_format, next_on, opened_on}
+use Rattle.journal_model.specs.Opening.{opened_disk}
+use Rattle.image_model.specs.declared.flags.TheConstants.{DIRTY_BITMAP}
+use Rattle.image_model.specs.Superblock.{has_flag}
+use Rattle.disk_model.specs.Disk.{Image}
 use Rattle.journal_model.specs.Batch.{AreSections, IsSection}
 use Rattle.journal_model.specs.Entries.{cell_after}
 use Rattle.journal_model.specs.HistoryOf.{entry_of_write}
@@ -18,7 +24,7 @@ use Rattle.journal_section.specs.Entries.{HoldsEntries, BearsNumber}
 use Rattle.journal_model.specs.Recovery.{IsRecovered}
 use Rattle.journal_model.specs.View
 use Rattle.journal_model.specs.View.{HasFreeSection, IsRingOf, takes_more}
-use Rattle.device_laws.specs.Device.{IsFormatOf, IsJournalRing, IsJournalOf, IsJournalDevice}
+use Rattle.device_laws.specs.Device.{IsJournalRing, IsJournalOf, IsJournalDevice}
 use Rattle.device_laws.specs.Ring.{JournalRing, empty_ring, view_of, has_room, with_put, batch_of, opened_at, with_commit, with_settle}
 
 -- ---- put
@@ -105,16 +111,17 @@ IdleSettleLaw = (f : DeviceFormat) (h : History) (j : JournalCounts) (d : Journa
 
 -- A device opens on a disk at rest whose entries are all settled and change no cell. The cells at opening are told in any way.
 abbrev pub OpeningLaw : Type 0
-OpeningLaw = (f : DeviceFormat) (d : JournaledDisk) (base : ℕ → Cell) (set_bits awaiting : ℕ → Bool) → IsFormatOf f d → IsSound d → Rests d
+OpeningLaw = (f : DeviceFormat) (d : JournaledDisk) (base : ℕ → Cell) (set_bits awaiting : ℕ → Bool)
+    → f ≡ device_format Journal d.format → IsSound d → Rests d
     → d.settled ≡ length d.entries → ((b : ℕ) → b < d.geometry.blocks → cell_after d.geometry d.base d.entries b ≡ d.base b)
     → ((b : ℕ) → b < d.geometry.blocks → d.base b ≡ base b)
     → IsJournalDevice f (opened_device base d.next set_bits awaiting) d empty_ring
 
--- So it does on what a recovery leaves.
+-- So it does on what a recovery of an image leaves, where writing goes on by that image's walk.
 abbrev pub RecoveredLaw : Type 0
-RecoveredLaw = (f : DeviceFormat) (old : JournaledDisk) (next number : ℕ) (tags : ℕ → List ℕ) (c : Content) (base : ℕ → Cell) (set_bits awaiting : ℕ → Bool)
-    (is : IsRecovered old next number tags c) → IsFormatOf f is.now → ((b : ℕ) → b < old.geometry.blocks → cell_after old.geometry old.base old.entries b ≡ base b)
-    → IsJournalDevice f (opened_device base next set_bits awaiting) is.now empty_ring
+RecoveredLaw = (d : DiskFormat) (image : Image) (number : ℕ) (tags : ℕ → List ℕ) (c : Content) → has_flag DIRTY_BITMAP d.superblock.flags ≡ false
+    → (is : IsRecovered (opened_disk d image) (next_on Journal d image) number tags c)
+    → IsJournalDevice (device_format Journal d) (opened_on Journal d image) is.now empty_ring
 
 -- ---- what the ring shows
 

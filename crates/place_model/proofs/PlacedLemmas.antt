@@ -22,6 +22,10 @@ same_cell a b e f =
 
 -- ---- what is placed
 
+pub placed_cells_of-bytes : (g : Geometry) (image : Image) (b : ℕ) → (placed_cells_of g image b).bytes ≡ bytes_at image (data_at g b) g.shape.spb
+unfolding placed_cells_of
+placed_cells_of-bytes g image b = refl
+
 module _ (g : Geometry) (sectors : ℕ) (geometry : IsGeometry g sectors) (image : Image) (whole : (sector : ℕ) → sector < sectors → length (image sector) ≡ 512)
     (b : ℕ) (low : b < g.blocks) (cell : Cell) where
   -- The bytes are the cell's where each sector has its part of them,
@@ -105,11 +109,6 @@ unfolding placed_cells_of
 placed_sector g sectors image b k geometry whole low k_low =
     let inside = data_at-inside g sectors b geometry low in
     sector_in-bytes_at image (data_at g b) g.shape.spb k (λ sector above under. whole sector (omega arith)) k_low
-
--- Without a bitmap a block awaits where it is to be recalculated.
-pub awaits-is : (s : Superblock) (g : Geometry) (image : Image) (b : ℕ) → has_flag DIRTY_BITMAP s.flags ≡ false → awaits s g image b ≡ is_to_recalculate s g b
-unfolding awaits
-awaits-is s g image b clear = rw clear refl
 
 -- What is placed, with the tag of its bytes where the block awaits it.
 module _ (key : Option (List ℕ)) (s : Superblock) (g : Geometry) (image : Image) (b : ℕ) where

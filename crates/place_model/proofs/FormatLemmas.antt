@@ -1,0 +1,60 @@
+-- What an image that can be opened in a format tells, by the fields of that format.
+use Rattle.std.proofs.Common.{◌≡◌, ◌≢◌, ℕ, ◌+◌, ◌-◌, ◌*◌, ◌<◌, ◌≤◌, false, refl, sym, ◌∙◌, ap, subst, arith, Ok, IsOk, Option, List}
+use Rattle.std.specs.List.{AllByRecursion}
+use Rattle.std.proofs.lemmas.Bool.{ne_eqb}
+use Rattle.disk_model.specs.Disk.{Image}
+use Rattle.image_model.specs.declared.flags.TheConstants.{DIRTY_BITMAP}
+use Rattle.image_model.specs.Cells.{salt_of, counted_entries}
+use Rattle.image_model.specs.Geometry.{Geometry, geometry_of, data_at, IsGeometry}
+use Rattle.image_model.specs.Grid.{walk_of}
+use Rattle.image_model.specs.Openable.{first_sector, IsReplayable}
+use Rattle.image_model.specs.Superblock.{Superblock, has_flag, superblock_of}
+use Rattle.image_model.proofs.OpenableLemmas.{IsReadable-geometry}
+use Rattle.place_model.specs.Format.{DiskFormat, OpensAs, format_on}
+
+-- A disk with a geometry has a first sector.
+some_sector : (g : Geometry) (sectors : ℕ) → IsGeometry g sectors → sectors ≢ 0
+some_sector g sectors geometry none = let last = geometry.last in let spb = geometry.spb.0 in omega arith
+
+first_sector-is : (g : Geometry) (sectors : ℕ) (image : Image) → IsGeometry g sectors → first_sector sectors image ≡ image 0
+first_sector-is g sectors image geometry = rw (ne_eqb sectors 0 (some_sector g sectors geometry)) refl
+
+-- The image tells the superblock and the geometry of the format, and its journal has a walk whose entries can be replayed.
+pub record TellsFormat (d : DiskFormat) (image : Image) : Type 0 where
+  pub head : superblock_of (image 0) ≡ Ok d.superblock
+  pub has_geometry : geometry_of d.superblock d.sectors ≡ Ok d.geometry
+  pub is_geometry : IsGeometry d.geometry d.sectors
+  pub walk : has_flag DIRTY_BITMAP d.superblock.flags ≡ false → IsOk (walk_of d.geometry image)
+  pub entries : AllByRecursion (IsReplayable d.key (salt_of d.superblock) d.geometry) (counted_entries d.superblock d.geometry image)
+
+-- ---- for callers
+
+pub opens_tells : (d : DiskFormat) (image : Image) → OpensAs d image → TellsFormat d image
+opens_tells d image opens =
+    let readable = opens.openable.readable in
+    let geometry = (IsReadable-geometry d.sectors image readable).1 in
+    let told : TellsFormat (format_on d.key d.sectors image readable) image = record {
+      head = ap superblock_of (sym (first_sector-is readable.geometry d.sectors image geometry)) ∙ readable.has_superblock;
+      has_geometry = readable.has_geometry;
+      is_geometry = geometry;
+      walk = opens.openable.walk;
+      entries = opens.openable.entries;
+    } in
+    subst (λ (g : Geometry). TellsFormat (record { key = d.key; sectors = d.sectors; superblock = d.superblock; geometry = g }) image) opens.geometry
+    (subst (λ (s : Superblock). TellsFormat (record { key = d.key; sectors = d.sectors; superblock = s; geometry = readable.geometry }) image) opens.superblock told)
+
+pub opens_from : (d : DiskFormat) (image : Image) → TellsFormat d image → OpensAs d image
+opens_from d image told = record {
+  openable = record {
+    readable = record {
+      superblock = d.superblock;
+      geometry = d.geometry;
+      has_superblock = ap superblock_of (first_sector-is d.geometry d.sectors image told.is_geometry) ∙ told.head;
+      has_geometry = told.has_geometry;
+    };
+    walk = told.walk;
+    entries = told.entries;
+  };
+  superblock = refl;
+  geometry = refl;
+}
