@@ -1,5 +1,5 @@
 -- How a line of a script is shown to be one, or to have a fault.
-use Rattle.std.proofs.Common.{◌≡◌, ◌≢◌, ◌⊎◌, ℕ, zero, suc, ◌+◌, ◌/◌, ◌%◌, ◌^◌, ◌==◌, ◌<◌, ◌≤◌, Bool, true, false, not, ◌&&◌, leb, List, [], ◌∷◌, ◌++◌, length, get_or, filter, sym, ◌∙◌, ap, subst, arith, rules, refl, All, leb→le, leb-true, codes, bytes_eq, Ok, Err}
+use Rattle.std.proofs.Common.{◌≡◌, ◌≢◌, ℕ, zero, suc, ◌+◌, ◌%◌, ◌^◌, ◌<◌, ◌≤◌, Bool, true, false, ◌&&◌, leb, List, [], ◌∷◌, length, get_or, sym, ◌∙◌, ap, subst, arith, All, leb→le, leb-true, bytes_eq, Ok, Err}
 use Rattle.std.specs.Fmt.{decimal, digits}
 use Rattle.std.specs.List.{list_all}
 use Rattle.hex.specs.Hex.{IsBytes, decode_of}
@@ -7,7 +7,7 @@ use Rattle.hex.specs.declared.error.FromHexError.{FromHexError}
 use Rattle.hex.proofs.HexLemmas.{decode_of-encode_lower}
 use Rattle.std.proofs.lemmas.Fmt.{decimal_by_steps, first_decimal}
 use Rattle.std.proofs.lemmas.Slice.Eq.{bytes_eq-Decides}
-use Rattle.std.proofs.lemmas.List.Elements.{All-from_get_or, All-nil, All-cons, All-head, All-push}
+use Rattle.std.proofs.lemmas.List.Elements.{All-nil, All-cons, All-head, All-push}
 use Rattle.device_model.specs.Grammar.{words_in, most_line, IsText, IsSkipped, Fits, NumberPlace, BytePlace, Says, IsLine}
 use Rattle.device_model.specs.Script.{ScriptLine}
 
@@ -40,7 +40,7 @@ All-decimal P holds n fits =
     decimal_by_steps (λ n digits. All P digits) (λ n low. All-cons P (48 + n) [] (holds n low) (All-nil P))
     (λ n digits high all. All-push P digits (48 + n % 10) all (holds (n % 10) (omega arith))) n fits
 
-abbrev IsDigit : ℕ → Type 0
+abbrev pub IsDigit : ℕ → Type 0
 IsDigit byte = (48 ≤ byte) × (byte ≤ 57)
 
 -- A word is no number whose first byte is no digit,
@@ -57,7 +57,7 @@ no_number-zero byte word (suc n, fits, is) =
     let same : 48 ≡ get_or (decimal (suc n)) 0 0 = ap (λ (bytes : List ℕ). get_or bytes 0 0) is in
     omega (arith, first, same)
 
-one_byte : (byte : ℕ) → byte < 256 → IsBytes (byte ∷ [])
+pub one_byte : (byte : ℕ) → byte < 256 → IsBytes (byte ∷ [])
 one_byte byte fits zero = fits
 one_byte byte fits (suc i) = omega arith
 

@@ -1,6 +1,6 @@
 -- The lines of a script's bytes, within the bound of a script.
 -- Own: a line ends at a newline or at the script's end.
-use Rattle.std.specs.Prelude.{ℕ, ◌==◌, Bool, ◌||◌, if◌then◌else◌, ltb, leb, List, [], ◌∷◌, ◌++◌, length, take}
+use Rattle.std.specs.Prelude.{ℕ, ◌==◌, Bool, if◌then◌else◌, ltb, leb, List, [], ◌∷◌, ◌++◌, length, take}
 use Rattle.std.specs.List.{slice_split}
 use Rattle.device_model.specs.Grammar.{most_line}
 

@@ -1,6 +1,6 @@
 -- The run of a script on a device: what its lines print and do, one after the other, and what ends it.
 -- Own: each line is run before the next is judged; the device is closed behind the last.
-use Rattle.std.specs.Prelude.{◌≡◌, ◌≢◌, ◌⊎◌, ℕ, suc, ◌<◌, ◌≤◌, Bool, false, ◌||◌, if◌then◌else◌, List, [], ◌∷◌, ◌++◌, length, take, flat_map, slice_get, Option, Some, None}
+use Rattle.std.specs.Prelude.{◌≡◌, ◌≢◌, ◌⊎◌, ℕ, suc, ◌<◌, ◌≤◌, Bool, false, ◌||◌, if◌then◌else◌, List, [], ◌∷◌, ◌++◌, length, take, flat_map, slice_get, Some, None}
 use Rattle.std.specs.List.{AllZip}
 use Rattle.device_model.specs.Ending.{Ending, Complete, RefusedLine, RefusedLength, ByWords, ByMeaning, fault_text}
 use Rattle.device_model.specs.Grammar.{ReadLine, Means, Refused, IsReadAs}
