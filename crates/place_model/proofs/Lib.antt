@@ -1,0 +1,5 @@
+pub mod EachLemmas
+pub mod TagsLemmas
+pub mod PlacedLemmas
+pub mod JournalLemmas
+pub mod BlocksLemmas
