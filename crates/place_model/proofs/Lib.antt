@@ -4,5 +4,6 @@ pub mod PlacedLemmas
 pub mod BlocksLemmas
 pub mod JournalLemmas
 pub mod LeftLemmas
+pub mod KindLemmas
 pub mod FirstSyncLemmas
 pub mod EachLemmas

@@ -2,9 +2,9 @@
 use Rattle.std.specs.Prelude.{◌≡◌, ℕ, ◌*◌, ◌<◌, Option, List, length}
 use Rattle.disk_model.specs.Disk.{Image}
 use Rattle.image_model.specs.Cells.{Cell, salt_of, block_tag, cells_of}
-use Rattle.image_model.specs.Geometry.{Geometry}
-use Rattle.image_model.specs.Openable.{IsReadable, IsOpenable}
-use Rattle.image_model.specs.Superblock.{Superblock}
+use Rattle.image_model.specs.Geometry.{Geometry, layout_of}
+use Rattle.image_model.specs.Openable.{IsOpenable, first_sector}
+use Rattle.image_model.specs.Superblock.{Superblock, fields_in}
 use Rattle.device_model.specs.History.{Tagger}
 
 -- The key of the tags, if there is one, the sectors of the disk, and what its superblock says.
@@ -23,13 +23,13 @@ tagger_of d b bytes = block_tag d.key (salt_of d.superblock) d.geometry (b * d.g
 abbrev pub cells_on : DiskFormat → Image → ℕ → Cell
 cells_on d image = cells_of d.key d.superblock d.geometry image
 
--- The format of a readable image under a key.
-abbrev pub format_on : Option (List ℕ) → (sectors : ℕ) → (image : Image) → IsReadable sectors image → DiskFormat
-format_on key sectors image readable = record {
+-- What the first sector of an image says of the disk, under a key. Of an image that is not readable it says nothing.
+abbrev pub format_on : Option (List ℕ) → (sectors : ℕ) → Image → DiskFormat
+format_on key sectors image = record {
   key = key;
   sectors = sectors;
-  superblock = readable.superblock;
-  geometry = readable.geometry;
+  superblock = fields_in (first_sector sectors image);
+  geometry = layout_of (fields_in (first_sector sectors image));
 }
 
 -- Each sector of the disk has 512 bytes in the image.

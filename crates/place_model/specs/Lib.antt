@@ -5,3 +5,4 @@ pub mod Journal
 pub mod Left
 pub mod Opened
 pub mod FirstSync
+pub mod Kind

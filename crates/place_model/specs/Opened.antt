@@ -1,20 +1,19 @@
 -- The device of an image that has just been opened: its format, its history and its counts, by what the image says.
 -- Own: the mode is the image's own one, which a device may change before it takes its first request.
-use Rattle.std.specs.Prelude.{◌≡◌, ℕ, ◌*◌, Bool, true, false, not, ◌&&◌, Option, Result, Ok, Err, List}
+use Rattle.std.specs.Prelude.{◌≡◌, ℕ, ◌*◌, Bool, true, false, not, ◌&&◌, Result, Ok, Err}
 use Rattle.disk_model.specs.Disk.{Image}
 use Rattle.image_model.specs.declared.flags.TheConstants.{DIRTY_BITMAP}
 use Rattle.image_model.specs.Bitmap.{is_dirty, region_awaits}
 use Rattle.image_model.specs.Cells.{Cell, placed_cells_of}
 use Rattle.image_model.specs.Geometry.{section_entries, region_of, regions}
 use Rattle.image_model.specs.Grid.{walk_of}
-use Rattle.image_model.specs.Openable.{IsReadable}
 use Rattle.image_model.specs.Scan.{ScanFault}
 use Rattle.image_model.specs.Superblock.{Superblock, has_flag}
 use Rattle.image_model.specs.Walk.{State, Rest, Mixed, Erasing, Blank, Plan}
 use Rattle.device_model.specs.Mode.{Mode, Journal, Bitmap, Direct, Recovery, is_journal, is_bitmap, is_recovery, DeviceFormat}
 use Rattle.device_model.specs.Progress.{DeviceState, opened_device}
 use Rattle.device_model.specs.Transcript.{BlockFormat}
-use Rattle.place_model.specs.Format.{DiskFormat, tagger_of, cells_on, format_on}
+use Rattle.place_model.specs.Format.{DiskFormat, tagger_of, cells_on}
 
 -- ---- the format
 
@@ -93,10 +92,3 @@ awaiting_on mode d image region = not (is_recovery mode) && region_awaits d.supe
 abbrev pub opened_on : Mode → DiskFormat → Image → DeviceState
 opened_on mode d image =
     opened_device (base_on mode d image) (next_on mode d image) (set_bits_on mode d image) (awaiting_on mode d image)
-
--- Format and state are those of a device that has just been opened in this mode on this image, under this key.
-pub record IsOpenedOn (mode : Mode) (key : Option (List ℕ)) (sectors : ℕ) (image : Image) (f : DeviceFormat) (s : DeviceState) : Type 0 where
-  pub readable : IsReadable sectors image
-  pub has_mode : IsModeOf mode readable.superblock
-  pub format : f ≡ device_format mode (format_on key sectors image readable)
-  pub state : s ≡ opened_on mode (format_on key sectors image readable) image
