@@ -1,5 +1,5 @@
 -- A disk in journal mode with an empty journal is one in direct mode.
-use Rattle.std.proofs.Common.{◌≡◌, ℕ, ◌+◌, ◌-◌, ◌<◌, ◌≤◌, true, refl, sym, ◌∙◌, ap, arith, List, [], length, take, drop, slice_index, length-drop}
+use Rattle.std.proofs.Common.{◌≡◌, ℕ, ◌≤◌, sym, ◌∙◌, ap, arith, List, [], length, slice_index, length-drop}
 use Rattle.std.proofs.lemmas.List.{take_all, drop_all}
 use Rattle.disk_model.specs.Disk.{Content, sector_in}
 use Rattle.image_model.specs.Cells.{Cell, replayed_entries}
@@ -9,7 +9,7 @@ use Rattle.journal_model.specs.Erasing.{emptied}
 use Rattle.journal_model.specs.JournaledDisk.{JournaledDisk, cell_at, StandsFor}
 use Rattle.journal_model.proofs.ErasingLemmas.{erasure_ends}
 use Rattle.journal_model.proofs.PlaceLemmas.{cell_after-cells}
-use Rattle.device_laws.specs.Emptied.{EmptiedLaw, ErasedLaw, as_direct}
+use Rattle.device_laws.specs.Emptied.{EmptiedLaw, ErasedLaw}
 
 module _ (d : JournaledDisk) (c : Content) (stands : StandsFor d c) (none : replayed_entries d.geometry d.journal ≡ []) where
   -- All entries are settled.

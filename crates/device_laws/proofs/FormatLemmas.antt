@@ -1,8 +1,7 @@
 -- What the format of a device in journal mode says, part by part.
-use Rattle.std.proofs.Common.{◌≡◌, ℕ, ◌*◌, ap}
+use Rattle.std.proofs.Common.{◌≡◌, ◌*◌, ap}
 use Rattle.image_model.specs.Geometry.{section_entries}
-use Rattle.device_model.specs.History.{Tagger}
-use Rattle.device_model.specs.Mode.{DeviceFormat, Mode, Journal}
+use Rattle.device_model.specs.Mode.{DeviceFormat, Journal}
 use Rattle.place_model.specs.Format.{DiskFormat, tagger_of}
 use Rattle.place_model.specs.Opened.{device_format}
 

@@ -1,31 +1,18 @@
 -- What each step does to a device in journal mode: to its counts, its disk and its ring.
-use Rattle.std.specs.Prelude.{◌≡◌, ◌⊎◌, ℕ, ◌<◌, Bool, true, false, List, [], length, Option, Some, None, is_some, filter_map}
-use Rattle.disk_model.specs.Disk.{Content}
-use Rattle.image_model.specs.Cells.{Cell}
-use Rattle.image_model.specs.Geometry.{Shape, section_entries}
+use Rattle.std.specs.Prelude.{◌≡◌, ℕ, ◌<◌, List, [], length, Option, Some, None, is_some, filter_map}
+use Rattle.image_model.specs.Geometry.{Shape}
 use Rattle.image_model.specs.Section.{Entry}
 use Rattle.device_model.specs.History.{BlockWrite, History, Written, Flushed, with_change}
 use Rattle.device_model.specs.Journal.{SectionCounts, JournalCounts, put, commit, commit_all, place, settle}
-use Rattle.device_model.specs.Mode.{DeviceFormat, Journal}
-use Rattle.device_model.specs.Progress.{opened_device}
+use Rattle.device_model.specs.Mode.{DeviceFormat}
 use Rattle.device_model.specs.RoomLaws.{commits}
-use Rattle.place_model.specs.Format.{DiskFormat}
-use Rattle.place_model.specs.Opened.{device_format, next_on, opened_on}
-use Rattle.journal_model.specs.Opening.{opened_disk}
-use Rattle.image_model.specs.declared.flags.TheConstants.{DIRTY_BITMAP}
-use Rattle.image_model.specs.Superblock.{has_flag}
-use Rattle.disk_model.specs.Disk.{Image}
 use Rattle.journal_model.specs.Batch.{AreSections, IsSection}
-use Rattle.journal_model.specs.Entries.{cell_after}
 use Rattle.journal_model.specs.HistoryOf.{entry_of_write}
-use Rattle.journal_model.specs.JournaledDisk.{JournaledDisk, IsSound, Rests}
+use Rattle.journal_model.specs.JournaledDisk.{JournaledDisk}
 use Rattle.journal_model.specs.Steps.{IsBatch, committed, placed_one, settled_all}
 use Rattle.journal_section.specs.Entries.{HoldsEntries, BearsNumber}
-use Rattle.journal_model.specs.Recovery.{IsRecovered}
-use Rattle.journal_model.specs.View
-use Rattle.journal_model.specs.View.{HasFreeSection, IsRingOf, takes_more}
-use Rattle.device_laws.specs.Device.{IsJournalRing, IsJournalOf, IsJournalDevice}
-use Rattle.device_laws.specs.Ring.{JournalRing, empty_ring, view_of, has_room, with_put, batch_of, opened_at, with_commit, with_settle}
+use Rattle.device_laws.specs.Device.{IsJournalRing, IsJournalOf}
+use Rattle.device_laws.specs.Ring.{JournalRing, has_room, with_put, batch_of, opened_at, with_commit, with_settle}
 
 -- ---- put
 
@@ -106,42 +93,3 @@ SettleLaw = (f : DeviceFormat) (h : History) (j j' : JournalCounts) (d : Journal
 abbrev pub IdleSettleLaw : Type 0
 IdleSettleLaw = (f : DeviceFormat) (h : History) (j : JournalCounts) (d : JournaledDisk) (r : JournalRing) → IsJournalOf f h j d r
     → settle j ≡ None → with_settle d r ≡ r
-
--- ---- opening
-
--- A device opens on a disk at rest whose entries are all settled and change no cell. The cells at opening are told in any way.
-abbrev pub OpeningLaw : Type 0
-OpeningLaw = (f : DeviceFormat) (d : JournaledDisk) (base : ℕ → Cell) (set_bits awaiting : ℕ → Bool)
-    → f ≡ device_format Journal d.format → IsSound d → Rests d
-    → d.settled ≡ length d.entries → ((b : ℕ) → b < d.geometry.blocks → cell_after d.geometry d.base d.entries b ≡ d.base b)
-    → ((b : ℕ) → b < d.geometry.blocks → d.base b ≡ base b)
-    → IsJournalDevice f (opened_device base d.next set_bits awaiting) d empty_ring
-
--- So it does on what a recovery of an image leaves, where writing goes on by that image's walk.
-abbrev pub RecoveredLaw : Type 0
-RecoveredLaw = (d : DiskFormat) (image : Image) (number : ℕ) (tags : ℕ → List ℕ) (c : Content) → has_flag DIRTY_BITMAP d.superblock.flags ≡ false
-    → (is : IsRecovered (opened_disk d image) (next_on Journal d image) number tags c)
-    → IsJournalDevice (device_format Journal d) (opened_on Journal d image) is.now empty_ring
-
--- ---- what the ring shows
-
--- The ring that the device shows is one of its disk,
-abbrev pub ViewLaw : Type 0
-ViewLaw = (d : JournaledDisk) (r : JournalRing) → IsJournalRing d r → IsRingOf (view_of d r) d
-
--- after a commit it shows what a commit makes of it,
-abbrev pub ViewCommitLaw : Type 0
-ViewCommitLaw = (d : JournaledDisk) (r : JournalRing) (bytes : List ℕ)
-    → View.with_commit (view_of d r) ≡ view_of (committed d (batch_of d r) bytes) (with_commit d r)
-
--- after a put what that makes of it, in a ring of sections of as many entries as the shape has,
-abbrev pub ViewPutLaw : Type 0
-ViewPutLaw = (d : JournaledDisk) (r : JournalRing) (entry : Entry)
-    → (View.with_put entry (view_of d r) ≡ view_of d (with_put (section_entries d.geometry.shape) entry r))
-    × (View.has_room (view_of d r) ≡ has_room d.geometry.sections (section_entries d.geometry.shape) r)
-
--- and it has room for a write where it has a section that is free for the next entry.
-abbrev pub ViewRoomLaw : Type 0
-ViewRoomLaw = (d : JournaledDisk) (r : JournalRing) (entries : ℕ)
-    → (HasFreeSection (view_of d r) → has_room d.geometry.sections entries r ≡ true)
-    × (has_room d.geometry.sections entries r ≡ true → (takes_more entries r.closed r.opened ≡ true) ⊎ HasFreeSection (view_of d r))

@@ -1,11 +1,11 @@
 -- A disk in direct mode at opening.
-use Rattle.std.proofs.Common.{◌≡◌, inl, inr, ℕ, ◌+◌, ◌*◌, ◌<◌, true, false, refl, sym, ◌∙◌, ap, subst, arith, None, List, [], length, slice_index}
+use Rattle.std.proofs.Common.{◌≡◌, inl, inr, ℕ, ◌*◌, true, false, refl, sym, ◌∙◌, ap, subst, arith, None, List, [], length, slice_index}
 use Rattle.std.proofs.lemmas.Bool.{cases_Bool}
 use Rattle.disk_model.specs.Disk.{Image, last_image, newest_only, sector_in}
 use Rattle.disk_model.proofs.DiskLemmas.{newest_only-pending}
 use Rattle.image_model.specs.declared.flags.TheConstants.{DIRTY_BITMAP}
 use Rattle.image_model.specs.Bitmap.{is_to_recalculate}
-use Rattle.image_model.specs.Cells.{Cell, salt_of, placed_cells_of, replayed_entries, recalculated_cell, counted_entries, last_entry, block_tag}
+use Rattle.image_model.specs.Cells.{Cell, salt_of, placed_cells_of, replayed_entries, counted_entries, last_entry}
 use Rattle.image_model.specs.Geometry.{data_at}
 use Rattle.image_model.specs.Section.{Entry}
 use Rattle.image_model.specs.Superblock.{has_flag, superblock_of}
@@ -14,7 +14,7 @@ use Rattle.image_model.proofs.CellsLemmas.{counted_entries-journal, cells_of-pla
 use Rattle.image_model.proofs.GeometryLemmas.{data_at-inside}
 use Rattle.image_model.proofs.SectorLemmas.{length-bytes_at}
 use Rattle.image_model.proofs.TagLemmas.{length-tag_of}
-use Rattle.place_model.specs.Format.{DiskFormat, tagger_of, cells_on, HasWholeSectors, OpensAs}
+use Rattle.place_model.specs.Format.{DiskFormat, tagger_of, cells_on, HasWholeSectors}
 use Rattle.place_model.specs.Blocks.{AreCells}
 use Rattle.place_model.specs.Tags.{tag_byte_at}
 use Rattle.place_model.proofs.FirstSyncLemmas.{newest_only-settled, newest_only-cells}

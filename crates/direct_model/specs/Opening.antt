@@ -1,6 +1,6 @@
 -- What a disk stands for when it is opened in direct mode, with a journal of which nothing is replayed.
 -- Own: a journal that has entries is emptied in journal mode first.
-use Rattle.std.specs.Prelude.{◌≡◌, ℕ, false, []}
+use Rattle.std.specs.Prelude.{◌≡◌, false, []}
 use Rattle.disk_model.specs.Disk.{Content, Image, IsImage, EachImage, HasNothingPending, last_image, newest_only}
 use Rattle.image_model.specs.declared.flags.TheConstants.{DIRTY_BITMAP}
 use Rattle.image_model.specs.Cells.{replayed_entries}

@@ -1,8 +1,8 @@
 -- What a first sync leaves.
-use Rattle.std.proofs.Common.{◌≡◌, ℕ, refl, sym, subst, List}
+use Rattle.std.proofs.Common.{ℕ, refl, sym, subst, List}
 use Rattle.std.proofs.Math.Path.{fun_ext}
 use Rattle.std.specs.List.{Contains}
-use Rattle.disk_model.specs.Disk.{Content, Image, IsImage, EachImage, last_image, newest_only}
+use Rattle.disk_model.specs.Disk.{Content, IsImage, EachImage, last_image, newest_only}
 use Rattle.disk_model.proofs.DiskLemmas.{newest_only-image, newest_only-pending}
 use Rattle.place_model.specs.Format.{DiskFormat, OpensAs, HasCells, cells_on}
 use Rattle.place_model.specs.FirstSync.{FirstSyncLaw, IsSettled}

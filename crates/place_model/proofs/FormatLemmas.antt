@@ -1,12 +1,12 @@
 -- What an image that can be opened in a format tells, by the fields of that format.
-use Rattle.std.proofs.Common.{◌≡◌, ◌≢◌, ℕ, ◌+◌, ◌-◌, ◌*◌, ◌<◌, ◌≤◌, false, refl, sym, ◌∙◌, ap, subst, arith, Ok, IsOk, Option, List}
+use Rattle.std.proofs.Common.{◌≡◌, ◌≢◌, ℕ, false, refl, sym, ◌∙◌, ap, subst, arith, Ok, IsOk, Option, List}
 use Rattle.std.specs.List.{AllByRecursion, starts_with}
 use Rattle.std.specs.Prelude.{nat_eq, not, ◌∷◌}
 use Rattle.std.proofs.lemmas.Bool.{ne_eqb}
 use Rattle.disk_model.specs.Disk.{Image}
 use Rattle.image_model.specs.declared.flags.TheConstants.{DIRTY_BITMAP}
 use Rattle.image_model.specs.Cells.{salt_of, counted_entries}
-use Rattle.image_model.specs.Geometry.{Geometry, layout_of, geometry_of, data_at, IsGeometry}
+use Rattle.image_model.specs.Geometry.{Geometry, layout_of, geometry_of, IsGeometry}
 use Rattle.image_model.specs.Grid.{walk_of}
 use Rattle.image_model.specs.Openable.{first_sector, IsReplayable, IsOpenable}
 use Rattle.image_model.specs.Superblock.{Superblock, Magic, magic, superblock_faults, has_flag, fields_in, superblock_of}

@@ -1,7 +1,6 @@
 -- What may be left, by the superblock of what is left.
-use Rattle.std.proofs.Common.{◌≡◌, ℕ, sym, ◌∙◌, ap, subst}
+use Rattle.std.proofs.Common.{◌≡◌, sym, ◌∙◌, ap, subst}
 use Rattle.disk_model.specs.Disk.{Image}
-use Rattle.device_model.specs.History.{History}
 use Rattle.place_model.specs.Format.{DiskFormat, OpensAs, format_on}
 use Rattle.place_model.specs.Left.{IsLeftInDirect, IsLeftInJournal, IsLeftInBitmap}
 use Rattle.place_model.specs.Opened.{blocks_of}

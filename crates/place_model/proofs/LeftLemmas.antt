@@ -1,13 +1,12 @@
 -- What may be left before a write may be left while it is under way.
-use Rattle.std.proofs.Common.{◌≡◌, ℕ, ◌+◌, ◌≤◌, sym, ◌∙◌, ap, arith, Option, None, Some, List, [], ◌∷◌, ◌++◌, length, take, append-nil, length-append}
+use Rattle.std.proofs.Common.{◌≡◌, ℕ, ◌≤◌, sym, ◌∙◌, ap, arith, Option, None, Some, List, [], ◌∷◌, ◌++◌, length, take, append-nil, length-append}
 use Rattle.std.specs.Option.{option_to_list}
 use Rattle.std.proofs.lemmas.List.{take-append-le}
 use Rattle.disk_model.specs.Disk.{sector_in}
-use Rattle.image_model.specs.Cells.{Cell}
 use Rattle.device_model.specs.Cut.{all_writes}
 use Rattle.device_model.specs.History.{BlockWrite, History, cells_after}
 use Rattle.device_model.proofs.CutLemmas.{IsUnflushed-begun}
-use Rattle.place_model.specs.Format.{DiskFormat, tagger_of, cells_on}
+use Rattle.place_model.specs.Format.{tagger_of}
 use Rattle.place_model.specs.Left.{DirectPendingLaw, JournalPendingLaw, BitmapPendingLaw, with_pending}
 
 module _ (h : History) (write : BlockWrite) (idle : h.pending ≡ None) where

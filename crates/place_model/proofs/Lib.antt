@@ -7,3 +7,4 @@ pub mod LeftLemmas
 pub mod KindLemmas
 pub mod FirstSyncLemmas
 pub mod EachLemmas
+pub mod WorkedDisk

@@ -6,12 +6,11 @@ use Rattle.std.proofs.lemmas.List.{get_or-drop, get_or-take, get_or_append_left,
 use Rattle.disk_model.specs.Disk.{Image, sector_in}
 use Rattle.image_model.proofs.GeometryLemmas.{data_at-inside, tag_at-inside}
 use Rattle.image_model.proofs.SectorLemmas.{length-piece, bytes_at_read, sector_in-bytes_at}
-use Rattle.image_model.specs.Bitmap.{awaits, is_to_recalculate}
+use Rattle.image_model.specs.Bitmap.{awaits}
 use Rattle.image_model.specs.Cells.{Cell, salt_of, placed_cells_of, recalculated_cell, counted_entries, last_entry, block_tag, cells_of}
 use Rattle.image_model.specs.Geometry.{Geometry, data_at, tag_at, IsGeometry}
 use Rattle.image_model.specs.Sectors.{piece, bytes_at}
-use Rattle.image_model.specs.Superblock.{Superblock, has_flag}
-use Rattle.image_model.specs.declared.flags.TheConstants.{DIRTY_BITMAP}
+use Rattle.image_model.specs.Superblock.{Superblock}
 use Rattle.place_model.specs.Tags.{tag_byte_at}
 
 -- Cells with equal parts are equal.

@@ -1,9 +1,8 @@
 -- The cells of whole blocks, and the writes of such.
-use Rattle.std.specs.Prelude.{◌≡◌, ℕ, ◌*◌, ◌<◌, true, Option, List, length}
+use Rattle.std.specs.Prelude.{◌≡◌, ℕ, ◌*◌, ◌<◌, true, length}
 use Rattle.image_model.specs.Bitmap.{is_to_recalculate}
 use Rattle.image_model.specs.Cells.{Cell}
 use Rattle.image_model.specs.Geometry.{Geometry}
-use Rattle.image_model.specs.Superblock.{Superblock}
 use Rattle.device_model.specs.History.{BlockWrite}
 use Rattle.place_model.specs.Format.{DiskFormat, tagger_of}
 

@@ -1,6 +1,6 @@
 -- What a cut may leave of a device: an image that can be opened, whose cells its history allows.
 -- Own: what each mode promises.
-use Rattle.std.specs.Prelude.{◌≡◌, ℕ, None, Some}
+use Rattle.std.specs.Prelude.{◌≡◌, None, Some}
 use Rattle.disk_model.specs.Disk.{Image}
 use Rattle.image_model.specs.Bitmap.{is_dirty}
 use Rattle.image_model.specs.Geometry.{region_of}

@@ -10,7 +10,7 @@ use Rattle.image_model.specs.Grid.{walk_of}
 use Rattle.image_model.specs.Scan.{ScanFault}
 use Rattle.image_model.specs.Superblock.{Superblock, has_flag}
 use Rattle.image_model.specs.Walk.{State, Rest, Mixed, Erasing, Blank, Plan}
-use Rattle.device_model.specs.Mode.{Mode, Journal, Bitmap, Direct, Recovery, is_journal, is_bitmap, is_recovery, DeviceFormat}
+use Rattle.device_model.specs.Mode.{Mode, Journal, Bitmap, Direct, Recovery, is_bitmap, is_recovery, DeviceFormat}
 use Rattle.device_model.specs.Progress.{DeviceState, opened_device}
 use Rattle.device_model.specs.Transcript.{BlockFormat}
 use Rattle.place_model.specs.Format.{DiskFormat, tagger_of, cells_on}
