@@ -1,5 +1,5 @@
 -- What a line asks for that is not refused may be submitted.
-use Rattle.std.proofs.Common.{◌≡◌, ◌≢◌, ◌⊎◌, inl, inr, ℕ, zero, suc, ◌+◌, ◌*◌, ◌/◌, ◌%◌, ◌≤◌, ◌==◌, Bool, true, false, ◌||◌, ltb, List, [], ◌∷◌, ◌++◌, length, replicate, if◌then◌else◌, Option, None, Some, refl, sym, ◌∙◌, ap, arith, length-append}
+use Rattle.std.proofs.Common.{◌≡◌, ◌≢◌, ◌⊎◌, inl, inr, ℕ, ◌+◌, ◌*◌, ◌/◌, ◌%◌, ◌≤◌, ◌==◌, Bool, true, false, ◌||◌, ltb, List, [], ◌∷◌, length, replicate, if◌then◌else◌, Option, None, Some, refl, sym, ◌∙◌, ap, arith, length-append}
 use Rattle.std.proofs.lemmas.Bool.{cases_Bool, or_parts, eqb-true, eqb-false, ltb-false}
 use Rattle.std.proofs.lemmas.List.{length-replicate}
 use Rattle.std.proofs.lemmas.List.Concat.{flat_map-cons}
@@ -7,7 +7,7 @@ use Rattle.std.proofs.lemmas.List.Sums.{sum_by-cons}
 use Rattle.std.proofs.lemmas.Nat.{div-add-mod'}
 use Rattle.std.proofs.lemmas.Option.{none-some}
 use Rattle.device_model.specs.Mode.{DeviceFormat, is_recovery}
-use Rattle.device_model.specs.Progress.{Answer, ReadOnly, blocks_refusal, form_refusal}
+use Rattle.device_model.specs.Progress.{ReadOnly, blocks_refusal, form_refusal}
 use Rattle.device_model.specs.RequestLaws.{AreBlocks, IsFitting}
 use Rattle.device_model.specs.Runs.{ByteRun}
 use Rattle.device_model.specs.Script.{Ask, Fill, Write, Read, Flush, run_bytes, runs_length, submission_of, MeaningFault, WrongLength, WrongCount, WrongRange, most_blocks, range_fault, ask_fault}

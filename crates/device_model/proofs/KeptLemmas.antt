@@ -1,15 +1,15 @@
 -- What becomes of the list of requests: each of them stays what was submitted.
-use Rattle.std.proofs.Common.{◌≡◌, ◌≢◌, inl, inr, ℕ, zero, suc, List, [], ◌∷◌, ◌++◌, map, set, Option, None, Some, option_map, slice_get, refl, sym, ◌∙◌, ap, subst}
+use Rattle.std.proofs.Common.{◌≡◌, inl, inr, ℕ, zero, suc, List, [], ◌∷◌, ◌++◌, map, set, Option, None, Some, option_map, slice_get, refl, sym, ◌∙◌, ap, subst}
 use Rattle.std.proofs.lemmas.Bool.{cases_eq}
 use Rattle.std.proofs.lemmas.Option.{none-some, same_Some, slice_get-map}
 use Rattle.image_model.specs.Cells.{Cell}
 use Rattle.device_model.specs.History.{cells_now}
 use Rattle.device_model.specs.Journal.{JournalCounts}
 use Rattle.device_model.specs.Mode.{DeviceFormat}
-use Rattle.device_model.specs.Progress.{Progress, Condition, Working, Broken, Closed, DeviceState, opened_device, Event, Submit, Serve, Step, Take, Close, FailedServe, FailedStep, FailedClose, with_block_of, with_block, serve_with, serve_unheld, serve_by, serve_asked, serve, journal_with, form_refusal, slots_refusal, submit_by, take_by, take_asked, take_reply, with_dropped, working_result, broken_result, result_in, event_result, after_event, after_events}
+use Rattle.device_model.specs.Progress.{Progress, Condition, Working, Broken, Closed, DeviceState, opened_device, Event, Submit, Serve, Step, Take, Close, FailedServe, FailedStep, FailedClose, with_block_of, with_block, serve_with, serve_unheld, serve_by, serve_asked, serve, journal_with, form_refusal, slots_refusal, submit_by, take_by, take_asked, take_reply, with_dropped, working_result, broken_result, result_in, after_event, after_events}
 use Rattle.device_model.specs.Reply.{Reply}
 use Rattle.device_model.specs.Request.{Request, Read, Write, Flush, Asked, RequestState, Unfinished, Finished, Taken, Dropped, newly_asked, as_dropped, held_by}
-use Rattle.device_model.specs.RequestLaws.{IsFitting, IsOfSubmission, IsInRange, IsReached, AcceptedLaw, KeptLaw}
+use Rattle.device_model.specs.RequestLaws.{IsFitting, IsOfSubmission, IsInRange, AcceptedLaw, KeptLaw}
 use Rattle.device_model.specs.Submission.{Submission, request_in, bytes_in}
 use Rattle.device_model.proofs.EventLemmas.{requests-finished}
 use Rattle.device_model.proofs.RequestLemmas.{slice_get-set_same, slice_get-set_other, slice_get-push}

@@ -1,14 +1,14 @@
 -- What may be submitted, and what a submission makes.
-use Rattle.std.proofs.Common.{◌≡◌, ◌≢◌, ◌⊎◌, ◌↔◌, inl, inr, ℕ, zero, suc, ◌+◌, ◌*◌, ◌<◌, ◌≤◌, ◌==◌, Bool, true, false, ◌||◌, ltb, leb, List, [], ◌∷◌, length, take, drop, if◌then◌else◌, Option, None, Some, slice_get, refl, sym, ◌∙◌, ap, subst, arith}
+use Rattle.std.proofs.Common.{◌≡◌, ◌≢◌, ◌⊎◌, inl, inr, ℕ, zero, suc, ◌+◌, ◌*◌, ◌<◌, ◌≤◌, ◌==◌, Bool, true, false, ◌||◌, ltb, leb, List, [], length, take, drop, if◌then◌else◌, Option, None, Some, slice_get, refl, sym, ◌∙◌, ap, subst, arith}
 use Rattle.std.specs.Option.{option_or}
-use Rattle.std.proofs.lemmas.Bool.{cases_Bool, false≢true, true≢false, or_parts, or_cases, eqb-true, eqb-false, eq-eqb, ne_eqb, ltb-true, ltb-false, le-ltb, leb-true, leb-false, lt-leb}
+use Rattle.std.proofs.lemmas.Bool.{cases_Bool, true≢false, or_parts, eqb-true, eqb-false, eq-eqb, ne_eqb, ltb-false, le-ltb, leb-false, lt-leb}
 use Rattle.std.proofs.lemmas.List.{length-take, length-drop}
 use Rattle.std.proofs.lemmas.Option.{none-some, same_Some}
 use Rattle.device_model.specs.Mode.{DeviceFormat, is_recovery}
-use Rattle.device_model.specs.Progress.{Progress, Condition, Working, Broken, Closed, DeviceState, Event, Submit, Answer, Ticket, ReadOnly, Range, Length, SlotsFull, EventResult, only_answers, in_flight, blocks_refusal, form_refusal, slots_refusal, submit_by, submit, working_result, result_in, event_result, after_event}
-use Rattle.device_model.specs.Request.{Request, Asked}
-use Rattle.device_model.specs.RequestLaws.{AreBlocks, IsFitting, IsInRange, TicketLaw, RefusedLaw}
-use Rattle.device_model.specs.Submission.{Submission, blocks_in, request_in, bytes_in}
+use Rattle.device_model.specs.Progress.{Progress, Condition, Working, Broken, Closed, DeviceState, Event, Submit, Answer, Ticket, ReadOnly, Range, Length, SlotsFull, EventResult, in_flight, blocks_refusal, form_refusal, slots_refusal, submit_by, submit, working_result, result_in, event_result}
+use Rattle.device_model.specs.Request.{Asked}
+use Rattle.device_model.specs.RequestLaws.{IsFitting, IsInRange, TicketLaw, RefusedLaw}
+use Rattle.device_model.specs.Submission.{Submission, blocks_in, request_in}
 use Rattle.device_model.specs.Transcript.{BlockFormat}
 
 -- ---- some bytes as blocks

@@ -1,19 +1,18 @@
 -- The write that is under way, at each moment; and devices that are broken.
 use Rattle.std.proofs.Common.{◌≡◌, ◌≢◌, ◌⊎◌, inl, inr, ℕ, zero, suc, ◌+◌, ◌<◌, Bool, true, false, List, [], ◌∷◌, ◌++◌, length, take, get_or, if◌then◌else◌, Option, None, Some, slice_get, refl, sym, ◌∙◌, ap, subst}
-use Rattle.std.proofs.lemmas.Bool.{cases_Bool}
 use Rattle.image_model.specs.Cells.{Cell}
-use Rattle.device_model.specs.History.{BlockWrite, History, Change, Begun, Written, Flushed, with_change, with_changes, cells_now}
-use Rattle.device_model.specs.Journal.{JournalCounts, commit, place, settle}
+use Rattle.device_model.specs.History.{BlockWrite, History, Change, Begun, Written, Flushed, with_changes}
+use Rattle.device_model.specs.Journal.{JournalCounts}
 use Rattle.device_model.specs.Mode.{DeviceFormat, is_recovery}
-use Rattle.device_model.specs.Progress.{Progress, Condition, Working, Broken, Closed, DeviceState, opened_device, Event, Submit, Serve, Step, Take, Close, FailedServe, FailedStep, FailedClose, Actor, Commit, Place, Settle, Clean, Recalc, Answer, IsBroken, EventResult, only_answers, block_changes, is_flushed_by, serve_with, serve_unheld, serve_by, serve_asked, serve, journal_with, first_begun, submit_by, step_journal, step_regions, step, take_by, take_asked, take_reply, working_result, broken_result, result_in, condition_after, event_result, after_event, after_events, IsHistoryWithin}
+use Rattle.device_model.specs.Progress.{Progress, Condition, Working, Broken, Closed, DeviceState, opened_device, Event, Submit, Serve, Step, Take, Close, FailedServe, FailedStep, FailedClose, Actor, Commit, Place, Settle, Clean, Recalc, Answer, IsBroken, only_answers, block_changes, is_flushed_by, serve_with, serve_unheld, serve_by, serve_asked, serve, journal_with, first_begun, submit_by, step_journal, step_regions, step, take_by, take_asked, take_reply, working_result, broken_result, result_in, condition_after, after_event, after_events}
 use Rattle.device_model.specs.Regions.{RegionCounts}
 use Rattle.device_model.specs.Reply.{Reply}
 use Rattle.device_model.specs.Request.{Request, Read, Write, Flush, Asked, RequestState, Unfinished, Finished, Taken, Dropped, is_unfinished, held_by, writes_of, front_of}
-use Rattle.device_model.specs.RequestLaws.{IsReached, IsNextWrite, PendingLaw, WithinLaw, BrokenLaw}
+use Rattle.device_model.specs.RequestLaws.{IsNextWrite, PendingLaw, WithinLaw, BrokenLaw}
 use Rattle.device_model.specs.Submission.{Submission}
 use Rattle.device_model.proofs.EventLemmas.{Serves, IsServing, IsServing-events, IsServing-opened, IsServing-reached}
 use Rattle.device_model.proofs.RequestLemmas.{write_at, block_writes-more}
-use Rattle.device_model.proofs.SerialLemmas.{IsServedPart, in_state}
+use Rattle.device_model.proofs.SerialLemmas.{in_state}
 use Rattle.device_model.proofs.SubmitLemmas.{refusal}
 
 -- The write is the next one of the unfinished request at place k.
