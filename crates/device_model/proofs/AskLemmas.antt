@@ -8,7 +8,7 @@ use Rattle.std.proofs.lemmas.Nat.{div-add-mod'}
 use Rattle.std.proofs.lemmas.Option.{none-some}
 use Rattle.device_model.specs.Mode.{DeviceFormat, is_recovery}
 use Rattle.device_model.specs.Progress.{ReadOnly, blocks_refusal, form_refusal}
-use Rattle.device_model.specs.RequestLaws.{AreBlocks, IsFitting}
+use Rattle.device_model.specs.SubmissionLaws.{AreBlocks, IsFitting}
 use Rattle.device_model.specs.Runs.{ByteRun}
 use Rattle.device_model.specs.Script.{Ask, Fill, Write, Read, Flush, run_bytes, runs_length, submission_of, MeaningFault, WrongLength, WrongCount, WrongRange, most_blocks, range_fault, ask_fault}
 

@@ -9,13 +9,13 @@ use Rattle.device_model.specs.Mode.{DeviceFormat}
 use Rattle.device_model.specs.Progress.{Progress, Condition, Working, Broken, Closed, DeviceState, opened_device, Event, Submit, Serve, Step, Take, Close, FailedServe, FailedStep, FailedClose, with_block_of, with_block, serve_with, serve_unheld, serve_by, serve_asked, serve, journal_with, form_refusal, slots_refusal, submit_by, take_by, take_asked, take_reply, with_dropped, working_result, broken_result, result_in, after_event, after_events}
 use Rattle.device_model.specs.Reply.{Reply}
 use Rattle.device_model.specs.Request.{Request, Read, Write, Flush, Asked, RequestState, Unfinished, Finished, Taken, Dropped, newly_asked, as_dropped, held_by}
-use Rattle.device_model.specs.RequestLaws.{IsFitting, IsOfSubmission, IsInRange, AcceptedLaw, KeptLaw}
+use Rattle.device_model.specs.SubmissionLaws.{IsFitting, IsOfSubmission, IsInRange, AcceptedLaw, KeptLaw}
 use Rattle.device_model.specs.Submission.{Submission, request_in, bytes_in}
 use Rattle.device_model.proofs.EventLemmas.{requests-finished}
 use Rattle.device_model.proofs.RequestLemmas.{slice_get-set_same, slice_get-set_other, slice_get-push}
 use Rattle.device_model.proofs.RoomLemmas.{step-requests_of}
 use Rattle.device_model.proofs.SerialLemmas.{slice_get-dropped}
-use Rattle.device_model.proofs.SubmitLemmas.{refusal, refusal-parts, form_refusal-none, IsInRange-fits}
+use Rattle.device_model.proofs.SubmissionLemmas.{refusal, refusal-parts, form_refusal-none, IsInRange-fits}
 
 -- They are the same request.
 pub record IsSame (a b : Asked) : Type 0 where

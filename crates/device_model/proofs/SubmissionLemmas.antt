@@ -1,5 +1,5 @@
 -- What may be submitted, and what a submission makes.
-use Rattle.std.proofs.Common.{◌≡◌, ◌≢◌, ◌⊎◌, inl, inr, ℕ, zero, suc, ◌+◌, ◌*◌, ◌<◌, ◌≤◌, ◌==◌, Bool, true, false, ◌||◌, ltb, leb, List, [], length, take, drop, if◌then◌else◌, Option, None, Some, slice_get, refl, sym, ◌∙◌, ap, subst, arith}
+use Rattle.std.proofs.Common.{◌≡◌, ◌≢◌, ◌⊎◌, inl, inr, ℕ, zero, suc, ◌+◌, ◌*◌, ◌<◌, ◌≤◌, ◌==◌, Bool, true, false, ◌||◌, ltb, leb, List, [], length, take, drop, drop-drop, get_or, if◌then◌else◌, Option, None, Some, slice_get, refl, sym, ◌∙◌, ap, subst, arith}
 use Rattle.std.specs.Option.{option_or}
 use Rattle.std.proofs.lemmas.Bool.{cases_Bool, true≢false, or_parts, eqb-true, eqb-false, eq-eqb, ne_eqb, ltb-false, le-ltb, leb-false, lt-leb}
 use Rattle.std.proofs.lemmas.List.{length-take, length-drop}
@@ -7,7 +7,7 @@ use Rattle.std.proofs.lemmas.Option.{none-some, same_Some}
 use Rattle.device_model.specs.Mode.{DeviceFormat, is_recovery}
 use Rattle.device_model.specs.Progress.{Progress, Condition, Working, Broken, Closed, DeviceState, Event, Submit, Answer, Ticket, ReadOnly, Range, Length, SlotsFull, EventResult, in_flight, blocks_refusal, form_refusal, slots_refusal, submit_by, submit, working_result, result_in, event_result}
 use Rattle.device_model.specs.Request.{Asked}
-use Rattle.device_model.specs.RequestLaws.{IsFitting, IsInRange, TicketLaw, RefusedLaw}
+use Rattle.device_model.specs.SubmissionLaws.{IsFitting, IsInRange, TicketLaw, RefusedLaw}
 use Rattle.device_model.specs.Submission.{Submission, blocks_in, request_in}
 use Rattle.device_model.specs.Transcript.{BlockFormat}
 
@@ -33,6 +33,18 @@ blocks_in-size size (suc count) bytes enough (suc k) block is =
     let all : suc count * size ≡ size + count * size = omega arith in
     let rest : length (drop size bytes) ≡ count * size = length-drop size bytes ∙ omega (arith, enough, all) in
     blocks_in-size size count (drop size bytes) rest k block is
+
+-- The k-th of them is where it is among the bytes.
+pub get_or-blocks_in : (size count : ℕ) (bytes : List ℕ) (k : ℕ) → k < count → get_or (blocks_in size count bytes) k [] ≡ take size (drop (k * size) bytes)
+get_or-blocks_in size zero bytes k below = absurd (omega (arith, below))
+get_or-blocks_in size (suc count) bytes zero below =
+    let here : 0 ≡ 0 * size = omega arith in
+    ap (λ (n : ℕ). take size (drop n bytes)) here
+get_or-blocks_in size (suc count) bytes (suc k) below =
+    let place : size + k * size ≡ suc k * size = omega arith in
+    get_or-blocks_in size count (drop size bytes) k (omega (arith, below))
+    ∙ ap (take size) (drop-drop (k * size) size bytes)
+    ∙ ap (λ (n : ℕ). take size (drop n bytes)) place
 
 -- ---- why blocks are refused
 

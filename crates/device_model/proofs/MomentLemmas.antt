@@ -1,19 +1,21 @@
 -- The write that is under way, at each moment; and devices that are broken.
-use Rattle.std.proofs.Common.{◌≡◌, ◌≢◌, ◌⊎◌, inl, inr, ℕ, zero, suc, ◌+◌, ◌<◌, Bool, true, false, List, [], ◌∷◌, ◌++◌, length, take, get_or, if◌then◌else◌, Option, None, Some, slice_get, refl, sym, ◌∙◌, ap, subst}
+use Rattle.std.proofs.Common.{◌≡◌, ◌≢◌, ◌⊎◌, inl, inr, ℕ, zero, suc, ◌+◌, ◌<◌, ◌≤◌, Bool, true, false, List, [], ◌∷◌, ◌++◌, length, take, get_or, if◌then◌else◌, Option, None, Some, slice_get, refl, sym, ◌∙◌, ap, subst}
 use Rattle.image_model.specs.Cells.{Cell}
 use Rattle.device_model.specs.History.{BlockWrite, History, Change, Begun, Written, Flushed, with_changes}
 use Rattle.device_model.specs.Journal.{JournalCounts}
 use Rattle.device_model.specs.Mode.{DeviceFormat, is_recovery}
-use Rattle.device_model.specs.Progress.{Progress, Condition, Working, Broken, Closed, DeviceState, opened_device, Event, Submit, Serve, Step, Take, Close, FailedServe, FailedStep, FailedClose, Actor, Commit, Place, Settle, Clean, Recalc, Answer, IsBroken, only_answers, block_changes, is_flushed_by, serve_with, serve_unheld, serve_by, serve_asked, serve, journal_with, first_begun, submit_by, step_journal, step_regions, step, take_by, take_asked, take_reply, working_result, broken_result, result_in, condition_after, after_event, after_events}
+use Rattle.device_model.specs.Progress.{Progress, Condition, Working, Broken, Closed, DeviceState, opened_device, Event, Submit, Serve, Step, Take, Close, FailedServe, FailedStep, FailedClose, Actor, Commit, Place, Settle, Clean, Recalc, Answer, IsBroken, EventResult, IsHistoryWithin, only_answers, block_changes, is_flushed_by, serve_with, serve_unheld, serve_by, serve_asked, serve, journal_with, first_begun, submit_by, step_journal, step_regions, step, take_by, take_asked, take_reply, working_result, broken_result, result_in, condition_after, event_result, after_event, after_events}
 use Rattle.device_model.specs.Regions.{RegionCounts}
 use Rattle.device_model.specs.Reply.{Reply}
 use Rattle.device_model.specs.Request.{Request, Read, Write, Flush, Asked, RequestState, Unfinished, Finished, Taken, Dropped, is_unfinished, held_by, writes_of, front_of}
-use Rattle.device_model.specs.RequestLaws.{IsNextWrite, PendingLaw, WithinLaw, BrokenLaw}
+use Rattle.device_model.specs.RequestLaws.{IsReached}
+use Rattle.device_model.specs.MomentLaws.{IsNextWrite, PendingLaw, WithinLaw, QuietLaw, BrokenLaw}
 use Rattle.device_model.specs.Submission.{Submission}
-use Rattle.device_model.proofs.EventLemmas.{Serves, IsServing, IsServing-events, IsServing-opened, IsServing-reached}
+use Rattle.device_model.proofs.EventLemmas.{writes-first_begun, writes-closed, Serves, IsServing, IsServing-events, IsServing-opened, IsServing-reached}
+use Rattle.device_model.proofs.HistoryLemmas.{flushed-le-opened, flushed-le-with_changes}
 use Rattle.device_model.proofs.RequestLemmas.{write_at, block_writes-more}
 use Rattle.device_model.proofs.SerialLemmas.{in_state}
-use Rattle.device_model.proofs.SubmitLemmas.{refusal}
+use Rattle.device_model.proofs.SubmissionLemmas.{refusal}
 
 -- The write is the next one of the unfinished request at place k.
 record IsNextAt (s : DeviceState) (k : ℕ) (write : BlockWrite) : Type 0 where
@@ -111,6 +113,10 @@ take-changes p (suc k) = take_asked-changes p k (slice_get p.requests k)
 submit-changes : (f : DeviceFormat) (p : Progress) (submission : Submission) (refused : Option Answer) → (submit_by f p submission refused).changes ≡ []
 submit-changes f p submission None = refl
 submit-changes f p submission (Some answer) = refl
+
+broken-changes : (p : Progress) (event : Event) → (broken_result p event).changes ≡ []
+broken-changes p (Take ticket) = take-changes p ticket
+broken-changes p event = refl
 
 close-changes : (s : DeviceState) (t : Bool) → EventChanges s Close (if t then [] else Flushed ∷ [])
 close-changes s true = Nothing refl
@@ -216,6 +222,26 @@ module _ (f : DeviceFormat) (base : ℕ → Cell) where
   within-in Broken s event kept serving none open_still = absurd (open_still refl)
   within-in Closed s event kept serving none open_still = within-none s event kept none
 
+-- ---- what is flushed
+
+-- No more is flushed than was written, whatever the events.
+pub flushed-le-events : (f : DeviceFormat) (s : DeviceState) (events : List Event) → s.history.flushed ≤ length s.history.writes
+    → (after_events f s events).history.flushed ≤ length (after_events f s events).history.writes
+flushed-le-events f s [] within = within
+flushed-le-events f s (event ∷ events) within =
+    flushed-le-events f (after_event f s event) events (flushed-le-with_changes (event_result f s event).changes s.history within)
+
+pub flushed-le-reached : (f : DeviceFormat) (s : DeviceState) → IsReached f s → s.history.flushed ≤ length s.history.writes
+flushed-le-reached f s reached =
+    let opened = opened_device reached.base reached.next reached.set_bits reached.awaiting in
+    subst (λ (t : DeviceState). t.history.flushed ≤ length t.history.writes) (sym reached.is) (flushed-le-events f opened reached.events (flushed-le-opened reached.base))
+
+-- Nor is it at a moment of an event.
+pub flushed-le-within : (f : DeviceFormat) (s : DeviceState) (event : Event) (h : History) → s.history.flushed ≤ length s.history.writes → IsHistoryWithin f s event h
+    → h.flushed ≤ length h.writes
+flushed-le-within f s event h small within =
+    subst (λ (g : History). g.flushed ≤ length g.writes) (sym within.is) (flushed-le-with_changes (take within.kept (event_result f s event).changes) s.history small)
+
 -- ---- the laws
 
 pub pending_law : PendingLaw
@@ -231,19 +257,34 @@ within_law f s event h reached open_still within =
     subst (Within f s.history.base s event) (sym within.is)
     (within-in f s.history.base s.condition s event within.kept (IsServing-reached f s reached) (pending_law f s reached open_still) open_still)
 
--- A broken device.
-pub broken_law : BrokenLaw
-broken_law f s event breaks = (
-  ap (λ (c : Condition). with_changes (result_in f s c event).changes s.history) breaks ∙ ap (λ (l : List Change). with_changes l s.history) (none event),
-  ap (λ (c : Condition). condition_after c event) breaks ∙ stays event,
-  λ other. ap (λ (c : Condition). result_in f s c event) breaks ∙ says event other,
-  λ ticket. ap (λ (c : Condition). result_in f s c (Take ticket)) breaks,
-)
+pub quiet_law : QuietLaw
+quiet_law f s event other = by s.condition
   where
-    none : (event : Event) → (broken_result s.progress event).changes ≡ []
-    none (Take ticket) = take-changes s.progress ticket
-    none event = refl
+    working : (event : Event) → ((ticket : ℕ) → event ≢ Serve ticket) → (with_changes (working_result f s event).changes s.history).writes ≡ s.history.writes
+    working (Submit submission) other = ap (λ (l : List Change). (with_changes l s.history).writes) (submit-changes f s.progress submission (refusal f s.progress submission))
+    working (Serve ticket) other = absurd (other ticket refl)
+    working (Step actor) other = ap (λ (l : List Change). (with_changes l s.history).writes) (step-changes f s.progress actor)
+    working (Take ticket) other = ap (λ (l : List Change). (with_changes l s.history).writes) (take-changes s.progress ticket)
+    working Close other = writes-closed (is_recovery f.mode) s.history
+    working (FailedServe ticket) other = writes-first_begun (serve f s ticket).changes s.history
+    working (FailedStep actor) other = refl
+    working FailedClose other = refl
 
+    by : (c : Condition) → (with_changes (result_in f s c event).changes s.history).writes ≡ s.history.writes
+    by Working = working event other
+    by Broken = ap (λ (l : List Change). (with_changes l s.history).writes) (broken-changes s.progress event)
+    by Closed = refl
+
+pub broken_law : BrokenLaw
+broken_law f s event breaks =
+    let is : event_result f s event ≡ broken_result s.progress event = ap (λ (c : Condition). result_in f s c event) breaks in
+    record {
+      condition = ap (λ (c : Condition). condition_after c event) breaks ∙ stays event;
+      changes = ap (λ (r : EventResult). r.changes) is ∙ broken-changes s.progress event;
+      takes = λ ticket same. is ∙ ap (broken_result s.progress) same ∙ ap (working_result f s) (sym same);
+      others = λ other. is ∙ says event other;
+    }
+  where
     stays : (event : Event) → condition_after Broken event ≡ Broken
     stays (FailedServe ticket) = refl
     stays (FailedStep actor) = refl
