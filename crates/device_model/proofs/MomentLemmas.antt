@@ -63,7 +63,7 @@ module _ (f : DeviceFormat) (base : ℕ → Cell) (s : DeviceState) (serving : S
   serve_asked-changes (Some a) is = serve_by-changes a a.state is
 
 -- What an event does to the history. A write that is only begun leaves the device broken.
-data EventChanges (s : DeviceState) (event : Event) (changes : List Change) : Type 0 where
+pub data EventChanges (s : DeviceState) (event : Event) (changes : List Change) : Type 0 where
   Nothing : changes ≡ [] → EventChanges s event changes
   AFlush : changes ≡ Flushed ∷ [] → EventChanges s event changes
   AWrite : (write : BlockWrite) (fua : Bool) → IsNextWrite s event write → changes ≡ Begun write ∷ Written write ∷ (if fua then Flushed ∷ [] else []) → EventChanges s event changes
@@ -114,7 +114,7 @@ submit-changes : (f : DeviceFormat) (p : Progress) (submission : Submission) (re
 submit-changes f p submission None = refl
 submit-changes f p submission (Some answer) = refl
 
-broken-changes : (p : Progress) (event : Event) → (broken_result p event).changes ≡ []
+pub broken-changes : (p : Progress) (event : Event) → (broken_result p event).changes ≡ []
 broken-changes p (Take ticket) = take-changes p ticket
 broken-changes p event = refl
 
@@ -123,7 +123,7 @@ close-changes s true = Nothing refl
 close-changes s false = AFlush refl
 
 module _ (f : DeviceFormat) (base : ℕ → Cell) where
-  working-changes : (s : DeviceState) (event : Event) → Serves f base Working s.history s.progress → EventChanges s event (working_result f s event).changes
+  pub working-changes : (s : DeviceState) (event : Event) → Serves f base Working s.history s.progress → EventChanges s event (working_result f s event).changes
   working-changes s (Submit submission) serving = Nothing (submit-changes f s.progress submission (refusal f s.progress submission))
   working-changes s (Serve zero) serving = Nothing refl
   working-changes s (Serve (suc k)) serving =
