@@ -6,7 +6,7 @@ use Rattle.device_model.specs.History.{BlockWrite, History, Change, Flushed, ope
 use Rattle.device_model.specs.Journal.{SectionCounts, Free, as_freed}
 use Rattle.device_model.specs.Mode.{Mode, Journal, Bitmap, Direct, Recovery, DeviceFormat, is_journal, is_bitmap, is_recovery}
 use Rattle.device_model.specs.MomentLaws.{IsNextWrite, RecoveryLaw, CloseLaw}
-use Rattle.device_model.specs.Progress.{Progress, Condition, Working, Broken, Closed, DeviceState, opened_device, Event, Close, EventResult, with_dropped, with_finished, close, working_result, broken_result, result_in, event_result, after_event}
+use Rattle.device_model.specs.Progress.{Progress, Condition, Working, Broken, Closed, DeviceState, opened_device, Event, Close, EventResult, with_dropped, with_finished, close, working_result, broken_result, result_in, event_result, after_event, condition_after}
 use Rattle.device_model.specs.Request.{Request, Read, Write, Flush, Asked, RequestState, Unfinished, Finished, Taken, Dropped, is_unfinished, as_dropped, writes_of, front_of}
 use Rattle.device_model.specs.RequestLaws.{IsReached}
 use Rattle.device_model.specs.Submission.{Submission, request_in}
@@ -110,7 +110,7 @@ close_law f s reached works =
     let p = s.progress in
     let is : event_result f s Close ≡ close f p = result-working f s Close works in
     record {
-      condition = ap (λ (c : Condition). Rattle.device_model.specs.Progress.condition_after c Close) works;
+      condition = ap (λ (c : Condition). condition_after c Close) works;
       dropped = λ k a there.
           dropped-over p.requests k a (sym (ap (λ (l : List Asked). slice_get l k) (ap (λ (r : EventResult). r.progress.requests) is ∙ requests-finished f.mode (with_dropped p))) ∙ there);
       flushed =

@@ -4,6 +4,7 @@ use Rattle.std.specs.Option.{option_or}
 use Rattle.std.proofs.lemmas.Bool.{cases_Bool, true≢false, or_parts, eqb-true, eqb-false, eq-eqb, ne_eqb, ltb-false, le-ltb, leb-false, lt-leb}
 use Rattle.std.proofs.lemmas.List.{length-take, length-drop}
 use Rattle.std.proofs.lemmas.Option.{none-some, same_Some}
+use Rattle.device_model.specs.History.{Change, with_changes}
 use Rattle.device_model.specs.Mode.{DeviceFormat, is_recovery}
 use Rattle.device_model.specs.Progress.{Progress, Condition, Working, Broken, Closed, DeviceState, Event, Submit, Answer, Ticket, ReadOnly, Range, Length, SlotsFull, EventResult, in_flight, blocks_refusal, form_refusal, slots_refusal, submit_by, submit, working_result, result_in, event_result}
 use Rattle.device_model.specs.Request.{Asked}
@@ -200,17 +201,19 @@ ticket_law f s submission works =
 pub refused_law : RefusedLaw
 refused_law f s submission = by s.condition
   where
+    state_of : List Change → Progress → DeviceState
+    state_of changes p = record { history = with_changes changes s.history; progress = p; condition = s.condition }
+
     working : (refused : Option Answer) → ((submit_by f s.progress submission refused).answer ≡ Ticket (suc (length s.progress.requests)))
         ⊎ (((submit_by f s.progress submission refused).progress ≡ s.progress) × ((submit_by f s.progress submission refused).changes ≡ []))
     working None = inl refl
     working (Some answer) = inr (refl, refl)
 
     by : (c : Condition) → ((result_in f s c (Submit submission)).answer ≡ Ticket (suc (length s.progress.requests)))
-        ⊎ (◌≡◌ {A = DeviceState} (record { history = Rattle.device_model.specs.History.with_changes (result_in f s c (Submit submission)).changes s.history; progress = (result_in f s c (Submit submission)).progress; condition = s.condition }) s)
+        ⊎ (state_of (result_in f s c (Submit submission)).changes (result_in f s c (Submit submission)).progress ≡ s)
     by Broken = inr refl
     by Closed = inr refl
     by Working = elim (working (refusal f s.progress submission)) [
       | inl given ↦ inl given
-      | inr same ↦ inr (ap (λ (p : Progress). record { history = Rattle.device_model.specs.History.with_changes (submit f s.progress submission).changes s.history; progress = p; condition = s.condition }) same.0
-          ∙ ap (λ (changes : List Rattle.device_model.specs.History.Change). record { history = Rattle.device_model.specs.History.with_changes changes s.history; progress = s.progress; condition = s.condition }) same.1)
+      | inr same ↦ inr (ap (state_of (submit f s.progress submission).changes) same.0 ∙ ap (λ (changes : List Change). state_of changes s.progress) same.1)
     ]

@@ -1,4 +1,5 @@
 -- What is handed in to a device, and the request that it makes.
+-- Own: a request brings its bytes, and gives them back with its reply.
 use Rattle.std.specs.Prelude.{ℕ, zero, suc, Bool, List, [], ◌∷◌, take, drop}
 use Rattle.device_model.specs.Request.{Request}
 
