@@ -8,7 +8,7 @@ use Rattle.std.proofs.lemmas.Nat.{div-mul-add, mod-mul-add}
 use Rattle.std.proofs.lemmas.Option.{none-some, same_Some}
 use Rattle.image_model.specs.Cells.{salt_of}
 use Rattle.image_model.specs.Section.{Entry}
-use Rattle.device_model.specs.History.{BlockWrite, History, Written, with_change}
+use Rattle.device_model.specs.History.{BlockWrite, History, Written, with_change, Begun}
 use Rattle.device_model.specs.Journal.{SectionCounts, JournalCounts, is_unfreed, has_open_end, with_entry, opened_with, put}
 use Rattle.device_model.specs.Mode.{DeviceFormat}
 use Rattle.place_model.proofs.EachLemmas.{all_append}
@@ -159,13 +159,13 @@ module _ (f : DeviceFormat) (h : History) (j : JournalCounts) (d : JournaledDisk
   -- ---- both histories
 
   abbrev Both : List SectionCounts → JournalRing → Type 0
-  Both sections after = IsJournalOf f (record h { pending = Some write }) (record j { sections = sections }) d after × IsJournalOf f (with_change h (Written write)) (record j { sections = sections }) d after
+  Both sections after = IsJournalOf f (with_change h (Begun write)) (record j { sections = sections }) d after × IsJournalOf f (with_change h (Written write)) (record j { sections = sections }) d after
 
   both_of : (sections : List SectionCounts) (after : JournalRing) → IsJournalRing d after → AreCounts (record j { sections = sections }) d after
       → uncommitted after ≡ uncommitted r ++ entry_of_write d write ∷ [] → h.pending ≡ None → Both sections after
   both_of sections after ring_is counts_are entries_are idle =
       let histories = history_put d (uncommitted r) h write idle is.history in
-      (one (record h { pending = Some write }) histories.0, one (with_change h (Written write)) histories.1)
+      (one (with_change h (Begun write)) histories.0, one (with_change h (Written write)) histories.1)
     where
       one : (other : History) → IsHistoryOf d (uncommitted r ++ entry_of_write d write ∷ []) other → IsJournalOf f other (record j { sections = sections }) d after
       one other history = record {

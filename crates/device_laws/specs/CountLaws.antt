@@ -2,7 +2,7 @@
 use Rattle.std.specs.Prelude.{◌≡◌, ℕ, ◌<◌, List, [], length, Option, Some, None, is_some, filter_map}
 use Rattle.image_model.specs.Geometry.{Shape}
 use Rattle.image_model.specs.Section.{Entry}
-use Rattle.device_model.specs.History.{BlockWrite, History, Written, Flushed, with_change}
+use Rattle.device_model.specs.History.{BlockWrite, History, Written, Flushed, with_change, Begun}
 use Rattle.device_model.specs.Journal.{SectionCounts, JournalCounts, put, commit, commit_all, place, settle}
 use Rattle.device_model.specs.Mode.{DeviceFormat}
 use Rattle.device_model.specs.RoomLaws.{commits}
@@ -26,7 +26,7 @@ abbrev pub PutLaw : Type 0
 PutLaw = (f : DeviceFormat) (h : History) (j : JournalCounts) (sections : List SectionCounts) (d : JournaledDisk) (r : JournalRing) (write : BlockWrite)
     → IsJournalOf f h j d r → h.pending ≡ None → write.block < f.blocks.blocks → length write.bytes ≡ f.blocks.block_size
     → put f.sections f.entries write.block j.sections ≡ Some sections
-    → IsJournalOf f (record h { pending = Some write }) (record j { sections = sections }) d (with_put f.entries (entry_of_write d write) r)
+    → IsJournalOf f (with_change h (Begun write)) (record j { sections = sections }) d (with_put f.entries (entry_of_write d write) r)
     × IsJournalOf f (with_change h (Written write)) (record j { sections = sections }) d (with_put f.entries (entry_of_write d write) r)
 
 -- ---- commit
@@ -62,7 +62,7 @@ FlushLaw = (f : DeviceFormat) (h : History) (j : JournalCounts) (d : JournaledDi
 -- The same at the end of a write whose entry was put and committed while it was under way.
 abbrev pub FlushWriteLaw : Type 0
 FlushWriteLaw = (f : DeviceFormat) (h : History) (j : JournalCounts) (d : JournaledDisk) (r : JournalRing) (write : BlockWrite)
-    → IsJournalOf f (record h { pending = Some write }) j d r → r.opened ≡ []
+    → IsJournalOf f (with_change h (Begun write)) j d r → r.opened ≡ []
     → IsJournalOf f (with_change (with_change h (Written write)) Flushed) j d r
 
 -- Commits until none is left give the counts of a flush.

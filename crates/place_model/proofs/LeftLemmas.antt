@@ -4,10 +4,10 @@ use Rattle.std.specs.Option.{option_to_list}
 use Rattle.std.proofs.lemmas.List.{take-append-le}
 use Rattle.disk_model.specs.Disk.{sector_in}
 use Rattle.device_model.specs.Cut.{all_writes}
-use Rattle.device_model.specs.History.{BlockWrite, History, cells_after}
+use Rattle.device_model.specs.History.{BlockWrite, History, Begun, with_change, cells_after}
 use Rattle.device_model.proofs.CutLemmas.{IsUnflushed-begun}
 use Rattle.place_model.specs.Format.{tagger_of}
-use Rattle.place_model.specs.Left.{DirectPendingLaw, JournalPendingLaw, BitmapPendingLaw, with_pending}
+use Rattle.place_model.specs.Left.{DirectPendingLaw, JournalPendingLaw, BitmapPendingLaw}
 
 module _ (h : History) (write : BlockWrite) (idle : h.pending ≡ None) where
   all-before : all_writes h ≡ h.writes
@@ -17,11 +17,11 @@ module _ (h : History) (write : BlockWrite) (idle : h.pending ≡ None) where
   fits kept low = omega (arith, low, ap length all-before)
 
   -- So many of the first writes are the same ones,
-  kept-before : (kept : ℕ) → kept ≤ length (all_writes h) → take kept (all_writes h) ≡ take kept (all_writes (with_pending write h))
+  kept-before : (kept : ℕ) → kept ≤ length (all_writes h) → take kept (all_writes h) ≡ take kept (all_writes (with_change h (Begun write)))
   kept-before kept low = ap (take kept) all-before ∙ sym (take-append-le kept h.writes (write ∷ []) (fits kept low))
 
   -- and there are more of them then.
-  no_more : (kept : ℕ) → kept ≤ length (all_writes h) → kept ≤ length (all_writes (with_pending write h))
+  no_more : (kept : ℕ) → kept ≤ length (all_writes h) → kept ≤ length (all_writes (with_change h (Begun write)))
   no_more kept low = omega (arith, fits kept low, length-append h.writes (write ∷ []))
 
 -- ---- for callers

@@ -1,11 +1,11 @@
 -- What a cut may leave of a device: an image that can be opened, whose cells its history allows.
 -- Own: what each mode promises.
-use Rattle.std.specs.Prelude.{◌≡◌, None, Some}
+use Rattle.std.specs.Prelude.{◌≡◌, None}
 use Rattle.disk_model.specs.Disk.{Image}
 use Rattle.image_model.specs.Bitmap.{is_dirty}
 use Rattle.image_model.specs.Geometry.{region_of}
 use Rattle.device_model.specs.Cut.{MayBeLeftDirect, MayBeLeftJournal, MayBeLeftBitmap}
-use Rattle.device_model.specs.History.{BlockWrite, History}
+use Rattle.device_model.specs.History.{BlockWrite, History, Begun, with_change}
 use Rattle.place_model.specs.Format.{DiskFormat, tagger_of, cells_on, OpensAs}
 
 -- The image may be left in direct mode: each block with no write that is not flushed holds what the flushed ones gave it.
@@ -28,19 +28,15 @@ pub record IsLeftInBitmap (d : DiskFormat) (h : History) (image : Image) : Type 
 
 -- ---- laws
 
--- The history with a write under way.
-abbrev pub with_pending : BlockWrite → History → History
-with_pending write h = record h { pending = Some write }
-
 -- What may be left before a write may be left while it is under way, in each mode.
 abbrev pub DirectPendingLaw : Type 0
 DirectPendingLaw = (d : DiskFormat) (h : History) (write : BlockWrite) (image : Image) → h.pending ≡ None
-    → IsLeftInDirect d h image → IsLeftInDirect d (with_pending write h) image
+    → IsLeftInDirect d h image → IsLeftInDirect d (with_change h (Begun write)) image
 
 abbrev pub JournalPendingLaw : Type 0
 JournalPendingLaw = (d : DiskFormat) (h : History) (write : BlockWrite) (image : Image) → h.pending ≡ None
-    → IsLeftInJournal d h image → IsLeftInJournal d (with_pending write h) image
+    → IsLeftInJournal d h image → IsLeftInJournal d (with_change h (Begun write)) image
 
 abbrev pub BitmapPendingLaw : Type 0
 BitmapPendingLaw = (d : DiskFormat) (h : History) (write : BlockWrite) (image : Image) → h.pending ≡ None
-    → IsLeftInBitmap d h image → IsLeftInBitmap d (with_pending write h) image
+    → IsLeftInBitmap d h image → IsLeftInBitmap d (with_change h (Begun write)) image
