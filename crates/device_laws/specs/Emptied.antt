@@ -27,5 +27,6 @@ EmptiedLaw = (d : JournaledDisk) (c : Content) → StandsFor d c → replayed_en
 -- and so does one whose journal has just been erased.
 abbrev pub ErasedLaw : Type 0
 ErasedLaw = (d : JournaledDisk) (number : ℕ) (empty : Image) (first : Content) → IsErasable d number empty
-    → StandsErasing d number empty true first → IsImage first (last_image first) → ReadsErased d number empty true first
-    → DirectDisk.StandsFor (as_direct (emptied d number empty)) (newest_only first)
+    → StandsErasing d number empty true first → IsImage first (last_image first)
+    → ReadsErased d number empty true first → DirectDisk.StandsFor (as_direct (emptied d number empty))
+    (newest_only first)

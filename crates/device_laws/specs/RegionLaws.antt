@@ -29,11 +29,13 @@ RegionsBegin = (d : DiskFormat) (image : Image) → has_flag DIRTY_BITMAP d.supe
 -- after a block is written with its bit set those of the disk then,
 abbrev pub RegionsWritten : Type 0
 RegionsWritten = (counts : RegionCounts) (d : BitmapDisk) (write : BlockWrite) → AreRegions counts d
-    → AreRegions (written_region (region_of d.geometry write.block) counts) (with_write (with_dirty d (region_of d.geometry write.block)) write)
+    → AreRegions (written_region (region_of d.geometry write.block) counts)
+    (with_write (with_dirty d (region_of d.geometry write.block)) write)
 
 -- after all is written back and synced,
 abbrev pub RegionsFlushed : Type 0
-RegionsFlushed = (counts : RegionCounts) (d : BitmapDisk) → AreRegions counts d → AreRegions (written_back counts) (flushed_all d)
+RegionsFlushed = (counts : RegionCounts) (d : BitmapDisk) → AreRegions counts d
+    → AreRegions (written_back counts) (flushed_all d)
 
 -- and after a region is recalculated: the one that is chosen awaits.
 abbrev pub RegionsRecalculated : Type 0
@@ -48,15 +50,18 @@ pub record ChoosesRegion (after : RegionCounts) (d : BitmapDisk) (fits : ℕ →
   pub then_is : AreRegions after (step region)
 
 abbrev pub RecalculateLaw : Type 0
-RecalculateLaw = (counts after : RegionCounts) (d : BitmapDisk) → AreRegions counts d → recalculate (regions d.geometry) counts ≡ Some after
+RecalculateLaw = (counts after : RegionCounts) (d : BitmapDisk) → AreRegions counts d
+    → recalculate (regions d.geometry) counts ≡ Some after
     → ChoosesRegion after d (λ region. d.awaiting region ≡ true) (recalculated d)
 
 -- A bit is cleared of a region that needs none.
 abbrev pub CleanLaw : Type 0
-CleanLaw = (counts after : RegionCounts) (d : BitmapDisk) (is_used : ℕ → Bool) → AreRegions counts d → clean (regions d.geometry) is_used counts ≡ Some after
+CleanLaw = (counts after : RegionCounts) (d : BitmapDisk) (is_used : ℕ → Bool) → AreRegions counts d
+    → clean (regions d.geometry) is_used counts ≡ Some after
     → ChoosesRegion after d (λ region. needs_bit d region ≡ false) (with_clear d)
 
 -- Without a bitmap a block whose region does not await at opening has its tag in place.
 abbrev pub AwaitingLaw : Type 0
-AwaitingLaw = (d : DiskFormat) (image : Image) (b : ℕ) → has_flag DIRTY_BITMAP d.superblock.flags ≡ false → b < d.geometry.blocks
-    → awaiting_on Journal d image (region_of d.geometry b) ≡ false → is_to_recalculate d.superblock d.geometry b ≡ false
+AwaitingLaw = (d : DiskFormat) (image : Image) (b : ℕ) → has_flag DIRTY_BITMAP d.superblock.flags ≡ false
+    → b < d.geometry.blocks → awaiting_on Journal d image (region_of d.geometry b) ≡ false
+    → is_to_recalculate d.superblock d.geometry b ≡ false

@@ -22,14 +22,14 @@ opened_disk d image = record {
 -- Each disk of whole sectors with nothing pending, whose image can be opened, has no bitmap and no entry to be replayed,
 -- stands for that.
 abbrev pub OpenedLaw : Type 0
-OpenedLaw = (d : DiskFormat) (c : Content) → OpensAs d (last_image c) → has_flag DIRTY_BITMAP d.superblock.flags ≡ false
-    → replayed_entries d.geometry (last_image c) ≡ [] → HasNothingPending c → HasWholeSectors d (last_image c)
-    → StandsFor (opened_disk d (last_image c)) c
+OpenedLaw = (d : DiskFormat) (c : Content) → OpensAs d (last_image c)
+    → has_flag DIRTY_BITMAP d.superblock.flags ≡ false → replayed_entries d.geometry (last_image c) ≡ []
+    → HasNothingPending c → HasWholeSectors d (last_image c) → StandsFor (opened_disk d (last_image c)) c
 
 -- Until its first sync an opening has the images at entry. That leaves one of them, which the disk then stands for.
 abbrev pub FirstSyncLaw : Type 0
-FirstSyncLaw = (d : DiskFormat) (entry : Content) → IsImage entry (last_image entry) → OpensAs d (last_image entry)
-    → has_flag DIRTY_BITMAP d.superblock.flags ≡ false → replayed_entries d.geometry (last_image entry) ≡ []
-    → HasWholeSectors d (last_image entry)
+FirstSyncLaw = (d : DiskFormat) (entry : Content) → IsImage entry (last_image entry)
+    → OpensAs d (last_image entry) → has_flag DIRTY_BITMAP d.superblock.flags ≡ false
+    → replayed_entries d.geometry (last_image entry) ≡ [] → HasWholeSectors d (last_image entry)
     → IsSettled entry (newest_only entry) × StandsFor (opened_disk d (last_image entry)) (newest_only entry)
     × EachImage (HasCells d (cells_on d (last_image entry))) (newest_only entry)

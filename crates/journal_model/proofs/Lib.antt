@@ -12,7 +12,7 @@ pub mod ErasureLemmas
 pub mod ErasingLemmas
 pub mod SizeLemmas
 pub mod OpeningLemmas
-pub mod ReadsLemmas
+pub mod KeepsLemmas
 pub mod FreeLemmas
 pub mod BatchLemmas
 pub mod ViewLemmas

@@ -3,6 +3,7 @@ pub mod Entries
 pub mod JournaledDisk
 pub mod Steps
 pub mod StepLaws
+pub mod KeepsLaws
 pub mod HistoryOf
 pub mod Erasing
 pub mod Opening

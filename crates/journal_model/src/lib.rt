@@ -5,7 +5,8 @@ ghost use Rattle.journal_model.specs.Batch.{BatchLaw};
 ghost use Rattle.journal_model.specs.Cuts.{AllNewLaw, CommitCutLaw, NoneNewLaw};
 ghost use Rattle.journal_model.specs.Erasing.{ErasureBegins, ErasureCut, ErasureEnds, ErasureGoesOn, ErasureTurns};
 ghost use Rattle.journal_model.specs.HistoryOf.{HistoryBegins, HistoryCommitted, HistoryFlushed, HistoryPlaced, HistoryPut, LeftLaw};
-ghost use Rattle.journal_model.specs.Opening.{BaseCellsLaw, FirstSyncLaw, OpenedCellsLaw, OpenedLaw, PlacedReadLaw, RebasedLaw, RecoveredLaw, RestNewestLaw, StateLaw};
+ghost use Rattle.journal_model.specs.KeepsLaws.{KeepsBack, KeepsCommitted, KeepsPlaced, KeepsSettled, KeepsTagSectors, PlacedReadLaw};
+ghost use Rattle.journal_model.specs.Opening.{BaseCellsLaw, FirstSyncLaw, OpenedCellsLaw, OpenedLaw, RebasedLaw, RecoveredLaw, RestNewestLaw, StateLaw};
 ghost use Rattle.journal_model.specs.View.{RingLaw};
 ghost use Rattle.journal_model.specs.StepLaws.{CommittedLaw, CommittingLaw, KeptEntriesLaw, KeptLaw, PlacingLaw, RoomLaw, SettledLaw, StandingLaw, TagsWrittenLaw, WritingBackLaw};
 
@@ -60,7 +61,6 @@ pub fn opening_is_told()
     ensures first_sync { FirstSyncLaw }
     ensures rebased { RebasedLaw }
     ensures recovered { RecoveredLaw }
-    ensures read { PlacedReadLaw }
     ensures state { StateLaw }
     ensures newest { RestNewestLaw }
 {}
@@ -80,4 +80,14 @@ pub fn batch_is_sections()
 /// The sections that a ring shows are a batch of its disk, and after a commit it is the ring of the disk then.
 pub fn ring_goes_on()
     ensures { RingLaw }
+{}
+
+/// After each step reads give of the data and the tags what the disk then stands for.
+pub fn steps_read_right()
+    ensures committed { KeepsCommitted }
+    ensures tag_sectors { KeepsTagSectors }
+    ensures placed { KeepsPlaced }
+    ensures back { KeepsBack }
+    ensures settled { KeepsSettled }
+    ensures read { PlacedReadLaw }
 {}

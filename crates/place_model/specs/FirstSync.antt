@@ -17,5 +17,6 @@ IsOfOpening d base entry c = (c ≡ entry) ⊎ EachImage (HasCells d base) c
 
 -- A sync settles what was pending at entry, and leaves the cells that reads give.
 abbrev pub FirstSyncLaw : Type 0
-FirstSyncLaw = (d : DiskFormat) (entry : Content) → IsImage entry (last_image entry) → OpensAs d (last_image entry)
-    → IsSettled entry (newest_only entry) × EachImage (HasCells d (cells_on d (last_image entry))) (newest_only entry)
+FirstSyncLaw = (d : DiskFormat) (entry : Content) → IsImage entry (last_image entry)
+    → OpensAs d (last_image entry) → IsSettled entry (newest_only entry)
+    × EachImage (HasCells d (cells_on d (last_image entry))) (newest_only entry)

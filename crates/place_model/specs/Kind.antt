@@ -42,13 +42,16 @@ kind_in mode key sectors = record {
 
 -- What may be left by the format of the image at entry may be left of the device that was opened on it, in each mode.
 abbrev pub JournalKindLaw : Type 0
-JournalKindLaw = (d : DiskFormat) (entry : Image) (h : History) (left : Image) → format_on d.key d.sectors entry ≡ d
-    → IsLeftInJournal d h left → MayBeLeftIn Journal d.key d.sectors entry h left
+JournalKindLaw = (d : DiskFormat) (entry : Image) (h : History) (left : Image)
+    → format_on d.key d.sectors entry ≡ d → IsLeftInJournal d h left
+    → MayBeLeftIn Journal d.key d.sectors entry h left
 
 abbrev pub BitmapKindLaw : Type 0
-BitmapKindLaw = (d : DiskFormat) (entry : Image) (h : History) (left : Image) → format_on d.key d.sectors entry ≡ d
-    → IsLeftInBitmap d h left → MayBeLeftIn Bitmap d.key d.sectors entry h left
+BitmapKindLaw = (d : DiskFormat) (entry : Image) (h : History) (left : Image)
+    → format_on d.key d.sectors entry ≡ d → IsLeftInBitmap d h left
+    → MayBeLeftIn Bitmap d.key d.sectors entry h left
 
 abbrev pub DirectKindLaw : Type 0
-DirectKindLaw = (d : DiskFormat) (entry : Image) (h : History) (left : Image) → format_on d.key d.sectors entry ≡ d
-    → IsLeftInDirect d h left → MayBeLeftIn Direct d.key d.sectors entry h left
+DirectKindLaw = (d : DiskFormat) (entry : Image) (h : History) (left : Image)
+    → format_on d.key d.sectors entry ≡ d → IsLeftInDirect d h left
+    → MayBeLeftIn Direct d.key d.sectors entry h left

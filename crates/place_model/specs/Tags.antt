@@ -24,7 +24,8 @@ pub record IsOfTags (g : Geometry) (old new : ℕ → List ℕ) (sector : ℕ) (
   pub byte_low : byte < g.shape.tag_size
   pub is : sector ≡ (tag_byte_at g block byte).0
   pub each : (b i : ℕ) → b < g.blocks → i < g.shape.tag_size → sector ≡ (tag_byte_at g b i).0
-      → (slice_index x (tag_byte_at g b i).1 ≡ slice_index (old b) i) ⊎ (slice_index x (tag_byte_at g b i).1 ≡ slice_index (new b) i)
+      → (slice_index x (tag_byte_at g b i).1 ≡ slice_index (old b) i)
+      ⊎ (slice_index x (tag_byte_at g b i).1 ≡ slice_index (new b) i)
 
 -- The bytes may be written while a block gets a new cell: its data, and sectors of tags without and with its tag.
 abbrev pub IsOfCell : Geometry → ℕ → Cell → (ℕ → List ℕ) → ℕ → List ℕ → Type 0
