@@ -17,7 +17,7 @@ use Rattle.journal_model.specs.Batch.{AreSections}
 use Rattle.journal_model.specs.Cuts.{next_after}
 use Rattle.journal_model.specs.HistoryOf.{IsHistoryOf}
 use Rattle.journal_model.specs.JournaledDisk.{JournaledDisk}
-use Rattle.journal_model.specs.Steps.{IsBatch, IsFreeBut, brought, with_batch, batch_entries, committed}
+use Rattle.journal_model.specs.Steps.{IsBatch, IsFreeBut, batch_image, with_batch, batch_entries, after_commit}
 use Rattle.journal_model.proofs.BatchLemmas.{batch_law, section_is}
 use Rattle.journal_model.proofs.CommittedLemmas.{ring_after, new_in, old_below, old_behind, rests_after, sound_after}
 use Rattle.journal_model.proofs.FreeLemmas.{kept_law}
@@ -27,10 +27,10 @@ use Rattle.journal_model.specs.View.{IsRingOf}
 use Rattle.journal_model.proofs.ViewLemmas.{ring_law}
 use Rattle.device_laws.specs.CountLaws.{IdleCommitLaw, CommitLaw}
 use Rattle.device_laws.specs.Device.{AreCounts, IsJournalRing, IsJournalOf}
-use Rattle.device_laws.specs.Ring.{JournalRing, joined, uncommitted, view_of, batch_of, opened_at, with_commit, freed, committed_counts}
+use Rattle.device_laws.specs.Ring.{JournalRing, entries_of, uncommitted_entries, view_of, batch_of, opened_at, with_commit, freed_count, committed_counts}
 use Rattle.device_laws.proofs.FormatLemmas.{sections-is}
 use Rattle.device_laws.proofs.CountLemmas.{AreDone, done-front, closed_end-front, any-front, batch-front, some_opened, closed_end-opened, IsBatchCounts, batch-opened, counts-append}
-use Rattle.device_laws.proofs.RingLemmas.{joined-append, joined-take, joined-drop, joined-map, map_run-same, map-same, run_of, length-counts, next_mod, placed_part}
+use Rattle.device_laws.proofs.RingLemmas.{entries_of-append, entries_of-take, entries_of-drop, entries_of-map, map_run-same, map-same, run_of, length-counts, next_mod, placed_part}
 
 all_run : (P : ℕ → Type 0) (from count : ℕ) → ((i : ℕ) → from ≤ i → i < from + count → P i) → AllByRecursion P (range_with_len from count)
 all_run P from zero f = tt
@@ -40,11 +40,11 @@ all_run P from (suc count) f = (f from (omega arith) (omega arith), all_run P (f
 
 module _ (j : JournalCounts) (d : JournaledDisk) (r : JournalRing) (is : AreCounts j d r) where
   abbrev part : ℕ
-  part = d.placed - freed d r
+  part = d.placed - freed_count d r
 
   -- The sections that are free or committed.
   pub front : List SectionCounts
-  front = is.free ++ committed_counts d.geometry (d.placed - freed d r) r.committed
+  front = is.free ++ committed_counts d.geometry (d.placed - freed_count d r) r.committed
 
   pub sections_are : j.sections ≡ front ++ is.opened
   unfolding front
@@ -58,7 +58,7 @@ module _ (j : JournalCounts) (d : JournaledDisk) (r : JournalRing) (is : AreCoun
   unfolding front
   length-front = length-append is.free (committed_counts d.geometry part r.committed) ∙ ap (λ (n : ℕ). length is.free + n) (length-counts d.geometry part r.committed)
 
-  pub front-then : (op : List SectionCounts) → front ++ op ≡ is.free ++ (committed_counts d.geometry (d.placed - freed d r) r.committed ++ op)
+  pub front-then : (op : List SectionCounts) → front ++ op ≡ is.free ++ (committed_counts d.geometry (d.placed - freed_count d r) r.committed ++ op)
   unfolding front
   front-then op = append_assoc is.free (committed_counts d.geometry part r.committed) op
 
@@ -121,8 +121,8 @@ module _ (f : DeviceFormat) (h : History) (j : JournalCounts) (d : JournaledDisk
   opened_run : map (opened_at d r) (range_with_len d.next (batch_of d r)) ≡ take (batch_of d r) r.opened
   opened_run = run_of d.next (batch_of d r) r.opened k_low
 
-  pub told : batch_entries d (batch_of d r) bytes ≡ joined (take (batch_of d r) r.opened)
-  told = (batch_law d k (opened_at d r) bytes are).entries_are ∙ sym (joined-map (opened_at d r) (range_with_len d.next k)) ∙ ap joined opened_run
+  pub told : batch_entries d (batch_of d r) bytes ≡ entries_of (take (batch_of d r) r.opened)
+  told = (batch_law d k (opened_at d r) bytes are).entries_are ∙ sym (entries_of-map (opened_at d r) (range_with_len d.next k)) ∙ ap entries_of opened_run
 
   ring_of : IsRingOf (view_of d r) d
   ring_of = record {
@@ -181,17 +181,17 @@ module _ (f : DeviceFormat) (h : History) (j : JournalCounts) (d : JournaledDisk
       ∙ is.is_ring.kept)
       ∙ ap (λ (xs : List (List Entry)). r.committed ++ xs)
       (map_run-same d.next k now_ (opened_at d r) (λ i above under.
-      entries_in-same d.geometry (with_batch d k bytes) (brought d bytes) i (λ s narrow. new_in d k bytes is.sound is.is_ring.rests batch i s above under narrow)
+      entries_in-same d.geometry (with_batch d k bytes) (batch_image d bytes) i (λ s narrow. new_in d k bytes is.sound is.is_ring.rests batch i s above under narrow)
       ∙ section_is d k (opened_at d r) bytes are i above under)
       ∙ opened_run)
 
-  ring_is : IsJournalRing (committed d (batch_of d r) bytes) (with_commit d r)
+  ring_is : IsJournalRing (after_commit d (batch_of d r) bytes) (with_commit d r)
   ring_is = record {
     rests = rests_after d k bytes is.sound is.is_ring.rests batch;
     kept = kept_after;
     free =
         let e : k + length r.committed ≡ length (r.committed ++ take k r.opened) = omega (arith, kept_size) in
-        subst (λ (m : ℕ). IsFreeBut (committed d (batch_of d r) bytes) m) e (kept_law d (length r.committed) k bytes is.sound is.is_ring.rests batch is.is_ring.free fits);
+        subst (λ (m : ℕ). IsFreeBut (after_commit d (batch_of d r) bytes) m) e (kept_law d (length r.committed) k bytes is.sound is.is_ring.rests batch is.is_ring.free fits);
     fits = omega (arith, is.is_ring.fits, kept_size, length-drop k r.opened, k_low);
     each = all_drop _ k r.opened is.is_ring.each;
     some_committed = all_append _ r.committed (take k r.opened) is.is_ring.some_committed (all_take _ k r.opened is.is_ring.some_opened);
@@ -210,15 +210,15 @@ module _ (f : DeviceFormat) (h : History) (j : JournalCounts) (d : JournaledDisk
   batched = batch-opened d.geometry true n (j.next + length (front j d r is.counts)) k r.opened (closed_end is.counts.opened) (omega (arith, inside)) (closed_end-opened d.geometry r.closed r.opened is.counts.opened is.counts.are_opened)
       k_low (omega (arith, at_is)) (λ less. omega (arith, at_is, less)) (omega (arith, at_is, inside))
 
-  freed_same : freed (committed d (batch_of d r) bytes) (with_commit d r) ≡ freed d r
-  freed_same = omega (arith, length-append d.entries (batch_entries d k bytes), ap length told, ap length (joined-append r.committed (take k r.opened)), length-append (joined r.committed) (joined (take k r.opened)))
+  freed_same : freed_count (after_commit d (batch_of d r) bytes) (with_commit d r) ≡ freed_count d r
+  freed_same = omega (arith, length-append d.entries (batch_entries d k bytes), ap length told, ap length (entries_of-append r.committed (take k r.opened)), length-append (entries_of r.committed) (entries_of (take k r.opened)))
 
   sections_then : committed_batch f.sections j.next (closed_end j.sections)
-      ≡ is.counts.free ++ (committed_counts d.geometry (d.placed - freed (committed d (batch_of d r) bytes) (with_commit d r)) (r.committed ++ take (batch_of d r) r.opened) ++ batched.rest)
+      ≡ is.counts.free ++ (committed_counts d.geometry (d.placed - freed_count (after_commit d (batch_of d r) bytes) (with_commit d r)) (r.committed ++ take (batch_of d r) r.opened) ++ batched.rest)
   sections_then =
       let c = is.counts in
-      let p = d.placed - freed d r in
-      let none : p - length (joined r.committed) ≡ 0 = omega (arith, placed_part d r is.sound is.is_ring) in
+      let p = d.placed - freed_count d r in
+      let none : p - length (entries_of r.committed) ≡ 0 = omega (arith, placed_part d r is.sound is.is_ring) in
       ap (λ (m : ℕ). committed_batch m j.next (closed_end j.sections)) (sections-is f d.format is.format)
       ∙ ap (λ (xs : List SectionCounts). committed_batch n j.next (closed_end xs)) (sections_are j d r c)
       ∙ ap (committed_batch n j.next) (closed_end-some (front j d r c) c.opened some_left)
@@ -238,7 +238,7 @@ module _ (f : DeviceFormat) (h : History) (j : JournalCounts) (d : JournaledDisk
       ∙ next_mod n at k (omega (arith, inside)) (omega (arith, is.counts.next))
       ∙ ap (λ (m : ℕ). m % n) e
 
-  counts_are : AreCounts (record j { sections = committed_batch f.sections j.next (closed_end j.sections) }) (committed d (batch_of d r) bytes) (with_commit d r)
+  counts_are : AreCounts (record j { sections = committed_batch f.sections j.next (closed_end j.sections) }) (after_commit d (batch_of d r) bytes) (with_commit d r)
   counts_are = record {
     free = is.counts.free;
     opened = batched.rest;
@@ -248,21 +248,21 @@ module _ (f : DeviceFormat) (h : History) (j : JournalCounts) (d : JournaledDisk
     next = next_then;
   }
 
-  pub after : IsJournalOf f h (record j { sections = committed_batch f.sections j.next (closed_end j.sections) }) (committed d (batch_of d r) bytes) (with_commit d r)
+  pub after : IsJournalOf f h (record j { sections = committed_batch f.sections j.next (closed_end j.sections) }) (after_commit d (batch_of d r) bytes) (with_commit d r)
   after = record {
     format = is.format;
     sound = sound_after d k bytes is.sound is.is_ring.rests batch;
     is_ring = ring_is;
     counts = counts_are;
     history =
-        let count = length (joined (take k r.opened)) in
-        let past = history_committed d k bytes (uncommitted r) count h (told ∙ sym (joined-take k r.opened)) is.history in
-        subst (λ (xs : List Entry). IsHistoryOf (committed d (batch_of d r) bytes) xs h) (joined-drop k r.opened) past;
+        let count = length (entries_of (take k r.opened)) in
+        let past = history_committed d k bytes (uncommitted_entries r) count h (told ∙ sym (entries_of-take k r.opened)) is.history in
+        subst (λ (xs : List Entry). IsHistoryOf (after_commit d (batch_of d r) bytes) xs h) (entries_of-drop k r.opened) past;
   }
 
 pub commit_law : CommitLaw
 commit_law f h j j' d r bytes is told are =
     let tells = commit-some f.sections j j' told in (
       batch f h j d r bytes is tells.0 are,
-      subst (λ (k : JournalCounts). IsJournalOf f h k (committed d (batch_of d r) bytes) (with_commit d r)) tells.1 (after f h j d r bytes is tells.0 are),
+      subst (λ (k : JournalCounts). IsJournalOf f h k (after_commit d (batch_of d r) bytes) (with_commit d r)) tells.1 (after f h j d r bytes is tells.0 are),
     )

@@ -11,7 +11,7 @@ use Rattle.device_model.proofs.RingLemmas.{unfreed_weight, mod-suc}
 use Rattle.place_model.proofs.EachLemmas.{all_append}
 use Rattle.journal_model.specs.View.{takes_more, put_last}
 use Rattle.device_laws.specs.Device.{IsOpened, AreOpened}
-use Rattle.device_laws.specs.Ring.{joined, unplaced_from, block_of, committed_counts}
+use Rattle.device_laws.specs.Ring.{entries_of, unplaced_from, block_of, committed_counts}
 
 -- ---- sections that are committed or free
 
@@ -235,12 +235,12 @@ batch-opened g closed ring at (suc k) (x ∷ opened) (s ∷ op) some are low fit
           })
     ]
 
-pub counts-append : (g : Geometry) (p : ℕ) (xs ys : List (List Entry)) → committed_counts g p (xs ++ ys) ≡ committed_counts g p xs ++ committed_counts g (p - length (joined xs)) ys
+pub counts-append : (g : Geometry) (p : ℕ) (xs ys : List (List Entry)) → committed_counts g p (xs ++ ys) ≡ committed_counts g p xs ++ committed_counts g (p - length (entries_of xs)) ys
 counts-append g p [] ys = let e : p ≡ p - 0 = omega arith in counts-same g p (p - 0) ys e
 counts-append g p (x ∷ xs) ys =
     let s : SectionCounts = record { blocks = map (block_of g) x; placed = min p (length x); state = Committed } in
-    let e : (p - length x) - length (joined xs) ≡ p - length (x ++ joined xs) = omega (arith, length-append x (joined xs)) in
-    ap (λ (cs : List SectionCounts). s ∷ cs) (counts-append g (p - length x) xs ys ∙ ap (λ (cs : List SectionCounts). committed_counts g (p - length x) xs ++ cs) (counts-same g ((p - length x) - length (joined xs)) (p - length (x ++ joined xs)) ys e))
+    let e : (p - length x) - length (entries_of xs) ≡ p - length (x ++ entries_of xs) = omega (arith, length-append x (entries_of xs)) in
+    ap (λ (cs : List SectionCounts). s ∷ cs) (counts-append g (p - length x) xs ys ∙ ap (λ (cs : List SectionCounts). committed_counts g (p - length x) xs ++ cs) (counts-same g ((p - length x) - length (entries_of xs)) (p - length (x ++ entries_of xs)) ys e))
 
 -- ---- place
 
@@ -274,7 +274,7 @@ abbrev counts_one : Geometry → List Entry → ℕ → SectionCounts
 counts_one g x n = record { blocks = map (block_of g) x; placed = n; state = Committed }
 
 -- Where an entry is left the next one is placed,
-place-some : (g : Geometry) (p : ℕ) (xs : List (List Entry)) (op : List SectionCounts) → p < length (joined xs) → place_oldest (committed_counts g p xs ++ op) ≡ Some (committed_counts g (suc p) xs ++ op)
+place-some : (g : Geometry) (p : ℕ) (xs : List (List Entry)) (op : List SectionCounts) → p < length (entries_of xs) → place_oldest (committed_counts g p xs ++ op) ≡ Some (committed_counts g (suc p) xs ++ op)
 place-some g p [] op less = absurd (omega (arith, less))
 place-some g p (x ∷ xs) op less =
     let size = length-map x (block_of g) in
@@ -294,30 +294,30 @@ place-some g p (x ∷ xs) op less =
           let count : n ≡ min (suc p) (length x) = omega (arith, past) in
           let rest : suc (p - length x) ≡ suc p - length x = omega (arith, past) in
           ap by test
-          ∙ ap (option_map (λ (after : List SectionCounts). counts_one g x n ∷ after)) (place-some g (p - length x) xs op (omega (arith, less, past, length-append x (joined xs))))
+          ∙ ap (option_map (λ (after : List SectionCounts). counts_one g x n ∷ after)) (place-some g (p - length x) xs op (omega (arith, less, past, length-append x (entries_of xs))))
           ∙ ap (λ (m : ℕ). Some (counts_one g x m ∷ (committed_counts g (suc (p - length x)) xs ++ op))) count
           ∙ ap (λ (q : ℕ). Some (counts_one g x (min (suc p) (length x)) ∷ (committed_counts g q xs ++ op))) rest
     ]
 
 -- and else none is.
-place-none : (g : Geometry) (p : ℕ) (xs : List (List Entry)) (op : List SectionCounts) → length (joined xs) ≤ p → place_oldest op ≡ None → place_oldest (committed_counts g p xs ++ op) ≡ None
+place-none : (g : Geometry) (p : ℕ) (xs : List (List Entry)) (op : List SectionCounts) → length (entries_of xs) ≤ p → place_oldest op ≡ None → place_oldest (committed_counts g p xs ++ op) ≡ None
 place-none g p [] op all none = none
 place-none g p (x ∷ xs) op all none =
     let size = length-map x (block_of g) in
     let n = min p (length x) in
     let behind = committed_counts g (p - length x) xs ++ op in
-    let sum = length-append x (joined xs) in
+    let sum = length-append x (entries_of xs) in
     let by = λ (t : Bool). if t then Some (counts_one g x (suc n) ∷ behind) else option_map (λ (rest : List SectionCounts). counts_one g x n ∷ rest) (place_oldest behind) in
     let test : ltb n (length (map (block_of g) x)) ≡ false = le-ltb n (length (map (block_of g) x)) (omega (arith, size, all, sum)) in
     ap by test ∙ ap (option_map (λ (after : List SectionCounts). counts_one g x n ∷ after)) (place-none g (p - length x) xs op (omega (arith, all, sum)) none)
 
 pub place-next : (g : Geometry) (p : ℕ) (closed : Bool) (free : List SectionCounts) (xs opened : List (List Entry)) (op : List SectionCounts) → AllByRecursion (λ (s : SectionCounts). s.state ≡ Free) free
-    → AreOpened g closed opened op → p < length (joined xs) → place_oldest (free ++ (committed_counts g p xs ++ op)) ≡ Some (free ++ (committed_counts g (suc p) xs ++ op))
+    → AreOpened g closed opened op → p < length (entries_of xs) → place_oldest (free ++ (committed_counts g p xs ++ op)) ≡ Some (free ++ (committed_counts g (suc p) xs ++ op))
 place-next g p closed free xs opened op all are less =
     place-front free (committed_counts g p xs ++ op) (idle-free free all) ∙ ap (option_map (λ (after : List SectionCounts). free ++ after)) (place-some g p xs op less)
 
 pub place-all : (g : Geometry) (p : ℕ) (closed : Bool) (free : List SectionCounts) (xs opened : List (List Entry)) (op : List SectionCounts) → AllByRecursion (λ (s : SectionCounts). s.state ≡ Free) free
-    → AreOpened g closed opened op → length (joined xs) ≤ p → place_oldest (free ++ (committed_counts g p xs ++ op)) ≡ None
+    → AreOpened g closed opened op → length (entries_of xs) ≤ p → place_oldest (free ++ (committed_counts g p xs ++ op)) ≡ None
 place-all g p closed free xs opened op all are past =
     place-front free (committed_counts g p xs ++ op) (idle-free free all) ∙ ap (option_map (λ (after : List SectionCounts). free ++ after)) (place-none g p xs op past (place-idle op (idle-opened g closed opened op are)))
 
@@ -342,8 +342,8 @@ pub record IsSettled (g : Geometry) (p : ℕ) (xs : List (List Entry)) : Type 0 
   pub all_free : AllByRecursion (λ (s : SectionCounts). s.state ≡ Free) gone
   pub low : length gone ≤ length xs
   pub left : unplaced_from p xs ≡ drop (length gone) xs
-  pub is : map as_settled (committed_counts g p xs) ≡ gone ++ committed_counts g (p - length (joined (take (length gone) xs))) (unplaced_from p xs)
-  pub placed : length (joined (take (length gone) xs)) ≤ p
+  pub is : map as_settled (committed_counts g p xs) ≡ gone ++ committed_counts g (p - length (entries_of (take (length gone) xs))) (unplaced_from p xs)
+  pub placed : length (entries_of (take (length gone) xs)) ≤ p
 
 pub settle-counts : (g : Geometry) (p : ℕ) (xs : List (List Entry)) → AllByRecursion (λ (x : List Entry). 1 ≤ length x) xs → IsSettled g p xs
 settle-counts g p [] some = record { gone = []; all_free = tt; low = omega arith; left = refl; is = refl; placed = omega arith }
@@ -374,8 +374,8 @@ settle-counts g p (x ∷ xs) some =
           let goes = le-leb (length x) p past in
           let more = settle-counts g (p - length x) xs some.1 in
           let t = length more.gone in
-          let sum = length-append x (joined (take t xs)) in
-          let rest : (p - length x) - length (joined (take t xs)) ≡ p - length (x ++ joined (take t xs)) = omega (arith, sum) in
+          let sum = length-append x (entries_of (take t xs)) in
+          let rest : (p - length x) - length (entries_of (take t xs)) ≡ p - length (x ++ entries_of (take t xs)) = omega (arith, sum) in
           record {
             gone = freed ∷ more.gone;
             all_free = (refl, more.all_free);
@@ -383,7 +383,7 @@ settle-counts g p (x ∷ xs) some =
             left = ap left_by goes ∙ more.left;
             is = ap by test ∙ ap (λ (cs : List SectionCounts). freed ∷ cs) more.is
                 ∙ ap (λ (q : ℕ). freed ∷ (more.gone ++ committed_counts g q (unplaced_from (p - length x) xs))) rest
-                ∙ ap (λ (ys : List (List Entry)). freed ∷ (more.gone ++ committed_counts g (p - length (x ++ joined (take t xs))) ys)) (sym (ap left_by goes));
+                ∙ ap (λ (ys : List (List Entry)). freed ∷ (more.gone ++ committed_counts g (p - length (x ++ entries_of (take t xs))) ys)) (sym (ap left_by goes));
             placed = omega (arith, more.placed, sum, past);
           }
     ]

@@ -5,7 +5,7 @@ use Rattle.disk_model.specs.Disk.{Content, sector_in}
 use Rattle.image_model.specs.Cells.{Cell, replayed_entries}
 use Rattle.image_model.specs.Section.{Entry}
 use Rattle.journal_model.specs.Entries.{cell_after}
-use Rattle.journal_model.specs.Erasing.{emptied}
+use Rattle.journal_model.specs.Erasing.{after_erasure}
 use Rattle.journal_model.specs.JournaledDisk.{JournaledDisk, cell_at, StandsFor}
 use Rattle.journal_model.proofs.ErasingLemmas.{erasure_ends}
 use Rattle.journal_model.proofs.PlaceLemmas.{cell_after-cells}
@@ -52,4 +52,4 @@ emptied_law d c stands none =
 pub erased_law : ErasedLaw
 erased_law d number empty first erasable stands reads erased =
     let ends = erasure_ends d number empty first erasable stands reads erased in
-    emptied_law (emptied d number empty) _ ends.0 (ends.0.sound.held ∙ drop_all (length d.entries) d.entries (omega arith))
+    emptied_law (after_erasure d number empty) _ ends.0 (ends.0.sound.held ∙ drop_all (length d.entries) d.entries (omega arith))

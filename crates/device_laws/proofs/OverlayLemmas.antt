@@ -9,14 +9,14 @@ use Rattle.image_model.specs.Geometry.{Geometry}
 use Rattle.image_model.specs.Section.{Entry}
 use Rattle.place_model.proofs.TagsLemmas.{same_product}
 use Rattle.journal_model.specs.JournaledDisk.{JournaledDisk, IsSound}
-use Rattle.journal_model.specs.Steps.{batch_entries, committed}
+use Rattle.journal_model.specs.Steps.{batch_entries, after_commit}
 use Rattle.journal_model.proofs.EntriesLemmas.{last_entry-append, last_entry-none, last_entry-some, cell_after-some}
 use Rattle.journal_model.specs.View.{takes_more, put_last}
 use Rattle.device_laws.specs.Device.{IsJournalRing}
 use Rattle.device_laws.specs.OverlayLaws.{all_entries, IsNewestAt, IsOverlayOf, with_newest, kept_from, OverlayBegins, OverlayPut, OverlayCommitted, OverlaySettled, OverlayReadLaw, PlaceNumberLaw}
-use Rattle.device_laws.specs.Ring.{JournalRing, joined, uncommitted, empty_ring, with_put, batch_of, with_commit, with_settle, unplaced_from, freed}
+use Rattle.device_laws.specs.Ring.{JournalRing, entries_of, uncommitted_entries, empty_ring, with_put, batch_of, with_commit, with_settle, unplaced_from, freed_count}
 use Rattle.device_laws.proofs.PromiseLemmas.{cell_is, last_entry-here, split_at}
-use Rattle.device_laws.proofs.RingLemmas.{joined-append, joined-push, joined-put_last, split, held_at}
+use Rattle.device_laws.proofs.RingLemmas.{entries_of-append, entries_of-push, entries_of-put_last, split, held_at}
 
 -- ---- lists
 
@@ -54,30 +54,30 @@ record IsOverlay (g : Geometry) (n : ℕ) (xs : List Entry) (newest : ℕ → Op
   kept : (b m : ℕ) → newest b ≡ Some m → n ≤ m
   none : (b : ℕ) → newest b ≡ None → last_entry g (drop n xs) b ≡ None
 
-told_of : (d : JournaledDisk) (r : JournalRing) (newest : ℕ → Option ℕ) → IsOverlayOf d r newest → IsOverlay d.geometry (freed d r) (all_entries d r) newest
+told_of : (d : JournaledDisk) (r : JournalRing) (newest : ℕ → Option ℕ) → IsOverlayOf d r newest → IsOverlay d.geometry (freed_count d r) (all_entries d r) newest
 told_of d r newest is = record { there = is.there; kept = is.kept; none = is.none }
 
-tells : (d : JournaledDisk) (r : JournalRing) (newest : ℕ → Option ℕ) (n : ℕ) (xs : List Entry) → n ≡ freed d r → xs ≡ all_entries d r → IsOverlay d.geometry n xs newest → IsOverlayOf d r newest
+tells : (d : JournaledDisk) (r : JournalRing) (newest : ℕ → Option ℕ) (n : ℕ) (xs : List Entry) → n ≡ freed_count d r → xs ≡ all_entries d r → IsOverlay d.geometry n xs newest → IsOverlayOf d r newest
 tells d r newest n xs e e' is =
-    let now = subst (λ (ys : List Entry). IsOverlay d.geometry (freed d r) ys newest) e' (subst (λ (m : ℕ). IsOverlay d.geometry m xs newest) e is) in
+    let now = subst (λ (ys : List Entry). IsOverlay d.geometry (freed_count d r) ys newest) e' (subst (λ (m : ℕ). IsOverlay d.geometry m xs newest) e is) in
     record { there = now.there; kept = now.kept; none = now.none }
 
 pub overlay_begins : OverlayBegins
 overlay_begins d = record {
   there = λ b m e. absurd (none-some m e);
   kept = λ b m e. absurd (none-some m e);
-  none = λ b e. ap (λ (xs : List Entry). last_entry d.geometry xs b) (drop_all (freed d empty_ring) (all_entries d empty_ring) (omega (arith, length-append d.entries (uncommitted empty_ring))));
+  none = λ b e. ap (λ (xs : List Entry). last_entry d.geometry xs b) (drop_all (freed_count d empty_ring) (all_entries d empty_ring) (omega (arith, length-append d.entries (uncommitted_entries empty_ring))));
 }
 
 -- ---- put
 
 put_entries : (d : JournaledDisk) (r : JournalRing) (entries : ℕ) (entry : Entry) → all_entries d r ++ entry ∷ [] ≡ all_entries d (with_put entries entry r)
 put_entries d r entries entry =
-    append_assoc d.entries (uncommitted r) (entry ∷ []) ∙ ap (λ (xs : List Entry). d.entries ++ xs) (by_test (takes_more entries r.closed r.opened) refl)
+    append_assoc d.entries (uncommitted_entries r) (entry ∷ []) ∙ ap (λ (xs : List Entry). d.entries ++ xs) (by_test (takes_more entries r.closed r.opened) refl)
   where
-    by_test : (t : Bool) → takes_more entries r.closed r.opened ≡ t → uncommitted r ++ entry ∷ [] ≡ joined (if t then put_last entry r.opened else r.opened ++ (entry ∷ []) ∷ [])
-    by_test true room = sym (joined-put_last entry entries r.closed r.opened room)
-    by_test false full = sym (joined-push entry r.opened)
+    by_test : (t : Bool) → takes_more entries r.closed r.opened ≡ t → uncommitted_entries r ++ entry ∷ [] ≡ entries_of (if t then put_last entry r.opened else r.opened ++ (entry ∷ []) ∷ [])
+    by_test true room = sym (entries_of-put_last entry entries r.closed r.opened room)
+    by_test false full = sym (entries_of-push entry r.opened)
 
 put_overlay : (g : Geometry) (n : ℕ) (xs : List Entry) (newest : ℕ → Option ℕ) (b : ℕ) (entry : Entry) → entry.sector ≡ b * g.shape.spb → 1 ≤ g.shape.spb → n ≤ length xs → IsOverlay g n xs newest
     → IsOverlay g n (xs ++ entry ∷ []) (with_newest b (length xs) newest)
@@ -117,8 +117,8 @@ put_overlay g n xs newest b entry at some low is =
 
 pub overlay_put : OverlayPut
 overlay_put d r newest entries b entry at some is =
-    tells d (with_put entries entry r) (with_newest b (length (all_entries d r)) newest) (freed d r) (all_entries d r ++ entry ∷ []) refl (put_entries d r entries entry)
-    (put_overlay d.geometry (freed d r) (all_entries d r) newest b entry at some (omega (arith, length-append d.entries (uncommitted r))) (told_of d r newest is))
+    tells d (with_put entries entry r) (with_newest b (length (all_entries d r)) newest) (freed_count d r) (all_entries d r ++ entry ∷ []) refl (put_entries d r entries entry)
+    (put_overlay d.geometry (freed_count d r) (all_entries d r) newest b entry at some (omega (arith, length-append d.entries (uncommitted_entries r))) (told_of d r newest is))
 
 -- ---- commit, place and settle
 
@@ -126,19 +126,19 @@ pub overlay_committed : OverlayCommitted
 overlay_committed d r newest bytes told is =
     let k = batch_of d r in
     let more = batch_entries d k bytes in
-    let size : freed d r ≡ freed (committed d k bytes) (with_commit d r) =
-    omega (arith, length-append d.entries more, ap length told, ap length (joined-append r.committed (take k r.opened)), length-append (joined r.committed) (joined (take k r.opened))) in
-    let all : all_entries d r ≡ all_entries (committed d k bytes) (with_commit d r) =
-    ap (λ (xs : List Entry). d.entries ++ xs) (split k r.opened ∙ ap (λ (xs : List Entry). xs ++ joined (drop k r.opened)) (sym told)) ∙ sym (append_assoc d.entries more (joined (drop k r.opened))) in (
-      tells (committed d k bytes) (with_commit d r) newest (freed d r) (all_entries d r) size all (told_of d r newest is),
+    let size : freed_count d r ≡ freed_count (after_commit d k bytes) (with_commit d r) =
+    omega (arith, length-append d.entries more, ap length told, ap length (entries_of-append r.committed (take k r.opened)), length-append (entries_of r.committed) (entries_of (take k r.opened))) in
+    let all : all_entries d r ≡ all_entries (after_commit d k bytes) (with_commit d r) =
+    ap (λ (xs : List Entry). d.entries ++ xs) (split k r.opened ∙ ap (λ (xs : List Entry). xs ++ entries_of (drop k r.opened)) (sym told)) ∙ sym (append_assoc d.entries more (entries_of (drop k r.opened))) in (
+      tells (after_commit d k bytes) (with_commit d r) newest (freed_count d r) (all_entries d r) size all (told_of d r newest is),
       record { there = is.there; kept = is.kept; none = is.none },
     )
 
-fewer : (p : ℕ) (xs : List (List Entry)) → length (joined (unplaced_from p xs)) ≤ length (joined xs)
+fewer : (p : ℕ) (xs : List (List Entry)) → length (entries_of (unplaced_from p xs)) ≤ length (entries_of xs)
 fewer p [] = omega arith
 fewer p (x ∷ xs) =
-    let by = λ (t : Bool). length (joined (if t then unplaced_from (p - length x) xs else x ∷ xs)) in
-    let sum = length-append x (joined xs) in
+    let by = λ (t : Bool). length (entries_of (if t then unplaced_from (p - length x) xs else x ∷ xs)) in
+    let sum = length-append x (entries_of xs) in
     elim (cases_Bool (leb (length x) p)) [
       | inl gone ↦ omega (arith, ap by gone, fewer (p - length x) xs, sum)
       | inr left ↦ omega (arith, ap by left)
@@ -166,13 +166,13 @@ kept_none n (Some k) e =
 
 pub overlay_settled : OverlaySettled
 overlay_settled d r newest is =
-    let n = freed d (with_settle d r) in
-    let low : freed d r ≤ n = omega (arith, fewer (d.placed - freed d r) r.committed) in
+    let n = freed_count d (with_settle d r) in
+    let low : freed_count d r ≤ n = omega (arith, fewer (d.placed - freed_count d r) r.committed) in
     record {
       there = λ b m e. is.there b m (kept_is n m (newest b) e).0;
       kept = λ b m e. (kept_is n m (newest b) e).1;
       none = λ b e. elim (kept_none n (newest b) e) [
-        | inl none ↦ last_entry-drop d.geometry (freed d r) n (all_entries d r) b low (is.none b none)
+        | inl none ↦ last_entry-drop d.geometry (freed_count d r) n (all_entries d r) b low (is.none b none)
         | inr gone ↦ last_entry-drop d.geometry (suc gone.0) n (all_entries d r) b (omega (arith, gone.2)) (is.there b gone.0 gone.1).none_behind
       ];
     }
@@ -180,29 +180,29 @@ overlay_settled d r newest is =
 -- ---- reads
 
 module _ (d : JournaledDisk) (r : JournalRing) (sound : IsSound d) (is : IsJournalRing d r) where
-  low : freed d r ≤ length d.entries
+  low : freed_count d r ≤ length d.entries
   low = omega arith
 
-  ends_with : all_entries d r ≡ take (freed d r) d.entries ++ joined (r.committed ++ r.opened)
+  ends_with : all_entries d r ≡ take (freed_count d r) d.entries ++ entries_of (r.committed ++ r.opened)
   ends_with =
-      ap (λ (xs : List Entry). xs ++ uncommitted r) (sym (take-append-drop (freed d r) d.entries) ∙ ap (λ (xs : List Entry). take (freed d r) d.entries ++ xs) (held_at d r sound is))
-      ∙ append_assoc (take (freed d r) d.entries) (joined r.committed) (uncommitted r)
-      ∙ ap (λ (xs : List Entry). take (freed d r) d.entries ++ xs) (sym (joined-append r.committed r.opened))
+      ap (λ (xs : List Entry). xs ++ uncommitted_entries r) (sym (take-append-drop (freed_count d r) d.entries) ∙ ap (λ (xs : List Entry). take (freed_count d r) d.entries ++ xs) (held_at d r sound is))
+      ∙ append_assoc (take (freed_count d r) d.entries) (entries_of r.committed) (uncommitted_entries r)
+      ∙ ap (λ (xs : List Entry). take (freed_count d r) d.entries ++ xs) (sym (entries_of-append r.committed r.opened))
 
-  pub kept_entries : drop (freed d r) (all_entries d r) ≡ joined (r.committed ++ r.opened)
-  kept_entries = ap (drop (freed d r)) ends_with ∙ drop_at (take (freed d r) d.entries) (joined (r.committed ++ r.opened)) (freed d r) (length-take-le (freed d r) d.entries low)
+  pub kept_entries : drop (freed_count d r) (all_entries d r) ≡ entries_of (r.committed ++ r.opened)
+  kept_entries = ap (drop (freed_count d r)) ends_with ∙ drop_at (take (freed_count d r) d.entries) (entries_of (r.committed ++ r.opened)) (freed_count d r) (length-take-le (freed_count d r) d.entries low)
 
   pub place_number : (i n : ℕ) (entries : List Entry) (entry : Entry) → slice_get (r.committed ++ r.opened) i ≡ Some entries → slice_get entries n ≡ Some entry
-      → slice_get (all_entries d r) (freed d r + (length (joined (take i (r.committed ++ r.opened))) + n)) ≡ Some entry
+      → slice_get (all_entries d r) (freed_count d r + (length (entries_of (take i (r.committed ++ r.opened))) + n)) ≡ Some entry
   place_number i n entries entry section there =
       let sections = r.committed ++ r.opened in
-      let front = take (freed d r) d.entries in
-      let before = joined (take i sections) in
-      let behind = joined (drop (suc i) sections) in
-      let whole : joined sections ≡ before ++ (entries ++ behind) = ap joined (split_at sections i entries section) ∙ joined-append (take i sections) (entries ∷ drop (suc i) sections) in
-      ap (λ (xs : List Entry). slice_get xs (freed d r + (length before + n))) ends_with
-      ∙ ap (λ (m : ℕ). slice_get (front ++ joined sections) (m + (length before + n))) (sym (length-take-le (freed d r) d.entries low))
-      ∙ slice_get-behind front (joined sections) (length before + n)
+      let front = take (freed_count d r) d.entries in
+      let before = entries_of (take i sections) in
+      let behind = entries_of (drop (suc i) sections) in
+      let whole : entries_of sections ≡ before ++ (entries ++ behind) = ap entries_of (split_at sections i entries section) ∙ entries_of-append (take i sections) (entries ∷ drop (suc i) sections) in
+      ap (λ (xs : List Entry). slice_get xs (freed_count d r + (length before + n))) ends_with
+      ∙ ap (λ (m : ℕ). slice_get (front ++ entries_of sections) (m + (length before + n))) (sym (length-take-le (freed_count d r) d.entries low))
+      ∙ slice_get-behind front (entries_of sections) (length before + n)
       ∙ ap (λ (xs : List Entry). slice_get xs (length before + n)) whole
       ∙ slice_get-behind before (entries ++ behind) n
       ∙ slice_get-before entries behind n entry there

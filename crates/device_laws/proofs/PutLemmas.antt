@@ -19,11 +19,11 @@ use Rattle.journal_model.proofs.HistoryLemmas.{history_put}
 use Rattle.journal_model.specs.View.{takes_more, put_last}
 use Rattle.device_laws.specs.CountLaws.{HasRoomLaw, PutLaw}
 use Rattle.device_laws.specs.Device.{AreOpened, AreCounts, IsJournalRing, IsJournalOf}
-use Rattle.device_laws.specs.Ring.{JournalRing, uncommitted, has_room, with_put, freed, block_of, committed_counts}
+use Rattle.device_laws.specs.Ring.{JournalRing, uncommitted_entries, has_room, with_put, freed_count, block_of, committed_counts}
 use Rattle.device_laws.proofs.FormatLemmas.{block_size-is, blocks-is, sections-is}
 use Rattle.device_laws.proofs.CommitLemmas.{front, sections_are, front-done, front-then}
 use Rattle.device_laws.proofs.CountLemmas.{has_open_end-front, has_open_end-opened, with_entry-front, count-all, opened-put_last, opened-push}
-use Rattle.device_laws.proofs.RingLemmas.{joined-push, joined-put_last, length-put_last, all-put_last, some-put_last}
+use Rattle.device_laws.proofs.RingLemmas.{entries_of-push, entries_of-put_last, length-put_last, all-put_last, some-put_last}
 
 -- What `put` gives, by its two tests.
 put_by : ℕ → List SectionCounts → Bool → Bool → Option (List SectionCounts)
@@ -45,7 +45,7 @@ module _ (f : DeviceFormat) (h : History) (j : JournalCounts) (d : JournaledDisk
 
   count_is : count_by is_unfreed j.sections ≡ length r.opened + length r.committed
   count_is = ap (count_by is_unfreed) is.counts.sections
-      ∙ count-all d.geometry (d.placed - freed d r) r.closed is.counts.free r.committed r.opened is.counts.opened is.counts.all_free is.counts.are_opened
+      ∙ count-all d.geometry (d.placed - freed_count d r) r.closed is.counts.free r.committed r.opened is.counts.opened is.counts.all_free is.counts.are_opened
 
   free_is : ltb (count_by is_unfreed j.sections) f.sections ≡ ltb (length r.opened + length r.committed) f.sections
   free_is = ap (λ (m : ℕ). ltb m f.sections) count_is
@@ -145,7 +145,7 @@ module _ (f : DeviceFormat) (h : History) (j : JournalCounts) (d : JournaledDisk
 
   counts_next : AreCounts (record j { sections = j.sections ++ opened_with write.block ∷ [] }) d put_next
   counts_next =
-      let p = committed_counts d.geometry (d.placed - freed d r) r.committed in
+      let p = committed_counts d.geometry (d.placed - freed_count d r) r.committed in
       let new = opened_with write.block ∷ [] in
       record {
         free = is.counts.free;
@@ -162,12 +162,12 @@ module _ (f : DeviceFormat) (h : History) (j : JournalCounts) (d : JournaledDisk
   Both sections after = IsJournalOf f (with_change h (Begun write)) (record j { sections = sections }) d after × IsJournalOf f (with_change h (Written write)) (record j { sections = sections }) d after
 
   both_of : (sections : List SectionCounts) (after : JournalRing) → IsJournalRing d after → AreCounts (record j { sections = sections }) d after
-      → uncommitted after ≡ uncommitted r ++ entry_of_write d write ∷ [] → h.pending ≡ None → Both sections after
+      → uncommitted_entries after ≡ uncommitted_entries r ++ entry_of_write d write ∷ [] → h.pending ≡ None → Both sections after
   both_of sections after ring_is counts_are entries_are idle =
-      let histories = history_put d (uncommitted r) h write idle is.history in
+      let histories = history_put d (uncommitted_entries r) h write idle is.history in
       (one (with_change h (Begun write)) histories.0, one (with_change h (Written write)) histories.1)
     where
-      one : (other : History) → IsHistoryOf d (uncommitted r ++ entry_of_write d write ∷ []) other → IsJournalOf f other (record j { sections = sections }) d after
+      one : (other : History) → IsHistoryOf d (uncommitted_entries r ++ entry_of_write d write ∷ []) other → IsJournalOf f other (record j { sections = sections }) d after
       one other history = record {
         format = is.format;
         sound = is.sound;
@@ -190,14 +190,14 @@ module _ (f : DeviceFormat) (h : History) (j : JournalCounts) (d : JournaledDisk
         let same = same_Some (with_entry write.block j.sections) sections (sym (put-is f.sections f.entries write.block j.sections true _ (open_is f h j d r is ∙ room) refl) ∙ told) in
         subst (Both sections) (sym (ap put_ring room))
         (subst (λ (xs : List SectionCounts). Both xs put_there) same
-        (both_of (with_entry write.block j.sections) put_there ring_there (counts_there room) (joined-put_last entry f.entries r.closed r.opened room) idle))
+        (both_of (with_entry write.block j.sections) put_there ring_there (counts_there room) (entries_of-put_last entry f.entries r.closed r.opened room) idle))
     | inr full ↦ elim (cases_Bool (ltb (length r.opened + length r.committed) f.sections)) [
       | inr none ↦ absurd (none-some sections (sym (put-is f.sections f.entries write.block j.sections false false (open_is f h j d r is ∙ full) (free_is f h j d r is ∙ none)) ∙ told))
       | inl free ↦
           let same = same_Some (j.sections ++ opened_with write.block ∷ []) sections (sym (put-is f.sections f.entries write.block j.sections false true (open_is f h j d r is ∙ full) (free_is f h j d r is ∙ free)) ∙ told) in
           subst (Both sections) (sym (ap put_ring full))
           (subst (λ (xs : List SectionCounts). Both xs put_next) same
-          (both_of (j.sections ++ opened_with write.block ∷ []) put_next (ring_next (ltb-true (length r.opened + length r.committed) f.sections free)) counts_next (joined-push entry r.opened) idle))
+          (both_of (j.sections ++ opened_with write.block ∷ []) put_next (ring_next (ltb-true (length r.opened + length r.committed) f.sections free)) counts_next (entries_of-push entry r.opened) idle))
     ]
   ]
 

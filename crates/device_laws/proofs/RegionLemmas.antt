@@ -6,7 +6,7 @@ use Rattle.std.proofs.lemmas.Option.{none-some, same_Some}
 use Rattle.image_model.specs.Geometry.{region_of, regions}
 use Rattle.image_model.proofs.BitmapLemmas.{awaits-journal, region_awaits-block, region_awaits-bitmap}
 use Rattle.device_model.specs.Regions.{RegionCounts, with_region, recalculated_region, least_region}
-use Rattle.bitmap_model.specs.Steps.{with_clear, recalculated}
+use Rattle.bitmap_model.specs.Steps.{with_clear, after_recalculation}
 use Rattle.device_laws.specs.RegionLaws.{AreRegions, RegionsBegin, RegionsWritten, RegionsFlushed, RegionsRecalculated, RecalculateLaw, CleanLaw, AwaitingLaw}
 
 -- ---- the region that is chosen
@@ -74,7 +74,7 @@ recalculate_law counts after d are e =
       region = chosen.0;
       inside = chosen.1;
       fits_it = sym (are.awaiting chosen.0 chosen.1) ∙ chosen.2;
-      then_is = subst (λ (c : RegionCounts). AreRegions c (recalculated d chosen.0)) chosen.3 (regions_recalculated counts d chosen.0 are);
+      then_is = subst (λ (c : RegionCounts). AreRegions c (after_recalculation d chosen.0)) chosen.3 (regions_recalculated counts d chosen.0 are);
     }
 
 -- A region whose bit may be cleared neither awaits nor is fresh.

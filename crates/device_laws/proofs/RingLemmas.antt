@@ -13,41 +13,41 @@ use Rattle.place_model.specs.Journal.{entries_in}
 use Rattle.place_model.proofs.EachLemmas.{all_append}
 use Rattle.journal_model.specs.Cuts.{next_after}
 use Rattle.journal_model.specs.JournaledDisk.{JournaledDisk, IsSound}
-use Rattle.journal_model.specs.Steps.{oldest}
+use Rattle.journal_model.specs.Steps.{oldest_entries}
 use Rattle.journal_model.proofs.FreeLemmas.{kept_entries_law}
 use Rattle.journal_model.specs.View.{takes_more, put_last}
 use Rattle.device_laws.specs.Device.{IsJournalRing}
-use Rattle.device_laws.specs.Ring.{JournalRing, joined, committed_counts, freed}
+use Rattle.device_laws.specs.Ring.{JournalRing, entries_of, committed_counts, freed_count}
 
 -- ---- joined sections
 
-pub joined-append : (xs ys : List (List Entry)) → joined (xs ++ ys) ≡ joined xs ++ joined ys
-joined-append xs ys = flat_map-append (λ entries. entries) xs ys
+pub entries_of-append : (xs ys : List (List Entry)) → entries_of (xs ++ ys) ≡ entries_of xs ++ entries_of ys
+entries_of-append xs ys = flat_map-append (λ entries. entries) xs ys
 
-pub split : (k : ℕ) (xs : List (List Entry)) → joined xs ≡ joined (take k xs) ++ joined (drop k xs)
-split k xs = ap joined (sym (take-append-drop k xs)) ∙ joined-append (take k xs) (drop k xs)
+pub split : (k : ℕ) (xs : List (List Entry)) → entries_of xs ≡ entries_of (take k xs) ++ entries_of (drop k xs)
+split k xs = ap entries_of (sym (take-append-drop k xs)) ∙ entries_of-append (take k xs) (drop k xs)
 
-pub joined-take : (k : ℕ) (xs : List (List Entry)) → take (length (joined (take k xs))) (joined xs) ≡ joined (take k xs)
-joined-take k xs = ap (take (length (joined (take k xs)))) (split k xs) ∙ take-append_seam (joined (take k xs)) (joined (drop k xs))
+pub entries_of-take : (k : ℕ) (xs : List (List Entry)) → take (length (entries_of (take k xs))) (entries_of xs) ≡ entries_of (take k xs)
+entries_of-take k xs = ap (take (length (entries_of (take k xs)))) (split k xs) ∙ take-append_seam (entries_of (take k xs)) (entries_of (drop k xs))
 
-pub joined-drop : (k : ℕ) (xs : List (List Entry)) → drop (length (joined (take k xs))) (joined xs) ≡ joined (drop k xs)
-joined-drop k xs = ap (drop (length (joined (take k xs)))) (split k xs) ∙ drop-append_seam (joined (take k xs)) (joined (drop k xs))
+pub entries_of-drop : (k : ℕ) (xs : List (List Entry)) → drop (length (entries_of (take k xs))) (entries_of xs) ≡ entries_of (drop k xs)
+entries_of-drop k xs = ap (drop (length (entries_of (take k xs)))) (split k xs) ∙ drop-append_seam (entries_of (take k xs)) (entries_of (drop k xs))
 
-pub joined-size : (k : ℕ) (xs : List (List Entry)) → length (joined xs) ≡ length (joined (take k xs)) + length (joined (drop k xs))
-joined-size k xs = ap length (split k xs) ∙ length-append (joined (take k xs)) (joined (drop k xs))
+pub entries_of-size : (k : ℕ) (xs : List (List Entry)) → length (entries_of xs) ≡ length (entries_of (take k xs)) + length (entries_of (drop k xs))
+entries_of-size k xs = ap length (split k xs) ∙ length-append (entries_of (take k xs)) (entries_of (drop k xs))
 
-pub joined-map : (f : ℕ → List Entry) (ns : List ℕ) → joined (map f ns) ≡ flat_map f ns
-joined-map f [] = refl
-joined-map f (n ∷ ns) = ap (λ (xs : List Entry). f n ++ xs) (joined-map f ns)
+pub entries_of-map : (f : ℕ → List Entry) (ns : List ℕ) → entries_of (map f ns) ≡ flat_map f ns
+entries_of-map f [] = refl
+entries_of-map f (n ∷ ns) = ap (λ (xs : List Entry). f n ++ xs) (entries_of-map f ns)
 
-pub joined-push : (entry : Entry) (xs : List (List Entry)) → joined (xs ++ (entry ∷ []) ∷ []) ≡ joined xs ++ entry ∷ []
-joined-push entry xs = joined-append xs ((entry ∷ []) ∷ [])
+pub entries_of-push : (entry : Entry) (xs : List (List Entry)) → entries_of (xs ++ (entry ∷ []) ∷ []) ≡ entries_of xs ++ entry ∷ []
+entries_of-push entry xs = entries_of-append xs ((entry ∷ []) ∷ [])
 
-pub joined-put_last : (entry : Entry) (entries : ℕ) (closed : Bool) (xs : List (List Entry)) → takes_more entries closed xs ≡ true → joined (put_last entry xs) ≡ joined xs ++ entry ∷ []
-joined-put_last entry entries closed [] room = absurd (false≢true room)
-joined-put_last entry entries closed (x ∷ []) room = append-nil (x ++ entry ∷ []) ∙ ap (λ (xs : List Entry). xs ++ entry ∷ []) (sym (append-nil x))
-joined-put_last entry entries closed (x ∷ y ∷ xs) room =
-    ap (λ (ys : List Entry). x ++ ys) (joined-put_last entry entries closed (y ∷ xs) room) ∙ sym (append_assoc x (joined (y ∷ xs)) (entry ∷ []))
+pub entries_of-put_last : (entry : Entry) (entries : ℕ) (closed : Bool) (xs : List (List Entry)) → takes_more entries closed xs ≡ true → entries_of (put_last entry xs) ≡ entries_of xs ++ entry ∷ []
+entries_of-put_last entry entries closed [] room = absurd (false≢true room)
+entries_of-put_last entry entries closed (x ∷ []) room = append-nil (x ++ entry ∷ []) ∙ ap (λ (xs : List Entry). xs ++ entry ∷ []) (sym (append-nil x))
+entries_of-put_last entry entries closed (x ∷ y ∷ xs) room =
+    ap (λ (ys : List Entry). x ++ ys) (entries_of-put_last entry entries closed (y ∷ xs) room) ∙ sym (append_assoc x (entries_of (y ∷ xs)) (entry ∷ []))
 
 pub length-put_last : (entry : Entry) (xs : List (List Entry)) → length (put_last entry xs) ≡ length xs
 length-put_last entry [] = refl
@@ -123,26 +123,26 @@ next_mod n at k some fits =
 
 module _ (d : JournaledDisk) (r : JournalRing) (sound : IsSound d) (is : IsJournalRing d r) where
   abbrev before : ℕ
-  before = d.start + length (oldest d (d.geometry.sections - length r.committed))
+  before = d.start + length (oldest_entries d (d.geometry.sections - length r.committed))
 
-  held : joined r.committed ≡ drop before d.entries
+  held : entries_of r.committed ≡ drop before d.entries
   held =
-      ap joined (sym is.kept)
-      ∙ joined-map (entries_in d.geometry d.journal) (drop (d.geometry.sections - length r.committed) (ring d.geometry.sections d.next))
+      ap entries_of (sym is.kept)
+      ∙ entries_of-map (entries_in d.geometry d.journal) (drop (d.geometry.sections - length r.committed) (ring d.geometry.sections d.next))
       ∙ kept_entries_law d (length r.committed) sound is.rests
 
-  pub freed_is : freed d r ≡ d.start + length (oldest d (d.geometry.sections - length r.committed))
+  pub freed_is : freed_count d r ≡ d.start + length (oldest_entries d (d.geometry.sections - length r.committed))
   freed_is = omega (arith, ap length held, length-drop before d.entries, is.free.free, sound.formed.settled_low, sound.formed.placed_low)
 
-  pub freed_settled : freed d r ≤ d.settled
+  pub freed_settled : freed_count d r ≤ d.settled
   freed_settled = omega (arith, freed_is, is.free.free)
 
   -- The entries behind the freed ones are those of the committed sections.
-  pub held_at : drop (freed d r) d.entries ≡ joined r.committed
+  pub held_at : drop (freed_count d r) d.entries ≡ entries_of r.committed
   held_at = ap (λ (m : ℕ). drop m d.entries) freed_is ∙ sym held
 
-  pub committed_low : length (joined r.committed) ≤ length d.entries
+  pub committed_low : length (entries_of r.committed) ≤ length d.entries
   committed_low = omega (arith, ap length held, length-drop before d.entries)
 
-  pub placed_part : d.placed - freed d r ≤ length (joined r.committed)
+  pub placed_part : d.placed - freed_count d r ≤ length (entries_of r.committed)
   placed_part = omega (arith, committed_low, sound.formed.placed_low)

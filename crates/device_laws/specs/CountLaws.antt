@@ -9,7 +9,7 @@ use Rattle.device_model.specs.RoomLaws.{commits}
 use Rattle.journal_model.specs.Batch.{AreSections, IsSection}
 use Rattle.journal_model.specs.HistoryOf.{entry_of_write}
 use Rattle.journal_model.specs.JournaledDisk.{JournaledDisk}
-use Rattle.journal_model.specs.Steps.{IsBatch, committed, placed_one, settled_all}
+use Rattle.journal_model.specs.Steps.{IsBatch, after_commit, after_place, after_settle}
 use Rattle.journal_section.specs.Entries.{HoldsEntries, BearsNumber}
 use Rattle.device_laws.specs.Device.{IsJournalRing, IsJournalOf}
 use Rattle.device_laws.specs.Ring.{JournalRing, has_room, with_put, batch_of, opened_at, with_commit, with_settle}
@@ -46,12 +46,12 @@ abbrev pub CommitLaw : Type 0
 CommitLaw = (f : DeviceFormat) (h : History) (j j' : JournalCounts) (d : JournaledDisk) (r : JournalRing)
     (bytes : List ℕ) → IsJournalOf f h j d r → commit f.sections j ≡ Some j' → AreSections d (batch_of d r)
     (opened_at d r) bytes → IsBatch d (batch_of d r) bytes
-    × IsJournalOf f h j' (committed d (batch_of d r) bytes) (with_commit d r)
+    × IsJournalOf f h j' (after_commit d (batch_of d r) bytes) (with_commit d r)
 
 -- Two commits leave no section opened.
 abbrev pub TwoCommitsLaw : Type 0
 TwoCommitsLaw = (d : JournaledDisk) (r : JournalRing) (bytes : List ℕ) → IsJournalRing d r
-    → (with_commit (committed d (batch_of d r) bytes) (with_commit d r)).opened ≡ []
+    → (with_commit (after_commit d (batch_of d r) bytes) (with_commit d r)).opened ≡ []
 
 -- Sealed bytes of a section that hold entries are that section of a batch.
 abbrev pub SealedLaw : Type 0
@@ -84,7 +84,7 @@ CommitsLaw = (f : DeviceFormat) (h : History) (j : JournalCounts) (n : ℕ) (d :
 abbrev pub PlaceLaw : Type 0
 PlaceLaw = (f : DeviceFormat) (h : History) (j j' : JournalCounts) (d : JournaledDisk) (r : JournalRing)
     → IsJournalOf f h j d r → place j ≡ Some j' → d.placed < length d.entries
-    × IsJournalOf f h j' (placed_one d) r
+    × IsJournalOf f h j' (after_place d) r
 
 -- and is idle exactly where all are placed.
 abbrev pub IdlePlaceLaw : Type 0
@@ -97,7 +97,7 @@ IdlePlaceLaw = (f : DeviceFormat) (h : History) (j : JournalCounts) (d : Journal
 -- A settle frees the sections whose entries are all placed, the first ones.
 abbrev pub SettleLaw : Type 0
 SettleLaw = (f : DeviceFormat) (h : History) (j j' : JournalCounts) (d : JournaledDisk) (r : JournalRing)
-    → IsJournalOf f h j d r → settle j ≡ Some j' → IsJournalOf f h j' (settled_all d) (with_settle d r)
+    → IsJournalOf f h j d r → settle j ≡ Some j' → IsJournalOf f h j' (after_settle d) (with_settle d r)
 
 -- Where it is idle the ring keeps all its sections.
 abbrev pub IdleSettleLaw : Type 0

@@ -4,7 +4,7 @@ use Rattle.std.specs.Prelude.{◌≡◌, ℕ, true, []}
 use Rattle.disk_model.specs.Disk.{Content, Image, IsImage, last_image, newest_only}
 use Rattle.image_model.specs.Cells.{replayed_entries}
 use Rattle.journal_model.specs.Entries.{cell_after}
-use Rattle.journal_model.specs.Erasing.{IsErasable, StandsErasing, ReadsErased, emptied}
+use Rattle.journal_model.specs.Erasing.{IsErasable, StandsErasing, ReadsErased, after_erasure}
 use Rattle.journal_model.specs.JournaledDisk.{JournaledDisk, StandsFor}
 use Rattle.direct_model.specs.DirectDisk
 use Rattle.direct_model.specs.DirectDisk.{DirectDisk}
@@ -28,5 +28,5 @@ EmptiedLaw = (d : JournaledDisk) (c : Content) → StandsFor d c → replayed_en
 abbrev pub ErasedLaw : Type 0
 ErasedLaw = (d : JournaledDisk) (number : ℕ) (empty : Image) (first : Content) → IsErasable d number empty
     → StandsErasing d number empty true first → IsImage first (last_image first)
-    → ReadsErased d number empty true first → DirectDisk.StandsFor (as_direct (emptied d number empty))
+    → ReadsErased d number empty true first → DirectDisk.StandsFor (as_direct (after_erasure d number empty))
     (newest_only first)

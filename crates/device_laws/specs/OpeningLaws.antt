@@ -42,6 +42,7 @@ pub record TellsNext (d : DiskFormat) (image : Image) (plan : Plan) : Type 0 whe
   pub mixed : (number : ℕ) → plan.state ≡ Mixed number → next_on Journal d image ≡ 0
   pub erasing : (number : ℕ) → plan.state ≡ Erasing number → next_on Journal d image ≡ 0
 
+-- It says so of every journal that a scan accepts.
 abbrev pub NextLaw : Type 0
 NextLaw = (d : DiskFormat) (image : Image) (plan : Plan) → IsGeometry d.geometry d.sectors
     → walk_of d.geometry image ≡ Ok plan → TellsNext d image plan

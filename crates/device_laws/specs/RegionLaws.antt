@@ -13,7 +13,7 @@ use Rattle.place_model.specs.Format.{DiskFormat}
 use Rattle.place_model.specs.Opened.{awaiting_on, opened_on}
 use Rattle.bitmap_model.specs.BitmapDisk.{BitmapDisk, needs_bit}
 use Rattle.bitmap_model.specs.Opening.{opened_disk}
-use Rattle.bitmap_model.specs.Steps.{with_dirty, with_clear, with_write, recalculated, flushed_all}
+use Rattle.bitmap_model.specs.Steps.{with_dirty, with_clear, with_write, after_recalculation, after_flush}
 
 -- The counts are those of the disk, of each of its regions.
 pub record AreRegions (counts : RegionCounts) (d : BitmapDisk) : Type 0 where
@@ -35,26 +35,28 @@ RegionsWritten = (counts : RegionCounts) (d : BitmapDisk) (write : BlockWrite) �
 -- after all is written back and synced,
 abbrev pub RegionsFlushed : Type 0
 RegionsFlushed = (counts : RegionCounts) (d : BitmapDisk) → AreRegions counts d
-    → AreRegions (written_back counts) (flushed_all d)
+    → AreRegions (written_back counts) (after_flush d)
 
 -- and after a region is recalculated: the one that is chosen awaits.
 abbrev pub RegionsRecalculated : Type 0
 RegionsRecalculated = (counts : RegionCounts) (d : BitmapDisk) (region : ℕ) → AreRegions counts d
-    → AreRegions (recalculated_region region counts) (recalculated d region)
+    → AreRegions (recalculated_region region counts) (after_recalculation d region)
 
 -- What the choice of a region tells: it is one of the disk, and the counts after the step are those of the disk then.
-pub record ChoosesRegion (after : RegionCounts) (d : BitmapDisk) (fits : ℕ → Type 0) (step : ℕ → BitmapDisk) : Type 0 where
+pub record ChoosesRegion (after : RegionCounts) (d : BitmapDisk) (fits : ℕ → Type 0)
+    (step : ℕ → BitmapDisk) : Type 0 where
   pub region : ℕ
   pub inside : region < regions d.geometry
   pub fits_it : fits region
   pub then_is : AreRegions after (step region)
 
+-- The region that is recalculated awaits,
 abbrev pub RecalculateLaw : Type 0
 RecalculateLaw = (counts after : RegionCounts) (d : BitmapDisk) → AreRegions counts d
     → recalculate (regions d.geometry) counts ≡ Some after
-    → ChoosesRegion after d (λ region. d.awaiting region ≡ true) (recalculated d)
+    → ChoosesRegion after d (λ region. d.awaiting region ≡ true) (after_recalculation d)
 
--- A bit is cleared of a region that needs none.
+-- and a bit is cleared of a region that needs none.
 abbrev pub CleanLaw : Type 0
 CleanLaw = (counts after : RegionCounts) (d : BitmapDisk) (is_used : ℕ → Bool) → AreRegions counts d
     → clean (regions d.geometry) is_used counts ≡ Some after

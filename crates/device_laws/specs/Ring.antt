@@ -16,12 +16,12 @@ pub record JournalRing : Type 0 where
   pub closed : Bool
 
 -- The entries of some sections, in order.
-abbrev pub joined : List (List Entry) → List Entry
-joined sections = flat_map (λ entries. entries) sections
+abbrev pub entries_of : List (List Entry) → List Entry
+entries_of sections = flat_map (λ entries. entries) sections
 
 -- The entries that are not committed.
-abbrev pub uncommitted : JournalRing → List Entry
-uncommitted ring = joined ring.opened
+abbrev pub uncommitted_entries : JournalRing → List Entry
+uncommitted_entries ring = entries_of ring.opened
 
 -- The ring of a device that has just been opened.
 abbrev pub empty_ring : JournalRing
@@ -45,10 +45,14 @@ abbrev pub has_room : (sections entries : ℕ) → JournalRing → Bool
 has_room sections entries ring =
     takes_more entries ring.closed ring.opened || ltb (length ring.opened + length ring.committed) sections
 
+-- The ring with one entry more.
 abbrev pub with_put : ℕ → Entry → JournalRing → JournalRing
 with_put entries entry ring = record {
   committed = ring.committed;
-  opened = if takes_more entries ring.closed ring.opened then put_last entry ring.opened else ring.opened ++ (entry ∷ []) ∷ [];
+  opened =
+      if takes_more entries ring.closed ring.opened
+      then put_last entry ring.opened
+      else ring.opened ++ (entry ∷ []) ∷ [];
   closed = if takes_more entries ring.closed ring.opened then ring.closed else false;
 }
 
@@ -62,6 +66,7 @@ batch_of d ring = min (length ring.opened) (d.geometry.sections - d.next)
 abbrev pub opened_at : JournaledDisk → JournalRing → ℕ → List Entry
 opened_at d ring section = get_or ring.opened (section - d.next) []
 
+-- The ring after the batch is committed: no entry goes into what is left open.
 abbrev pub with_commit : JournaledDisk → JournalRing → JournalRing
 with_commit d ring = record {
   committed = ring.committed ++ take (batch_of d ring) ring.opened;
@@ -74,15 +79,17 @@ with_commit d ring = record {
 -- The sections from the first on that has an entry behind the first `placed` ones.
 abbrev pub unplaced_from : ℕ → List (List Entry) → List (List Entry)
 unplaced_from placed [] = []
-unplaced_from placed (x ∷ sections) = if leb (length x) placed then unplaced_from (placed - length x) sections else x ∷ sections
+unplaced_from placed (x ∷ sections) =
+    if leb (length x) placed then unplaced_from (placed - length x) sections else x ∷ sections
 
 -- How many committed entries stand in no section that is kept.
-abbrev pub freed : JournaledDisk → JournalRing → ℕ
-freed d ring = length d.entries - length (joined ring.committed)
+abbrev pub freed_count : JournaledDisk → JournalRing → ℕ
+freed_count d ring = length d.entries - length (entries_of ring.committed)
 
+-- The ring after a settle: the first sections that are wholly placed are free.
 abbrev pub with_settle : JournaledDisk → JournalRing → JournalRing
 with_settle d ring = record {
-  committed = unplaced_from (d.placed - freed d ring) ring.committed;
+  committed = unplaced_from (d.placed - freed_count d ring) ring.committed;
   opened = ring.opened;
   closed = ring.closed;
 }

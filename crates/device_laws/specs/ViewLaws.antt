@@ -4,7 +4,7 @@ use Rattle.std.specs.Prelude.{◌≡◌, ◌⊎◌, ℕ, true, List}
 use Rattle.image_model.specs.Geometry.{section_entries}
 use Rattle.image_model.specs.Section.{Entry}
 use Rattle.journal_model.specs.JournaledDisk.{JournaledDisk}
-use Rattle.journal_model.specs.Steps.{committed}
+use Rattle.journal_model.specs.Steps.{after_commit}
 use Rattle.journal_model.specs.View
 use Rattle.journal_model.specs.View.{HasFreeSection, IsRingOf, takes_more}
 use Rattle.device_laws.specs.Device.{IsJournalRing}
@@ -17,7 +17,7 @@ ViewLaw = (d : JournaledDisk) (r : JournalRing) → IsJournalRing d r → IsRing
 -- after a commit it shows what a commit makes of it,
 abbrev pub ViewCommitLaw : Type 0
 ViewCommitLaw = (d : JournaledDisk) (r : JournalRing) (bytes : List ℕ)
-    → View.with_commit (view_of d r) ≡ view_of (committed d (batch_of d r) bytes) (with_commit d r)
+    → View.with_commit (view_of d r) ≡ view_of (after_commit d (batch_of d r) bytes) (with_commit d r)
 
 -- after a put what that makes of it, in a ring of sections of as many entries as the shape has,
 abbrev pub ViewPutLaw : Type 0
@@ -29,4 +29,5 @@ ViewPutLaw = (d : JournaledDisk) (r : JournalRing) (entry : Entry)
 abbrev pub ViewRoomLaw : Type 0
 ViewRoomLaw = (d : JournaledDisk) (r : JournalRing) (entries : ℕ)
     → (HasFreeSection (view_of d r) → has_room d.geometry.sections entries r ≡ true)
-    × (has_room d.geometry.sections entries r ≡ true → (takes_more entries r.closed r.opened ≡ true) ⊎ HasFreeSection (view_of d r))
+    × (has_room d.geometry.sections entries r ≡ true
+    → (takes_more entries r.closed r.opened ≡ true) ⊎ HasFreeSection (view_of d r))

@@ -1,21 +1,21 @@
 -- What reads give after each step.
-use Rattle.std.proofs.Common.{◌≡◌, ◌≢◌, inl, inr, ℕ, ◌+◌, ◌-◌, ◌*◌, ◌/◌, ◌<◌, sym, ◌∙◌, ap, arith, Some, List, length, slice_get, ◌++◌, drop, take, append_assoc, refl, ◌≤◌}
+use Rattle.std.proofs.Common.{◌≡◌, ◌≢◌, inl, inr, ℕ, ◌+◌, ◌-◌, ◌*◌, ◌/◌, ◌<◌, sym, ◌∙◌, ap, arith, Some, List, length, slice_get, ◌++◌, drop, take, append_assoc}
 use Rattle.std.proofs.lemmas.Bool.{cases_eq}
 use Rattle.std.proofs.lemmas.List.{take-append-le, take-append-drop}
-use Rattle.disk_model.specs.Disk.{Content, sector_in, last_candidate, last_image, with_run, newest_only, OnlyAdds, IsOfRun}
+use Rattle.disk_model.specs.Disk.{Content, sector_in, last_image, with_run, newest_only, OnlyAdds, IsOfRun}
 use Rattle.disk_model.proofs.DiskLemmas.{last_image-with_run, last_image-with_run_out, OnlyAdds-wider, OnlyAdds-join, AddsSome-adds, AddsSome-all}
 use Rattle.image_model.specs.Cells.{Cell, salt_of}
 use Rattle.image_model.specs.Geometry.{section_at, section_sectors, data_at}
 use Rattle.image_model.specs.Section.{Entry}
 use Rattle.image_model.proofs.GeometryLemmas.{data_at-inside}
-use Rattle.place_model.specs.Tags.{KeepsOthers, tag_byte_at, IsOfCell, IsOfTags, with_block_tag}
+use Rattle.place_model.specs.Tags.{tag_byte_at, IsOfCell, IsOfTags, with_block_tag}
 use Rattle.place_model.specs.Blocks.{ReadsData}
-use Rattle.place_model.proofs.TagsLemmas.{order, data_once, tag_byte-no_data, same_product, tag_byte-behind}
+use Rattle.place_model.proofs.TagsLemmas.{order, data_once, same_product, tag_byte-behind}
 use Rattle.place_model.proofs.EachLemmas.{all_get}
 use Rattle.place_model.proofs.BlocksLemmas.{ReadsData-same, KeepsOthers-data}
 use Rattle.journal_model.specs.Entries.{cell_after, IsBlockEntry, cell_of}
 use Rattle.journal_model.specs.JournaledDisk.{JournaledDisk, IsFormed, cell_at}
-use Rattle.journal_model.specs.Steps.{batch_entries, IsBatch, committed, placed_one, AreTagsAfter}
+use Rattle.journal_model.specs.Steps.{batch_entries, IsBatch, after_commit, AreTagsAfter}
 use Rattle.journal_model.specs.KeepsLaws.{KeepsCommitted, KeepsTagSectors, KeepsPlaced, KeepsBack, KeepsSettled, PlacedReadLaw}
 use Rattle.journal_model.proofs.StepLemmas.{one_more-here, one_more-other, placing_law, writing_back_law, settled_law, with_block_tag-after}
 use Rattle.journal_model.proofs.CommittedLemmas.{committed_law}
@@ -56,7 +56,7 @@ ReadsData-placed d b entry first c formed at here reads same = record {
 
 -- A commit leaves the data as they read.
 pub ReadsData-committed : (d : JournaledDisk) (batch : ℕ) (bytes : List ℕ) (first : Content) → IsFormed d → IsBatch d batch bytes → ReadsData d.geometry (cell_at d d.placed) first
-    → ReadsData d.geometry (cell_at (committed d batch bytes) d.placed) (newest_only (with_run (section_at d.geometry d.next) bytes first))
+    → ReadsData d.geometry (cell_at (after_commit d batch bytes) d.placed) (newest_only (with_run (section_at d.geometry d.next) bytes first))
 ReadsData-committed d batch bytes first formed is reads = record {
   each = λ b k low k_low.
       let g = d.geometry in
@@ -70,7 +70,7 @@ ReadsData-committed d batch bytes first formed is reads = record {
 }
 
 -- The tags after what is placed stay in a commit.
-pub AreTagsAfter-committed : (d : JournaledDisk) (batch : ℕ) (bytes : List ℕ) (tags : ℕ → List ℕ) → IsFormed d → AreTagsAfter d d.placed tags → AreTagsAfter (committed d batch bytes) d.placed tags
+pub AreTagsAfter-committed : (d : JournaledDisk) (batch : ℕ) (bytes : List ℕ) (tags : ℕ → List ℕ) → IsFormed d → AreTagsAfter d d.placed tags → AreTagsAfter (after_commit d batch bytes) d.placed tags
 AreTagsAfter-committed d batch bytes tags formed are = record {
   each = λ b low rests. are.each b low rests
       ∙ ap (λ (ws : List Entry). (cell_after d.geometry d.base ws b).tag) (sym (take-append-le d.placed d.entries (batch_entries d batch bytes) formed.placed_low));

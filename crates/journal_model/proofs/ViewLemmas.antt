@@ -1,22 +1,18 @@
 -- The ring of a disk, through a commit.
-use Rattle.std.proofs.Common.{◌≡◌, ℕ, ◌+◌, ◌≤◌, sym, ◌∙◌, ap, subst, arith, List, [], ◌∷◌, take, length-drop}
-use Rattle.std.specs.List.{AllByRecursion, flat_map}
+use Rattle.std.proofs.Common.{◌≡◌, ℕ, ◌+◌, ◌≤◌, sym, ◌∙◌, ap, subst, arith, List, take, length-drop}
+use Rattle.std.specs.List.{AllByRecursion}
 use Rattle.image_model.specs.Cells.{salt_of}
 use Rattle.image_model.specs.Section.{Entry}
-use Rattle.place_model.proofs.EachLemmas.{all_take, all_drop, all_append}
+use Rattle.place_model.proofs.EachLemmas.{all_flat, all_take, all_drop}
 use Rattle.journal_model.specs.Batch.{AreSections}
 use Rattle.journal_model.specs.Cuts.{next_after, number_after}
 use Rattle.journal_model.specs.Entries.{IsBlockEntry}
 use Rattle.journal_model.specs.JournaledDisk.{JournaledDisk, IsSound}
-use Rattle.journal_model.specs.Steps.{IsBatch, batch_entries, committed}
+use Rattle.journal_model.specs.Steps.{IsBatch, batch_entries, after_commit}
 use Rattle.journal_model.proofs.BatchLemmas.{has_sections}
 use Rattle.journal_model.proofs.CommittedLemmas.{rests_after}
 use Rattle.journal_model.proofs.FreeLemmas.{room_law, kept_law}
 use Rattle.journal_model.specs.View.{RingView, IsRingOf, RingLaw, next_batch, next_entries, with_commit}
-
-all_joined : (P : Entry → Type 0) (xs : List (List Entry)) → AllByRecursion (AllByRecursion P) xs → AllByRecursion P (flat_map (λ entries. entries) xs)
-all_joined P [] all = tt
-all_joined P (x ∷ xs) all = all_append P x (flat_map (λ entries. entries) xs) all.0 (all_joined P xs all.1)
 
 module _ (view : RingView) (d : JournaledDisk) (entries : ℕ → List Entry) (bytes : List ℕ) (sound : IsSound d) (is : IsRingOf view d)
     (are : AreSections d (next_batch view) entries bytes) (told : batch_entries d (next_batch view) bytes ≡ next_entries view) where
@@ -32,11 +28,11 @@ module _ (view : RingView) (d : JournaledDisk) (entries : ℕ → List Entry) (b
     size = are.size;
     numbers = (has_sections d (next_batch view) entries bytes are).numbers;
     each = subst (AllByRecursion (IsBlockEntry d.key (salt_of d.superblock) d.geometry)) (sym told)
-        (all_joined (IsBlockEntry d.key (salt_of d.superblock) d.geometry) (take (next_batch view) view.opened) (all_take _ (next_batch view) view.opened is.each));
+        (all_flat (IsBlockEntry d.key (salt_of d.superblock) d.geometry) (take (next_batch view) view.opened) (all_take _ (next_batch view) view.opened is.each));
     room = room_law d view.kept (next_batch view) is.free batch_fits;
   }
 
-  after : IsRingOf (with_commit view) (committed d (next_batch view) bytes)
+  after : IsRingOf (with_commit view) (after_commit d (next_batch view) bytes)
   after = record {
     geometry = is.geometry;
     next = ap (λ (n : ℕ). next_after n view.next (next_batch view)) sections_are ∙ ap (λ (n : ℕ). next_after d.geometry.sections n (next_batch view)) is.next;

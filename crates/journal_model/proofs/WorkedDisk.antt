@@ -20,7 +20,7 @@ use Rattle.place_model.proofs.FormatLemmas.{opens_tells}
 use Rattle.place_model.proofs.WorkedDisk.{journal_format, fresh_journal, walk_of-fresh, OpensAs-journal, HasWholeSectors-journal}
 use Rattle.journal_model.specs.JournaledDisk.{JournaledDisk, Rests, StandsFor}
 use Rattle.journal_model.specs.Opening.{opened_disk}
-use Rattle.journal_model.specs.Steps.{IsBatch, batch_entries, committed, oldest}
+use Rattle.journal_model.specs.Steps.{IsBatch, batch_entries, after_commit, oldest_entries}
 use Rattle.journal_model.proofs.CommittedLemmas.{committed_law}
 use Rattle.journal_model.proofs.OpeningLemmas.{opened_law, state_law}
 
@@ -120,7 +120,7 @@ size-is : length batch ≡ 45056
 size-is = refl
 
 -- The fresh journal has no entry whose place the batch could take.
-oldest-none : oldest fresh 1 ≡ []
+oldest-none : oldest_entries fresh 1 ≡ []
 unfolding entries_in entry_at is_used entry_size entries_per_sector section_entries section_sectors
 oldest-none = refl
 
@@ -140,5 +140,5 @@ IsBatch-one = record {
 }
 
 -- Once it is written and synced the disk stands for its entry, and the journal is at rest.
-pub StandsFor-committed : StandsFor (committed fresh 1 batch) (newest_only (with_run (section_at journal_format.geometry 0) batch content)) × Rests (committed fresh 1 batch)
+pub StandsFor-committed : StandsFor (after_commit fresh 1 batch) (newest_only (with_run (section_at journal_format.geometry 0) batch content)) × Rests (after_commit fresh 1 batch)
 StandsFor-committed = committed_law fresh 1 batch content StandsFor-fresh Rests-fresh IsBatch-one (newest_only-last content)

@@ -9,20 +9,21 @@ use Rattle.place_model.specs.Blocks.{GivesCell}
 use Rattle.place_model.specs.Tags.{tag_byte_at, with_block_tag, IsOfTags, ReadsTags, KeepsOthers}
 use Rattle.journal_model.specs.Entries.{cell_after}
 use Rattle.journal_model.specs.JournaledDisk.{JournaledDisk, IsSound, Rests}
-use Rattle.journal_model.specs.Steps.{IsBatch, IsNextEntry, KeepsCells, committed, placed_one, settled_all}
+use Rattle.journal_model.specs.Steps.{IsBatch, IsNextEntry, KeepsCells, after_commit, after_place, after_settle}
 
 -- A commit changes nothing of the data and the tags in place,
 abbrev pub KeepsCommitted : Type 0
 KeepsCommitted = (d : JournaledDisk) (batch : ℕ) (bytes : List ℕ) (tags : ℕ → List ℕ) (first : Content)
     → Rests d → IsBatch d batch bytes → IsImage first (last_image first) → KeepsCells d tags first
-    → KeepsCells (committed d batch bytes) tags
+    → KeepsCells (after_commit d batch bytes) tags
     (newest_only (with_run (section_at d.geometry d.next) bytes first))
 
 -- nor of the sectors of tags.
 abbrev pub KeepsTagSectors : Type 0
 KeepsTagSectors = (d : JournaledDisk) (batch : ℕ) (bytes : List ℕ) (first : Content) (b i : ℕ)
     → IsSound d → IsBatch d batch bytes → b < d.geometry.blocks → i < d.geometry.shape.tag_size
-    → last_image (newest_only (with_run (section_at d.geometry d.next) bytes first)) (tag_byte_at d.geometry b i).0
+    → last_image (newest_only (with_run (section_at d.geometry d.next) bytes first))
+    (tag_byte_at d.geometry b i).0
     ≡ last_image first (tag_byte_at d.geometry b i).0
 
 -- The bytes of the next entry are written to its block, and then its tag, which may stand in memory.
@@ -32,7 +33,7 @@ KeepsPlaced = (d : JournaledDisk) (b : ℕ) (entry : Entry) (tags : ℕ → List
     → OnlyAdds (IsOfTags d.geometry tags (with_block_tag b entry.tag tags))
     (with_run (data_at d.geometry b) entry.bytes first) c
     → KeepsOthers d.geometry (with_run (data_at d.geometry b) entry.bytes first) c
-    → KeepsCells (placed_one d) (with_block_tag b entry.tag tags) c
+    → KeepsCells (after_place d) (with_block_tag b entry.tag tags) c
 
 -- Tags are written back,
 abbrev pub KeepsBack : Type 0
@@ -43,7 +44,7 @@ KeepsBack = (d : JournaledDisk) (tags : ℕ → List ℕ) (first c : Content) �
 abbrev pub KeepsSettled : Type 0
 KeepsSettled = (d : JournaledDisk) (tags : ℕ → List ℕ) (first : Content) → KeepsCells d tags first
     → IsImage first (last_image first) → ReadsTags d.geometry tags first
-    → KeepsCells (settled_all d) tags (newest_only first)
+    → KeepsCells (after_settle d) tags (newest_only first)
 
 -- Of a block with no entry that is not placed, reads of its data and the tag that is told give its cell after all.
 abbrev pub PlacedReadLaw : Type 0

@@ -1,7 +1,7 @@
 -- Lists of which each element has a property.
 use Rattle.std.proofs.Common.{◌≡◌, ℕ, zero, suc, subst, arith, Some, List, [], ◌∷◌, ◌++◌, take, drop, slice_get}
 use Rattle.std.proofs.lemmas.Option.{slice_get_within, get_or_from_slice_get}
-use Rattle.std.specs.List.{AllByRecursion}
+use Rattle.std.specs.List.{AllByRecursion, flat_map}
 
 pub all_take : {A : Type 0} (P : A → Type 0) (k : ℕ) (xs : List A) → AllByRecursion P xs → AllByRecursion P (take k xs)
 all_take P zero xs all = tt
@@ -22,3 +22,8 @@ pub all_get : {A : Type 0} (P : A → Type 0) (xs : List A) (k : ℕ) (x : A) �
 all_get P [] k x all e = absurd (let low = slice_get_within [] k x e in omega arith)
 all_get P (y ∷ ys) zero x all e = subst P (let same : y ≡ x = get_or_from_slice_get (y ∷ ys) 0 x x e in same) all.0
 all_get P (y ∷ ys) (suc k) x all e = all_get P ys k x all.1 e
+
+-- Where all of some lists are, all of their elements are.
+pub all_flat : {A : Type 0} (P : A → Type 0) (xs : List (List A)) → AllByRecursion (AllByRecursion P) xs → AllByRecursion P (flat_map (λ x. x) xs)
+all_flat P [] all = tt
+all_flat P (x ∷ xs) all = all_append P x (flat_map (λ y. y) xs) all.0 (all_flat P xs all.1)

@@ -23,4 +23,5 @@ numbers_on g image section sector = commit_number section sector (image (section
 
 -- The used entries of a section of an image, in order.
 unfoldable pub entries_in : Geometry → Image → ℕ → List Entry
-entries_in g image section = filter_map (entry_of g image) (map (λ n. (section, n)) (range_with_len 0 (section_entries g.shape)))
+entries_in g image section =
+    filter_map (entry_of g image) (map (λ n. (section, n)) (range_with_len 0 (section_entries g.shape)))

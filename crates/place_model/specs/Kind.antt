@@ -12,10 +12,9 @@ use Rattle.place_model.specs.Opened.{IsModeOf, blocks_of, device_format, opened_
 
 -- The image can be opened in this mode: in recovery mode one that can be read.
 abbrev pub CanOpenIn : Mode → Option (List ℕ) → ℕ → Image → Type 0
-CanOpenIn Journal key sectors image = IsOpenable key sectors image × IsModeOf Journal (format_on key sectors image).superblock
-CanOpenIn Bitmap key sectors image = IsOpenable key sectors image × IsModeOf Bitmap (format_on key sectors image).superblock
-CanOpenIn Direct key sectors image = IsOpenable key sectors image × IsModeOf Direct (format_on key sectors image).superblock
 CanOpenIn Recovery key sectors image = IsReadable sectors image
+CanOpenIn mode key sectors image =
+    IsOpenable key sectors image × IsModeOf mode (format_on key sectors image).superblock
 
 -- In this mode the image may be left, by its own superblock. In recovery mode it is the one at entry.
 abbrev pub IsLeftIn : Mode → Option (List ℕ) → ℕ → Image → History → Image → Type 0
@@ -25,7 +24,8 @@ IsLeftIn Direct key sectors entry h left = IsLeftInDirect (format_on key sectors
 IsLeftIn Recovery key sectors entry h left = (sector : ℕ) → left sector ≡ entry sector
 
 -- What a cut may leave of a device that was opened on an image: the same blocks with the same tags, as the mode says.
-pub record MayBeLeftIn (mode : Mode) (key : Option (List ℕ)) (sectors : ℕ) (entry : Image) (h : History) (left : Image) : Type 0 where
+pub record MayBeLeftIn (mode : Mode) (key : Option (List ℕ)) (sectors : ℕ) (entry : Image) (h : History)
+    (left : Image) : Type 0 where
   pub blocks : blocks_of (format_on key sectors left) ≡ blocks_of (format_on key sectors entry)
   pub left_is : IsLeftIn mode key sectors entry h left
 
@@ -40,17 +40,19 @@ kind_in mode key sectors = record {
 
 -- ---- laws
 
--- What may be left by the format of the image at entry may be left of the device that was opened on it, in each mode.
+-- What may be left by the format of the image at entry may be left of the device that was opened on it in journal mode.
 abbrev pub JournalKindLaw : Type 0
 JournalKindLaw = (d : DiskFormat) (entry : Image) (h : History) (left : Image)
     → format_on d.key d.sectors entry ≡ d → IsLeftInJournal d h left
     → MayBeLeftIn Journal d.key d.sectors entry h left
 
+-- The same in bitmap mode,
 abbrev pub BitmapKindLaw : Type 0
 BitmapKindLaw = (d : DiskFormat) (entry : Image) (h : History) (left : Image)
     → format_on d.key d.sectors entry ≡ d → IsLeftInBitmap d h left
     → MayBeLeftIn Bitmap d.key d.sectors entry h left
 
+-- and in direct mode.
 abbrev pub DirectKindLaw : Type 0
 DirectKindLaw = (d : DiskFormat) (entry : Image) (h : History) (left : Image)
     → format_on d.key d.sectors entry ≡ d → IsLeftInDirect d h left

@@ -28,15 +28,17 @@ pub record IsLeftInBitmap (d : DiskFormat) (h : History) (image : Image) : Type 
 
 -- ---- laws
 
--- What may be left before a write may be left while it is under way, in each mode.
+-- What may be left before a write may be left while it is under way, in direct mode,
 abbrev pub DirectPendingLaw : Type 0
 DirectPendingLaw = (d : DiskFormat) (h : History) (write : BlockWrite) (image : Image) → h.pending ≡ None
     → IsLeftInDirect d h image → IsLeftInDirect d (with_change h (Begun write)) image
 
+-- in journal mode,
 abbrev pub JournalPendingLaw : Type 0
 JournalPendingLaw = (d : DiskFormat) (h : History) (write : BlockWrite) (image : Image) → h.pending ≡ None
     → IsLeftInJournal d h image → IsLeftInJournal d (with_change h (Begun write)) image
 
+-- and in bitmap mode.
 abbrev pub BitmapPendingLaw : Type 0
 BitmapPendingLaw = (d : DiskFormat) (h : History) (write : BlockWrite) (image : Image) → h.pending ≡ None
     → IsLeftInBitmap d h image → IsLeftInBitmap d (with_change h (Begun write)) image

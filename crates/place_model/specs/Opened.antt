@@ -9,7 +9,7 @@ use Rattle.image_model.specs.Geometry.{section_entries, region_of, regions}
 use Rattle.image_model.specs.Grid.{walk_of}
 use Rattle.image_model.specs.Scan.{ScanFault}
 use Rattle.image_model.specs.Superblock.{Superblock, has_flag}
-use Rattle.image_model.specs.Walk.{State, Rest, Mixed, Erasing, Blank, Plan}
+use Rattle.image_model.specs.Walk.{State, Rest, Plan}
 use Rattle.device_model.specs.Mode.{Mode, Journal, Bitmap, Direct, Recovery, is_bitmap, is_recovery, DeviceFormat}
 use Rattle.device_model.specs.Progress.{DeviceState, opened_device}
 use Rattle.device_model.specs.Transcript.{BlockFormat}
@@ -56,19 +56,16 @@ IsModeOf Recovery s = Unit {0}
 -- The cells at opening: those of the image, and in recovery mode those that are placed.
 abbrev pub base_on : Mode → DiskFormat → Image → ℕ → Cell
 base_on Recovery d image = placed_cells_of d.geometry image
-base_on Journal d image = cells_on d image
-base_on Bitmap d image = cells_on d image
-base_on Direct d image = cells_on d image
+base_on mode d image = cells_on d image
 
 -- ---- the counts
 
 -- The section where writing goes on after a recovery: at its start, but where the journal is at rest.
 abbrev pub next_by : State → ℕ
 next_by (Rest next number) = next
-next_by (Mixed number) = 0
-next_by (Erasing number) = 0
-next_by (Blank number) = 0
+next_by state = 0
 
+-- The same by what the scan of a journal gives.
 abbrev pub next_after_walk : Result Plan ScanFault → ℕ
 next_after_walk (Ok plan) = next_by plan.state
 next_after_walk (Err fault) = 0
@@ -76,9 +73,7 @@ next_after_walk (Err fault) = 0
 -- Where writing goes on in the journal of an image: at its start, but in journal mode by the walk.
 abbrev pub next_on : Mode → DiskFormat → Image → ℕ
 next_on Journal d image = next_after_walk (walk_of d.geometry image)
-next_on Bitmap d image = 0
-next_on Direct d image = 0
-next_on Recovery d image = 0
+next_on mode d image = 0
 
 -- The regions whose bit is set: in bitmap mode those of the image.
 abbrev pub set_bits_on : Mode → DiskFormat → Image → ℕ → Bool
@@ -91,4 +86,5 @@ awaiting_on mode d image region = not (is_recovery mode) && region_awaits d.supe
 -- The device that has just been opened on the image.
 abbrev pub opened_on : Mode → DiskFormat → Image → DeviceState
 opened_on mode d image =
-    opened_device (base_on mode d image) (next_on mode d image) (set_bits_on mode d image) (awaiting_on mode d image)
+    opened_device (base_on mode d image) (next_on mode d image)
+    (set_bits_on mode d image) (awaiting_on mode d image)
