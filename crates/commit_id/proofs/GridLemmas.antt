@@ -2,7 +2,8 @@
 use Rattle.std.proofs.Common.{◌≡◌, ℕ, ◌+◌, ◌*◌, ◌^◌, ◌<◌, sym, ◌∙◌, ap, subst, arith, length, get_or}
 use Rattle.std.proofs.lemmas.List.{get_or-map, length-map}
 use Rattle.std.proofs.lemmas.Nat.{div-mul-add, mod-mul-add}
-use Rattle.image_model.specs.Scan.{Grid as Journal, Zero as ZeroCell, IsGrid, cell_at}
+use Rattle.image_model.specs.Scan.{Grid as Journal, IsGrid, cell_at}
+use Rattle.image_model.specs.declared.sector_cell.Cell.TheVariants.{Zero as ZeroCell}
 use Rattle.image_model.proofs.ScanLemmas.{place_low}
 use Rattle.commit_id.specs.declared.grid.Cell.{Cell}
 use Rattle.commit_id.specs.declared.grid.Grid.{Grid}

@@ -5,8 +5,11 @@ use Rattle.std.specs.List.{position_or_len}
 use Rattle.std.proofs.lemmas.Bool.{le-ltb, ltb-true, true≢false, false_from_ne_true}
 use Rattle.std.proofs.lemmas.List.Sums.{position_or_len_is}
 use Rattle.image_model.specs.Below.{all_below}
-use Rattle.image_model.specs.Scan.{Grid, SectorCell, Zero, FourNumbers, IsGrid, cell_number, numbers_of, blank_number, blank_plan, first_place, scan_fault_of, walk_of_grid}
-use Rattle.image_model.specs.Walk.{Plan, bears, is_numbered, occurs, later, newest, plan_at, plan_by, plan_of}
+use Rattle.image_model.specs.Scan.{Grid, SectorCell, IsGrid, cell_number, numbers_of, blank_number, blank_plan, first_place, scan_fault_of, walk_of_grid}
+use Rattle.image_model.specs.declared.sector_cell.Cell.TheVariants.{Zero}
+use Rattle.image_model.specs.declared.scan_fault.ScanFault.TheVariants.{FourNumbers}
+use Rattle.image_model.specs.Walk.{bears, is_numbered, occurs, later, newest, plan_at, plan_by, plan_of}
+use Rattle.image_model.specs.declared.journal_plan.Plan.{Plan}
 use Rattle.image_model.proofs.BelowLemmas.{all_from, all_at, any_at}
 use Rattle.image_model.proofs.NumberLemmas.{later_low, newest_tells, newest_none}
 use Rattle.image_model.proofs.ScanLemmas.{place_inside, place_low}

@@ -1,5 +1,6 @@
 -- The fault that a `ScanFault` tells.
-use Rattle.image_model.specs.Scan.{ScanFault as JournalFault, NoNumber as Unnumbered, FourNumbers as AllNumbers}
+use Rattle.image_model.specs.declared.scan_fault.ScanFault.{ScanFault as JournalFault}
+use Rattle.image_model.specs.declared.scan_fault.ScanFault.TheVariants.{NoNumber as Unnumbered, FourNumbers as AllNumbers}
 use Rattle.commit_id.specs.declared.scanning.ScanFault.{ScanFault}
 use Rattle.commit_id.specs.declared.scanning.ScanFault.TheVariants.{NoNumber, FourNumbers}
 

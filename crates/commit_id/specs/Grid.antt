@@ -1,6 +1,7 @@
 -- The journal that a `Grid` shows.
 use Rattle.std.specs.Prelude.{map}
-use Rattle.image_model.specs.Scan.{SectorCell, Number as NumberCell, Zero as ZeroCell, Other as OtherCell, Grid as Journal}
+use Rattle.image_model.specs.Scan.{SectorCell, Grid as Journal}
+use Rattle.image_model.specs.declared.sector_cell.Cell.TheVariants.{Number as NumberCell, Zero as ZeroCell, Other as OtherCell}
 use Rattle.commit_id.specs.declared.grid.Cell.{Cell}
 use Rattle.commit_id.specs.declared.grid.Cell.TheVariants.{Number, Zero, Other}
 use Rattle.commit_id.specs.declared.grid.Grid.{Grid}

@@ -1,5 +1,7 @@
 -- The plan that a `Plan` tells.
-use Rattle.image_model.specs.Walk.{State as JournalState, Rest as AtRest, Mixed as InCommit, Erasing as InErasure, Blank as BlankIn, Plan as JournalPlan}
+use Rattle.image_model.specs.declared.journal_plan.State.{State as JournalState}
+use Rattle.image_model.specs.declared.journal_plan.State.TheVariants.{Rest as AtRest, Mixed as InCommit, Erasing as InErasure, Blank as BlankIn}
+use Rattle.image_model.specs.declared.journal_plan.Plan.{Plan as JournalPlan}
 use Rattle.commit_id.specs.declared.plan.State.{State}
 use Rattle.commit_id.specs.declared.plan.State.TheVariants.{Rest, Mixed, Erasing, Blank}
 use Rattle.commit_id.specs.declared.plan.Plan.{Plan}

@@ -4,15 +4,12 @@
 //! A `Geometry` is made only where no two things overlap and all lie on the disk (`Geometry::new`,
 //! `apart`). So each place is computed without a test, and fits its number.
 ghost use Rattle.std.specs.Prelude.{◌≡◌, ◌<◌, ◌^◌, IfOk};
-ghost use Rattle.std.specs.Result.{result_map_both};
 ghost use Rattle.image_model.specs.Geometry.{bitmap_sectors, data_at, fitting_log2_region, geometry_of, initial, IsGeometry, region_of, regions, section_at, tag_at};
 ghost use Rattle.image_model.specs.GeometryLaws.{IsFitting, LiesApart};
 ghost use Rattle.image_model.specs.Superblock.{IsAccepted};
 ghost use Rattle.commit_id.specs.Shape.{shape_of, IsShape};
-ghost use Rattle.superblock.specs.Fields.{fields_of};
-ghost use Rattle.layout.specs.Fault.{fault_of};
 
-use crate::fault::GeomFault;
+use image_model::GeomFault;
 use crate::layout::Layout;
 use crate::regions::{bitmap_sectors_for, fitting_log2_region, region_of, regions_for};
 use commit_id::Shape;
@@ -60,10 +57,10 @@ impl Geometry {
     ///
     /// Source: Linux, `drivers/md/dm-integrity.c`, `dm_integrity_ctr`.
     pub fn new(fields: &Super, disk_sectors: u64) -> Result<Geometry, GeomFault>
-        requires fields { IsAccepted (fields_of fields.now) }
+        requires fields { IsAccepted fields.now }
 
-        ensures told { result_map_both (λ g. g) fault_of result
-            ≡ geometry_of (fields_of fields.now) disk_sectors }
+        ensures told { result
+            ≡ geometry_of fields.now disk_sectors }
         ensures geometry { IfOk result (λ g. IsGeometry g disk_sectors) }
 
         // No two parts of the image overlap, and each is on the disk.

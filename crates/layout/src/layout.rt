@@ -4,11 +4,9 @@ ghost use Rattle.std.specs.Result.{result_map_both};
 ghost use Rattle.image_model.specs.Faults.{ok_unless};
 ghost use Rattle.image_model.specs.Geometry.{area_at, best_provided, data_at, geometry_of, initial, journal_sectors, layout_of, section_at, sector_at, size_faults, tag_at, tag_run_of};
 ghost use Rattle.image_model.specs.Superblock.{has_flag, HasLayout, IsAccepted};
-ghost use Rattle.superblock.specs.Fields.{fields_of};
-ghost use Rattle.layout.specs.Fault.{fault_of};
 ghost use Rattle.layout.specs.Layout.{geometry_in, FitsADisk, IsLayout, IsWithinLimits};
 
-use crate::fault::GeomFault;
+use image_model::GeomFault;
 use crate::regions::bitmap_sectors_for;
 use commit_id::Shape;
 use image_model::{DIRTY_BITMAP, FIXED_PADDING};
@@ -58,9 +56,9 @@ pub(crate) struct Layout {
 impl Layout {
     /// The layout of these fields.
     pub(crate) fn of(fields: Super) -> Layout
-        requires fields { HasLayout (fields_of fields) }
+        requires fields { HasLayout fields }
 
-        ensures layout { geometry_in result ≡ layout_of (fields_of fields) }
+        ensures layout { geometry_in result ≡ layout_of fields }
         ensures is_layout { IsLayout result }
     {
         Layout {
@@ -82,13 +80,13 @@ impl Layout {
     /// - `DeviceTooLarge`: the disk has more than 2^48 sectors.
     /// - `JournalTooLarge`: the journal has more than 2^20.
     pub(crate) fn on_disk(fields: Super, disk_sectors: u64) -> Result<Layout, GeomFault>
-        requires fields { HasLayout (fields_of fields) }
+        requires fields { HasLayout fields }
 
         ensures within { IfOk result
-            (λ layout. IsWithinLimits (fields_of fields) disk_sectors (geometry_in layout)) }
+            (λ layout. IsWithinLimits fields disk_sectors (geometry_in layout)) }
         ensures is_layout { IfOk result (λ layout. IsLayout layout) }
-        ensures fault { let g = layout_of (fields_of fields) in
-            IfErr result (λ fault. Err (fault_of fault) ≡ ok_unless (size_faults g disk_sectors) g) }
+        ensures fault { let g = layout_of fields in
+            IfErr result (λ fault. Err fault ≡ ok_unless (size_faults g disk_sectors) g) }
     {
         let layout = Layout::of(fields);
         if disk_sectors > MOST_SECTORS {
@@ -113,10 +111,10 @@ impl Layout {
     /// - `BitmapTooLarge`: the flag for a bitmap is set, and it needs more sectors than the journal
     ///   has.
     pub(crate) fn with_room(fields: Super, disk_sectors: u64) -> Result<Layout, GeomFault>
-        requires fields { IsAccepted (fields_of fields) }
+        requires fields { IsAccepted fields }
 
-        ensures told { result_map_both geometry_in fault_of result
-            ≡ geometry_of (fields_of fields) disk_sectors }
+        ensures told { result_map_both geometry_in result
+            ≡ geometry_of fields disk_sectors }
         ensures is_layout { IfOk result (λ layout. IsLayout layout) }
     {
         let layout = Layout::on_disk(fields, disk_sectors)?;
@@ -226,9 +224,9 @@ impl Layout {
 
 /// How many sectors the tags of an area take.
 fn tag_run(fields: Super) -> u64
-    requires fields { HasLayout (fields_of fields) }
+    requires fields { HasLayout fields }
 
-    ensures { result ≡ tag_run_of (fields_of fields) }
+    ensures { result ≡ tag_run_of fields }
 {
     let blocks = 1 << (fields.log2_interleave - fields.log2_spb);
     (blocks * fields.tag_size as u64).next_multiple_of(padding(fields.flags)) / 512

@@ -1,7 +1,8 @@
 use Rattle.std.proofs.Common.{inl, inr, ◌<◌, arith, sym, ◌∙◌, ap, length}
 use Rattle.std.proofs.lemmas.Bool.{cases_eq}
 use Rattle.std.proofs.lemmas.List.{get_or-map}
-use Rattle.image_model.specs.Scan.{Zero, cell_number}
+use Rattle.image_model.specs.Scan.{cell_number}
+use Rattle.image_model.specs.declared.sector_cell.Cell.TheVariants.{Zero}
 use Rattle.commit_id.specs.declared.grid.Cell.TheVariants.{Number}
 use Rattle.commit_id.specs.Grid.{cell_of}
 use Rattle.commit_id.proofs.tests.is_grid.Goals as goal
