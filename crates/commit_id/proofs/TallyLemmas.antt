@@ -14,8 +14,8 @@ use Rattle.image_model.specs.Walk.{bears}
 use Rattle.image_model.proofs.BelowLemmas.{all_at}
 use Rattle.image_model.proofs.WalkLemmas.{bears_it, bears_other}
 use Rattle.std.specs.Option.{option_or}
-use Rattle.commit_id.specs.declared.scanning.ScanFault.{ScanFault}
-use Rattle.commit_id.specs.declared.scanning.ScanFault.TheVariants.{NoNumber as Unnumbered}
+use Rattle.image_model.specs.declared.scan_fault.ScanFault.{ScanFault}
+use Rattle.image_model.specs.declared.scan_fault.ScanFault.TheVariants.{NoNumber as Unnumbered}
 use Rattle.commit_id.specs.declared.tally.Tally.{Tally}
 use Rattle.commit_id.specs.Tally.{count_below, IsPlace, bears_at, is_numbered_at, TellsUnnumbered, IsTally, AddsNumber}
 use Rattle.commit_id.proofs.CountLemmas.{count_below-passes, count_below-fails, count_below-none, count_below-le}

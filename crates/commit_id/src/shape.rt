@@ -1,7 +1,7 @@
 //! The shape of a journal section: how long an entry is, how many a section has, and its sectors.
 ghost use Rattle.std.specs.Prelude.{◌≡◌, ◌^◌, ◌≤◌};
 ghost use Rattle.std.specs.Int.{IsInRange};
-ghost use Rattle.commit_id.specs.Shape.{shape_of, IsShape};
+ghost use Rattle.commit_id.specs.Shape.{as_shape, IsShape};
 
 /// How many metadata sectors a section has.
 ///
@@ -43,7 +43,7 @@ impl Shape {
         requires log2_spb { log2_spb ≤ 3 }
         requires tag_size { IsInRange 1 32 tag_size }
 
-        ensures shape { shape_of result ≡ record { spb = 2 ^ log2_spb; tag_size = tag_size } }
+        ensures shape { as_shape result ≡ record { spb = 2 ^ log2_spb; tag_size = tag_size } }
         ensures is_shape { IsShape result }
     {
         let spb = 1 << log2_spb;

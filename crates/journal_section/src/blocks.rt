@@ -1,7 +1,7 @@
 //! The bytes of an entry's block, of which the last 8 of each sector stand in the entry.
 ghost use Rattle.std.specs.Prelude.{◌≡◌, ℕ, ◌+◌, ◌*◌, ◌%◌, ◌<◌, ◌≤◌, List, length, None, slice_index, slice_index_or};
 ghost use Rattle.std.specs.Option.{ForSome, IfSome};
-ghost use Rattle.commit_id.specs.Shape.{shape_of, IsShape};
+ghost use Rattle.commit_id.specs.Shape.{as_shape, IsShape};
 ghost use Rattle.image_model.specs.Section.{block_in};
 ghost use Rattle.journal_section.specs.Entries.{entries_of};
 ghost use Rattle.journal_section.specs.Pieces.{HasPieces};
@@ -20,9 +20,9 @@ pub fn block_bytes(shape: Shape, meta: &[u8], parts: &[u8], n: u64, out: &mut [u
     requires n { n < shape.entries }
     requires out { length out.old ≡ 512 * shape.spb }
 
-    ensures bytes { out.new ≡ block_in (shape_of shape) meta.now parts.now n }
-    ensures entry { (bytes : List ℕ) → HasPieces (shape_of shape) n meta.now parts.now bytes
-        → IfSome (slice_index_or (entries_of (shape_of shape) bytes) n None)
+    ensures bytes { out.new ≡ block_in (as_shape shape) meta.now parts.now n }
+    ensures entry { (bytes : List ℕ) → HasPieces (as_shape shape) n meta.now parts.now bytes
+        → IfSome (slice_index_or (entries_of (as_shape shape) bytes) n None)
         (λ entry. out.new ≡ entry.bytes) }
 {
     let entry = entry_from(shape, n);

@@ -1,6 +1,6 @@
 //! Where the parts of a section lie, and how bytes are put there.
 ghost use Rattle.std.specs.Prelude.{◌≡◌, ◌+◌, ◌*◌, ◌≤◌, ◌<◌, length};
-ghost use Rattle.commit_id.specs.Shape.{shape_of, IsShape};
+ghost use Rattle.commit_id.specs.Shape.{as_shape, IsShape};
 ghost use Rattle.image_model.specs.Geometry.{entry_size};
 ghost use Rattle.image_model.specs.Section.{entry_from};
 ghost use Rattle.image_model.specs.Sectors.{bytes_of};
@@ -41,11 +41,11 @@ pub(crate) fn entry_from(shape: Shape, n: u64) -> usize
     requires shape { IsShape shape }
     requires n { n < shape.entries }
 
-    ensures place { result ≡ entry_from (shape_of shape) n }
+    ensures place { result ≡ entry_from (as_shape shape) n }
     ensures fits { result + shape.entry ≤ 4096 }
 
     // How large an entry is, for those who index in it.
-    ensures size { shape.entry ≡ entry_size (shape_of shape) }
+    ensures size { shape.entry ≡ entry_size (as_shape shape) }
     ensures fields { 8 + 8 * shape.spb + shape.tag ≤ shape.entry }
     ensures spb { shape.spb ≤ 8 }
 {

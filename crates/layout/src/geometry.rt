@@ -7,14 +7,13 @@ ghost use Rattle.std.specs.Prelude.{◌≡◌, ◌<◌, ◌^◌, IfOk};
 ghost use Rattle.image_model.specs.Geometry.{bitmap_sectors, data_at, fitting_log2_region, geometry_of, initial, IsGeometry, region_of, regions, section_at, tag_at};
 ghost use Rattle.image_model.specs.GeometryLaws.{IsFitting, LiesApart};
 ghost use Rattle.image_model.specs.Superblock.{IsAccepted};
-ghost use Rattle.commit_id.specs.Shape.{shape_of, IsShape};
+ghost use Rattle.commit_id.specs.Shape.{as_shape, IsShape};
 
-use image_model::GeomFault;
 use crate::layout::Layout;
 use crate::regions::{bitmap_sectors_for, fitting_log2_region, region_of, regions_for};
 use commit_id::Shape;
 use std::marker::Model;
-use superblock::Super;
+use image_model::{GeomFault, Super};
 
 /// Where all that an image has lies on its disk.
 ///
@@ -27,18 +26,18 @@ pub struct Geometry {
 
 impl Model for Geometry {
     ghost use Rattle.image_model.specs.Geometry.{Geometry};
-    ghost use Rattle.layout.specs.Layout.{geometry_in, layout_in, FitsADisk, layout_in-geometry_in};
+    ghost use Rattle.layout.specs.Layout.{as_geometry, as_layout, FitsADisk, as_layout-as_geometry};
 
     ghost Value = { Geometry };
 
-    ghost view = { λ geometry. geometry_in geometry.layout };
+    ghost view = { λ geometry. as_geometry geometry.layout };
 
     ghost invariant = { λ geometry. FitsADisk geometry.layout };
 
-    ghost inverse = { λ g. record { layout = layout_in g } };
+    ghost inverse = { λ g. record { layout = as_layout g } };
 
     ghost inverse_ok = { λ geometry fits i. record {
-      layout = layout_in-geometry_in geometry.layout fits i;
+      layout = as_layout-as_geometry geometry.layout fits i;
     } };
 }
 
@@ -89,7 +88,7 @@ impl Geometry {
 
     /// What a section of the journal looks like.
     pub fn shape(&self) -> Shape
-        ensures shape { shape_of result ≡ self.now.shape }
+        ensures shape { as_shape result ≡ self.now.shape }
         ensures is_shape { IsShape result }
     {
         self.layout.shape

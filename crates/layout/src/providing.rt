@@ -4,9 +4,8 @@ ghost use Rattle.image_model.specs.Geometry.{best_provided_of};
 ghost use Rattle.image_model.specs.GeometryLaws.{IsBestProvided};
 ghost use Rattle.image_model.specs.Superblock.{HasLayout};
 
-use image_model::GeomFault;
 use crate::layout::{Layout, PROVIDED_STEP};
-use superblock::Super;
+use image_model::{GeomFault, Super};
 
 /// The sectors that a new image with these fields provides on a disk of so many sectors: the most that
 /// have their data on it, a multiple of 8. The field `provided` is not looked at.

@@ -1,12 +1,12 @@
 use Rattle.std.proofs.Common.{◌^◌, sym, arith}
 use Rattle.image_model.proofs.GeometryLemmas.{IsGeometry-larger}
 use Rattle.image_model.proofs.GeometryOf.{geometry_apart}
-use Rattle.layout.specs.Layout.{geometry_in}
+use Rattle.layout.specs.Layout.{as_geometry}
 use Rattle.layout.proofs.geometry.Geometry.new.Goals as goal
 
 pub invariant_of-result : goal.invariant_of-result
 invariant_of-result c =
-    let g = geometry_in c.in_ok-layout.layout in
+    let g = as_geometry c.in_ok-layout.layout in
     let told = sym c.in_ok-layout.ensures.told in
     let is = (geometry_apart c.args.fields.now c.args.disk_sectors g c.requires.fields told).0 in
     let low = is.device in
