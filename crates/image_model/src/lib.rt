@@ -10,6 +10,7 @@ mod geometry_laws;
 mod journal_plan;
 mod scan_fault;
 mod sector_cell;
+mod sizes;
 mod super_fields;
 mod superblock_laws;
 mod walk_laws;
@@ -25,6 +26,7 @@ pub use geometry_laws::{
 pub use journal_plan::{Plan, State};
 pub use scan_fault::ScanFault;
 pub use sector_cell::Cell;
+pub use sizes::{ID_FROM, ID_SIZE, META_SECTORS, MOST_JOURNAL_SECTORS, MOST_SECTORS, SECTOR_SIZE};
 pub use super_fields::{Super, SuperFault};
 pub use superblock_laws::{superblock_is_told, superblock_reads_back};
 pub use walk_laws::{

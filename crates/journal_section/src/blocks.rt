@@ -6,7 +6,8 @@ ghost use Rattle.image_model.specs.Section.{block_in};
 ghost use Rattle.journal_section.specs.Entries.{entries_of};
 ghost use Rattle.journal_section.specs.Pieces.{HasPieces};
 
-use crate::places::{ID_FROM, SECTOR, WORD, entry_from, put};
+use crate::places::{WORD, entry_from, put};
+use image_model::{ID_FROM, SECTOR_SIZE};
 use commit_id::Shape;
 
 /// Puts the bytes of entry `n`'s block into `out`, by one copy: of each sector the first 504 from its data
@@ -27,7 +28,7 @@ pub fn block_bytes(shape: Shape, meta: &[u8], parts: &[u8], n: u64, out: &mut [u
 {
     let entry = entry_from(shape, n);
     for k in 0..shape.spb as usize {
-        let from = SECTOR * k;
+        let from = SECTOR_SIZE * k;
         let last = entry + WORD * (k + 1);
         put(out, from, &parts[from..from + ID_FROM]);
         put(out, from + ID_FROM, &meta[last..last + WORD]);
@@ -46,7 +47,7 @@ pub(crate) fn put_fronts(shape: Shape, parts: &mut [u8], block: &[u8])
     ensures ids { (at : ℕ) → 504 ≤ at % 512 → slice_index parts.new at ≡ slice_index parts.old at }
 {
     for k in 0..shape.spb as usize {
-        let from = SECTOR * k;
+        let from = SECTOR_SIZE * k;
         put(parts, from, &block[from..from + ID_FROM]);
     }
 }

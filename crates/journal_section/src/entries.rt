@@ -9,7 +9,8 @@ ghost use Rattle.journal_section.specs.View.{view_of};
 ghost use Rattle.journal_section.specs.Fields.{HasFields};
 
 use crate::blocks::put_fronts;
-use crate::places::{HIGH_HALF, ID_FROM, SECTOR, WORD, entry_from, put, put_number};
+use crate::places::{HIGH_HALF, WORD, entry_from, put, put_number};
+use image_model::{ID_FROM, SECTOR_SIZE};
 use byteorder::{ByteOrder, LittleEndian};
 use commit_id::Shape;
 use hmac_tag::Tag;
@@ -100,7 +101,7 @@ fn put_fields(shape: Shape, place: &mut [u8], sector: u64, block: &[u8], tag: &T
     place.fill(0);
     put_number(place, 0, sector);
     for k in 0..shape.spb as usize {
-        let last = SECTOR * k + ID_FROM;
+        let last = SECTOR_SIZE * k + ID_FROM;
         put(place, WORD * (k + 1), &block[last..last + WORD]);
     }
     put(place, tag_from(shape), tag.bytes());

@@ -8,31 +8,17 @@ ghost use Rattle.journal_section.specs.Pieces.{with_piece};
 
 use byteorder::{ByteOrder, LittleEndian};
 use commit_id::Shape;
+use image_model::{META_SECTORS, SECTOR_SIZE};
 
-/// The size of a sector in bytes.
+/// The size of a number in an entry, in bytes.
 ///
-/// Source: Linux, `include/linux/blk_types.h`, `SECTOR_SIZE`.
-pub(crate) const SECTOR: usize = 512;
-
-/// The byte of a journal sector where its commit id begins.
-///
-/// Source: Linux, `drivers/md/dm-integrity.c`, `JOURNAL_SECTOR_DATA`.
-pub(crate) const ID_FROM: usize = 504;
-
-/// The size of a commit id, and of a sector's number, in bytes.
-///
-/// Source: Linux, `drivers/md/dm-integrity.c`, `commit_id_t` and `struct journal_entry`.
+/// Source: Linux, `drivers/md/dm-integrity.c`, `struct journal_entry`.
 pub(crate) const WORD: usize = 8;
 
 /// The byte of an entry where the higher half of its sector's number begins.
 ///
 /// Source: Linux, `drivers/md/dm-integrity.c`, `struct journal_entry`.
 pub(crate) const HIGH_HALF: usize = 4;
-
-/// How many metadata sectors a section has.
-///
-/// Source: Linux, `drivers/md/dm-integrity.c`, `JOURNAL_BLOCK_SECTORS`.
-const META_SECTORS: usize = 8;
 
 /// The byte of the metadata where entry `n` begins.
 ///
@@ -50,7 +36,7 @@ pub(crate) fn entry_from(shape: Shape, n: u64) -> usize
     ensures spb { shape.spb ≤ 8 }
 {
     let n = n as usize;
-    SECTOR * (n % META_SECTORS) + n / META_SECTORS * shape.entry as usize
+    SECTOR_SIZE * (n % META_SECTORS) + n / META_SECTORS * shape.entry as usize
 }
 
 /// Puts the piece into the bytes, from byte `from` on.

@@ -4,7 +4,8 @@ ghost use Rattle.commit_id.specs.Shape.{as_shape, IsShape};
 ghost use Rattle.image_model.specs.Section.{Entry};
 ghost use Rattle.journal_section.specs.Entries.{BearsNumber, HoldsEntries};
 
-use crate::places::{ID_FROM, SECTOR, put_number};
+use crate::places::{put_number};
+use image_model::{ID_FROM, SECTOR_SIZE};
 use commit_id::{Shape, id};
 
 /// Writes the commit ids of commit number `number` on all sectors of section `i`, and nothing else.
@@ -22,6 +23,6 @@ pub fn seal(shape: Shape, i: u64, number: u8, bytes: &mut [u8])
     ensures others { (at : ℕ) → at % 512 < 504 → slice_index bytes.new at ≡ slice_index bytes.old at }
 {
     for j in 0..shape.sectors {
-        put_number(bytes, SECTOR * j as usize + ID_FROM, id(i, j, number));
+        put_number(bytes, SECTOR_SIZE * j as usize + ID_FROM, id(i, j, number));
     }
 }

@@ -12,8 +12,8 @@ ghost use Rattle.commit_id.specs.Shape.{as_shape, IsShape};
 use crate::layout::Layout;
 use crate::regions::{bitmap_sectors_for, fitting_log2_region, region_of, regions_for};
 use commit_id::Shape;
-use std::marker::Model;
 use image_model::{GeomFault, Super};
+use std::marker::Model;
 
 /// Where all that an image has lies on its disk.
 ///

@@ -8,13 +8,9 @@ ghost use Rattle.layout.specs.Layout.{as_geometry, FitsADisk, IsLayout, IsWithin
 
 use crate::regions::bitmap_sectors_for;
 use commit_id::Shape;
-use image_model::{DIRTY_BITMAP, FIXED_PADDING, GeomFault, Super};
-use superblock::MOST_SECTORS;
-
-/// How many sectors the journal may have at most.
-///
-/// Own: 2^20.
-const MOST_JOURNAL_SECTORS: u64 = 1 << 20;
+use image_model::{
+    DIRTY_BITMAP, FIXED_PADDING, GeomFault, MOST_JOURNAL_SECTORS, MOST_SECTORS, Super,
+};
 
 /// How many sectors the superblock takes.
 ///

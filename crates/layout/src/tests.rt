@@ -1,5 +1,6 @@
 //! Where all lies, by the format's formulas and where the kernel put it, and each refusal.
 use crate::{GeomFault, Geometry, best_provided};
+use std::process::Abort;
 use std::test::Fail;
 use superblock::{Super, judge};
 
@@ -23,31 +24,61 @@ struct Row<'a> {
     name: &'a str,
     fields: Super,
     sectors: u64,
-    /// The bytes of an entry, the entries of a sector and of a section, and a section's sectors.
-    shape: (u64, u64, u64, u64),
+    sizes: Sizes,
     initial: u64,
     tag_run: u64,
-    /// Blocks, each with the sector where its data begin, and where its tag does: a sector and a byte
-    /// in it.
-    places: &'a [(u64, u64, (u64, u64))],
+    places: &'a [Place],
 }
 
-// The last block of each row but the kernel's is the last that the disk has room for. The kernel's
-// places were found in images that Linux 6.1 wrote, by the data and by the tags that these have.
-#[test]
-fn places_are_those_of_the_format_and_of_the_kernel(rt: HostRuntime) -> Result<(), Fail> {
-    let rows = [
+/// The bytes of an entry, the entries of a metadata sector and of a section, and a section's sectors.
+#[derive(Clone, Copy, Debug, PartialEq)]
+struct Sizes {
+    entry: u64,
+    per_sector: u64,
+    entries: u64,
+    sectors: u64,
+}
+
+/// Where a block lies: the sector where its data begin, and the sector and the byte where its tag does.
+#[derive(Clone, Copy)]
+struct Place {
+    block: u64,
+    data_at: u64,
+    tag_at: (u64, u64),
+}
+
+fn sizes(entry: u64, per_sector: u64, entries: u64, sectors: u64) -> Sizes {
+    Sizes {
+        entry,
+        per_sector,
+        entries,
+        sectors,
+    }
+}
+
+fn place(block: u64, data_at: u64, tag_at: (u64, u64)) -> Place {
+    Place {
+        block,
+        data_at,
+        tag_at,
+    }
+}
+
+// The last block of each row but the kernel's is the last that the disk has room for.
+/// Images of one section of journal and small areas.
+fn small_images<'a>() -> [Row<'a>; 4] {
+    [
         Row {
             name: "the small image",
             fields: SMALL,
             sectors: 256,
-            shape: (48, 10, 80, 88),
+            sizes: sizes(48, 10, 80, 88),
             initial: 96,
             tag_run: 8,
             places: &[
-                (0, 104, (96, 0)),
-                (9, 121, (112, 32)),
-                (79, 255, (240, 224)),
+                place(0, 104, (96, 0)),
+                place(9, 121, (112, 32)),
+                place(79, 255, (240, 224)),
             ],
         },
         Row {
@@ -58,10 +89,10 @@ fn places_are_those_of_the_format_and_of_the_kernel(rt: HostRuntime) -> Result<(
                 ..SMALL
             },
             sectors: 4096,
-            shape: (48, 10, 80, 88),
+            sizes: sizes(48, 10, 80, 88),
             initial: 96,
             tag_run: 2048,
-            places: &[(0, 2144, (96, 0)), (1951, 4095, (217, 480))],
+            places: &[place(0, 2144, (96, 0)), place(1951, 4095, (217, 480))],
         },
         Row {
             name: "tags of 4 bytes",
@@ -71,10 +102,10 @@ fn places_are_those_of_the_format_and_of_the_kernel(rt: HostRuntime) -> Result<(
                 ..SMALL
             },
             sectors: 256,
-            shape: (24, 21, 168, 176),
+            sizes: sizes(24, 21, 168, 176),
             initial: 184,
             tag_run: 8,
-            places: &[(31, 247, (232, 28))],
+            places: &[place(31, 247, (232, 28))],
         },
         Row {
             name: "blocks of 4096 bytes",
@@ -84,11 +115,17 @@ fn places_are_those_of_the_format_and_of_the_kernel(rt: HostRuntime) -> Result<(
                 ..SMALL
             },
             sectors: 1024,
-            shape: (104, 4, 32, 264),
+            sizes: sizes(104, 4, 32, 264),
             initial: 272,
             tag_run: 8,
-            places: &[(1, 296, (288, 0)), (46, 1016, (1008, 0))],
+            places: &[place(1, 296, (288, 0)), place(46, 1016, (1008, 0))],
         },
+    ]
+}
+
+/// The largest areas and the longest journal.
+fn large_images<'a>() -> [Row<'a>; 2] {
+    [
         Row {
             name: "the largest areas on the largest disk",
             fields: Super {
@@ -98,10 +135,10 @@ fn places_are_those_of_the_format_and_of_the_kernel(rt: HostRuntime) -> Result<(
                 ..SMALL
             },
             sectors: 1 << 48,
-            shape: (48, 10, 80, 88),
+            sizes: sizes(48, 10, 80, 88),
             initial: 96,
             tag_run: 134_217_728,
-            places: &[(
+            places: &[place(
                 264_917_609_349_023,
                 281_474_976_710_655,
                 (281_473_080_885_337, 480),
@@ -115,11 +152,18 @@ fn places_are_those_of_the_format_and_of_the_kernel(rt: HostRuntime) -> Result<(
                 ..SMALL
             },
             sectors: 2_097_152,
-            shape: (48, 10, 80, 88),
+            sizes: sizes(48, 10, 80, 88),
             initial: 1_048_528,
             tag_run: 8,
-            places: &[(524_311, 2_097_151, (2_097_136, 224))],
+            places: &[place(524_311, 2_097_151, (2_097_136, 224))],
         },
+    ]
+}
+
+// These places were found in images that Linux 6.1 wrote, by the data and by the tags that they have.
+/// Images of the kernel.
+fn kernel_images<'a>() -> [Row<'a>; 3] {
+    [
         Row {
             name: "the kernel's, with tags of 20 bytes",
             fields: Super {
@@ -130,14 +174,14 @@ fn places_are_those_of_the_format_and_of_the_kernel(rt: HostRuntime) -> Result<(
                 ..SMALL
             },
             sectors: 512,
-            shape: (40, 12, 96, 104),
+            sizes: sizes(40, 12, 96, 104),
             initial: 112,
             tag_run: 8,
             places: &[
-                (20, 140, (112, 400)),
-                (25, 145, (112, 500)),
-                (121, 265, (232, 500)),
-                (319, 511, (473, 108)),
+                place(20, 140, (112, 400)),
+                place(25, 145, (112, 500)),
+                place(121, 265, (232, 500)),
+                place(319, 511, (473, 108)),
             ],
         },
         Row {
@@ -151,10 +195,10 @@ fn places_are_those_of_the_format_and_of_the_kernel(rt: HostRuntime) -> Result<(
                 ..SMALL
             },
             sectors: 1024,
-            shape: (64, 7, 56, 232),
+            sizes: sizes(64, 7, 56, 232),
             initial: 240,
             tag_run: 8,
-            places: &[(5, 268, (240, 100)), (20, 336, (312, 80))],
+            places: &[place(5, 268, (240, 100)), place(20, 336, (312, 80))],
         },
         Row {
             name: "the kernel's, without a flag",
@@ -167,33 +211,51 @@ fn places_are_those_of_the_format_and_of_the_kernel(rt: HostRuntime) -> Result<(
                 ..SMALL
             },
             sectors: 2048,
-            shape: (48, 10, 80, 88),
+            sizes: sizes(48, 10, 80, 88),
             initial: 360,
             tag_run: 256,
-            places: &[(0, 616, (360, 0)), (269, 1141, (872, 416))],
+            places: &[place(0, 616, (360, 0)), place(269, 1141, (872, 416))],
         },
-    ];
-    for row in &rows {
-        let name = row.name;
-        judge(&row.fields)?;
-        let g = Geometry::new(&row.fields, row.sectors)?;
-        let shape = g.shape();
-        let sizes = (shape.entry, shape.per_sector, shape.entries, shape.sectors);
-        assert_eq!(rt; sizes, row.shape, "{name}");
-        assert_eq!(rt; g.sections(), row.fields.sections as u64, "{name}");
-        assert_eq!(rt; g.section_at(0), 8, "{name}");
-        assert_eq!(rt; g.initial(), row.initial, "{name}");
-        assert_eq!(rt; g.tag_run(), row.tag_run, "{name}");
-        assert_eq!(rt;
-            best_provided(&row.fields, row.sectors),
-            Ok(row.fields.provided),
-            "{name}"
-        );
-        for (block, data_at, tag_at) in row.places {
-            assert!(rt; *block < g.blocks(), "{name}");
-            assert_eq!(rt; g.data_at(*block), *data_at, "{name}");
-            assert_eq!(rt; g.tag_at(*block), *tag_at, "{name}");
-        }
+    ]
+}
+
+#[test]
+fn places_are_those_of_the_format(rt: HostRuntime) -> Result<(), Fail> {
+    for row in &small_images() {
+        lies_as_told(&rt, row)?;
+    }
+    for row in &large_images() {
+        lies_as_told(&rt, row)?;
+    }
+    Ok(())
+}
+
+#[test]
+fn places_are_those_of_the_kernel(rt: HostRuntime) -> Result<(), Fail> {
+    for row in &kernel_images() {
+        lies_as_told(&rt, row)?;
+    }
+    Ok(())
+}
+
+/// The geometry of the row's fields is the row's.
+fn lies_as_told(rt: &impl Abort, row: &Row) -> Result<(), Fail> {
+    let name = row.name;
+    judge(&row.fields)?;
+    let g = Geometry::new(&row.fields, row.sectors)?;
+    let shape = g.shape();
+    let told = sizes(shape.entry, shape.per_sector, shape.entries, shape.sectors);
+    assert_eq!(rt; told, row.sizes, "{name}");
+    assert_eq!(rt; g.sections(), row.fields.sections as u64, "{name}");
+    assert_eq!(rt; g.section_at(0), 8, "{name}");
+    assert_eq!(rt; g.initial(), row.initial, "{name}");
+    assert_eq!(rt; g.tag_run(), row.tag_run, "{name}");
+    let best = best_provided(&row.fields, row.sectors);
+    assert_eq!(rt; best, Ok(row.fields.provided), "{name}");
+    for place in row.places {
+        assert!(rt; place.block < g.blocks(), "{name}");
+        assert_eq!(rt; g.data_at(place.block), place.data_at, "{name}");
+        assert_eq!(rt; g.tag_at(place.block), place.tag_at, "{name}");
     }
     Ok(())
 }

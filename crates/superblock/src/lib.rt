@@ -4,13 +4,12 @@
 //! the sector tell stands there, in `specs/Superblock.antt`, the file to read first. No memory is taken.
 #![tactic(auto)]
 
-mod fields;
+mod magic;
 mod reading;
 #[cfg(test)]
 mod tests;
 mod writing;
 
-pub use fields::MOST_SECTORS;
-pub use image_model::{Super, SuperFault};
+pub use image_model::{MOST_SECTORS, Super, SuperFault};
 pub use reading::{judge, read};
 pub use writing::{version_for, write};

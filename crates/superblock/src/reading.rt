@@ -4,9 +4,9 @@ ghost use Rattle.image_model.specs.Faults.{ok_unless};
 ghost use Rattle.image_model.specs.Superblock.{IsAccepted, is_provided, fields_in, superblock_bytes, superblock_faults, superblock_of};
 ghost use Rattle.superblock.specs.Pads.{with_zero_pads};
 
-use crate::fields::{MAGIC, MOST_SECTORS};
+use crate::magic::MAGIC;
 use byteorder::{ByteOrder, LittleEndian};
-use image_model::{HAVE_JOURNAL_MAC, INLINE, KNOWN_FLAGS, Super, SuperFault};
+use image_model::{HAVE_JOURNAL_MAC, INLINE, KNOWN_FLAGS, MOST_SECTORS, Super, SuperFault};
 
 /// The fields that the first sector of an image tells.
 ///

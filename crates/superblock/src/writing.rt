@@ -3,7 +3,7 @@ ghost use Rattle.std.specs.Prelude.{◌≡◌, ◌++◌, Ok, drop};
 ghost use Rattle.image_model.specs.Superblock.{IsAccepted, superblock_bytes, superblock_of, version_for};
 ghost use Rattle.image_model.specs.SuperblockLaws.{FitsBytes};
 
-use crate::fields::MAGIC;
+use crate::magic::MAGIC;
 use byteorder::{ByteOrder, LittleEndian};
 use image_model::{DIRTY_BITMAP, FIXED_HMAC, FIXED_PADDING, RECALCULATING, Super};
 
