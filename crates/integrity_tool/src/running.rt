@@ -9,6 +9,7 @@ ghost use Rattle.disk_model.specs.Identity.{HasSectors, IsBound};
 ghost use Rattle.disk_model.specs.Moments.{content_now, EachMoment, FromStart};
 ghost use Rattle.device_model.specs.Reply.{read_reply};
 ghost use Rattle.device_model.specs.Transcript.{Fill, Read, Flush, Session, after_line, line_result, read_text, is_fault, closed_text};
+ghost use Rattle.integrity_tool.specs.Bounds.{most_script};
 ghost use Rattle.integrity_tool.specs.Form.{small_blocks};
 ghost use Rattle.integrity_tool.specs.Grammar.{IsRunnable};
 ghost use Rattle.integrity_tool.specs.Line.{line_of};
@@ -23,7 +24,7 @@ ghost use Rattle.integrity_tool.specs.declared.small_image.TheConstants.{SMALL_S
 
 use crate::ended::Ended;
 use crate::line::{Line, read_line};
-use crate::line_reader::{LineReader, MOST_SCRIPT, NextLine};
+use crate::line_reader::{LineReader, NextLine};
 use crate::reading::{Found, read_blocks};
 use crate::small_image::{BLOCK_SIZE, SMALL_BLOCKS, SMALL_SECTORS, SMALL_SIZE};
 use crate::text::{longest_text, put_fault_text, put_flush_text, put_read_text, put_write_text};
@@ -138,7 +139,7 @@ fn next_line<S: Source>(
     ensures not_sink { result ≢ Err Ended.Sink }
 
     ensures script_later { S.faults script.old ≤ S.faults script.new }
-    ensures within { reader.new.taken ≤ MOST_SCRIPT }
+    ensures within { reader.new.taken ≤ most_script }
 {
     match reader.next_line(script) {
         Err(_) => Err(Ended::Script),
