@@ -6,7 +6,7 @@ use Rattle.integrity_tool.specs.Script.{HasNoNewline}
 use Rattle.integrity_tool.specs.Lines.{LineReading, BeginsLine, FindsWholeLine, FindsLine, TakesRun, EndsRun}
 use Rattle.integrity_tool.specs.declared.line_reader.NextLine.{NextLine}
 use Rattle.integrity_tool.specs.declared.line_reader.NextLine.TheVariants.{Line, End, LongLine, LongScript}
-use Rattle.integrity_tool.specs.Bounds.{most_line}
+use Rattle.device_model.specs.Grammar.{most_line}
 
 -- ---- what two states of a source tell
 

@@ -27,7 +27,7 @@ use Rattle.integrity_tool.specs.Script.{TakesLine, BeginsWith, BeginsWithNone, I
 use Rattle.integrity_tool.specs.declared.ended.Ended.{Ended}
 use Rattle.integrity_tool.specs.declared.ended.Ended.TheVariants.{Words, Line, Length, Image as ImageEnds, Disk, Script, Sink, Memory}
 use Rattle.integrity_tool.specs.declared.line.Line.{Line as ReadLine}
-use Rattle.integrity_tool.specs.Bounds.{most_script}
+use Rattle.device_model.specs.ScriptBytes.{most_script}
 use Rattle.integrity_tool.specs.declared.line_reader.NextLine.TheVariants.{End}
 use Rattle.integrity_tool.proofs.GrammarLemmas.{length-line_bytes-le}
 use Rattle.integrity_tool.proofs.ScriptLemmas.{BeginsWith-none, BeginsWith-push, BeginsWithNone-line, BeginsWithNone-long}

@@ -1,4 +1,3 @@
-pub mod Bounds
 pub mod Words
 pub mod Form
 pub mod Grammar

@@ -4,7 +4,8 @@ use Rattle.std.specs.Prelude.{◌≡◌, ◌≢◌, ℕ, ◌+◌, ◌<◌, ◌�
 use Rattle.integrity_tool.specs.Script.{HasNoNewline, TakesLine}
 use Rattle.integrity_tool.specs.declared.line_reader.NextLine.{NextLine}
 use Rattle.integrity_tool.specs.declared.line_reader.NextLine.TheVariants.{Line, End, LongLine, LongScript}
-use Rattle.integrity_tool.specs.Bounds.{most_line, most_script}
+use Rattle.device_model.specs.Grammar.{most_line}
+use Rattle.device_model.specs.ScriptBytes.{most_script}
 
 -- A reader of lines: the bytes that it has read and not taken, its line, and how many bytes it took since it was made.
 pub record LineReading : Type 0 where

@@ -4,7 +4,8 @@ use Rattle.std.specs.Prelude.{◌≡◌, ◌≢◌, ◌⊎◌, ℕ, ◌+◌, ◌
 use Rattle.std.specs.List.{All}
 use Rattle.device_model.specs.Transcript.{Line}
 use Rattle.integrity_tool.specs.Grammar.{line_bytes, IsRunnable, IsLine}
-use Rattle.integrity_tool.specs.Bounds.{most_line, most_script}
+use Rattle.device_model.specs.Grammar.{most_line}
+use Rattle.device_model.specs.ScriptBytes.{most_script}
 
 -- No byte of it is a newline.
 abbrev pub HasNoNewline : List ℕ → Type 0

@@ -7,7 +7,7 @@ use Rattle.integrity_tool.specs.Form.{IsOfForm, small_blocks}
 use Rattle.integrity_tool.specs.Leaving.{IsLeftBy, RunsAndLeaves}
 use Rattle.integrity_tool.specs.Script.{BeginsWith, BeginsWithNone}
 use Rattle.integrity_tool.specs.Words.{IsRunWords}
-use Rattle.integrity_tool.specs.Bounds.{most_script}
+use Rattle.device_model.specs.ScriptBytes.{most_script}
 
 -- What a run is given: the words, how many sectors the disk has and what they hold, and the script.
 pub record Start : Type 0 where

@@ -12,10 +12,10 @@ use std::alloc::Global;
 use std::marker::Model;
 use stream_io::Source;
 
-/// The most bytes of a script that are run: `most_script` of `specs/Bounds.antt`.
+/// The most bytes of a script that are run: `most_script` of `device_model`, `specs/ScriptBytes.antt`.
 pub const MOST_SCRIPT: u64 = 16_777_216;
 
-/// The most bytes of a line, without its newline: `most_line` of `specs/Bounds.antt`.
+/// The most bytes of a line, without its newline: `most_line` of `device_model`, `specs/Grammar.antt`.
 pub const MOST_LINE: usize = 65_536;
 
 /// How many bytes of a source are read at a time.
@@ -120,7 +120,8 @@ pub struct LineReader {
 impl Model for LineReader {
     ghost use Rattle.std.specs.Prelude.{◌+◌, ◌≤◌, vec_capacity};
     ghost use Rattle.integrity_tool.specs.Lines.{LineReading};
-    ghost use Rattle.integrity_tool.specs.Bounds.{most_line, most_script};
+    ghost use Rattle.device_model.specs.Grammar.{most_line};
+    ghost use Rattle.device_model.specs.ScriptBytes.{most_script};
 
     ghost Value = { LineReading };
 
@@ -130,7 +131,8 @@ impl Model for LineReader {
 }
 
 impl LineReader {
-    ghost use Rattle.integrity_tool.specs.Bounds.{most_line, most_script};
+    ghost use Rattle.device_model.specs.Grammar.{most_line};
+    ghost use Rattle.device_model.specs.ScriptBytes.{most_script};
     ghost use Rattle.integrity_tool.specs.Lines.{BeginsLine, FindsLine, EndsRun};
 
     /// Nothing is read yet.

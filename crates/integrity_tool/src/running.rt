@@ -9,7 +9,7 @@ ghost use Rattle.disk_model.specs.Identity.{HasSectors, IsBound};
 ghost use Rattle.disk_model.specs.Moments.{content_now, EachMoment, FromStart};
 ghost use Rattle.device_model.specs.Reply.{read_reply};
 ghost use Rattle.device_model.specs.Transcript.{Fill, Read, Flush, Session, after_line, line_result, read_text, is_fault, closed_text};
-ghost use Rattle.integrity_tool.specs.Bounds.{most_script};
+ghost use Rattle.device_model.specs.ScriptBytes.{most_script};
 ghost use Rattle.integrity_tool.specs.Form.{small_blocks};
 ghost use Rattle.integrity_tool.specs.Grammar.{IsRunnable};
 ghost use Rattle.integrity_tool.specs.Line.{line_of};

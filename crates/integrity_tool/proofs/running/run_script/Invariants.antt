@@ -4,7 +4,7 @@ use Rattle.disk_model.specs.Disk.{Content, OnlyAdds, last_image}
 use Rattle.disk_model.specs.Moments.{content_now, EachMoment, FromStart}
 use Rattle.integrity_tool.specs.Standing.{IsOfBlock}
 use Rattle.integrity_tool.specs.Leaving.{IsLeftBy, IsOfScript}
-use Rattle.integrity_tool.specs.Bounds.{most_script}
+use Rattle.device_model.specs.ScriptBytes.{most_script}
 use Rattle.integrity_tool.proofs.RunningLemmas.{IsUnderWay, IsFollowed, IsTaken}
 use Rattle.integrity_tool.proofs.running.run_script.Given as goal
 

@@ -1,5 +1,5 @@
 use Rattle.std.proofs.Common.{◌-◌, ◌≤◌}
-use Rattle.integrity_tool.specs.Bounds.{most_script}
+use Rattle.device_model.specs.ScriptBytes.{most_script}
 use Rattle.integrity_tool.proofs.LinesLemmas.{IsInLine}
 use Rattle.integrity_tool.proofs.line_reader.LineReader.next_line.Given as goal
 
