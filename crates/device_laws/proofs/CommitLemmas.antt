@@ -28,6 +28,7 @@ use Rattle.journal_model.proofs.ViewLemmas.{ring_law}
 use Rattle.device_laws.specs.CountLaws.{IdleCommitLaw, CommitLaw}
 use Rattle.device_laws.specs.Device.{AreCounts, IsJournalRing, IsJournalOf}
 use Rattle.device_laws.specs.Ring.{JournalRing, joined, uncommitted, view_of, batch_of, opened_at, with_commit, freed, committed_counts}
+use Rattle.device_laws.proofs.FormatLemmas.{sections-is}
 use Rattle.device_laws.proofs.CountLemmas.{AreDone, done-front, closed_end-front, any-front, batch-front, some_opened, closed_end-opened, IsBatchCounts, batch-opened, counts-append}
 use Rattle.device_laws.proofs.RingLemmas.{joined-append, joined-take, joined-drop, joined-map, map_run-same, map-same, run_of, length-counts, next_mod, placed_part}
 
@@ -218,7 +219,7 @@ module _ (f : DeviceFormat) (h : History) (j : JournalCounts) (d : JournaledDisk
       let c = is.counts in
       let p = d.placed - freed d r in
       let none : p - length (joined r.committed) ≡ 0 = omega (arith, placed_part d r is.sound is.is_ring) in
-      ap (λ (m : ℕ). committed_batch m j.next (closed_end j.sections)) is.format.sections
+      ap (λ (m : ℕ). committed_batch m j.next (closed_end j.sections)) (sections-is f d.format is.format)
       ∙ ap (λ (xs : List SectionCounts). committed_batch n j.next (closed_end xs)) (sections_are j d r c)
       ∙ ap (committed_batch n j.next) (closed_end-some (front j d r c) c.opened some_left)
       ∙ batch-front n j.next (front j d r c) (closed_end c.opened) (front-done j d r c)
@@ -249,14 +250,7 @@ module _ (f : DeviceFormat) (h : History) (j : JournalCounts) (d : JournaledDisk
 
   pub after : IsJournalOf f h (record j { sections = committed_batch f.sections j.next (closed_end j.sections) }) (committed d (batch_of d r) bytes) (with_commit d r)
   after = record {
-    format = record {
-      mode = is.format.mode;
-      blocks = is.format.blocks;
-      block_size = is.format.block_size;
-      tag = is.format.tag;
-      sections = is.format.sections;
-      entries = is.format.entries;
-    };
+    format = is.format;
     sound = sound_after d k bytes is.sound is.is_ring.rests batch;
     is_ring = ring_is;
     counts = counts_are;

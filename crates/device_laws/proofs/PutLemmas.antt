@@ -8,7 +8,7 @@ use Rattle.std.proofs.lemmas.Nat.{div-mul-add, mod-mul-add}
 use Rattle.std.proofs.lemmas.Option.{none-some, same_Some}
 use Rattle.image_model.specs.Cells.{salt_of}
 use Rattle.image_model.specs.Section.{Entry}
-use Rattle.device_model.specs.History.{BlockWrite, History, Written, with_change}
+use Rattle.device_model.specs.History.{BlockWrite, History, Written, with_change, Begun}
 use Rattle.device_model.specs.Journal.{SectionCounts, JournalCounts, is_unfreed, has_open_end, with_entry, opened_with, put}
 use Rattle.device_model.specs.Mode.{DeviceFormat}
 use Rattle.place_model.proofs.EachLemmas.{all_append}
@@ -20,6 +20,7 @@ use Rattle.journal_model.specs.View.{takes_more, put_last}
 use Rattle.device_laws.specs.CountLaws.{HasRoomLaw, PutLaw}
 use Rattle.device_laws.specs.Device.{AreOpened, AreCounts, IsJournalRing, IsJournalOf}
 use Rattle.device_laws.specs.Ring.{JournalRing, uncommitted, has_room, with_put, freed, block_of, committed_counts}
+use Rattle.device_laws.proofs.FormatLemmas.{block_size-is, blocks-is, sections-is}
 use Rattle.device_laws.proofs.CommitLemmas.{front, sections_are, front-done, front-then}
 use Rattle.device_laws.proofs.CountLemmas.{has_open_end-front, has_open_end-opened, with_entry-front, count-all, opened-put_last, opened-push}
 use Rattle.device_laws.proofs.RingLemmas.{joined-push, joined-put_last, length-put_last, all-put_last, some-put_last}
@@ -83,7 +84,7 @@ module _ (f : DeviceFormat) (h : History) (j : JournalCounts) (d : JournaledDisk
   block_entry =
       let spb = d.geometry.shape.spb in
       let e : write.block * spb ≡ write.block * spb + 0 = omega arith in
-      let under : write.block + 1 ≤ d.geometry.blocks = omega (arith, low, is.format.blocks) in
+      let under : write.block + 1 ≤ d.geometry.blocks = omega (arith, low, (blocks-is f d.format is.format)) in
       let product = mul-le-mul_right spb under in
       record {
         replayable = record {
@@ -91,7 +92,7 @@ module _ (f : DeviceFormat) (h : History) (j : JournalCounts) (d : JournaledDisk
           inside = omega (arith, product, some_sector);
           tag = refl;
         };
-        bytes = size ∙ is.format.block_size;
+        bytes = size ∙ (block_size-is f d.format is.format);
       }
 
   -- ---- into the last section, or the next one
@@ -118,7 +119,7 @@ module _ (f : DeviceFormat) (h : History) (j : JournalCounts) (d : JournaledDisk
     rests = is.is_ring.rests;
     kept = is.is_ring.kept;
     free = is.is_ring.free;
-    fits = omega (arith, room, length-append r.opened ((entry ∷ []) ∷ []), is.format.sections);
+    fits = omega (arith, room, length-append r.opened ((entry ∷ []) ∷ []), (sections-is f d.format is.format));
     each = all_append (AllByRecursion (IsBlockEntry d.key (salt_of d.superblock) d.geometry)) r.opened ((entry ∷ []) ∷ []) is.is_ring.each ((block_entry, tt), tt);
     some_committed = is.is_ring.some_committed;
     some_opened = all_append (λ (x : List Entry). 1 ≤ length x) r.opened ((entry ∷ []) ∷ []) is.is_ring.some_opened (omega arith, tt);
@@ -158,13 +159,13 @@ module _ (f : DeviceFormat) (h : History) (j : JournalCounts) (d : JournaledDisk
   -- ---- both histories
 
   abbrev Both : List SectionCounts → JournalRing → Type 0
-  Both sections after = IsJournalOf f (record h { pending = Some write }) (record j { sections = sections }) d after × IsJournalOf f (with_change h (Written write)) (record j { sections = sections }) d after
+  Both sections after = IsJournalOf f (with_change h (Begun write)) (record j { sections = sections }) d after × IsJournalOf f (with_change h (Written write)) (record j { sections = sections }) d after
 
   both_of : (sections : List SectionCounts) (after : JournalRing) → IsJournalRing d after → AreCounts (record j { sections = sections }) d after
       → uncommitted after ≡ uncommitted r ++ entry_of_write d write ∷ [] → h.pending ≡ None → Both sections after
   both_of sections after ring_is counts_are entries_are idle =
       let histories = history_put d (uncommitted r) h write idle is.history in
-      (one (record h { pending = Some write }) histories.0, one (with_change h (Written write)) histories.1)
+      (one (with_change h (Begun write)) histories.0, one (with_change h (Written write)) histories.1)
     where
       one : (other : History) → IsHistoryOf d (uncommitted r ++ entry_of_write d write ∷ []) other → IsJournalOf f other (record j { sections = sections }) d after
       one other history = record {

@@ -3,8 +3,8 @@ use Rattle.std.proofs.Common.{◌≡◌, inl, inr, ℕ, ◌+◌, ltb, refl, ap, 
 use Rattle.std.proofs.lemmas.Bool.{or_cases, or_right, ltb-true, lt-ltb}
 use Rattle.journal_model.specs.View
 use Rattle.journal_model.specs.View.{RingView, takes_more}
-use Rattle.device_laws.specs.CountLaws.{ViewLaw, ViewCommitLaw, ViewPutLaw, ViewRoomLaw}
 use Rattle.device_laws.specs.Ring.{view_of, batch_of}
+use Rattle.device_laws.specs.ViewLaws.{ViewLaw, ViewCommitLaw, ViewPutLaw, ViewRoomLaw}
 
 pub view_law : ViewLaw
 view_law d r is = record {

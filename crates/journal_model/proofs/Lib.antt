@@ -16,3 +16,5 @@ pub mod ReadsLemmas
 pub mod FreeLemmas
 pub mod BatchLemmas
 pub mod ViewLemmas
+pub mod Worked
+pub mod WorkedDisk

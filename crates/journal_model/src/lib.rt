@@ -5,7 +5,7 @@ ghost use Rattle.journal_model.specs.Batch.{BatchLaw};
 ghost use Rattle.journal_model.specs.Cuts.{AllNewLaw, CommitCutLaw, NoneNewLaw};
 ghost use Rattle.journal_model.specs.Erasing.{ErasureBegins, ErasureCut, ErasureEnds, ErasureGoesOn, ErasureTurns};
 ghost use Rattle.journal_model.specs.HistoryOf.{HistoryBegins, HistoryCommitted, HistoryFlushed, HistoryPlaced, HistoryPut, LeftLaw};
-ghost use Rattle.journal_model.specs.Opening.{OpenedLaw, PlacedReadLaw, RebasedLaw, RecoveredLaw, RestNewestLaw, StateLaw};
+ghost use Rattle.journal_model.specs.Opening.{BaseCellsLaw, FirstSyncLaw, OpenedCellsLaw, OpenedLaw, PlacedReadLaw, RebasedLaw, RecoveredLaw, RestNewestLaw, StateLaw};
 ghost use Rattle.journal_model.specs.View.{RingLaw};
 ghost use Rattle.journal_model.specs.StepLaws.{CommittedLaw, CommittingLaw, KeptEntriesLaw, KeptLaw, PlacingLaw, RoomLaw, SettledLaw, StandingLaw, TagsWrittenLaw, WritingBackLaw};
 
@@ -55,6 +55,9 @@ pub fn cut_is_a_history()
 /// cells after them; and the state that a scan tells says which numbers are on its journal.
 pub fn opening_is_told()
     ensures opened { OpenedLaw }
+    ensures opened_cells { OpenedCellsLaw }
+    ensures base_cells { BaseCellsLaw }
+    ensures first_sync { FirstSyncLaw }
     ensures rebased { RebasedLaw }
     ensures recovered { RecoveredLaw }
     ensures read { PlacedReadLaw }

@@ -6,12 +6,11 @@ use Rattle.std.proofs.lemmas.List.{get_or-drop, get_or-take, get_or_append_left,
 use Rattle.disk_model.specs.Disk.{Image, sector_in}
 use Rattle.image_model.proofs.GeometryLemmas.{data_at-inside, tag_at-inside}
 use Rattle.image_model.proofs.SectorLemmas.{length-piece, bytes_at_read, sector_in-bytes_at}
-use Rattle.image_model.specs.Bitmap.{awaits, is_to_recalculate}
+use Rattle.image_model.specs.Bitmap.{awaits}
 use Rattle.image_model.specs.Cells.{Cell, salt_of, placed_cells_of, recalculated_cell, counted_entries, last_entry, block_tag, cells_of}
 use Rattle.image_model.specs.Geometry.{Geometry, data_at, tag_at, IsGeometry}
 use Rattle.image_model.specs.Sectors.{piece, bytes_at}
-use Rattle.image_model.specs.Superblock.{Superblock, has_flag}
-use Rattle.image_model.specs.declared.flags.TheConstants.{DIRTY_BITMAP}
+use Rattle.image_model.specs.Superblock.{Superblock}
 use Rattle.place_model.specs.Tags.{tag_byte_at}
 
 -- Cells with equal parts are equal.
@@ -21,6 +20,10 @@ same_cell a b e f =
     ∙ ap (λ (x : List ℕ). let cell : Cell = record { bytes = b.bytes; tag = x } in cell) f
 
 -- ---- what is placed
+
+pub placed_cells_of-bytes : (g : Geometry) (image : Image) (b : ℕ) → (placed_cells_of g image b).bytes ≡ bytes_at image (data_at g b) g.shape.spb
+unfolding placed_cells_of
+placed_cells_of-bytes g image b = refl
 
 module _ (g : Geometry) (sectors : ℕ) (geometry : IsGeometry g sectors) (image : Image) (whole : (sector : ℕ) → sector < sectors → length (image sector) ≡ 512)
     (b : ℕ) (low : b < g.blocks) (cell : Cell) where
@@ -105,11 +108,6 @@ unfolding placed_cells_of
 placed_sector g sectors image b k geometry whole low k_low =
     let inside = data_at-inside g sectors b geometry low in
     sector_in-bytes_at image (data_at g b) g.shape.spb k (λ sector above under. whole sector (omega arith)) k_low
-
--- Without a bitmap a block awaits where it is to be recalculated.
-pub awaits-is : (s : Superblock) (g : Geometry) (image : Image) (b : ℕ) → has_flag DIRTY_BITMAP s.flags ≡ false → awaits s g image b ≡ is_to_recalculate s g b
-unfolding awaits
-awaits-is s g image b clear = rw clear refl
 
 -- What is placed, with the tag of its bytes where the block awaits it.
 module _ (key : Option (List ℕ)) (s : Superblock) (g : Geometry) (image : Image) (b : ℕ) where

@@ -1,4 +1,27 @@
-//! Definitions and lemmas: what all modes of a device share, the data and the tags in place.
+//! Definitions and laws: what all modes of a device share, from the disk that it opens to what a cut may leave of it.
 //!
-//! `specs/Tags.antt` is the file to read first.
+//! `specs/Format.antt` is the file to read first: the disk, its tags and the cells of its images.
 #![tactic(auto)]
+
+ghost use Rattle.place_model.specs.FirstSync.{FirstSyncLaw};
+ghost use Rattle.place_model.specs.Kind.{BitmapKindLaw, DirectKindLaw, JournalKindLaw};
+ghost use Rattle.place_model.specs.Left.{BitmapPendingLaw, DirectPendingLaw, JournalPendingLaw};
+
+/// What may be left before a write may be left while it is under way.
+pub fn pending_write_leaves_all()
+    ensures direct { DirectPendingLaw }
+    ensures journal { JournalPendingLaw }
+    ensures bitmap { BitmapPendingLaw }
+{}
+
+/// The first sync of an opening leaves one of the images that the disk had at entry, with the cells that reads give.
+pub fn first_sync_settles()
+    ensures { FirstSyncLaw }
+{}
+
+/// What a cut leaves by the format that was opened may be left of the device, by the superblock of what is left.
+pub fn cut_is_left_of_the_device()
+    ensures journal { JournalKindLaw }
+    ensures bitmap { BitmapKindLaw }
+    ensures direct { DirectKindLaw }
+{}
