@@ -7,8 +7,8 @@ ghost use Rattle.journal_section.specs.Entries.{entries_of};
 ghost use Rattle.journal_section.specs.Pieces.{HasPieces};
 
 use crate::places::{WORD, entry_from, put};
-use image_model::{ID_FROM, SECTOR_SIZE};
 use commit_id::Shape;
+use image_model::{ID_FROM, SECTOR_SIZE};
 
 /// Puts the bytes of entry `n`'s block into `out`, by one copy: of each sector the first 504 from its data
 /// sectors, and the last 8 from the entry.

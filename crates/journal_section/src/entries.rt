@@ -10,10 +10,10 @@ ghost use Rattle.journal_section.specs.Fields.{HasFields};
 
 use crate::blocks::put_fronts;
 use crate::places::{HIGH_HALF, WORD, entry_from, put, put_number};
-use image_model::{ID_FROM, SECTOR_SIZE};
 use byteorder::{ByteOrder, LittleEndian};
 use commit_id::Shape;
 use hmac_tag::Tag;
+use image_model::{ID_FROM, SECTOR_SIZE};
 
 /// The higher half of the sector's number in an unused entry.
 ///

@@ -4,9 +4,9 @@ ghost use Rattle.commit_id.specs.Shape.{as_shape, IsShape};
 ghost use Rattle.image_model.specs.Section.{Entry};
 ghost use Rattle.journal_section.specs.Entries.{BearsNumber, HoldsEntries};
 
-use crate::places::{put_number};
-use image_model::{ID_FROM, SECTOR_SIZE};
+use crate::places::put_number;
 use commit_id::{Shape, id};
+use image_model::{ID_FROM, SECTOR_SIZE};
 
 /// Writes the commit ids of commit number `number` on all sectors of section `i`, and nothing else.
 ///

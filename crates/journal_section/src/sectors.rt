@@ -4,9 +4,9 @@ ghost use Rattle.disk_model.specs.Disk.{sector_in};
 ghost use Rattle.image_model.specs.CommitId.{commit_number, id_in};
 ghost use Rattle.image_model.specs.Grid.{is_zero_sector};
 
-use image_model::{ID_FROM, SECTOR_SIZE};
 use byteorder::{ByteOrder, LittleEndian};
 use commit_id::number_of;
+use image_model::{ID_FROM, SECTOR_SIZE};
 
 /// What stands in the place of the commit id of sector `j`: its last 8 bytes.
 ///
