@@ -5,7 +5,8 @@ use Rattle.disk_model.specs.Disk.{Content}
 use Rattle.image_model.specs.Cells.{Cell}
 use Rattle.image_model.specs.Geometry.{IsGeometry}
 use Rattle.image_model.specs.Grid.{walk_of}
-use Rattle.image_model.specs.Walk.{Rest, Mixed, Erasing, Plan}
+use Rattle.image_model.specs.declared.journal_plan.State.TheVariants.{Rest, Mixed, Erasing}
+use Rattle.image_model.specs.declared.journal_plan.Plan.{Plan}
 use Rattle.device_model.specs.Mode.{DeviceFormat, Journal}
 use Rattle.device_model.specs.Progress.{opened_device}
 use Rattle.place_model.specs.Format.{DiskFormat}

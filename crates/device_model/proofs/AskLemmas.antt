@@ -9,18 +9,18 @@ use Rattle.std.proofs.lemmas.Option.{none-some}
 use Rattle.device_model.specs.Mode.{DeviceFormat, is_recovery}
 use Rattle.device_model.specs.Progress.{ReadOnly, blocks_refusal, form_refusal}
 use Rattle.device_model.specs.SubmissionLaws.{AreBlocks, IsFitting}
-use Rattle.device_model.specs.Runs.{ByteRun}
-use Rattle.device_model.specs.Script.{Ask, Fill, Write, Read, Flush, run_bytes, runs_length, submission_of, MeaningFault, WrongLength, WrongCount, WrongRange, most_blocks, range_fault, ask_fault}
+use Rattle.device_model.specs.Stretches.{Stretch}
+use Rattle.device_model.specs.Script.{Ask, Fill, Write, Read, Flush, bytes_of_stretches, stretches_length, submission_of, MeaningFault, WrongLength, WrongCount, WrongRange, most_blocks, range_fault, ask_fault}
 
-pub length-run_bytes : (runs : List ByteRun) → length (run_bytes runs) ≡ runs_length runs
-length-run_bytes [] = refl
-length-run_bytes (run ∷ runs) =
-    let bytes = λ (r : ByteRun). replicate r.count r.byte in
+pub length-bytes_of_stretches : (runs : List Stretch) → length (bytes_of_stretches runs) ≡ stretches_length runs
+length-bytes_of_stretches [] = refl
+length-bytes_of_stretches (run ∷ runs) =
+    let bytes = λ (r : Stretch). replicate r.count r.byte in
     ap length (flat_map-cons bytes run runs)
-    ∙ length-append (bytes run) (run_bytes runs)
-    ∙ ap (λ (n : ℕ). n + length (run_bytes runs)) (length-replicate run.count run.byte)
-    ∙ ap (λ (n : ℕ). run.count + n) (length-run_bytes runs)
-    ∙ sym (sum_by-cons (λ (r : ByteRun). r.count) run runs)
+    ∙ length-append (bytes run) (bytes_of_stretches runs)
+    ∙ ap (λ (n : ℕ). n + length (bytes_of_stretches runs)) (length-replicate run.count run.byte)
+    ∙ ap (λ (n : ℕ). run.count + n) (length-bytes_of_stretches runs)
+    ∙ sym (sum_by-cons (λ (r : Stretch). r.count) run runs)
 
 range_by : (many outside : Bool) → ℕ → ℕ → Option MeaningFault
 range_by many outside first count = if many then Some (WrongCount count) else (if outside then Some (WrongRange first count) else None)
@@ -44,19 +44,19 @@ range_fault-none blocks first count none =
 
 module _ (f : DeviceFormat) where
   -- The runs of a write are whole blocks, all of them there.
-  runs_fault-none : (first : ℕ) (runs : List ByteRun) (fua : Bool) → ask_fault f (Write first runs fua) ≡ None
-      → AreBlocks f first (runs_length runs / f.blocks.block_size) (run_bytes runs)
+  runs_fault-none : (first : ℕ) (runs : List Stretch) (fua : Bool) → ask_fault f (Write first runs fua) ≡ None
+      → AreBlocks f first (stretches_length runs / f.blocks.block_size) (bytes_of_stretches runs)
   runs_fault-none first runs fua none =
-      let whole = runs_length runs % f.blocks.block_size == 0 in
-      let count = runs_length runs / f.blocks.block_size in
-      let by = λ (t : Bool). if t then range_fault f.blocks.blocks first count else Some (WrongLength (runs_length runs)) in
+      let whole = stretches_length runs % f.blocks.block_size == 0 in
+      let count = stretches_length runs / f.blocks.block_size in
+      let by = λ (t : Bool). if t then range_fault f.blocks.blocks first count else Some (WrongLength (stretches_length runs)) in
       elim (cases_Bool whole) [
         | inr other ↦ absurd (none-some _ (sym none ∙ ap by other))
         | inl is_whole ↦
             let parts = range_fault-none f.blocks.blocks first count (sym (ap by is_whole) ∙ none) in
-            let rest : runs_length runs % f.blocks.block_size ≡ 0 = eqb-true (runs_length runs % f.blocks.block_size) 0 is_whole in
-            let split : count * f.blocks.block_size + runs_length runs % f.blocks.block_size ≡ runs_length runs = div-add-mod' (runs_length runs) f.blocks.block_size in
-            record { some = parts.0; there = parts.1; size = length-run_bytes runs ∙ whole_is (runs_length runs) (count * f.blocks.block_size) (runs_length runs % f.blocks.block_size) split rest }
+            let rest : stretches_length runs % f.blocks.block_size ≡ 0 = eqb-true (stretches_length runs % f.blocks.block_size) 0 is_whole in
+            let split : count * f.blocks.block_size + stretches_length runs % f.blocks.block_size ≡ stretches_length runs = div-add-mod' (stretches_length runs) f.blocks.block_size in
+            record { some = parts.0; there = parts.1; size = length-bytes_of_stretches runs ∙ whole_is (stretches_length runs) (count * f.blocks.block_size) (stretches_length runs % f.blocks.block_size) split rest }
       ]
     where
       whole_is : (n m rest : ℕ) → m + rest ≡ n → rest ≡ 0 → n ≡ m
@@ -78,7 +78,7 @@ module _ (f : DeviceFormat) where
     | inr other ↦ inr (other, filled_fault-none first count byte none)
   ]
   ask_fault-none (Write first runs fua) none = elim (cases_Bool (is_recovery f.mode)) [
-    | inl recovery ↦ inl (write_refused first (runs_length runs / f.blocks.block_size) (run_bytes runs) (is_recovery f.mode) recovery)
+    | inl recovery ↦ inl (write_refused first (stretches_length runs / f.blocks.block_size) (bytes_of_stretches runs) (is_recovery f.mode) recovery)
     | inr other ↦ inr (other, runs_fault-none first runs fua none)
   ]
   ask_fault-none (Read first count) none = inr (filled_fault-none first count 0 none)

@@ -6,7 +6,7 @@ use Rattle.device_model.specs.History.{BlockWrite, History, Change, Flushed, ope
 use Rattle.device_model.specs.Journal.{SectionCounts, Free, as_freed}
 use Rattle.device_model.specs.Mode.{Mode, Journal, Bitmap, Direct, Recovery, DeviceFormat, is_journal, is_bitmap, is_recovery}
 use Rattle.device_model.specs.MomentLaws.{IsNextWrite, RecoveryLaw, CloseLaw}
-use Rattle.device_model.specs.Progress.{Progress, Condition, Working, Broken, Closed, DeviceState, opened_device, Event, Close, EventResult, with_dropped, with_finished, close, working_result, broken_result, result_in, event_result, after_event, condition_after}
+use Rattle.device_model.specs.Progress.{Progress, Condition, Working, Broken, Closed, DeviceState, Event, Close, EventResult, with_dropped, with_finished, close, working_result, result_in, event_result, condition_after}
 use Rattle.device_model.specs.Request.{Request, Read, Write, Flush, Asked, RequestState, Unfinished, Finished, Taken, Dropped, is_unfinished, as_dropped, writes_of, front_of}
 use Rattle.device_model.specs.RequestLaws.{IsReached}
 use Rattle.device_model.specs.Submission.{Submission, request_in}

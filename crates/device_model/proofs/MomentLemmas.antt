@@ -11,7 +11,7 @@ use Rattle.device_model.specs.Request.{Request, Read, Write, Flush, Asked, Reque
 use Rattle.device_model.specs.RequestLaws.{IsReached}
 use Rattle.device_model.specs.MomentLaws.{IsNextWrite, PendingLaw, WithinLaw, QuietLaw, BrokenLaw}
 use Rattle.device_model.specs.Submission.{Submission}
-use Rattle.device_model.proofs.EventLemmas.{writes-first_begun, writes-closed, Serves, IsServing, IsServing-events, IsServing-opened, IsServing-reached, IsServing-event}
+use Rattle.device_model.proofs.EventLemmas.{writes-first_begun, writes-closed, Serves, IsServing, IsServing-opened, IsServing-reached, IsServing-event}
 use Rattle.device_model.proofs.HistoryLemmas.{flushed-le-opened, flushed-le-with_changes}
 use Rattle.device_model.proofs.RequestLemmas.{write_at, block_writes-more}
 use Rattle.device_model.proofs.SerialLemmas.{in_state}

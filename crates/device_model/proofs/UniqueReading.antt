@@ -8,17 +8,17 @@ use Rattle.std.proofs.lemmas.Fmt.{decimal_injective}
 use Rattle.std.proofs.lemmas.List.Elements.{All-nil, All-cons, All-head, All-tail}
 use Rattle.std.proofs.lemmas.List.Splits.{slice_split_none, slice_split_at}
 use Rattle.std.proofs.lemmas.Option.{same_Some}
-use Rattle.device_model.specs.Grammar.{most_line, words_in, runs_word, actor_word, fua_words, ask_words, IsNumber, AreRuns, HasValues, IsWritable, IsText, IsSkipped, Says, IsLine, WordPlace, NumberPlace, BytePlace, RunsPlace, ActorPlace, FuaPlace, Fits, IsFaultAt, Verb, FillVerb, WriteVerb, ReadVerb, FlushVerb, ServeVerb, TakeVerb, StepVerb, verb_word, places_of, is_asking, IsFirstWord, IsFaultOfStart, IsFaultOfWords, IsFaultOf, ReadLine, Means, Refused, IsReadAs}
+use Rattle.device_model.specs.Grammar.{most_line, words_in, stretches_word, actor_word, fua_words, ask_words, IsNumber, AreStretches, HasValues, IsWritable, IsText, IsSkipped, Says, IsLine, WordPlace, NumberPlace, BytePlace, StretchesPlace, ActorPlace, FuaPlace, Fits, IsFaultAt, Verb, FillVerb, WriteVerb, ReadVerb, FlushVerb, ServeVerb, TakeVerb, StepVerb, verb_word, places_of, is_asking, IsFirstWord, IsFaultOfStart, IsFaultOfWords, IsFaultOf, ReadLine, Means, Refused, IsReadAs}
 use Rattle.device_model.specs.LineFault.{WordsFault, TooLong, NotText}
 use Rattle.device_model.specs.Progress.{DeviceState, Actor, Commit, Place, Settle, Clean, Recalc}
-use Rattle.device_model.specs.Runs.{ByteRun, run_text}
+use Rattle.device_model.specs.Stretches.{Stretch, stretch_text}
 use Rattle.device_model.specs.Script.{Ask, Fill, Write, Read, Flush, ScriptLine, Skip, AskLine, ServeLine, TakeLine, StepLine}
 use Rattle.device_model.specs.Mode.{DeviceFormat}
 use Rattle.device_model.specs.ScriptBytes.{lines_of, is_too_long}
 use Rattle.device_model.specs.ScriptRun.{ScriptRun, IsRunOf, run_from}
 use Rattle.device_model.proofs.GrammarLemmas.{All-decimal, one_byte, differ}
 
--- ---- bytes, runs and actors are told by their words
+-- ---- bytes, stretches and actors are told by their words
 
 same_byte : (byte other : ℕ) → byte < 256 → other < 256 → encode_lower (byte ∷ []) ≡ encode_lower (other ∷ []) → byte ≡ other
 same_byte byte other fits fits' same =
@@ -29,37 +29,37 @@ same_byte byte other fits fits' same =
 no_comma-digit : (digit : ℕ) → digit < 16 → slice_index lower_digits digit ≢ 44
 no_comma-digit digit low is = let told = sym (IsDigits-lower_digits digit low) ∙ ap hex_digit_value is in absurd (cc)
 
-abbrev IsRun : ByteRun → Type 0
-IsRun run = (run.byte < 256) × (1 ≤ run.count) × IsNumber run.count
+abbrev IsStretch : Stretch → Type 0
+IsStretch stretch = (stretch.byte < 256) × (1 ≤ stretch.count) × IsNumber stretch.count
 
 abbrev NoComma : ℕ → Type 0
 NoComma byte = (byte == 44) ≡ false
 
-no_comma : (run : ByteRun) → run.byte < 256 → IsNumber run.count → All NoComma (run_text run)
+no_comma : (stretch : Stretch) → stretch.byte < 256 → IsNumber stretch.count → All NoComma (stretch_text stretch)
 unfolding encode_with
-no_comma run fits small =
+no_comma stretch fits small =
     let hex : (digit : ℕ) → digit < 16 → NoComma (slice_index lower_digits digit) = λ digit low. ne_eqb (slice_index lower_digits digit) 44 (no_comma-digit digit low) in
-    All-cons NoComma (slice_index lower_digits (run.byte / 16)) (slice_index lower_digits (run.byte % 16) ∷ 42 ∷ decimal run.count) (hex (run.byte / 16) (omega arith))
-    (All-cons NoComma (slice_index lower_digits (run.byte % 16)) (42 ∷ decimal run.count) (hex (run.byte % 16) (omega arith))
-    (All-cons NoComma 42 (decimal run.count) refl (All-decimal NoComma (λ digit low. ne_eqb (48 + digit) 44 (λ is. omega (arith, is))) run.count small)))
+    All-cons NoComma (slice_index lower_digits (stretch.byte / 16)) (slice_index lower_digits (stretch.byte % 16) ∷ 42 ∷ decimal stretch.count) (hex (stretch.byte / 16) (omega arith))
+    (All-cons NoComma (slice_index lower_digits (stretch.byte % 16)) (42 ∷ decimal stretch.count) (hex (stretch.byte % 16) (omega arith))
+    (All-cons NoComma 42 (decimal stretch.count) refl (All-decimal NoComma (λ digit low. ne_eqb (48 + digit) 44 (λ is. omega (arith, is))) stretch.count small)))
 
--- A run is told by its text.
-same_run : (run other : ByteRun) → IsRun run → IsRun other → run_text run ≡ run_text other → run ≡ other
+-- A stretch is told by its text.
+same_stretch : (stretch other : Stretch) → IsStretch stretch → IsStretch other → stretch_text stretch ≡ stretch_text other → stretch ≡ other
 unfolding encode_with
-same_run run other (byte, some, count) (byte', some', count') same =
-    let bytes : encode_lower (run.byte ∷ []) ≡ encode_lower (other.byte ∷ []) = ap (take 2) same in
-    let counts : decimal run.count ≡ decimal other.count = ap (drop 3) same in
-    let same_bytes = same_byte run.byte other.byte byte byte' bytes in
-    let same_counts = decimal_injective run.count other.count count count' counts in
-    ap (λ (b : ℕ). record { byte = b; count = run.count }) same_bytes ∙ ap (λ (c : ℕ). record { byte = other.byte; count = c }) same_counts
+same_stretch stretch other (byte, some, count) (byte', some', count') same =
+    let bytes : encode_lower (stretch.byte ∷ []) ≡ encode_lower (other.byte ∷ []) = ap (take 2) same in
+    let counts : decimal stretch.count ≡ decimal other.count = ap (drop 3) same in
+    let same_bytes = same_byte stretch.byte other.byte byte byte' bytes in
+    let same_counts = decimal_injective stretch.count other.count count count' counts in
+    ap (λ (b : ℕ). record { byte = b; count = stretch.count }) same_bytes ∙ ap (λ (c : ℕ). record { byte = other.byte; count = c }) same_counts
 
-same_runs_in : (runs others : List ByteRun) → All IsRun runs → All IsRun others → map run_text runs ≡ map run_text others → runs ≡ others
-same_runs_in [] [] each each' same = refl
-same_runs_in [] (other ∷ others) each each' same = absurd (cc)
-same_runs_in (run ∷ runs) [] each each' same = absurd (cc)
-same_runs_in (run ∷ runs) (other ∷ others) each each' same =
-    let first = same_run run other (All-head IsRun run runs each) (All-head IsRun other others each') (cc) in
-    let rest = same_runs_in runs others (All-tail IsRun run runs each) (All-tail IsRun other others each') (cc) in
+same_stretches_in : (stretches others : List Stretch) → All IsStretch stretches → All IsStretch others → map stretch_text stretches ≡ map stretch_text others → stretches ≡ others
+same_stretches_in [] [] each each' same = refl
+same_stretches_in [] (other ∷ others) each each' same = absurd (cc)
+same_stretches_in (stretch ∷ stretches) [] each each' same = absurd (cc)
+same_stretches_in (stretch ∷ stretches) (other ∷ others) each each' same =
+    let first = same_stretch stretch other (All-head IsStretch stretch stretches each) (All-head IsStretch other others each') (cc) in
+    let rest = same_stretches_in stretches others (All-tail IsStretch stretch stretches each) (All-tail IsStretch other others each') (cc) in
     cc
 
 -- Parts without the byte that joins them are told by the joined bytes.
@@ -69,20 +69,20 @@ parts_of_joined part (next ∷ parts) plain =
     slice_split_at (λ b. b == 44) part 44 (join_with_byte 44 (next ∷ parts)) (All-head (λ bytes. All NoComma bytes) part (next ∷ parts) plain) refl
     ∙ ap (λ (rest : List (List ℕ)). part ∷ rest) (parts_of_joined next parts (All-tail (λ bytes. All NoComma bytes) part (next ∷ parts) plain))
 
-no_commas : (runs : List ByteRun) → All IsRun runs → All (λ bytes. All NoComma bytes) (map run_text runs)
+no_commas : (stretches : List Stretch) → All IsStretch stretches → All (λ bytes. All NoComma bytes) (map stretch_text stretches)
 no_commas [] each = All-nil (λ bytes. All NoComma bytes)
-no_commas (run ∷ runs) each =
-    let here = All-head IsRun run runs each in
-    All-cons (λ bytes. All NoComma bytes) (run_text run) (map run_text runs) (no_comma run here.0 here.2) (no_commas runs (All-tail IsRun run runs each))
+no_commas (stretch ∷ stretches) each =
+    let here = All-head IsStretch stretch stretches each in
+    All-cons (λ bytes. All NoComma bytes) (stretch_text stretch) (map stretch_text stretches) (no_comma stretch here.0 here.2) (no_commas stretches (All-tail IsStretch stretch stretches each))
 
-parts_of_runs : (runs : List ByteRun) → AreRuns runs → slice_split (λ b. b == 44) (runs_word runs) ≡ map run_text runs
-parts_of_runs [] (some, each) = absurd (some refl)
-parts_of_runs (run ∷ runs) (some, each) = parts_of_joined (run_text run) (map run_text runs) (no_commas (run ∷ runs) each)
+parts_of_stretches : (stretches : List Stretch) → AreStretches stretches → slice_split (λ b. b == 44) (stretches_word stretches) ≡ map stretch_text stretches
+parts_of_stretches [] (some, each) = absurd (some refl)
+parts_of_stretches (stretch ∷ stretches) (some, each) = parts_of_joined (stretch_text stretch) (map stretch_text stretches) (no_commas (stretch ∷ stretches) each)
 
 -- Runs are told by their word.
-same_runs : (runs others : List ByteRun) → AreRuns runs → AreRuns others → runs_word runs ≡ runs_word others → runs ≡ others
-same_runs runs others are are' same =
-    same_runs_in runs others are.1 are'.1 (sym (parts_of_runs runs are) ∙ ap (slice_split (λ b. b == 44)) same ∙ parts_of_runs others are')
+same_stretches : (stretches others : List Stretch) → AreStretches stretches → AreStretches others → stretches_word stretches ≡ stretches_word others → stretches ≡ others
+same_stretches stretches others are are' same =
+    same_stretches_in stretches others are.1 are'.1 (sym (parts_of_stretches stretches are) ∙ ap (slice_split (λ b. b == 44)) same ∙ parts_of_stretches others are')
 
 actor_by : List ℕ → Option Actor
 actor_by word =
@@ -147,20 +147,20 @@ no_start StepVerb = differ (codes "start") (codes "step") refl
 
 abbrev verb_of_ask : Ask → Verb
 verb_of_ask (Fill first count byte fua) = FillVerb
-verb_of_ask (Write first runs fua) = WriteVerb
+verb_of_ask (Write first stretches fua) = WriteVerb
 verb_of_ask (Read first count) = ReadVerb
 verb_of_ask Flush = FlushVerb
 
 -- What stands behind the verb.
 abbrev values_of_ask : Ask → List (List ℕ)
 values_of_ask (Fill first count byte fua) = decimal first ∷ decimal count ∷ encode_lower (byte ∷ []) ∷ fua_words fua
-values_of_ask (Write first runs fua) = decimal first ∷ runs_word runs ∷ fua_words fua
+values_of_ask (Write first stretches fua) = decimal first ∷ stretches_word stretches ∷ fua_words fua
 values_of_ask (Read first count) = decimal first ∷ decimal count ∷ []
 values_of_ask Flush = []
 
 ask_words-parts : (ask : Ask) → ask_words ask ≡ verb_word (verb_of_ask ask) ∷ values_of_ask ask
 ask_words-parts (Fill first count byte fua) = refl
-ask_words-parts (Write first runs fua) = refl
+ask_words-parts (Write first stretches fua) = refl
 ask_words-parts (Read first count) = refl
 ask_words-parts Flush = refl
 
@@ -171,9 +171,9 @@ same_ask (Fill first count byte fua) (Fill first' count' byte' fua') (a, b, c) (
     let bytes = same_byte byte byte' c c' (cc) in
     let fuas = same_fua fua fua' (cc) in
     cc
-same_ask (Write first runs fua) (Write first' runs' fua') (a, b) (a', b') verbs values =
+same_ask (Write first stretches fua) (Write first' stretches' fua') (a, b) (a', b') verbs values =
     let firsts = decimal_injective first first' a a' (cc) in
-    let all_runs = same_runs runs runs' b b' (cc) in
+    let all_runs = same_stretches stretches stretches' b b' (cc) in
     let fuas = same_fua fua fua' (cc) in
     cc
 same_ask (Read first count) (Read first' count') (a, b) (a', b') verbs values =
@@ -192,7 +192,7 @@ AllFit [] (word ∷ words) = ⊥
 AllFit (FuaPlace ∷ places) [] = Unit {0}
 AllFit (NumberPlace ∷ places) [] = ⊥
 AllFit (BytePlace ∷ places) [] = ⊥
-AllFit (RunsPlace ∷ places) [] = ⊥
+AllFit (StretchesPlace ∷ places) [] = ⊥
 AllFit (ActorPlace ∷ places) [] = ⊥
 AllFit (place ∷ places) (word ∷ words) = Fits place word × AllFit places words
 
@@ -203,7 +203,7 @@ no_fault [] (word ∷ words) fault fit bad = fit
 no_fault (FuaPlace ∷ places) [] fault fit bad = bad
 no_fault (NumberPlace ∷ places) [] fault fit bad = fit
 no_fault (BytePlace ∷ places) [] fault fit bad = fit
-no_fault (RunsPlace ∷ places) [] fault fit bad = fit
+no_fault (StretchesPlace ∷ places) [] fault fit bad = fit
 no_fault (ActorPlace ∷ places) [] fault fit bad = fit
 no_fault (place ∷ places) (word ∷ words) fault (fits, fit) bad = elim bad [
   | inl (fits', later) ↦ no_fault places words fault fit later
@@ -216,7 +216,7 @@ one_fault [] (word ∷ words) fault other bad bad' = bad ∙ sym bad'
 one_fault (FuaPlace ∷ places) [] fault other bad bad' = absurd bad
 one_fault (NumberPlace ∷ places) [] fault other bad bad' = bad ∙ sym bad'
 one_fault (BytePlace ∷ places) [] fault other bad bad' = bad ∙ sym bad'
-one_fault (RunsPlace ∷ places) [] fault other bad bad' = bad ∙ sym bad'
+one_fault (StretchesPlace ∷ places) [] fault other bad bad' = bad ∙ sym bad'
 one_fault (ActorPlace ∷ places) [] fault other bad bad' = bad ∙ sym bad'
 one_fault (place ∷ places) (word ∷ words) fault other (inl (fits, later)) (inl (fits', later')) = one_fault places words fault other later later'
 one_fault (place ∷ places) (word ∷ words) fault other (inl (fits, later)) (inr (unfit, is)) = absurd (unfit fits)
@@ -232,13 +232,13 @@ fua_fits false = tt
 values_fit : (ask : Ask) → HasValues ask → AllFit (places_of (verb_of_ask ask)) (values_of_ask ask)
 unfolding AllFit
 values_fit (Fill first count byte fua) (a, b, c) = ((first, a, refl), ((count, b, refl), ((byte, c, refl), fua_fits fua)))
-values_fit (Write first runs fua) (a, b) = ((first, a, refl), ((runs, b, refl), fua_fits fua))
+values_fit (Write first stretches fua) (a, b) = ((first, a, refl), ((stretches, b, refl), fua_fits fua))
 values_fit (Read first count) (a, b) = ((first, a, refl), ((count, b, refl), tt))
 values_fit Flush a = tt
 
 asks : (ask : Ask) → is_asking (verb_of_ask ask) ≡ true
 asks (Fill first count byte fua) = refl
-asks (Write first runs fua) = refl
+asks (Write first stretches fua) = refl
 asks (Read first count) = refl
 asks Flush = refl
 

@@ -6,7 +6,7 @@ use Rattle.hex.specs.declared.error.FromHexError.TheVariants.{InvalidHexCharacte
 use Rattle.std.proofs.lemmas.List.Elements.{All-nil, All-cons}
 use Rattle.device_model.specs.Grammar.{IsNumber, IsLine, IsFaultOf, IsFirstWord, actor_word, verb_word, is_asking, Verb, FillVerb, WriteVerb, ReadVerb, FlushVerb, ServeVerb, TakeVerb, StepVerb}
 use Rattle.device_model.specs.LineFault.{WrongNumber, WrongByte, WrongWord, ExtraWord, MissingWord}
-use Rattle.device_model.specs.Runs.{ByteRun}
+use Rattle.device_model.specs.Stretches.{Stretch}
 use Rattle.device_model.specs.Progress.{Actor, Commit, Place, Settle, Clean, Recalc}
 use Rattle.device_model.specs.Script.{Skip, AskLine, ServeLine, TakeLine, StepLine, Fill, Write, Read, Flush}
 use Rattle.device_model.specs.ScriptBytes.{lines_of}
@@ -43,13 +43,13 @@ no_first : ¬ IsFirstWord (codes "#")
 no_first (inl is) = differ (codes "#") (codes "start") refl is
 no_first (inr (verb, is)) = no_verb verb is
 
-abbrev IsRun : ByteRun → Type 0
-IsRun run = (run.byte < 256) × (1 ≤ run.count) × IsNumber run.count
+abbrev IsStretch : Stretch → Type 0
+IsStretch stretch = (stretch.byte < 256) × (1 ≤ stretch.count) × IsNumber stretch.count
 
-two_runs : All IsRun (record { byte = 170; count = 300 } ∷ record { byte = 187; count = 212 } ∷ [])
-two_runs =
-    All-cons IsRun (record { byte = 170; count = 300 }) (record { byte = 187; count = 212 } ∷ []) (omega arith, omega arith, omega arith)
-    (All-cons IsRun (record { byte = 187; count = 212 }) [] (omega arith, omega arith, omega arith) (All-nil IsRun))
+two_stretches : All IsStretch (record { byte = 170; count = 300 } ∷ record { byte = 187; count = 212 } ∷ [])
+two_stretches =
+    All-cons IsStretch (record { byte = 170; count = 300 }) (record { byte = 187; count = 212 } ∷ []) (omega arith, omega arith, omega arith)
+    (All-cons IsStretch (record { byte = 187; count = 212 }) [] (omega arith, omega arith, omega arith) (All-nil IsStretch))
 
 -- ---- lines
 
@@ -67,7 +67,7 @@ line-fill = IsLine-by (codes " fill 3 1 cc") (AskLine false (Fill 3 1 204 false)
 line-write : IsLine (codes "write 0 aa*300,bb*212 fua") (AskLine false (Write 0 (record { byte = 170; count = 300 } ∷ record { byte = 187; count = 212 } ∷ []) true))
 unfolding digits encode_with
 line-write = IsLine-by (codes "write 0 aa*300,bb*212 fua") (AskLine false (Write 0 (record { byte = 170; count = 300 } ∷ record { byte = 187; count = 212 } ∷ []) true)) refl refl
-    (not_skipped (codes "write 0 aa*300,bb*212 fua") (λ none. cc) (λ rest same. cc), refl, (omega arith, ((λ none. cc), two_runs)))
+    (not_skipped (codes "write 0 aa*300,bb*212 fua") (λ none. cc) (λ rest same. cc), refl, (omega arith, ((λ none. cc), two_stretches)))
 
 line-read : IsLine (codes "start read 4 8") (AskLine true (Read 4 8))
 unfolding digits encode_with

@@ -4,9 +4,9 @@ use Rattle.std.specs.Prelude.{◌≡◌, ◌≢◌, ◌⊎◌, ℕ, ◌^◌, ◌
 use Rattle.std.specs.Fmt.{decimal}
 use Rattle.std.specs.List.{join_with_byte, slice_split}
 use Rattle.hex.specs.Hex.{encode_lower}
-use Rattle.device_model.specs.LineFault.{WordsFault, TooLong, NotText, WrongWord, WrongNumber, WrongByte, WrongRuns, MissingWord, ExtraWord}
+use Rattle.device_model.specs.LineFault.{WordsFault, TooLong, NotText, WrongWord, WrongNumber, WrongByte, WrongStretches, MissingWord, ExtraWord}
 use Rattle.device_model.specs.Progress.{Actor, Commit, Place, Settle, Clean, Recalc}
-use Rattle.device_model.specs.Runs.{ByteRun, run_text}
+use Rattle.device_model.specs.Stretches.{Stretch, stretch_text}
 use Rattle.device_model.specs.Script.{Ask, Fill, Write, Read, Flush, ScriptLine, Skip, AskLine, ServeLine, TakeLine, StepLine}
 
 -- ---- words
@@ -15,9 +15,9 @@ use Rattle.device_model.specs.Script.{Ask, Fill, Write, Read, Flush, ScriptLine,
 abbrev pub words_in : List ℕ → List (List ℕ)
 words_in bytes = filter (λ word. not (length word == 0)) (slice_split (λ byte. byte == 32) bytes)
 
--- The word of some runs of bytes.
-abbrev pub runs_word : List ByteRun → List ℕ
-runs_word runs = join_with_byte 44 (map run_text runs)
+-- The word of some stretches of bytes.
+abbrev pub stretches_word : List Stretch → List ℕ
+stretches_word stretches = join_with_byte 44 (map stretch_text stretches)
 
 abbrev pub actor_word : Actor → List ℕ
 actor_word Commit = codes "commit"
@@ -32,7 +32,7 @@ fua_words fua = if fua then codes "fua" ∷ [] else []
 abbrev pub ask_words : Ask → List (List ℕ)
 ask_words (Fill first count byte fua) =
     codes "fill" ∷ decimal first ∷ decimal count ∷ encode_lower (byte ∷ []) ∷ fua_words fua
-ask_words (Write first runs fua) = codes "write" ∷ decimal first ∷ runs_word runs ∷ fua_words fua
+ask_words (Write first stretches fua) = codes "write" ∷ decimal first ∷ stretches_word stretches ∷ fua_words fua
 ask_words (Read first count) = codes "read" ∷ decimal first ∷ decimal count ∷ []
 ask_words Flush = codes "flush" ∷ []
 
@@ -51,13 +51,13 @@ line_words (StepLine actor) = codes "step" ∷ actor_word actor ∷ []
 abbrev pub IsNumber : ℕ → Type 0
 IsNumber n = n < 2 ^ 64
 
--- One run or more, each of at least one byte.
-abbrev pub AreRuns : List ByteRun → Type 0
-AreRuns runs = (runs ≢ []) × All (λ run. (run.byte < 256) × (1 ≤ run.count) × IsNumber run.count) runs
+-- One stretch or more, each of at least one byte.
+abbrev pub AreStretches : List Stretch → Type 0
+AreStretches stretches = (stretches ≢ []) × All (λ stretch. (stretch.byte < 256) × (1 ≤ stretch.count) × IsNumber stretch.count) stretches
 
 abbrev pub HasValues : Ask → Type 0
 HasValues (Fill first count byte fua) = IsNumber first × IsNumber count × (byte < 256)
-HasValues (Write first runs fua) = IsNumber first × AreRuns runs
+HasValues (Write first stretches fua) = IsNumber first × AreStretches stretches
 HasValues (Read first count) = IsNumber first × IsNumber count
 HasValues Flush = Unit {0}
 
@@ -99,14 +99,14 @@ pub record IsLine (bytes : List ℕ) (line : ScriptLine) : Type 0 where
 pub data WordPlace : Type 0 where
   NumberPlace : WordPlace
   BytePlace : WordPlace
-  RunsPlace : WordPlace
+  StretchesPlace : WordPlace
   ActorPlace : WordPlace
   FuaPlace : WordPlace
 
 abbrev pub Fits : WordPlace → List ℕ → Type 0
 Fits NumberPlace word = (n : ℕ) × IsNumber n × (word ≡ decimal n)
 Fits BytePlace word = (byte : ℕ) × (byte < 256) × (word ≡ encode_lower (byte ∷ []))
-Fits RunsPlace word = (runs : List ByteRun) × AreRuns runs × (word ≡ runs_word runs)
+Fits StretchesPlace word = (stretches : List Stretch) × AreStretches stretches × (word ≡ stretches_word stretches)
 Fits ActorPlace word = (actor : Actor) × (word ≡ actor_word actor)
 Fits FuaPlace word = word ≡ codes "fua"
 
@@ -114,7 +114,7 @@ Fits FuaPlace word = word ≡ codes "fua"
 abbrev pub misfit : WordPlace → List ℕ → WordsFault
 misfit NumberPlace word = WrongNumber word
 misfit BytePlace word = WrongByte word
-misfit RunsPlace word = WrongRuns word
+misfit StretchesPlace word = WrongStretches word
 misfit ActorPlace word = WrongWord word
 misfit FuaPlace word = WrongWord word
 
@@ -149,7 +149,7 @@ verb_word StepVerb = codes "step"
 -- The places behind it.
 abbrev pub places_of : Verb → List WordPlace
 places_of FillVerb = NumberPlace ∷ NumberPlace ∷ BytePlace ∷ FuaPlace ∷ []
-places_of WriteVerb = NumberPlace ∷ RunsPlace ∷ FuaPlace ∷ []
+places_of WriteVerb = NumberPlace ∷ StretchesPlace ∷ FuaPlace ∷ []
 places_of ReadVerb = NumberPlace ∷ NumberPlace ∷ []
 places_of FlushVerb = []
 places_of ServeVerb = NumberPlace ∷ []

@@ -1,2 +1,4 @@
 pub mod DiskLemmas
+pub mod IdentityLemmas
 pub mod MomentsLemmas
+pub mod SectorLemmas

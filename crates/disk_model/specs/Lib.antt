@@ -1,3 +1,4 @@
 pub mod Causes
 pub mod Disk
+pub mod Identity
 pub mod Moments

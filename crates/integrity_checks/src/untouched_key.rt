@@ -1,6 +1,8 @@
 //! A source for the key that counts its calls, all of which fail.
 ghost use Rattle.std.specs.Prelude.{⊤, None};
+ghost use Rattle.std.proofs.Common.{refl};
 ghost use Rattle.std.proofs.lemmas.Option.{none-some};
+ghost use Rattle.sector_disk.specs.Identity.{Unbound};
 
 use sector_disk::{Counted, Failed, Named};
 use stream_io::Source;
@@ -14,7 +16,9 @@ pub struct UntouchedKey {
 impl Counted for UntouchedKey {
     ghost faults = { λ key. key.calls };
 
-    ghost tells_same = { λ a b. ⊤ };
+    ghost binding = { λ key. Unbound };
+
+    ghost tells_same = { λ name a b. ⊤ };
 }
 
 impl Named for UntouchedKey {
@@ -27,10 +31,14 @@ impl Named for UntouchedKey {
 impl Source for UntouchedKey {
     ghost left = { λ key. None };
 
+    ghost named = { λ key name. None };
+
     fn read(&mut self, _buffer: &mut [u8]) -> Result<usize, Failed> {
         self.calls = self.calls.saturating_add(1);
         Err(Failed)
     }
 
-    ghost same_left = { λ a b bytes same told. absurd (none-some bytes told) };
+    ghost named_if_bound = { λ key name bound. refl };
+
+    ghost same_named = { λ name a b bytes same told. absurd (none-some bytes told) };
 }

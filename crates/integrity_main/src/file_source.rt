@@ -1,6 +1,9 @@
 //! A source that is a file.
 ghost use Rattle.std.specs.Prelude.{◌≡◌, ⊤, None};
+ghost use Rattle.std.proofs.Common.{refl};
 ghost use Rattle.std.proofs.lemmas.Option.{none-some};
+ghost use Rattle.disk_model.specs.Identity.{AnyName, Unbound};
+ghost use Rattle.file_disk.specs.Files.{of_file};
 
 use crate::faults::count_error;
 use crate::opening::open_apart;
@@ -35,7 +38,9 @@ impl<R: Files + Drop> FileSource<R> {
 impl<R: Files + Drop> Counted for FileSource<R> {
     ghost faults = { λ source. source.faults };
 
-    ghost tells_same = { λ a b. ⊤ };
+    ghost binding = { λ source. of_file Unbound (λ file. AnyName) source.file };
+
+    ghost tells_same = { λ name a b. ⊤ };
 }
 
 impl<R: Files + Drop> Named for FileSource<R> {
@@ -49,6 +54,8 @@ impl<R: Files + Drop> Named for FileSource<R> {
 impl<R: Files + Drop> Source for FileSource<R> {
     ghost left = { λ source. None };
 
+    ghost named = { λ source name. None };
+
     fn read(&mut self, buffer: &mut [u8]) -> Result<usize, Failed> {
         let answer = match &mut self.file {
             Some(file) => read_some(file, buffer),
@@ -57,7 +64,9 @@ impl<R: Files + Drop> Source for FileSource<R> {
         count_error(answer, &mut self.faults)
     }
 
-    ghost same_left = { λ a b bytes same told. absurd (none-some bytes told) };
+    ghost named_if_bound = { λ source name bound. refl };
+
+    ghost same_named = { λ name a b bytes same told. absurd (none-some bytes told) };
 }
 
 /// Opens a file for reads.

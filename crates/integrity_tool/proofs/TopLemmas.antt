@@ -1,9 +1,10 @@
 -- What the top call does: how a disk narrows, what a run prints that did nothing, and how its last line follows.
-use Rattle.std.proofs.Common.{◌≡◌, ◌⊎◌, inl, inr, ℕ, ◌≤◌, Bool, true, List, length, refl, sym, subst, arith, append-nil, true≢false, Option, Some, None, Result, Ok, Err, IsSomeAnd, OnOk, OnErr, is_ok}
+use Rattle.std.proofs.Common.{◌≡◌, ◌⊎◌, inl, inr, ℕ, ◌≤◌, Bool, true, List, length, refl, sym, ◌∙◌, ap, subst, arith, append-nil, true≢false, Option, Some, None, Result, Ok, Err, IsSomeAnd, OnOk, OnErr, is_ok}
 use Rattle.std.specs.Option.{option_map}
 use Rattle.std.specs.List.{Contains}
 use Rattle.disk_model.specs.Causes.{Rose}
 use Rattle.disk_model.specs.Disk.{Content, IsImage, last_image, newest_only, Reads, OnlyAdds}
+use Rattle.disk_model.specs.Identity.{NamedDisk}
 use Rattle.disk_model.specs.Moments.{content_now, EachMoment, FromStart}
 use Rattle.disk_model.proofs.DiskLemmas.{newest_only-image, Reads-one, OnlyAdds-join}
 use Rattle.disk_model.proofs.MomentsLemmas.{EachMoment-weaker}
@@ -106,3 +107,19 @@ tells_early start before ending status SinkRose (Some run) later (Some d) E (Ok 
 tells_early start before ending status SinkRose (Some run) later (Some d) E (Err e) is leaves written rose err =
     subst (λ (o : Option (List ℕ)). IsSomeAnd o (λ after. Tells start before after status SinkRose d)) (sym err.held)
     (record { ending = ending; is_status = is; run = run; leaves = leaves; last = inr (rose, err.count, err.short, refl) })
+
+-- ---- a disk that is bound, and what stood under its name
+
+pub told_there : {first : NamedDisk} {sectors : ℕ} {before : List Content} {content : Content} → first ≡ record { sectors = sectors; moments = before }
+    → content_now first.moments ≡ Some content → content_now before ≡ Some content
+told_there is told = sym (ap (λ (n : NamedDisk). content_now n.moments) is) ∙ told
+
+pub of_there : {first : NamedDisk} {sectors : ℕ} {before : List Content} → first ≡ record { sectors = sectors; moments = before } → (P : ℕ → Type 0) → P sectors → P first.sectors
+of_there is P p = subst P (sym (ap (λ (n : NamedDisk). n.sectors) is)) p
+
+pub held_there : {first last : NamedDisk} {sectors later : ℕ} {before after : List Content} → first ≡ record { sectors = sectors; moments = before }
+    → (held : Option (List ℕ)) (P : ℕ → List ℕ → Content → Type 0) → last ≡ record { sectors = later; moments = after }
+    → IsSomeAnd held (λ text. IsSomeAnd (content_now after) (P sectors text)) → IsSomeAnd held (λ text. IsSomeAnd (content_now last.moments) (P first.sectors text))
+held_there {first} {last} {sectors} {later} {before} {after} is held P ends holds =
+    subst (λ (n : NamedDisk). IsSomeAnd held (λ text. IsSomeAnd (content_now last.moments) (P n.sectors text))) (sym is)
+    (subst (λ (n : NamedDisk). IsSomeAnd held (λ text. IsSomeAnd (content_now n.moments) (P sectors text))) (sym ends) holds)

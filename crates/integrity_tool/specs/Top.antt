@@ -7,7 +7,7 @@ use Rattle.integrity_tool.specs.Form.{IsOfForm, small_blocks}
 use Rattle.integrity_tool.specs.Leaving.{IsLeftBy, RunsAndLeaves}
 use Rattle.integrity_tool.specs.Script.{BeginsWith, BeginsWithNone}
 use Rattle.integrity_tool.specs.Words.{IsRunWords}
-use Rattle.integrity_tool.specs.declared.line_reader.TheConstants.{MOST_SCRIPT}
+use Rattle.device_model.specs.ScriptBytes.{most_script}
 
 -- What a run is given: the words, how many sectors the disk has and what they hold, and the script.
 pub record Start : Type 0 where
@@ -27,7 +27,7 @@ HasForm start = IsOfForm start.sectors (last_image start.content)
 abbrev pub IsRefusedScript : List ℕ → Type 0
 IsRefusedScript script =
     ((lines : List Line) × (rest : List ℕ) × BeginsWith small_blocks.blocks script lines rest × BeginsWithNone small_blocks.blocks rest)
-    ⊎ (MOST_SCRIPT < length script)
+    ⊎ (most_script < length script)
 
 -- Each image of the later content is one of the first.
 pub record NarrowsImages (first later : Content) : Type 0 where

@@ -5,6 +5,7 @@ ghost use Rattle.std.specs.Prelude.{◌≡◌, ◌+◌, ◌*◌, ◌/◌, ◌<�
 ghost use Rattle.std.specs.Option.{ForSome};
 ghost use Rattle.disk_model.specs.Causes.{HasCause};
 ghost use Rattle.disk_model.specs.Disk.{last_image, sector_in};
+ghost use Rattle.disk_model.specs.Identity.{HasSectors};
 ghost use Rattle.disk_model.specs.Moments.{content_now};
 ghost use Rattle.image_model.specs.Cells.{Cell};
 ghost use Rattle.image_model.specs.Sectors.{piece};
@@ -43,14 +44,14 @@ pub fn read_blocks<D: Disk>(
     requires maker { IsSmallRule maker.now }
     requires whole { length bytes.old ≡ 512 * (length bytes.old / 512) }
     requires range { first + length bytes.old / 512 ≤ SMALL_BLOCKS }
-    requires disk { 256 ≤ D.sectors disk.old }
+    requires disk { HasSectors 256 (D.identity disk.old) }
 
     ensures reply { IfOk result (λ found. ForSome (content_now (D.moments disk.old)) (λ c. reply_of found bytes.new
         ≡ read_reply small_blocks.tag (small_cells (last_image c)) first (length bytes.new / 512))) }
 
     ensures cause { HasCause (D.faults disk.old) (D.faults disk.new) result }
 
-    ensures sectors { D.sectors disk.new ≡ D.sectors disk.old }
+    ensures identity { D.identity disk.new ≡ D.identity disk.old }
     ensures kept { D.moments disk.new ≡ D.moments disk.old }
 {
     let mut block = first;
@@ -80,14 +81,14 @@ fn read_area<D: Disk>(
     requires some { 1 ≤ length bytes.old / 512 }
     requires area { first % 8 + length bytes.old / 512 ≤ 8 }
     requires range { first + length bytes.old / 512 ≤ SMALL_BLOCKS }
-    requires disk { 256 ≤ D.sectors disk.old }
+    requires disk { HasSectors 256 (D.identity disk.old) }
 
     ensures reply { IfOk result (λ found. ForSome (content_now (D.moments disk.old)) (λ c. reply_of found bytes.new
         ≡ read_reply small_blocks.tag (small_cells (last_image c)) first (length bytes.new / 512))) }
 
     ensures cause { HasCause (D.faults disk.old) (D.faults disk.new) result }
 
-    ensures sectors { D.sectors disk.new ≡ D.sectors disk.old }
+    ensures identity { D.identity disk.new ≡ D.identity disk.old }
     ensures kept { D.moments disk.new ≡ D.moments disk.old }
 {
     let mut tags = [0; 512];

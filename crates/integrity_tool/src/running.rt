@@ -5,9 +5,11 @@ ghost use Rattle.std.specs.Prelude.{◌≡◌, ◌≢◌, ◌⊎◌, ◌||◌, �
 ghost use Rattle.std.specs.Option.{ForSome, option_map};
 ghost use Rattle.disk_model.specs.Causes.{HasCause, Rose};
 ghost use Rattle.disk_model.specs.Disk.{Content, HasNothingPending, OnlyAdds, last_image, newest_only};
+ghost use Rattle.disk_model.specs.Identity.{HasSectors, IsBound};
 ghost use Rattle.disk_model.specs.Moments.{content_now, EachMoment, FromStart};
 ghost use Rattle.device_model.specs.Reply.{read_reply};
 ghost use Rattle.device_model.specs.Transcript.{Fill, Read, Flush, Session, after_line, line_result, read_text, is_fault, closed_text};
+ghost use Rattle.device_model.specs.ScriptBytes.{most_script};
 ghost use Rattle.integrity_tool.specs.Form.{small_blocks};
 ghost use Rattle.integrity_tool.specs.Grammar.{IsRunnable};
 ghost use Rattle.integrity_tool.specs.Line.{line_of};
@@ -22,7 +24,7 @@ ghost use Rattle.integrity_tool.specs.declared.small_image.TheConstants.{SMALL_S
 
 use crate::ended::Ended;
 use crate::line::{Line, read_line};
-use crate::line_reader::{LineReader, MOST_SCRIPT, NextLine};
+use crate::line_reader::{LineReader, NextLine};
 use crate::reading::{Found, read_blocks};
 use crate::small_image::{BLOCK_SIZE, SMALL_BLOCKS, SMALL_SECTORS, SMALL_SIZE};
 use crate::text::{longest_text, put_fault_text, put_flush_text, put_read_text, put_write_text};
@@ -82,7 +84,7 @@ pub fn run_script<D: Disk, S: Source, O: Sink>(
 ) -> Result<bool, Ended>
     requires maker { IsSmallRule maker.now }
     requires room { room.old.reader ≡ record { unread = []; line = []; taken = 0 } }
-    requires disk { SMALL_SECTORS ≤ D.sectors disk.old }
+    requires disk { HasSectors SMALL_SECTORS (D.identity disk.old) }
     requires settled { ForSome (content_now (D.moments disk.old)) HasNothingPending }
 
     ensures runs { ForSome (content_now (D.moments disk.old)) (λ c. ForSome (S.left script.old) (λ left.
@@ -98,7 +100,7 @@ pub fn run_script<D: Disk, S: Source, O: Sink>(
     ensures disk_later { D.faults disk.old ≤ D.faults disk.new }
     ensures script_later { S.faults script.old ≤ S.faults script.new }
     ensures sink_later { O.faults out.old ≤ O.faults out.new }
-    ensures sectors { D.sectors disk.new ≡ D.sectors disk.old }
+    ensures identity { D.identity disk.new ≡ D.identity disk.old }
 
     ensures moments { ForSome (content_now (D.moments disk.old)) (λ c. ForSome (S.left script.old) (λ left.
         EachMoment (D.moments disk.old) (D.moments disk.new) (IsLeftBy (last_image c) left))) }
@@ -137,7 +139,7 @@ fn next_line<S: Source>(
     ensures not_sink { result ≢ Err Ended.Sink }
 
     ensures script_later { S.faults script.old ≤ S.faults script.new }
-    ensures within { reader.new.taken ≤ MOST_SCRIPT }
+    ensures within { reader.new.taken ≤ most_script }
 {
     match reader.next_line(script) {
         Err(_) => Err(Ended::Script),
@@ -162,7 +164,7 @@ fn run_line<D: Disk, O: Sink>(
 ) -> Result<bool, Ended>
     requires maker { IsSmallRule maker.now }
     requires line { IsRunnable small_blocks.blocks (line_of line) }
-    requires disk { SMALL_SECTORS ≤ D.sectors disk.old }
+    requires disk { HasSectors SMALL_SECTORS (D.identity disk.old) }
     requires bytes { length bytes.old ≡ SMALL_SIZE }
     requires text { longest_text SMALL_SIZE ≤ vec_capacity text.old }
 
@@ -177,7 +179,7 @@ fn run_line<D: Disk, O: Sink>(
 
     ensures disk_later { D.faults disk.old ≤ D.faults disk.new }
     ensures sink_later { O.faults out.old ≤ O.faults out.new }
-    ensures sectors { D.sectors disk.new ≡ D.sectors disk.old }
+    ensures identity { D.identity disk.new ≡ D.identity disk.old }
     ensures capacity { vec_capacity text.old ≤ vec_capacity text.new }
 
     ensures moments { (c : Content) (s : Session) → content_now (D.moments disk.old) ≡ Some c → StandsFor c s.history
@@ -204,7 +206,7 @@ fn run_fill<D: Disk, O: Sink>(
 ) -> Result<bool, Ended>
     requires maker { IsSmallRule maker.now }
     requires range { first + count ≤ SMALL_BLOCKS }
-    requires disk { SMALL_SECTORS ≤ D.sectors disk.old }
+    requires disk { HasSectors SMALL_SECTORS (D.identity disk.old) }
     requires text { longest_text SMALL_SIZE ≤ vec_capacity text.old }
 
     ensures prints { (s : Session) → Prints (line_result small_blocks s (Fill first count byte)) (O.held out.old) (O.held out.new) result }
@@ -217,7 +219,7 @@ fn run_fill<D: Disk, O: Sink>(
 
     ensures disk_later { D.faults disk.old ≤ D.faults disk.new }
     ensures sink_later { O.faults out.old ≤ O.faults out.new }
-    ensures sectors { D.sectors disk.new ≡ D.sectors disk.old }
+    ensures identity { D.identity disk.new ≡ D.identity disk.old }
     ensures capacity { vec_capacity text.old ≤ vec_capacity text.new }
 
     ensures moments { (c : Content) (s : Session) → content_now (D.moments disk.old) ≡ Some c → StandsFor c s.history
@@ -238,6 +240,7 @@ fn run_fill<D: Disk, O: Sink>(
 
 /// Syncs the disk and prints that it is done.
 fn run_flush<D: Disk, O: Sink>(disk: &mut D, out: &mut O, text: &mut Vec<u8>) -> Result<bool, Ended>
+    requires disk { IsBound (D.identity disk.old).name }
     requires text { longest_text SMALL_SIZE ≤ vec_capacity text.old }
 
     ensures prints { (s : Session) → Prints (line_result small_blocks s Flush) (O.held out.old) (O.held out.new) result }
@@ -250,7 +253,7 @@ fn run_flush<D: Disk, O: Sink>(disk: &mut D, out: &mut O, text: &mut Vec<u8>) ->
 
     ensures disk_later { D.faults disk.old ≤ D.faults disk.new }
     ensures sink_later { O.faults out.old ≤ O.faults out.new }
-    ensures sectors { D.sectors disk.new ≡ D.sectors disk.old }
+    ensures identity { D.identity disk.new ≡ D.identity disk.old }
     ensures capacity { vec_capacity text.old ≤ vec_capacity text.new }
 
     ensures moments { (c : Content) (s : Session) → content_now (D.moments disk.old) ≡ Some c → StandsFor c s.history
@@ -281,7 +284,7 @@ fn run_read<D: Disk, O: Sink>(
 ) -> Result<bool, Ended>
     requires maker { IsSmallRule maker.now }
     requires range { first + count ≤ SMALL_BLOCKS }
-    requires disk { SMALL_SECTORS ≤ D.sectors disk.old }
+    requires disk { HasSectors SMALL_SECTORS (D.identity disk.old) }
     requires bytes { length bytes.old ≡ SMALL_SIZE }
     requires text { longest_text SMALL_SIZE ≤ vec_capacity text.old }
 
@@ -294,7 +297,7 @@ fn run_read<D: Disk, O: Sink>(
 
     ensures disk_later { D.faults disk.old ≤ D.faults disk.new }
     ensures sink_later { O.faults out.old ≤ O.faults out.new }
-    ensures sectors { D.sectors disk.new ≡ D.sectors disk.old }
+    ensures identity { D.identity disk.new ≡ D.identity disk.old }
     ensures kept { D.moments disk.new ≡ D.moments disk.old }
     ensures capacity { vec_capacity text.old ≤ vec_capacity text.new }
 {
@@ -342,6 +345,8 @@ fn either(a: bool, b: bool) -> bool
 
 /// Syncs the disk, and then prints that it is closed.
 fn close<D: Disk, O: Sink>(disk: &mut D, out: &mut O) -> Result<(), Ended>
+    requires { IsBound (D.identity disk.old).name }
+
     ensures synced { OnOk result (content_now (D.moments disk.new)
         ≡ option_map newest_only (content_now (D.moments disk.old))) }
     ensures closed { OnOk result (O.held out.new ≡ option_map (with_bytes closed_text) (O.held out.old)) }
@@ -354,7 +359,7 @@ fn close<D: Disk, O: Sink>(disk: &mut D, out: &mut O) -> Result<(), Ended>
 
     ensures disk_later { D.faults disk.old ≤ D.faults disk.new }
     ensures sink_later { O.faults out.old ≤ O.faults out.new }
-    ensures sectors { D.sectors disk.new ≡ D.sectors disk.old }
+    ensures identity { D.identity disk.new ≡ D.identity disk.old }
 
     ensures moments { EachMoment (D.moments disk.old) (D.moments disk.new)
         (FromStart (D.moments disk.old) (λ start c. c ≡ newest_only start)) }

@@ -1,9 +1,10 @@
 //! The top call: from the words to the status.
-ghost use Rattle.std.specs.Prelude.{◌≡◌, ◌⊎◌, ◌≤◌, ◌++◌, ℕ, List, length, map, Some, IsSomeAnd, IfErr, OnOk};
+ghost use Rattle.std.specs.Prelude.{◌≡◌, ◌≢◌, ◌⊎◌, ◌≤◌, ◌++◌, ℕ, List, length, map, Some, IsSomeAnd, IfErr, OnOk};
 ghost use Rattle.std.specs.Option.{ForSome, option_map};
 ghost use Rattle.std.specs.String.{string_bytes};
 ghost use Rattle.disk_model.specs.Causes.{Rose};
-ghost use Rattle.disk_model.specs.Disk.{OnlyAdds, last_image, newest_only};
+ghost use Rattle.disk_model.specs.Disk.{HasNothingPending, OnlyAdds, last_image, newest_only};
+ghost use Rattle.disk_model.specs.Identity.{IsBound, IsBoundTo, IsThere};
 ghost use Rattle.disk_model.specs.Moments.{content_now, EachMoment, FromStart};
 ghost use Rattle.integrity_tool.specs.Form.{IsOfForm};
 ghost use Rattle.integrity_tool.specs.Leaving.{IsOfScript};
@@ -11,7 +12,7 @@ ghost use Rattle.integrity_tool.specs.Running.{RefusesScript, ending_by};
 ghost use Rattle.integrity_tool.specs.Standing.{IsOfBlock};
 ghost use Rattle.integrity_tool.specs.Top.{start_of, IsRefusedScript, Leaves, MayBeLeft, Tells};
 ghost use Rattle.device_model.specs.Ending.{Complete, status_of};
-ghost use Rattle.integrity_tool.specs.Words.{IsRunWords};
+ghost use Rattle.integrity_tool.specs.Words.{IsRunWords, image_word};
 
 use crate::ended::Ended;
 use crate::running::{Room, run_script};
@@ -44,46 +45,61 @@ pub fn integrity<D: Disk + Named, K: Source + Named, S: Source, O: Sink>(
     script: &mut S,
     out: &mut O,
 ) -> u8
-    // The statuses, and what each but 0 and 1 comes from.
+    // The statuses, and what each but 0 and 1 comes from. The image is what has the name in the words.
     ensures status { result ≤ 7 }
     ensures words { ¬ IsRunWords (map string_bytes words.now) → result ≡ 2 }
     ensures refused { result ≡ 2 → IsRunWords (map string_bytes words.now)
         → ForSome (S.left script.old) IsRefusedScript }
-    ensures image { result ≡ 3 → ForSome (content_now (D.moments disk.old)) (λ c.
-        ¬ IsOfForm (D.sectors disk.old) (last_image c)) }
+    ensures image { result ≡ 3
+        → let image = D.named disk.old (image_word (map string_bytes words.now)) in
+        ForSome (content_now image.moments) (λ c. ¬ IsOfForm image.sectors (last_image c)) }
     ensures disk { result ≡ 4 → Rose (D.faults disk.old) (D.faults disk.new) }
     ensures script { result ≡ 5 → Rose (S.faults script.old) (S.faults script.new) }
     ensures sink { result ≡ 6 → Rose (O.faults out.old) (O.faults out.new) }
 
-    // The key is left as it is.
+    // The disk is bound to the image, or the run ended by a fault of it. The key is left as it is.
+    ensures bound { IsRunWords (map string_bytes words.now) → ((result ≡ 4)
+        ⊎ IsBoundTo (image_word (map string_bytes words.now)) (D.identity disk.new).name) }
     ensures key { _key.new ≡ _key.old }
 
-    // What 0 and 1 say of the words and the image.
+    // What 0 and 1 say of the words and the image, and that an image is refused only once it is synced.
     ensures ran { result ≤ 1 → IsRunWords (map string_bytes words.now) }
-    ensures form { result ≤ 1 → ForSome (content_now (D.moments disk.old)) (λ c.
-        IsOfForm (D.sectors disk.old) (last_image c)) }
+    ensures form { result ≤ 1
+        → let image = D.named disk.old (image_word (map string_bytes words.now)) in
+        ForSome (content_now image.moments) (λ c. IsOfForm image.sectors (last_image c)) }
+    ensures synced { result ≡ 3 → ForSome (content_now (D.moments disk.new)) HasNothingPending }
 
     // What was printed and what is left on the disk, whatever the status, and that 1 is told by it alone.
-    ensures tells { ForSome (content_now (D.moments disk.old)) (λ c. ForSome (S.left script.old) (λ left.
-        ForSome (O.held out.old) (λ before. IsSomeAnd (O.held out.new) (λ after. IsSomeAnd (content_now (D.moments disk.new))
-        (Tells (start_of (map string_bytes words.now) (D.sectors disk.old) c left) before after result
+    ensures tells { let image = D.named disk.old (image_word (map string_bytes words.now)) in
+        let later = D.named disk.new (image_word (map string_bytes words.now)) in
+        ForSome (content_now image.moments) (λ c. ForSome (S.left script.old) (λ left.
+        ForSome (O.held out.old) (λ before. IsSomeAnd (O.held out.new) (λ after. IsSomeAnd (content_now later.moments)
+        (Tells (start_of (map string_bytes words.now) image.sectors c left) before after result
         (Rose (O.faults out.old) (O.faults out.new))))))) }
 
     // Nothing else ends a run.
-    ensures complete { IsRunWords (map string_bytes words.now) → ForSome (content_now (D.moments disk.old)) (λ c.
-        IsOfForm (D.sectors disk.old) (last_image c) → ForSome (S.left script.old) (λ left. ¬ IsRefusedScript left
+    ensures complete { IsRunWords (map string_bytes words.now)
+        → let image = D.named disk.old (image_word (map string_bytes words.now)) in
+        ForSome (content_now image.moments) (λ c.
+        IsOfForm image.sectors (last_image c) → ForSome (S.left script.old) (λ left. ¬ IsRefusedScript left
         → ¬ Rose (D.faults disk.old) (D.faults disk.new) → ¬ Rose (S.faults script.old) (S.faults script.new)
         → ¬ Rose (O.faults out.old) (O.faults out.new) → (result ≤ 1 ⊎ result ≡ 7))) }
 
     // Each image at each moment of the call is one of those at its start, or one that a cut may leave of the lines run.
     // Only sectors of blocks change, and only of those that the script fills.
-    ensures moments { ForSome (content_now (D.moments disk.old)) (λ c. ForSome (S.left script.old) (λ left.
-        EachMoment (D.moments disk.old) (D.moments disk.new)
-        (MayBeLeft (start_of (map string_bytes words.now) (D.sectors disk.old) c left)))) }
-    ensures places { ForSome (content_now (D.moments disk.old)) (λ c.
-        EachMoment (D.moments disk.old) (D.moments disk.new) (OnlyAdds IsOfBlock c)) }
-    ensures filled { ForSome (content_now (D.moments disk.old)) (λ c. ForSome (S.left script.old) (λ left.
-        EachMoment (D.moments disk.old) (D.moments disk.new) (OnlyAdds (IsOfScript left) c))) }
+    ensures moments { let image = D.named disk.old (image_word (map string_bytes words.now)) in
+        let later = D.named disk.new (image_word (map string_bytes words.now)) in
+        ForSome (content_now image.moments) (λ c. ForSome (S.left script.old) (λ left.
+        EachMoment image.moments later.moments
+        (MayBeLeft (start_of (map string_bytes words.now) image.sectors c left)))) }
+    ensures places { let image = D.named disk.old (image_word (map string_bytes words.now)) in
+        let later = D.named disk.new (image_word (map string_bytes words.now)) in
+        ForSome (content_now image.moments) (λ c.
+        EachMoment image.moments later.moments (OnlyAdds IsOfBlock c)) }
+    ensures filled { let image = D.named disk.old (image_word (map string_bytes words.now)) in
+        let later = D.named disk.new (image_word (map string_bytes words.now)) in
+        ForSome (content_now image.moments) (λ c. ForSome (S.left script.old) (λ left.
+        EachMoment image.moments later.moments (OnlyAdds (IsOfScript left) c))) }
 {
     match run(alloc, words, disk, script, out) {
         Ok(found_fault) => complete_status(found_fault),
@@ -110,38 +126,105 @@ fn run<D: Disk + Named, S: Source, O: Sink>(
     script: &mut S,
     out: &mut O,
 ) -> Result<bool, Ended>
-    ensures runs { ForSome (content_now (D.moments disk.old)) (λ c. ForSome (S.left script.old) (λ left.
-        ForSome (O.held out.old) (λ before. IsSomeAnd (O.held out.new) (λ after. IsSomeAnd (content_now (D.moments disk.new))
-        (Leaves (start_of (map string_bytes words.now) (D.sectors disk.old) c left) before after (ending_by result)))))) }
+    ensures runs { let image = D.named disk.old (image_word (map string_bytes words.now)) in
+        let later = D.named disk.new (image_word (map string_bytes words.now)) in
+        ForSome (content_now image.moments) (λ c. ForSome (S.left script.old) (λ left.
+        ForSome (O.held out.old) (λ before. IsSomeAnd (O.held out.new) (λ after. IsSomeAnd (content_now later.moments)
+        (Leaves (start_of (map string_bytes words.now) image.sectors c left) before after (ending_by result)))))) }
     ensures ran { OnOk result (IsRunWords (map string_bytes words.now)) }
-    ensures form { OnOk result (ForSome (content_now (D.moments disk.old)) (λ c.
-        IsOfForm (D.sectors disk.old) (last_image c))) }
+    ensures form { let image = D.named disk.old (image_word (map string_bytes words.now)) in
+        OnOk result (ForSome (content_now image.moments) (λ c. IsOfForm image.sectors (last_image c))) }
 
     ensures words { result ≡ Err Ended.Words → ¬ IsRunWords (map string_bytes words.now) }
     ensures words_first { ¬ IsRunWords (map string_bytes words.now) → result ≡ Err Ended.Words }
     ensures refused { IfErr result (λ ended. RefusesScript ended → ForSome (S.left script.old) IsRefusedScript) }
-    ensures image { result ≡ Err Ended.Image → ForSome (content_now (D.moments disk.old)) (λ c.
-        ¬ IsOfForm (D.sectors disk.old) (last_image c)) }
+    ensures image { result ≡ Err Ended.Image
+        → let image = D.named disk.old (image_word (map string_bytes words.now)) in
+        ForSome (content_now image.moments) (λ c. ¬ IsOfForm image.sectors (last_image c)) }
+    ensures synced { result ≡ Err Ended.Image → ForSome (content_now (D.moments disk.new)) HasNothingPending }
     ensures disk { result ≡ Err Ended.Disk → Rose (D.faults disk.old) (D.faults disk.new) }
     ensures script { result ≡ Err Ended.Script → Rose (S.faults script.old) (S.faults script.new) }
     ensures sink { result ≡ Err Ended.Sink → Rose (O.faults out.old) (O.faults out.new) }
 
     ensures sink_later { O.faults out.old ≤ O.faults out.new }
+    ensures bound { IsRunWords (map string_bytes words.now) → ((result ≡ Err Ended.Disk)
+        ⊎ IsBoundTo (image_word (map string_bytes words.now)) (D.identity disk.new).name) }
 
-    ensures moments { ForSome (content_now (D.moments disk.old)) (λ c. ForSome (S.left script.old) (λ left.
+    ensures moments { let image = D.named disk.old (image_word (map string_bytes words.now)) in
+        let later = D.named disk.new (image_word (map string_bytes words.now)) in
+        ForSome (content_now image.moments) (λ c. ForSome (S.left script.old) (λ left.
+        EachMoment image.moments later.moments
+        (MayBeLeft (start_of (map string_bytes words.now) image.sectors c left)))) }
+    ensures places { let image = D.named disk.old (image_word (map string_bytes words.now)) in
+        let later = D.named disk.new (image_word (map string_bytes words.now)) in
+        ForSome (content_now image.moments) (λ c.
+        EachMoment image.moments later.moments (OnlyAdds IsOfBlock c)) }
+    ensures filled { let image = D.named disk.old (image_word (map string_bytes words.now)) in
+        let later = D.named disk.new (image_word (map string_bytes words.now)) in
+        ForSome (content_now image.moments) (λ c. ForSome (S.left script.old) (λ left.
+        EachMoment image.moments later.moments (OnlyAdds (IsOfScript left) c))) }
+{
+    let Some(image) = image_to_run(words) else {
+        return Err(Ended::Words);
+    };
+    bind_image(disk, image)?;
+    run_image(alloc, disk, script, out)
+}
+
+/// Binds the disk to the name of an image.
+fn bind_image<D: Disk + Named>(disk: &mut D, image: &str) -> Result<(), Ended>
+    ensures bound { OnOk result (IsBoundTo image.now (D.identity disk.new).name) }
+    ensures found { OnOk result (IsThere (D.named disk.old image.now) (D.identity disk.new).sectors (D.moments disk.new)) }
+
+    ensures disk { IfErr result (λ ended. ended ≡ Ended.Disk × Rose (D.faults disk.old) (D.faults disk.new)) }
+
+    ensures disk_later { D.faults disk.old ≤ D.faults disk.new }
+    ensures same { ForSome (content_now (D.named disk.old image.now).moments)
+        (λ c. D.named disk.new image.now ≡ D.named disk.old image.now) }
+{
+    match disk.bind(image) {
+        Ok(()) => Ok(()),
+        Err(_) => Err(Ended::Disk),
+    }
+}
+
+/// Runs the script on the image that the disk is bound to, up to its end or to what ends it.
+fn run_image<D: Disk, S: Source, O: Sink>(
+    alloc: Global,
+    disk: &mut D,
+    script: &mut S,
+    out: &mut O,
+) -> Result<bool, Ended>
+    requires { IsBound (D.identity disk.old).name }
+
+    ensures runs { (words : List (List ℕ)) → IsRunWords words
+        → ForSome (content_now (D.moments disk.old)) (λ c. ForSome (S.left script.old) (λ left.
+        ForSome (O.held out.old) (λ before. IsSomeAnd (O.held out.new) (λ after. IsSomeAnd (content_now (D.moments disk.new))
+        (Leaves (start_of words (D.identity disk.old).sectors c left) before after (ending_by result)))))) }
+    ensures form { OnOk result (ForSome (content_now (D.moments disk.old)) (λ c.
+        IsOfForm (D.identity disk.old).sectors (last_image c))) }
+
+    ensures not_words { result ≢ Err Ended.Words }
+    ensures refused { IfErr result (λ ended. RefusesScript ended → ForSome (S.left script.old) IsRefusedScript) }
+    ensures image { result ≡ Err Ended.Image → ForSome (content_now (D.moments disk.old)) (λ c.
+        ¬ IsOfForm (D.identity disk.old).sectors (last_image c)) }
+    ensures synced { result ≡ Err Ended.Image → ForSome (content_now (D.moments disk.new)) HasNothingPending }
+    ensures disk { result ≡ Err Ended.Disk → Rose (D.faults disk.old) (D.faults disk.new) }
+    ensures script { result ≡ Err Ended.Script → Rose (S.faults script.old) (S.faults script.new) }
+    ensures sink { result ≡ Err Ended.Sink → Rose (O.faults out.old) (O.faults out.new) }
+
+    ensures sink_later { O.faults out.old ≤ O.faults out.new }
+    ensures identity { D.identity disk.new ≡ D.identity disk.old }
+
+    ensures moments { (words : List (List ℕ)) → IsRunWords words
+        → ForSome (content_now (D.moments disk.old)) (λ c. ForSome (S.left script.old) (λ left.
         EachMoment (D.moments disk.old) (D.moments disk.new)
-        (MayBeLeft (start_of (map string_bytes words.now) (D.sectors disk.old) c left)))) }
+        (MayBeLeft (start_of words (D.identity disk.old).sectors c left)))) }
     ensures places { ForSome (content_now (D.moments disk.old)) (λ c.
         EachMoment (D.moments disk.old) (D.moments disk.new) (OnlyAdds IsOfBlock c)) }
     ensures filled { ForSome (content_now (D.moments disk.old)) (λ c. ForSome (S.left script.old) (λ left.
         EachMoment (D.moments disk.old) (D.moments disk.new) (OnlyAdds (IsOfScript left) c))) }
 {
-    let Some(image) = image_to_run(words) else {
-        return Err(Ended::Words);
-    };
-    if disk.bind(image).is_err() {
-        return Err(Ended::Disk);
-    }
     let Ok(mut room) = Room::new(alloc) else {
         return Err(Ended::Memory);
     };
@@ -152,17 +235,21 @@ fn run<D: Disk + Named, S: Source, O: Sink>(
 
 /// Syncs the disk, and judges its image by its size and its first sector.
 fn open<D: Disk>(disk: &mut D) -> Result<(), Ended>
+    requires { IsBound (D.identity disk.old).name }
+
     ensures form { OnOk result (ForSome (content_now (D.moments disk.old)) (λ c.
-        IsOfForm (D.sectors disk.old) (last_image c))) }
-    ensures size { OnOk result (SMALL_SECTORS ≤ D.sectors disk.new) }
+        IsOfForm (D.identity disk.old).sectors (last_image c))) }
+    ensures size { OnOk result (SMALL_SECTORS ≤ (D.identity disk.new).sectors) }
 
     ensures image { result ≡ Err Ended.Image → ForSome (content_now (D.moments disk.old)) (λ c.
-        ¬ IsOfForm (D.sectors disk.old) (last_image c)) }
+        ¬ IsOfForm (D.identity disk.old).sectors (last_image c)) }
+    ensures synced_first { result ≡ Err Ended.Image → content_now (D.moments disk.new)
+        ≡ option_map newest_only (content_now (D.moments disk.old)) }
     ensures disk { result ≡ Err Ended.Disk → Rose (D.faults disk.old) (D.faults disk.new) }
     ensures others { IfErr result (λ ended. ended ≡ Ended.Image ⊎ ended ≡ Ended.Disk) }
 
     ensures disk_later { D.faults disk.old ≤ D.faults disk.new }
-    ensures sectors { D.sectors disk.new ≡ D.sectors disk.old }
+    ensures identity { D.identity disk.new ≡ D.identity disk.old }
 
     ensures synced { OnOk result (content_now (D.moments disk.new)
         ≡ option_map newest_only (content_now (D.moments disk.old))) }

@@ -1,12 +1,12 @@
 //! The words of the one command that there is.
-ghost use Rattle.std.specs.Prelude.{◌≡◌, ◌≢◌, ◌↔◌, IfSome, IsSome, IsTrue, Some, slice_index_or, [], codes, map, take};
+ghost use Rattle.std.specs.Prelude.{◌≡◌, ◌≢◌, ◌↔◌, IfSome, IsSome, IsTrue, Some, codes, map, take};
 ghost use Rattle.std.specs.String.{string_bytes};
-ghost use Rattle.integrity_tool.specs.Words.{IsRunWords};
+ghost use Rattle.integrity_tool.specs.Words.{IsRunWords, image_word};
 
 /// The image that the words `run IMAGE --mode D` name, behind the program's name. None where they are other words.
 pub fn image_to_run(words: &[String]) -> Option<&str>
     ensures some { IsSome result ↔ IsRunWords (map string_bytes words.now) }
-    ensures image { IfSome result (λ image. image.now ≡ slice_index_or (map string_bytes words.now) 2 []) }
+    ensures image { IfSome result (λ image. image.now ≡ image_word (map string_bytes words.now)) }
 {
     match words {
         [_, command, image, option, mode]

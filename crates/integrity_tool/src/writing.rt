@@ -3,6 +3,7 @@ ghost use Rattle.std.specs.Prelude.{◌≡◌, ◌+◌, ◌<◌, ◌≤◌, ℕ,
 ghost use Rattle.std.specs.Option.{ForSome};
 ghost use Rattle.disk_model.specs.Causes.{HasCause};
 ghost use Rattle.disk_model.specs.Disk.{Content, OnlyAdds};
+ghost use Rattle.disk_model.specs.Identity.{HasSectors};
 ghost use Rattle.disk_model.specs.Moments.{content_now, EachMoment, FromStart};
 ghost use Rattle.device_model.specs.History.{History, with_changes};
 ghost use Rattle.device_model.specs.Transcript.{filled};
@@ -27,14 +28,14 @@ pub fn write_block<D: Disk>(
 ) -> Result<(), Failed>
     requires maker { IsSmallRule maker.now }
     requires block { block < SMALL_BLOCKS }
-    requires disk { SMALL_SECTORS ≤ D.sectors disk.old }
+    requires disk { HasSectors SMALL_SECTORS (D.identity disk.old) }
 
     ensures written { OnOk result (ForSome (content_now (D.moments disk.old)) (λ c. IsSomeAnd (content_now (D.moments disk.new))
         (WritesBlock block (tagged_cell small_blocks.tag block bytes.now) c))) }
 
     ensures cause { HasCause (D.faults disk.old) (D.faults disk.new) result }
 
-    ensures sectors { D.sectors disk.new ≡ D.sectors disk.old }
+    ensures identity { D.identity disk.new ≡ D.identity disk.old }
 
     ensures moments { EachMoment (D.moments disk.old) (D.moments disk.new)
         (FromStart (D.moments disk.old) (KeepsOthers block)) }
@@ -53,14 +54,14 @@ pub fn write_block<D: Disk>(
 fn write_tag<D: Disk>(disk: &mut D, block: u64, tag: &Tag) -> Result<(), Failed>
     requires tag { length tag.now ≡ TAG_SIZE }
     requires block { block < SMALL_BLOCKS }
-    requires disk { SMALL_SECTORS ≤ D.sectors disk.old }
+    requires disk { HasSectors SMALL_SECTORS (D.identity disk.old) }
 
     ensures written { OnOk result (ForSome (content_now (D.moments disk.old)) (λ c.
         IsSomeAnd (content_now (D.moments disk.new)) (WritesTag block tag.now c))) }
 
     ensures cause { HasCause (D.faults disk.old) (D.faults disk.new) result }
 
-    ensures sectors { D.sectors disk.new ≡ D.sectors disk.old }
+    ensures identity { D.identity disk.new ≡ D.identity disk.old }
 
     ensures moments { EachMoment (D.moments disk.old) (D.moments disk.new)
         (FromStart (D.moments disk.old) (KeepsOthers block)) }
@@ -98,7 +99,7 @@ pub fn fill_blocks<D: Disk>(
 ) -> Result<(), Failed>
     requires maker { IsSmallRule maker.now }
     requires range { first + count ≤ SMALL_BLOCKS }
-    requires disk { SMALL_SECTORS ≤ D.sectors disk.old }
+    requires disk { HasSectors SMALL_SECTORS (D.identity disk.old) }
 
     ensures stands { (c : Content) (h : History) (ticket : ℕ) → content_now (D.moments disk.old) ≡ Some c → StandsFor c h
         → OnOk result (IsSomeAnd (content_now (D.moments disk.new)) (λ d.
@@ -106,7 +107,7 @@ pub fn fill_blocks<D: Disk>(
 
     ensures cause { HasCause (D.faults disk.old) (D.faults disk.new) result }
 
-    ensures sectors { D.sectors disk.new ≡ D.sectors disk.old }
+    ensures identity { D.identity disk.new ≡ D.identity disk.old }
 
     ensures moments { (c : Content) (h : History) (ticket : ℕ) → content_now (D.moments disk.old) ≡ Some c → StandsFor c h
         → EachMoment (D.moments disk.old) (D.moments disk.new) (MayBeCut h (filled small_blocks ticket first count byte)) }

@@ -13,7 +13,8 @@ use Rattle.image_model.specs.Scan.{walk_of_grid}
 use Rattle.image_model.specs.Section.{Entry, is_used, entry_at}
 use Rattle.image_model.specs.Sectors.{bytes_of}
 use Rattle.image_model.specs.Superblock.{Superblock}
-use Rattle.image_model.specs.Walk.{Rest, Mixed, Erasing, plan_of}
+use Rattle.image_model.specs.Walk.{plan_of}
+use Rattle.image_model.specs.declared.journal_plan.State.TheVariants.{Rest, Mixed, Erasing}
 use Rattle.place_model.specs.Journal.{entries_in}
 use Rattle.place_model.proofs.JournalLemmas.{replayed_entries-plan}
 

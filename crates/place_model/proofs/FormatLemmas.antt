@@ -9,7 +9,8 @@ use Rattle.image_model.specs.Cells.{salt_of, counted_entries}
 use Rattle.image_model.specs.Geometry.{Geometry, layout_of, geometry_of, IsGeometry}
 use Rattle.image_model.specs.Grid.{walk_of}
 use Rattle.image_model.specs.Openable.{first_sector, IsReplayable, IsOpenable}
-use Rattle.image_model.specs.Superblock.{Superblock, Magic, magic, superblock_faults, has_flag, fields_in, superblock_of}
+use Rattle.image_model.specs.Superblock.{Superblock, magic, superblock_faults, has_flag, fields_in, superblock_of}
+use Rattle.image_model.specs.declared.super_fields.SuperFault.TheVariants.{Magic}
 use Rattle.image_model.proofs.FaultLemmas.{ok_unless-told}
 use Rattle.image_model.proofs.OpenableLemmas.{IsReadable-geometry}
 use Rattle.place_model.specs.Format.{DiskFormat, OpensAs, format_on}

@@ -13,7 +13,8 @@ use Rattle.image_model.specs.Scan.{walk_of_grid}
 use Rattle.image_model.specs.Section.{is_used, entry_at}
 use Rattle.image_model.specs.Sectors.{bytes_of}
 use Rattle.image_model.specs.Superblock.{Superblock, superblock_of, fields_in}
-use Rattle.image_model.specs.Walk.{Rest, plan_of}
+use Rattle.image_model.specs.Walk.{plan_of}
+use Rattle.image_model.specs.declared.journal_plan.State.TheVariants.{Rest}
 use Rattle.place_model.specs.Format.{DiskFormat, OpensAs, HasWholeSectors}
 use Rattle.place_model.specs.Journal.{entries_in}
 use Rattle.place_model.proofs.JournalLemmas.{replayed_entries-plan}

@@ -7,9 +7,11 @@ use Rattle.image_model.specs.Bitmap.{is_dirty, region_awaits}
 use Rattle.image_model.specs.Cells.{Cell, placed_cells_of}
 use Rattle.image_model.specs.Geometry.{section_entries, region_of, regions}
 use Rattle.image_model.specs.Grid.{walk_of}
-use Rattle.image_model.specs.Scan.{ScanFault}
+use Rattle.image_model.specs.declared.scan_fault.ScanFault.{ScanFault}
 use Rattle.image_model.specs.Superblock.{Superblock, has_flag}
-use Rattle.image_model.specs.Walk.{State, Rest, Plan}
+use Rattle.image_model.specs.declared.journal_plan.State.{State}
+use Rattle.image_model.specs.declared.journal_plan.State.TheVariants.{Rest}
+use Rattle.image_model.specs.declared.journal_plan.Plan.{Plan}
 use Rattle.device_model.specs.Mode.{Mode, Journal, Bitmap, Direct, Recovery, is_bitmap, is_recovery, DeviceFormat}
 use Rattle.device_model.specs.Progress.{DeviceState, opened_device}
 use Rattle.device_model.specs.Transcript.{BlockFormat}

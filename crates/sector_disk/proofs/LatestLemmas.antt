@@ -6,18 +6,13 @@ use Rattle.std.proofs.lemmas.Slice.{take-put_mid, take-put_mid_below, drop-put_m
 use borrow.Rule.Slice.PartMut.{put_mid, post_of}
 use Rattle.disk_model.specs.Disk.{Content, Image, Reads, last_candidate, last_image, sector_in, with_sectors, with_run}
 use Rattle.disk_model.proofs.DiskLemmas.{last_image-with_run, last_image-with_run_out, with_sectors-in, with_sectors-out}
+use Rattle.disk_model.proofs.SectorLemmas.{sector_in-take, sector_in-drop, sector_in-put_below, sector_in-put_within, with_run-take}
 use Rattle.sector_disk.specs.declared.record.Event.{Event}
 use Rattle.sector_disk.specs.declared.record.Event.TheVariants.{Sync}
 use Rattle.sector_disk.specs.Record.{content_after, content_of_bytes, sector_writes, IsLatest}
 use Rattle.sector_disk.proofs.RecordLemmas.{content_after-push, content_after-writes}
 
 -- ---- the sectors of a buffer, one part after the other
-
-put_below : (xs ys : List ℕ) (k n j : ℕ) → 512 * k ≤ length xs → j < k → sector_in (put_mid (512 * k) n xs ys) j ≡ sector_in xs j
-put_below xs ys k n j fits below =
-    sym (drop-take (512 * j) 512 (put_mid (512 * k) n xs ys))
-    ∙ ap (λ (l : List ℕ). drop (512 * j) l) (take-put_mid_below (512 * k) n xs ys (512 * j + 512) (omega arith) fits)
-    ∙ drop-take (512 * j) 512 xs
 
 put_there : (xs ys : List ℕ) (k n : ℕ) → 512 * k ≤ length xs → length ys ≡ 512 → sector_in (put_mid (512 * k) n xs ys) k ≡ ys
 put_there xs ys k n fits one =
@@ -28,22 +23,9 @@ put_there xs ys k n fits one =
 -- One sector more is as it is to be.
 pub one_sector_more : (xs ys : List ℕ) (k n : ℕ) (wanted : Image) → 512 * k ≤ length xs → length ys ≡ 512 → ys ≡ wanted k → ((j : ℕ) → j < k → sector_in xs j ≡ wanted j)
     → (j : ℕ) → j < k + 1 → sector_in (put_mid (512 * k) n xs ys) j ≡ wanted j
-one_sector_more xs ys k n wanted fits one is so_far = below_more _ _ (λ j below. put_below xs ys k n j fits below ∙ so_far j below) (put_there xs ys k n fits one ∙ is)
+one_sector_more xs ys k n wanted fits one is so_far = below_more _ _ (λ j below. sector_in-put_below xs ys k n j fits below ∙ so_far j below) (put_there xs ys k n fits one ∙ is)
 
 -- ---- runs of sectors, copied at once
-
--- A sector of the first bytes is one of all.
-sector_in-take : (n : ℕ) (xs : List ℕ) (k : ℕ) → 512 * k + 512 ≤ n → sector_in (take n xs) k ≡ sector_in xs k
-sector_in-take n xs k fits =
-    sym (drop-take (512 * k) 512 (take n xs))
-    ∙ ap (λ (l : List ℕ). drop (512 * k) l) (take-take (512 * k + 512) n xs fits)
-    ∙ drop-take (512 * k) 512 xs
-
--- A sector from sector `at` on is a sector of all.
-sector_in-drop : (at k : ℕ) (xs : List ℕ) → sector_in (drop (512 * at) xs) k ≡ sector_in xs (at + k)
-sector_in-drop at k xs =
-    let place : 512 * at + 512 * k ≡ 512 * (at + k) = omega arith in
-    ap (take 512) (drop-drop (512 * k) (512 * at) xs ∙ ap (λ (n : ℕ). drop n xs) place)
 
 pub read_sectors : (latest buffer : List ℕ) (at size n : ℕ) → buffer ≡ take n (drop (512 * at) latest) → n ≡ size → size ≡ 512 * (size / 512) → (k : ℕ) → k < size / 512 → sector_in buffer k ≡ sector_in latest (at + k)
 read_sectors latest buffer at size n copied same whole k below =
@@ -51,18 +33,13 @@ read_sectors latest buffer at size n copied same whole k below =
 
 module _ (latest bytes : List ℕ) (at n : ℕ) (whole : length bytes ≡ 512 * (length bytes / 512)) (inside : 512 * at + length bytes ≤ length latest) (size : n ≡ length bytes) where
   before : (s : ℕ) → s < at → sector_in (put_mid (512 * at) n latest bytes) s ≡ sector_in latest s
-  before s low = put_below latest bytes at n s (omega (arith, inside)) low
+  before s low = sector_in-put_below latest bytes at n s (omega (arith, inside)) low
 
   behind : (s : ℕ) → at + length bytes / 512 ≤ s → sector_in (put_mid (512 * at) n latest bytes) s ≡ sector_in latest s
   behind s high = ap (take 512) (drop-put_mid (512 * at) n latest bytes (512 * s) (omega (arith, whole, size, high)) (omega (arith, inside)) (sym size))
 
   among : (k : ℕ) → k < length bytes / 512 → sector_in (put_mid (512 * at) n latest bytes) (at + k) ≡ sector_in bytes k
-  among k below =
-      let rest = post_of (512 * at) n latest in
-      sym (sector_in-drop at k (put_mid (512 * at) n latest bytes))
-      ∙ ap (λ (l : List ℕ). sector_in l k) (drop_at (take (512 * at) latest) (bytes ++ rest) (512 * at) (length-take-le (512 * at) latest (omega (arith, inside))))
-      ∙ ap (take 512) (drop-append-le (512 * k) bytes rest (omega (arith, whole, below)))
-      ∙ take-append-le 512 (drop (512 * k) bytes) rest (omega (arith, whole, below, length-drop (512 * k) bytes))
+  among k below = sector_in-put_within latest bytes at n k (omega (arith, inside)) (omega (arith, whole, below))
 
   pub write_sectors : (c : Content) (s : ℕ) → sector_in latest s ≡ last_image c s → sector_in (put_mid (512 * at) n latest bytes) s ≡ last_image (with_run at bytes c) s
   write_sectors c s was = elim (cases_lt s at) [
@@ -76,22 +53,6 @@ module _ (latest bytes : List ℕ) (at n : ℕ) (whole : length bytes ≡ 512 * 
   ]
 
 -- ---- the bytes beside a record are its last candidates
-
--- The candidates are those of the first sectors of the bytes, where these are all.
-with_run-take : (at count : ℕ) (bytes : List ℕ) (c : Content) (s : ℕ) → 512 * count ≤ length bytes → with_run at (take (512 * count) bytes) c s ≡ with_sectors count at bytes c s
-with_run-take at count bytes c s le =
-    let size : length (take (512 * count) bytes) / 512 ≡ count = omega (arith, length-take-le (512 * count) bytes le) in
-    ap (λ (k : ℕ). with_sectors k at (take (512 * count) bytes) c s) size
-    ∙ elim (cases_lt s at) [
-      | inl low ↦ with_sectors-out count at (take (512 * count) bytes) c s (λ begins ends. omega (arith, low, begins)) ∙ sym (with_sectors-out count at bytes c s (λ begins ends. omega (arith, low, begins)))
-      | inr begins ↦ elim (cases_lt s (at + count)) [
-        | inl ends ↦
-            with_sectors-in count at (take (512 * count) bytes) c s begins ends
-            ∙ ap (λ (x : List ℕ). c s ++ x ∷ []) (sector_in-take (512 * count) bytes (s - at) (omega (arith, begins, ends)))
-            ∙ sym (with_sectors-in count at bytes c s begins ends)
-        | inr high ↦ with_sectors-out count at (take (512 * count) bytes) c s (λ low ends. omega (arith, high, ends)) ∙ sym (with_sectors-out count at bytes c s (λ low ends. omega (arith, high, ends)))
-      ]
-    ]
 
 -- They stay so with a write of the first sectors of some bytes.
 pub IsLatest-writes : (sectors : ℕ) (old new base : List ℕ) (es fs : List Event) (at count : ℕ) (bytes : List ℕ) → IsLatest sectors old base es → fs ≡ es ++ sector_writes at bytes count → 512 * count ≤ length bytes

@@ -1,3 +1,4 @@
 mod RecordLemmas
 mod LatestLemmas
 mod CandidateLemmas
+pub mod WholeLemmas

@@ -2,6 +2,7 @@
 use Rattle.std.specs.Prelude.{◌≡◌, ◌⊎◌, ℕ, ◌-◌, ◌*◌, ◌<◌, length, slice_index, slice_index_or, EachIndex, List, [], ◌∷◌, ◌++◌, Option, Some, None, Result, Ok, Err}
 use Rattle.std.specs.Option.{option_map}
 use Rattle.disk_model.specs.Disk.{Content}
+use Rattle.disk_model.specs.Identity.{NamedDisk}
 use Rattle.sector_disk.specs.declared.fault_plan.FaultPlan.{FaultPlan}
 use Rattle.sector_disk.specs.declared.record.Event.{Event}
 use Rattle.sector_disk.specs.declared.record.Event.TheVariants.{Sync}
@@ -36,6 +37,10 @@ content_of d = content_after (content_of_bytes d.base) d.events
 -- The contents of all its moments, the newest first.
 abbrev pub moments_told : DiskRecord → List Content
 moments_told d = moments_of d.base d.events
+
+-- What every name has: a disk in memory is the same whichever it is given.
+abbrev pub named_by : DiskRecord → NamedDisk
+named_by d = record { sectors = d.sectors; moments = moments_told d }
 
 -- A disk of which nothing was asked: no stop is set, and no call is to fail.
 abbrev pub fresh_disk : ℕ → List ℕ → ℕ → DiskRecord

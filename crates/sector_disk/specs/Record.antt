@@ -1,5 +1,5 @@
 -- What a record of sector writes and syncs tells of the moments of a disk.
-use Rattle.std.specs.Prelude.{◌≡◌, ℕ, zero, suc, length, slice_index_or, ◌<◌, ◌+◌, List, [], ◌∷◌, ◌++◌, Option, Some, None, min, if◌then◌else◌, ◌==◌}
+use Rattle.std.specs.Prelude.{◌≡◌, ℕ, zero, suc, length, slice_get, slice_index_or, ◌<◌, ◌+◌, List, [], ◌∷◌, ◌++◌, Option, Some, None, min, if◌then◌else◌, ◌==◌}
 use Rattle.disk_model.specs.Disk.{Content, last_candidate, last_image, sector_in}
 use Rattle.sector_disk.specs.declared.record.Event.{Event}
 use Rattle.sector_disk.specs.declared.record.Event.TheVariants.{Write, Sync}
@@ -13,6 +13,10 @@ after_event Sync content sector = last_candidate (content sector) ∷ []
 -- Each sector of these bytes has one candidate.
 abbrev pub content_of_bytes : List ℕ → Content
 content_of_bytes bytes sector = sector_in bytes sector ∷ []
+
+-- What is written are whole sectors.
+abbrev pub AreWholeEvents : List Event → Type 0
+AreWholeEvents events = (k at : ℕ) (bytes : List ℕ) → slice_get events k ≡ Some (Write at bytes) → length bytes ≡ 512
 
 -- The content that events leave, the first of them first.
 abbrev pub content_after : Content → List Event → Content

@@ -2,9 +2,11 @@
 //!
 //! Each sector has a list of candidates. A read gives the last of them, and a cut may leave any one.
 ghost use Rattle.std.specs.Prelude.{◌≡◌, ◌≤◌, ◌+◌, ◌*◌, ◌/◌, ◌^◌, ◌<◌, List, ℕ, length, OnOk, OnErr, Some};
+ghost use Rattle.std.specs.List.{Contains};
 ghost use Rattle.std.specs.Option.{ForSome, option_map};
 ghost use Rattle.disk_model.specs.Causes.{HasCause};
 ghost use Rattle.disk_model.specs.Disk.{Content, IsImage, IsRun, Reads, AddsSome, with_run, newest_only, last_image};
+ghost use Rattle.disk_model.specs.Identity.{Binding, DiskIdentity, IsBound, IsBoundTo, NamedDisk};
 ghost use Rattle.disk_model.specs.Moments.{content_now, EachMoment, FromStart};
 
 /// Something outside has failed: a disk, a source or a sink.
@@ -20,35 +22,45 @@ pub trait Counted {
     /// How often it has failed. The count never falls, and stays at 2^64 - 1 once it is there.
     ghost faults: { Self → ℕ };
 
-    /// Two states tell the same of the outside: what differs is the count alone.
-    ghost tells_same: { Self → Self → Type 0 };
+    /// The name that it is bound to. One that is never bound, as an output, stands for any.
+    ghost binding: { Self → Binding };
+
+    /// Two states tell the same of what has this name: what differs is the count, and what is bound.
+    ghost tells_same: { List ℕ → Self → Self → Type 0 };
 }
 
 /// An object that stands for nothing until it is bound to a name, as that of a file.
 pub trait Named: Counted {
-    /// Binds it to a name. Over memory this changes nothing.
+    /// Binds it to a name. What has this name stays as it is, and over memory nothing changes.
     ///
     /// # Errors
     ///
     /// - `Failed`: what has the name could not be reached.
     fn bind(&mut self, name: &str) -> Result<(), Failed>
+        ensures bound { OnOk result (IsBoundTo name.now (Self.binding self.new)) }
+
         ensures cause { HasCause (Self.faults self.old) (Self.faults self.new) result }
 
-        ensures same { Self.tells_same self.old self.new };
+        ensures same { Self.tells_same name.now self.old self.new };
 }
 
 /// A disk of sectors of 512 bytes.
 pub trait Disk: Counted {
-    /// How many sectors it has.
-    ghost sectors: { Self → ℕ };
+    /// What it is: the name that it is bound to, and how many sectors it has.
+    ghost identity: { Self → DiskIdentity };
 
-    /// The contents of all its moments, the newest first. A disk that does not tell its content, as one over a
-    /// file, has none: then no clause speaks of it.
+    /// The contents of all its moments, the newest first. A disk that does not tell its content has none: then no
+    /// clause speaks of it.
     ghost moments: { Self → List Content };
+
+    /// What has this name: what the disk will be once it is bound to it, and what it is where it is bound to it.
+    ghost named: { Self → List ℕ → NamedDisk };
 
     /// How many sectors it has.
     fn sectors(&self) -> u64
-        ensures { result ≡ sectors self.now };
+        requires { IsBound (identity self.now).name }
+
+        ensures { result ≡ (identity self.now).sectors };
 
     /// Reads whole sectors from sector `at` on. What a failed read leaves in the buffer is open.
     ///
@@ -56,13 +68,14 @@ pub trait Disk: Counted {
     ///
     /// - `Failed`: the disk failed.
     fn read_run(&mut self, at: u64, buffer: &mut [u8]) -> Result<(), Failed>
-        requires { IsRun at (length buffer.old) (sectors self.old) }
+        requires bound { IsBound (identity self.old).name }
+        requires run { IsRun at (length buffer.old) (identity self.old).sectors }
 
         ensures read { OnOk result (ForSome (content_now (moments self.old)) (Reads at buffer.new)) }
 
         ensures cause { HasCause (Self.faults self.old) (Self.faults self.new) result }
 
-        ensures sectors { sectors self.new ≡ sectors self.old }
+        ensures identity { identity self.new ≡ identity self.old }
         ensures kept { moments self.new ≡ moments self.old };
 
     /// Writes whole sectors from sector `at` on. They become candidates, one after the other in any order.
@@ -71,14 +84,15 @@ pub trait Disk: Counted {
     ///
     /// - `Failed`: the disk failed. Any of the sectors may have become candidates, and all that were there stay.
     fn write_run(&mut self, at: u64, bytes: &[u8]) -> Result<(), Failed>
-        requires { IsRun at (length bytes.now) (sectors self.old) }
+        requires bound { IsBound (identity self.old).name }
+        requires run { IsRun at (length bytes.now) (identity self.old).sectors }
 
         ensures written { OnOk result (content_now (moments self.new)
             ≡ option_map (with_run at bytes.now) (content_now (moments self.old))) }
 
         ensures cause { HasCause (Self.faults self.old) (Self.faults self.new) result }
 
-        ensures sectors { sectors self.new ≡ sectors self.old }
+        ensures identity { identity self.new ≡ identity self.old }
 
         ensures moments { EachMoment (moments self.old) (moments self.new)
             (FromStart (moments self.old) (AddsSome at bytes.now)) };
@@ -89,13 +103,15 @@ pub trait Disk: Counted {
     ///
     /// - `Failed`: the disk failed. Nothing has changed.
     fn sync(&mut self) -> Result<(), Failed>
+        requires { IsBound (identity self.old).name }
+
         ensures synced { OnOk result (content_now (moments self.new)
             ≡ option_map newest_only (content_now (moments self.old))) }
 
         ensures cause { HasCause (Self.faults self.old) (Self.faults self.new) result }
         ensures err { OnErr result (moments self.new ≡ moments self.old) }
 
-        ensures sectors { sectors self.new ≡ sectors self.old }
+        ensures identity { identity self.new ≡ identity self.old }
 
         ensures moments { EachMoment (moments self.old) (moments self.new)
             (FromStart (moments self.old) (λ start c. c ≡ newest_only start)) };
@@ -104,11 +120,18 @@ pub trait Disk: Counted {
     ghost reads_an_image: { (disk : Self) (c : Content) → content_now (moments disk) ≡ Some c
         → IsImage c (last_image c) };
 
-    /// Two states that tell the same have the same moments, where the first tells its content.
-    ghost same_moments: { (a b : Self) (c : Content) → Self.tells_same a b → content_now (moments a) ≡ Some c
-        → moments b ≡ moments a };
+    /// Each candidate of its sectors has 512 bytes.
+    ghost whole_sectors: { (disk : Self) (c : Content) (sector : ℕ) (x : List ℕ) → content_now (moments disk) ≡ Some c
+        → sector < (identity disk).sectors → Contains (c sector) x → length x ≡ 512 };
 
-    /// And then the same number of sectors.
-    ghost same_sectors: { (a b : Self) (c : Content) → Self.tells_same a b → content_now (moments a) ≡ Some c
-        → sectors b ≡ sectors a };
+    /// The name of what it is, is the one that it was bound to.
+    ghost identity_name: { (disk : Self) → (identity disk).name ≡ Self.binding disk };
+
+    /// What has the name that it is bound to, is what it is.
+    ghost named_if_bound: { (disk : Self) (name : List ℕ) → IsBoundTo name (identity disk).name
+        → named disk name ≡ record { sectors = (identity disk).sectors; moments = moments disk } };
+
+    /// Where two states tell the same of a name, it has the same sectors and moments, if the first tells its content.
+    ghost same_named: { (name : List ℕ) (a b : Self) (c : Content) → Self.tells_same name a b
+        → content_now (named a name).moments ≡ Some c → named b name ≡ named a name };
 }

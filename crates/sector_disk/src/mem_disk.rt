@@ -8,7 +8,7 @@ ghost use Rattle.disk_model.specs.Causes.{HasCause};
 ghost use Rattle.disk_model.specs.Disk.{Content, IsRun, Reads, AddsSome, with_run, newest_only};
 ghost use Rattle.disk_model.specs.Moments.{content_now, EachMoment, FromStart};
 ghost use Rattle.sector_disk.specs.Faults.{FailsNext, with_call, with_fault};
-ghost use Rattle.sector_disk.specs.Record.{IsLatest};
+ghost use Rattle.sector_disk.specs.Record.{AreWholeEvents, IsLatest};
 
 use crate::candidates::{copy_choice, has_each};
 use crate::latest::{read_latest, write_latest};
@@ -33,6 +33,7 @@ pub struct MemDisk {
     ghost base_size: { length base.items ≡ 512 * sectors },
     ghost latest_size: { length latest.items ≡ 512 * sectors },
     ghost has_room: { room ≤ vec_capacity events },
+    ghost whole_events: { AreWholeEvents events.items },
     ghost is_latest: { IsLatest sectors latest.items base.items events.items },
 }
 
@@ -131,18 +132,21 @@ impl MemDisk {
 }
 
 impl Counted for MemDisk {
+    ghost use Rattle.disk_model.specs.Identity.{AnyName};
     ghost use Rattle.sector_disk.specs.MemDisk.{record_of, DiffersInFaults};
 
     ghost faults = { λ d. (record_of d).plan.faults };
 
-    ghost tells_same = { λ a b. DiffersInFaults (record_of a) (record_of b) };
+    ghost binding = { λ d. AnyName };
+
+    ghost tells_same = { λ name a b. DiffersInFaults (record_of a) (record_of b) };
 }
 
 impl Named for MemDisk {
     ghost use Rattle.sector_disk.specs.MemDisk.{record_of, DiffersInFaults};
 
     fn bind(&mut self, _name: &str) -> Result<(), Failed>
-        ensures bound { IsOk result }
+        ensures ok { IsOk result }
 
         ensures cause { HasCause (record_of self.old).plan.faults (record_of self.new).plan.faults result }
 
@@ -154,19 +158,27 @@ impl Named for MemDisk {
 }
 
 impl Disk for MemDisk {
-    ghost use Rattle.sector_disk.specs.MemDisk.{DiskRecord, record_of, moments_told, IsRefused, sectors_left, after_call, with_writes, with_sync};
-    ghost use Rattle.sector_disk.specs.ReadsAnImage.{last_image_is_image};
-    ghost use Rattle.std.proofs.Common.{ap};
+    ghost use Rattle.sector_disk.specs.MemDisk.{record_of, moments_told, named_by, IsRefused, sectors_left, after_call, with_writes, with_sync};
+    ghost use Rattle.sector_disk.specs.ReadsAnImage.{candidates_are_whole, last_image_is_image};
+    ghost use Rattle.disk_model.specs.Identity.{AnyName, NamedDisk};
+    ghost use Rattle.std.proofs.Common.{ap, refl};
 
-    ghost sectors = { λ d. (record_of d).sectors };
+    ghost identity = { λ d. record { name = AnyName; sectors = (record_of d).sectors } };
 
     ghost moments = { λ d. moments_told (record_of d) };
 
+    ghost named = { λ d name. named_by (record_of d) };
+
     ghost reads_an_image = { λ d c told. last_image_is_image d.base.items d.events.items c told };
 
-    ghost same_moments = { λ a b c same told. ap moments_told same };
+    ghost whole_sectors = { λ d c sector x told low has. candidates_are_whole d.sectors d.base.items d.events.items c
+        sector x d.base_size d.whole_events told low has };
 
-    ghost same_sectors = { λ a b c same told. ap (λ (d : DiskRecord). d.sectors) same };
+    ghost identity_name = { λ d. refl };
+
+    ghost named_if_bound = { λ d name bound. refl };
+
+    ghost same_named = { λ name a b c same told. ap named_by same };
 
     fn sectors(&self) -> u64 {
         self.sectors
@@ -180,7 +192,7 @@ impl Disk for MemDisk {
         ensures fails { IsErr result ↔ IsRefused (record_of self.old) }
         ensures cause { HasCause (record_of self.old).plan.faults (record_of self.new).plan.faults result }
 
-        ensures sectors { (record_of self.new).sectors ≡ (record_of self.old).sectors }
+        ensures identity { (record_of self.new).sectors ≡ (record_of self.old).sectors }
         ensures kept { moments_told (record_of self.new) ≡ moments_told (record_of self.old) }
         ensures recorded { record_of self.new ≡ after_call result (record_of self.old) }
     {
@@ -204,7 +216,7 @@ impl Disk for MemDisk {
             → record_of self.new ≡ with_writes (min (length bytes.now / 512) (sectors_left (record_of self.old)))
             at bytes.now (after_call result (record_of self.old)) }
 
-        ensures sectors { (record_of self.new).sectors ≡ (record_of self.old).sectors }
+        ensures identity { (record_of self.new).sectors ≡ (record_of self.old).sectors }
 
         ensures moments { EachMoment (moments_told (record_of self.old)) (moments_told (record_of self.new))
             (FromStart (moments_told (record_of self.old)) (AddsSome at bytes.now)) }
@@ -233,7 +245,7 @@ impl Disk for MemDisk {
         ensures err { OnErr result (moments_told (record_of self.new) ≡ moments_told (record_of self.old)) }
         ensures failed { OnErr result (record_of self.new ≡ after_call result (record_of self.old)) }
 
-        ensures sectors { (record_of self.new).sectors ≡ (record_of self.old).sectors }
+        ensures identity { (record_of self.new).sectors ≡ (record_of self.old).sectors }
 
         ensures moments { EachMoment (moments_told (record_of self.old)) (moments_told (record_of self.new))
             (FromStart (moments_told (record_of self.old)) (λ start c. c ≡ newest_only start)) }

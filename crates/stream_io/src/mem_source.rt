@@ -1,7 +1,8 @@
 //! A source over bytes in memory.
-ghost use Rattle.std.specs.Prelude.{◌≡◌, ◌≤◌, ◌↔◌, ℕ, List, [], length, min, drop, Some, IsErr, IsOk, IfOk, OnErr};
-ghost use Rattle.std.proofs.Common.{ap};
+ghost use Rattle.std.specs.Prelude.{◌≡◌, ◌≤◌, ◌↔◌, ℕ, List, [], length, min, drop, Some, IsErr, IsOk, IfOk, OnOk, OnErr};
+ghost use Rattle.std.proofs.Common.{ap, refl};
 ghost use Rattle.disk_model.specs.Causes.{HasCause};
+ghost use Rattle.disk_model.specs.Identity.{AnyName, IsBoundTo};
 ghost use Rattle.sector_disk.specs.Faults.{FailsNext, unused_plan, with_call, with_fault};
 ghost use Rattle.stream_io.specs.Stream.{Gives};
 
@@ -52,12 +53,15 @@ impl<'b> MemSource<'b> {
 impl Counted for MemSource<'_> {
     ghost faults = { λ source. source.plan.faults };
 
-    ghost tells_same = { λ a b. b.left ≡ a.left };
+    ghost binding = { λ source. AnyName };
+
+    ghost tells_same = { λ name a b. b.left ≡ a.left };
 }
 
 impl Named for MemSource<'_> {
     fn bind(&mut self, _name: &str) -> Result<(), Failed>
-        ensures bound { IsOk result }
+        ensures ok { IsOk result }
+        ensures bound { OnOk result (IsBoundTo _name.now AnyName) }
 
         ensures cause { HasCause self.old.plan.faults self.new.plan.faults result }
 
@@ -70,6 +74,8 @@ impl Named for MemSource<'_> {
 
 impl Source for MemSource<'_> {
     ghost left = { λ source. Some source.left };
+
+    ghost named = { λ source name. Some source.left };
 
     fn read(&mut self, buffer: &mut [u8]) -> Result<usize, Failed>
         ensures count { IfOk result (λ n. n ≡ min (length buffer.new) (length self.old.left)) }
@@ -90,5 +96,7 @@ impl Source for MemSource<'_> {
         Ok(n)
     }
 
-    ghost same_left = { λ a b bytes same told. ap (λ (x : List ℕ). Some x) same };
+    ghost named_if_bound = { λ source name bound. refl };
+
+    ghost same_named = { λ name a b bytes same told. ap (λ (x : List ℕ). Some x) same };
 }

@@ -4,6 +4,7 @@ ghost use Rattle.std.specs.List.{All};
 ghost use Rattle.std.specs.Option.{ForSome, option_map};
 ghost use Rattle.disk_model.specs.Causes.{HasCause};
 ghost use Rattle.disk_model.specs.Disk.{EachImage, HasNothingPending};
+ghost use Rattle.disk_model.specs.Identity.{IsBound};
 ghost use Rattle.disk_model.specs.Moments.{content_now, EachMoment, FromStart};
 ghost use Rattle.two_writes.specs.Pair.{IsAmidPairs, IsCutAmidPairs, IsFit, with_pairs};
 
@@ -17,14 +18,15 @@ use sector_disk::{Disk, Failed};
 /// - `Failed`: the disk failed. Some of the pairs are written, and of the next one each of the two sectors has its
 ///   new bytes as a candidate, or not.
 pub fn write_pairs<D: Disk>(disk: &mut D, pairs: &[Pair]) -> Result<(), Failed>
-    requires { All (IsFit (D.sectors disk.old)) pairs.now }
+    requires bound { IsBound (D.identity disk.old).name }
+    requires pairs { All (IsFit (D.identity disk.old).sectors) pairs.now }
 
     ensures written { OnOk result (content_now (D.moments disk.new)
         ≡ option_map (with_pairs pairs.now) (content_now (D.moments disk.old))) }
 
     ensures cause { HasCause (D.faults disk.old) (D.faults disk.new) result }
 
-    ensures sectors { D.sectors disk.new ≡ D.sectors disk.old }
+    ensures identity { D.identity disk.new ≡ D.identity disk.old }
 
     ensures moments { EachMoment (D.moments disk.old) (D.moments disk.new)
         (FromStart (D.moments disk.old) (IsAmidPairs pairs.now)) }

@@ -6,6 +6,7 @@ ghost use Rattle.std.specs.Prelude.{◌≡◌, ◌<◌, ◌↔◌, length, IsTru
 ghost use Rattle.std.specs.Option.{ForSome, option_map};
 ghost use Rattle.disk_model.specs.Causes.{HasCause};
 ghost use Rattle.disk_model.specs.Disk.{EachImage, HasNothingPending, OnlyAdds, newest_only, with_run};
+ghost use Rattle.disk_model.specs.Identity.{IsBound};
 ghost use Rattle.disk_model.specs.Moments.{content_now, EachMoment, FromStart};
 ghost use Rattle.two_writes.specs.Pair.{HasPair, IsFit, IsOfEither, IsOfPair, IsOldOrNew, changed_sector, with_pair};
 
@@ -46,14 +47,15 @@ impl Pair {
 ///
 /// - `Failed`: the disk failed. Each of the two sectors has its new bytes as a candidate, or not.
 pub fn write_pair<D: Disk>(disk: &mut D, pair: &Pair) -> Result<(), Failed>
-    requires { IsFit (D.sectors disk.old) pair.now }
+    requires bound { IsBound (D.identity disk.old).name }
+    requires pair { IsFit (D.identity disk.old).sectors pair.now }
 
     ensures written { OnOk result (content_now (D.moments disk.new)
         ≡ option_map (with_pair pair.now) (content_now (D.moments disk.old))) }
 
     ensures cause { HasCause (D.faults disk.old) (D.faults disk.new) result }
 
-    ensures sectors { D.sectors disk.new ≡ D.sectors disk.old }
+    ensures identity { D.identity disk.new ≡ D.identity disk.old }
 
     ensures images { OnOk result (ForSome (content_now (D.moments disk.old)) (λ old.
         ForSome (content_now (D.moments disk.new)) (EachImage (HasPair pair.now old)))) }
@@ -72,14 +74,15 @@ pub fn write_pair<D: Disk>(disk: &mut D, pair: &Pair) -> Result<(), Failed>
 
 // Reads the sector that changes, and puts the piece into it.
 fn read_changed<D: Disk>(disk: &mut D, pair: &Pair, sector: &mut [u8; 512]) -> Result<(), Failed>
-    requires { IsFit (D.sectors disk.old) pair.now }
+    requires bound { IsBound (D.identity disk.old).name }
+    requires pair { IsFit (D.identity disk.old).sectors pair.now }
 
     ensures sector { OnOk result (ForSome (content_now (D.moments disk.old))
         (λ c. sector.new ≡ changed_sector pair.now c)) }
 
     ensures cause { HasCause (D.faults disk.old) (D.faults disk.new) result }
 
-    ensures sectors { D.sectors disk.new ≡ D.sectors disk.old }
+    ensures identity { D.identity disk.new ≡ D.identity disk.old }
     ensures kept { D.moments disk.new ≡ D.moments disk.old }
 {
     disk.read_run(pair.changed_at, sector)?;
@@ -95,8 +98,9 @@ fn write_both<D: Disk>(
     second_at: u64,
     second: &[u8; 512],
 ) -> Result<(), Failed>
-    requires first_at { first_at < D.sectors disk.old }
-    requires second_at { second_at < D.sectors disk.old }
+    requires bound { IsBound (D.identity disk.old).name }
+    requires first_at { first_at < (D.identity disk.old).sectors }
+    requires second_at { second_at < (D.identity disk.old).sectors }
 
     ensures written { OnOk result (content_now (D.moments disk.new)
         ≡ option_map (λ c. newest_only (with_run second_at second.now (with_run first_at first.now c)))
@@ -104,7 +108,7 @@ fn write_both<D: Disk>(
 
     ensures cause { HasCause (D.faults disk.old) (D.faults disk.new) result }
 
-    ensures sectors { D.sectors disk.new ≡ D.sectors disk.old }
+    ensures identity { D.identity disk.new ≡ D.identity disk.old }
 
     ensures moments { EachMoment (D.moments disk.old) (D.moments disk.new)
         (FromStart (D.moments disk.old) (OnlyAdds (IsOfEither first_at first.now second_at second.now))) }

@@ -6,11 +6,11 @@ use Rattle.integrity_tool.proofs.SmallImage.{data_at-small}
 use Rattle.integrity_tool.proofs.ReadingLemmas.{read_cell}
 use Rattle.integrity_tool.proofs.reading.read_area.Goals as goal
 
-pub read_run-requires : goal.read_run-requires
-read_run-requires g c = record {
+pub read_run-requires-clause-run : goal.read_run-requires-clause-run
+read_run-requires-clause-run g c = record {
   whole = c.requires.whole;
   some = c.requires.some;
-  inside = omega (arith, c.data_at.ensures.sector, data_at-small c.args.first, c.requires.area, c.requires.range, c.requires.disk);
+  inside = omega (arith, c.data_at.ensures.sector, data_at-small c.args.first, c.requires.area, c.requires.range, c.requires.disk.enough);
 }
 
 pub returns-clause-reply : goal.returns-clause-reply

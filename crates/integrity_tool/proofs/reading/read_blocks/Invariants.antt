@@ -12,7 +12,7 @@ invariant-loop-done g l = record {
   whole : l.done ≡ 512 * (l.done / 512);
   within : l.done ≤ length l.bytes;
   reply : ForSome (content_now (g.D.Disk.moments l.fn.disk)) (λ c. read_reply small_blocks.tag (small_cells (last_image c)) l.first (l.done / 512) ≡ Bytes (take l.done l.bytes));
-  sectors : g.D.Disk.sectors l.disk ≡ g.D.Disk.sectors l.fn.disk;
+  identity : g.D.Disk.identity l.disk ≡ g.D.Disk.identity l.fn.disk;
   kept : g.D.Disk.moments l.disk ≡ g.D.Disk.moments l.fn.disk;
   later : g.D.Counted.faults l.fn.disk ≤ g.D.Counted.faults l.disk;
 }

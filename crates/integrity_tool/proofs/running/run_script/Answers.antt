@@ -57,7 +57,7 @@ loop-line-preserved g c = record {
       (λ left later way found counted. IsTaken-line script (c.loop-line.room.reader.unread ++ left) (c.next_line.new.reader.unread ++ later) c.loop-line.number c.loop-line.room.reader.taken c.next_line.new.reader.taken c.in-Some.line way found counted);
   numbered = search rules;
   within = search rules;
-  sectors = search rules;
+  identity = search rules;
   followed = λ content script told told_script.
       both_later _ _ _ _ _ _ (c.loop-line.invariant.followed content script told told_script) (rw c.in-Some.is at c.in_ok-line.ensures.next) ((rw c.in-Some.is at c.in_ok-line.ensures.counted) refl)
       (λ left later way found counted.
@@ -138,7 +138,7 @@ loop-line-init g c = record {
   taken = λ script told_script. rw told_script (first_taken script c.args.room.now.reader c.requires.room);
   numbered = search rules;
   within = search rules;
-  sectors = search rules;
+  identity = search rules;
   followed = λ content script told told_script.
       rw told_script (followed_by _ _ _ _ _ (Some []) _ _ (first_way content script [] c.args.room.now.reader (Some []) (content_now (g.D.Disk.moments c.args.disk.now)) c.requires.room refl told (c.requires.settled content told)));
   moments = λ content script told told_script. no_moment (g.D.Disk.moments c.args.disk.now) (IsLeftBy (last_image content) script);

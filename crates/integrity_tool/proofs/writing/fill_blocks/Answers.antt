@@ -1,6 +1,7 @@
-use Rattle.std.proofs.Common.{rules, ◌≡◌, ◌+◌, ◌-◌, ℕ, IsSomeAnd, refl, subst, ◌∙◌, arith}
+use Rattle.std.proofs.Common.{rules, ◌≡◌, ◌+◌, ◌-◌, ℕ, IsSomeAnd, refl, subst, sym, ◌∙◌, arith}
 use Rattle.std.proofs.lemmas.Result.{err_from_is_err_and}
 use Rattle.disk_model.specs.Disk.{OnlyAdds}
+use Rattle.disk_model.specs.Identity.{DiskIdentity, HasSectors}
 use Rattle.disk_model.specs.Moments.{content_now, FromStart}
 use Rattle.disk_model.proofs.MomentsLemmas.{adds_then, adds_wider, no_moment, EachMoment-then}
 use Rattle.device_model.specs.History.{with_changes}
@@ -16,12 +17,12 @@ loop-block-init g c = record {
   stands = λ content h ticket told stands. rw told (fill_begins content h ticket c.args.first (c.args.first - c.args.first) c.args.byte (omega arith) stands);
   moments = λ content h ticket told stands. no_moment (g.D.Disk.moments c.args.disk.now) (MayBeCut h (filled small_blocks ticket c.args.first c.args.count c.args.byte));
   places = no_moment (g.D.Disk.moments c.args.disk.now) (FromStart (g.D.Disk.moments c.args.disk.now) (OnlyAdds (IsOfBlocks c.args.first c.args.count)));
-  sectors = search rules;
+  identity = search rules;
   later = search rules;
 }
 
 pub write_block-requires-clause-disk : goal.write_block-requires-clause-disk
-write_block-requires-clause-disk g c = omega (arith, c.loop-block.invariant.sectors, c.requires.disk)
+write_block-requires-clause-disk g c = subst (λ (d : DiskIdentity). HasSectors 256 d) (sym c.loop-block.invariant.identity) c.requires.disk
 
 pub returns-in_err-write_block-clause-cause : goal.returns-in_err-write_block-clause-cause
 returns-in_err-write_block-clause-cause g c =
@@ -31,8 +32,8 @@ returns-in_err-write_block-clause-cause g c =
       failed = Rose-earlier _ _ _ c.loop-block.invariant.later c.in_err-write_block.ensures.cause.failed;
     })
 
-pub returns-in_err-write_block-clause-sectors : goal.returns-in_err-write_block-clause-sectors
-returns-in_err-write_block-clause-sectors g c = c.write_block.ensures.sectors ∙ c.loop-block.invariant.sectors
+pub returns-in_err-write_block-clause-identity : goal.returns-in_err-write_block-clause-identity
+returns-in_err-write_block-clause-identity g c = c.write_block.ensures.identity ∙ c.loop-block.invariant.identity
 
 pub returns-in_err-write_block-clause-moments : goal.returns-in_err-write_block-clause-moments
 returns-in_err-write_block-clause-moments g c content h ticket told stands =
@@ -50,7 +51,7 @@ loop-block-preserved g c = record {
       (fill_moments _ h ticket c.args.first (c.loop-block.block - c.args.first) c.args.count c.loop-block.block c.args.byte refl (omega arith) (omega arith)
       (c.loop-block.invariant.stands content h ticket told stands) c.write_block.ensures.moments);
   places = adds_then (IsOfBlocks c.args.first c.args.count) c.loop-block.invariant.places (adds_wider (IsOfBlocks c.loop-block.block 1) (IsOfBlocks c.args.first c.args.count) (λ s x is. (is.0, omega (arith, is.1), omega (arith, is.2), is.3)) c.write_block.ensures.places);
-  sectors = search rules;
+  identity = search rules;
   later = search rules;
 }
 
@@ -63,8 +64,8 @@ returns-clause-stands g c content h ticket told stands =
 pub returns-clause-cause : goal.returns-clause-cause
 returns-clause-cause g c = search rules
 
-pub returns-clause-sectors : goal.returns-clause-sectors
-returns-clause-sectors g c = c.loop-block.invariant.sectors
+pub returns-clause-identity : goal.returns-clause-identity
+returns-clause-identity g c = c.loop-block.invariant.identity
 
 pub returns-clause-moments : goal.returns-clause-moments
 returns-clause-moments g c content h ticket told stands = c.loop-block.invariant.moments content h ticket told stands

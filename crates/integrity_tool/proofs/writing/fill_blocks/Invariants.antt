@@ -14,6 +14,6 @@ invariant-loop-block g l = record {
   moments : (c : Content) (h : History) (ticket : ℕ) → content_now (g.D.Disk.moments l.fn.disk) ≡ Some c → StandsFor c h
       → EachMoment (g.D.Disk.moments l.fn.disk) (g.D.Disk.moments l.disk) (MayBeCut h (filled small_blocks ticket l.fn.first l.fn.count l.fn.byte));
   places : EachMoment (g.D.Disk.moments l.fn.disk) (g.D.Disk.moments l.disk) (FromStart (g.D.Disk.moments l.fn.disk) (OnlyAdds (IsOfBlocks l.fn.first l.fn.count)));
-  sectors : g.D.Disk.sectors l.disk ≡ g.D.Disk.sectors l.fn.disk;
+  identity : g.D.Disk.identity l.disk ≡ g.D.Disk.identity l.fn.disk;
   later : g.D.Counted.faults l.fn.disk ≤ g.D.Counted.faults l.disk;
 }

@@ -15,7 +15,7 @@ returns-in_err-write_pair-clause-moments g c =
 
 pub returns-in_err-write_pair-clause-cut : goal.returns-in_err-write_pair-clause-cut
 returns-in_err-write_pair-clause-cut g c nothing_pending =
-    amid_by_images (g.D.Disk.sectors c.args.disk.now) c.args.pairs.now c.requires nothing_pending (returns-in_err-write_pair-clause-moments g c)
+    amid_by_images (g.D.Disk.identity c.args.disk.now).sectors c.args.pairs.now c.requires.pairs nothing_pending (returns-in_err-write_pair-clause-moments g c)
 
 pub loop-pair-preserved : goal.loop-pair-preserved
 loop-pair-preserved g c =
@@ -23,11 +23,11 @@ loop-pair-preserved g c =
     let is_next = slice_get_read c.args.pairs.now (length c.args.pairs.now) c.loop-pair.pair-index next refl (search rules) c.pair-item.is in
     record {
       written = turn_of_item (λ (before : Content) (pair : Pair). with_pair pair before) c.args.pairs.now c.loop-pair.pair-index next _ _ _ (search rules) c.pair-item.is c.loop-pair.invariant.written c.in_ok-write_pair.ensures.written;
-      sectors = search rules;
+      identity = search rules;
       later = search rules;
       moments = amid_then c.args.pairs.now c.loop-pair.pair-index next is_next c.loop-pair.invariant.written c.loop-pair.invariant.moments c.write_pair.ensures.moments;
     }
 
 pub returns-clause-cut : goal.returns-clause-cut
 returns-clause-cut g c nothing_pending =
-    amid_by_images (g.D.Disk.sectors c.args.disk.now) c.args.pairs.now c.requires nothing_pending c.loop-pair.invariant.moments
+    amid_by_images (g.D.Disk.identity c.args.disk.now).sectors c.args.pairs.now c.requires.pairs nothing_pending c.loop-pair.invariant.moments

@@ -11,7 +11,7 @@ returns-clause-written g c =
 
 pub returns-clause-images : goal.returns-clause-images
 returns-clause-images g c =
-    on_ok_weaker c.write_both.result (λ written. images_with_pair c.args.pair.now _ _ c.read_changed.new.sector c.in_ok-read_changed.ensures.sector (search rules) (search rules) c.requires.apart
+    on_ok_weaker c.write_both.result (λ written. images_with_pair c.args.pair.now _ _ c.read_changed.new.sector c.in_ok-read_changed.ensures.sector (search rules) (search rules) c.requires.pair.apart
     (written_is c.args.pair.now _ _ c.read_changed.new.sector c.in_ok-read_changed.ensures.sector (rw c.read_changed.ensures.kept at written))) c.write_both.ensures.written
 
 pub returns-clause-moments : goal.returns-clause-moments
@@ -20,4 +20,4 @@ returns-clause-moments g c =
 
 pub returns-clause-cut : goal.returns-clause-cut
 returns-clause-cut g c nothing_pending =
-    adds_pair_by_images c.args.pair.now c.requires.apart nothing_pending (returns-clause-moments g c)
+    adds_pair_by_images c.args.pair.now c.requires.pair.apart nothing_pending (returns-clause-moments g c)

@@ -2,6 +2,7 @@ use Rattle.std.proofs.Common.{◌≡◌, ◌/◌, length, arith, sym, ◌∙◌,
 use Rattle.std.specs.List.{length_refill}
 use Rattle.sector_disk.proofs.RecordLemmas.{write_is_recorded, moments_of_write}
 use Rattle.sector_disk.proofs.LatestLemmas.{IsLatest-writes, IsLatest-refilled}
+use Rattle.sector_disk.proofs.WholeLemmas.{AreWholeEvents-writes}
 use Rattle.sector_disk.proofs.mem_disk.MemDiskDisk.write_run.Goals as goal
 
 pub invariant_of-self-then-size-bytes-clause-is_latest : goal.invariant_of-self-then-size-bytes-clause-is_latest
@@ -42,3 +43,11 @@ invariant_of-self-else-size-bytes-clause-latest_size c =
     let disk = c.args.self.now in
     sym (length_refill _ disk.latest.items c.write_latest.new.latest (sym c.deref_mut.ensures.len ∙ ap length c.deref_mut.ensures.value))
     ∙ sym c.deref_mut.ensures.len ∙ ap length c.deref_mut.ensures.value ∙ disk.latest_size
+
+pub invariant_of-self-then-size-bytes-clause-whole_events : goal.invariant_of-self-then-size-bytes-clause-whole_events
+invariant_of-self-then-size-bytes-clause-whole_events c =
+    AreWholeEvents-writes c.args.self.now.events.items c.append_writes.new.events.items c.args.at c.args.bytes.now c.min-count.result c.append_writes.ensures.events (omega arith) c.args.self.now.whole_events
+
+pub invariant_of-self-else-size-bytes-clause-whole_events : goal.invariant_of-self-else-size-bytes-clause-whole_events
+invariant_of-self-else-size-bytes-clause-whole_events c =
+    AreWholeEvents-writes c.args.self.now.events.items c.append_writes.new.events.items c.args.at c.args.bytes.now c.min-count.result c.append_writes.ensures.events (omega arith) c.args.self.now.whole_events

@@ -1,0 +1,126 @@
+//! A disk that is the whole sectors of a file.
+ghost use Rattle.std.specs.Prelude.{◌≡◌, ◌⊎◌, ◌+◌, ◌*◌, ◌/◌, ◌^◌, ◌<◌, [], length, IsSome, None, OnErr, OnOk, Some};
+ghost use Rattle.std.proofs.Common.{refl};
+ghost use Rattle.std.proofs.lemmas.Option.{none-some};
+ghost use Rattle.disk_model.specs.Causes.{HasCause, Rose};
+ghost use Rattle.disk_model.specs.Disk.{IsImage, last_image};
+ghost use Rattle.disk_model.specs.Identity.{IsBoundTo};
+ghost use Rattle.disk_model.specs.Moments.{content_now};
+ghost use Rattle.file_disk.specs.Files.{TellsSame, named_as, no_disk, of_file};
+
+use crate::transfer::{open_file, read_all, sync_all, write_all};
+use crate::{Folder, SectorFile};
+use sector_disk::{Counted, Disk, Failed, Named};
+
+/// The whole sectors of a file. It has none until it is bound to the file's name, and is bound once.
+#[derive(Drop)]
+pub struct FileDisk<O: Folder + Drop> {
+    folder: O,
+    file: Option<O::File>,
+    faults: u64,
+}
+
+impl<O: Folder + Drop> FileDisk<O> {
+    /// Makes a disk that is bound to no file. It opens none. Its first `bind` is the only one that can succeed.
+    pub fn new(folder: O) -> FileDisk<O>
+        ensures { result ≡ record { folder = folder; file = None; faults = 0 } }
+    {
+        FileDisk {
+            folder,
+            file: None,
+            faults: 0,
+        }
+    }
+}
+
+impl<O: Folder + Drop> Counted for FileDisk<O> {
+    ghost faults = { λ disk. disk.faults + (O.faults disk.folder + of_file 0 O.File.faults disk.file) };
+
+    ghost binding = { λ disk. (of_file no_disk O.File.identity disk.file).name };
+
+    ghost tells_same = { λ name a b. TellsSame
+        (named_as O.File.identity O.File.moments (O.named a.folder name) a.file)
+        (named_as O.File.identity O.File.moments (O.named b.folder name) b.file) };
+}
+
+impl<O: Folder + Drop> Named for FileDisk<O> {
+    fn bind(&mut self, name: &str) -> Result<(), Failed>
+        ensures bound { OnOk result (IsBoundTo name.now (of_file no_disk O.File.identity self.new.file).name) }
+
+        ensures fails { OnErr result (IsSome self.old.file ⊎ Rose (O.faults self.old.folder) (O.faults self.new.folder)) }
+        ensures cause { HasCause
+            (self.old.faults + (O.faults self.old.folder + of_file 0 O.File.faults self.old.file))
+            (self.new.faults + (O.faults self.new.folder + of_file 0 O.File.faults self.new.file)) result }
+
+        ensures same { TellsSame
+            (named_as O.File.identity O.File.moments (O.named self.old.folder name.now) self.old.file)
+            (named_as O.File.identity O.File.moments (O.named self.new.folder name.now) self.new.file) }
+    {
+        if self.file.is_some() {
+            self.faults = self.faults.saturating_add(1);
+            return Err(Failed);
+        }
+        let file = open_file(&mut self.folder, name)?;
+        self.file = Some(file);
+        Ok(())
+    }
+}
+
+impl<O: Folder + Drop> Disk for FileDisk<O> {
+    ghost identity = { λ disk. of_file no_disk O.File.identity disk.file };
+
+    ghost moments = { λ disk. of_file [] O.File.moments disk.file };
+
+    ghost named = { λ disk name. named_as O.File.identity O.File.moments (O.named disk.folder name) disk.file };
+
+    fn sectors(&self) -> u64 {
+        match &self.file {
+            Some(file) => file.sectors(),
+            None => unreachable!(),
+        }
+    }
+
+    fn read_run(&mut self, at: u64, buffer: &mut [u8]) -> Result<(), Failed> {
+        match &mut self.file {
+            Some(file) => read_all(file, 512 * at, buffer),
+            None => unreachable!(),
+        }
+    }
+
+    fn write_run(&mut self, at: u64, bytes: &[u8]) -> Result<(), Failed> {
+        match &mut self.file {
+            Some(file) => write_all(file, 512 * at, bytes),
+            None => unreachable!(),
+        }
+    }
+
+    fn sync(&mut self) -> Result<(), Failed> {
+        match &mut self.file {
+            Some(file) => sync_all(file),
+            None => unreachable!(),
+        }
+    }
+
+    ghost reads_an_image = { λ disk c told. elim disk.file as (λ o. content_now (of_file [] O.File.moments o) ≡ Some c
+        → IsImage c (last_image c)) [
+          | None ↦ λ told. absurd (none-some c told)
+          | Some file ↦ λ told. O.File.reads_an_image file c told
+        ] told };
+
+    ghost whole_sectors = { λ disk c sector x told low has. elim disk.file as (λ o. content_now (of_file [] O.File.moments o) ≡ Some c
+        → sector < (of_file no_disk O.File.identity o).sectors → length x ≡ 512) [
+          | None ↦ λ told low. absurd (none-some c told)
+          | Some file ↦ λ told low. O.File.whole_sectors file c sector x told low has
+        ] told low };
+
+    ghost identity_name = { λ disk. refl };
+
+    ghost named_if_bound = { λ disk name bound. elim disk.file as (λ o. IsBoundTo name (of_file no_disk O.File.identity o).name
+        → named_as O.File.identity O.File.moments (O.named disk.folder name) o
+        ≡ record { sectors = (of_file no_disk O.File.identity o).sectors; moments = of_file [] O.File.moments o }) [
+          | None ↦ λ bound. absurd bound
+          | Some file ↦ λ bound. refl
+        ] bound };
+
+    ghost same_named = { λ name a b c same told. same.is c told };
+}
