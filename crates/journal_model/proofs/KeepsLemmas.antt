@@ -138,4 +138,3 @@ placed_read_law d tags c uncommitted b low keeps none =
       data_ = λ k k_low. keeps.reads.each b k low k_low ∙ ap (λ (cell : Cell). sector_in cell.bytes k) (sym same);
       tag_ = λ rests. keeps.tags_are.each b low rests ∙ ap (λ (cell : Cell). cell.tag) (sym same);
     }
-
