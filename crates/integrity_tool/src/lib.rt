@@ -11,6 +11,8 @@ mod reading;
 mod running;
 mod runs;
 mod small_image;
+#[cfg(test)]
+mod tests;
 mod text;
 mod top_call;
 mod words;
