@@ -95,7 +95,7 @@ pub fn run_script<D: Disk, S: Source, O: Sink>(
     ensures disk { result ≡ Err Ended.Disk → Rose (D.faults disk.old) (D.faults disk.new) }
     ensures script { result ≡ Err Ended.Script → Rose (S.faults script.old) (S.faults script.new) }
     ensures sink { result ≡ Err Ended.Sink → Rose (O.faults out.old) (O.faults out.new) }
-    ensures others { IfErr result EndsScript }
+    ensures errors { IfErr result EndsScript }
 
     ensures disk_later { D.faults disk.old ≤ D.faults disk.new }
     ensures script_later { S.faults script.old ≤ S.faults script.new }
@@ -134,7 +134,7 @@ fn next_line<S: Source>(
         reader.new.taken + length (reader.new.unread ++ later) ≡ reader.old.taken + length (reader.old.unread ++ left)))) }
 
     ensures script { result ≡ Err Ended.Script → Rose (S.faults script.old) (S.faults script.new) }
-    ensures others { IfErr result EndsScript }
+    ensures errors { IfErr result EndsScript }
     ensures not_disk { result ≢ Err Ended.Disk }
     ensures not_sink { result ≢ Err Ended.Sink }
 
@@ -175,7 +175,7 @@ fn run_line<D: Disk, O: Sink>(
 
     ensures disk { result ≡ Err Ended.Disk → Rose (D.faults disk.old) (D.faults disk.new) }
     ensures sink { result ≡ Err Ended.Sink → Rose (O.faults out.old) (O.faults out.new) }
-    ensures others { IfErr result EndsLine }
+    ensures errors { IfErr result EndsLine }
 
     ensures disk_later { D.faults disk.old ≤ D.faults disk.new }
     ensures sink_later { O.faults out.old ≤ O.faults out.new }
@@ -215,7 +215,7 @@ fn run_fill<D: Disk, O: Sink>(
 
     ensures disk { result ≡ Err Ended.Disk → Rose (D.faults disk.old) (D.faults disk.new) }
     ensures sink { result ≡ Err Ended.Sink → Rose (O.faults out.old) (O.faults out.new) }
-    ensures others { IfErr result EndsLine }
+    ensures errors { IfErr result EndsLine }
 
     ensures disk_later { D.faults disk.old ≤ D.faults disk.new }
     ensures sink_later { O.faults out.old ≤ O.faults out.new }
@@ -249,7 +249,7 @@ fn run_flush<D: Disk, O: Sink>(disk: &mut D, out: &mut O, text: &mut Vec<u8>) ->
 
     ensures disk { result ≡ Err Ended.Disk → Rose (D.faults disk.old) (D.faults disk.new) }
     ensures sink { result ≡ Err Ended.Sink → Rose (O.faults out.old) (O.faults out.new) }
-    ensures others { IfErr result EndsLine }
+    ensures errors { IfErr result EndsLine }
 
     ensures disk_later { D.faults disk.old ≤ D.faults disk.new }
     ensures sink_later { O.faults out.old ≤ O.faults out.new }
@@ -293,7 +293,7 @@ fn run_read<D: Disk, O: Sink>(
 
     ensures disk { result ≡ Err Ended.Disk → Rose (D.faults disk.old) (D.faults disk.new) }
     ensures sink { result ≡ Err Ended.Sink → Rose (O.faults out.old) (O.faults out.new) }
-    ensures others { IfErr result EndsLine }
+    ensures errors { IfErr result EndsLine }
 
     ensures disk_later { D.faults disk.old ≤ D.faults disk.new }
     ensures sink_later { O.faults out.old ≤ O.faults out.new }
@@ -355,7 +355,7 @@ fn close<D: Disk, O: Sink>(disk: &mut D, out: &mut O) -> Result<(), Ended>
         → Rose (D.faults disk.old) (D.faults disk.new) × (O.held out.new ≡ O.held out.old) }
     ensures sink { result ≡ Err Ended.Sink
         → Rose (O.faults out.old) (O.faults out.new) × AddsPrefix closed_text (O.held out.old) (O.held out.new) }
-    ensures others { IfErr result EndsLine }
+    ensures errors { IfErr result EndsLine }
 
     ensures disk_later { D.faults disk.old ≤ D.faults disk.new }
     ensures sink_later { O.faults out.old ≤ O.faults out.new }

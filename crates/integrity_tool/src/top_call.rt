@@ -246,7 +246,7 @@ fn open<D: Disk>(disk: &mut D) -> Result<(), Ended>
     ensures synced_first { result ≡ Err Ended.Image → content_now (D.moments disk.new)
         ≡ option_map newest_only (content_now (D.moments disk.old)) }
     ensures disk { result ≡ Err Ended.Disk → Rose (D.faults disk.old) (D.faults disk.new) }
-    ensures others { IfErr result (λ ended. ended ≡ Ended.Image ⊎ ended ≡ Ended.Disk) }
+    ensures errors { IfErr result (λ ended. ended ≡ Ended.Image ⊎ ended ≡ Ended.Disk) }
 
     ensures disk_later { D.faults disk.old ≤ D.faults disk.new }
     ensures identity { D.identity disk.new ≡ D.identity disk.old }
