@@ -1,9 +1,11 @@
-//! Tests over a file in memory, which does few sectors at a time and is interrupted at every other call.
+//! Tests over a file in memory, which does few sectors at a time and is interrupted at every other call, and over files
+//! of the system.
 mod short_file;
 
-use crate::FileDisk;
+use crate::{FileDisk, StdFolder};
 use sector_disk::{Disk, Failed, Named};
 use short_file::{ShortFolder, folder_of};
+use std::fs;
 use std::test::Fail;
 
 /// The bytes of eight sectors, the first full of `first`, the next of one more, and so on.
@@ -78,5 +80,63 @@ fn a_disk_is_bound_once(rt: HostRuntime) -> Result<(), Fail> {
         "after a name that there is not"
     );
     assert_eq!(rt; disk.bind("image"), Err(Failed), "it is bound");
+    Ok(())
+}
+
+/// Writes sectors 1 and 2 of three, and reads the first two back.
+fn write_two_of_three<D: Disk + Named>(disk: &mut D, back: &mut [u8; 1024]) -> Result<(), Failed> {
+    disk.bind("image")?;
+    if disk.sectors() != 3 {
+        return Err(Failed);
+    }
+    disk.write_run(1, &[0xbb; 1024])?;
+    disk.sync()?;
+    disk.read_run(0, back)
+}
+
+#[test]
+fn a_disk_is_the_whole_sectors_of_its_file(rt: HostRuntime) -> Result<(), Fail> {
+    let mut wanted = [0xaa; 1636];
+    fs::write(&rt, "image", &wanted)?;
+    let mut back = [0; 1024];
+    write_two_of_three(&mut FileDisk::new(StdFolder::new(&rt)), &mut back)?;
+    wanted[512..1536].fill(0xbb);
+    assert_eq!(rt;
+        fs::read(&rt, "image")?.as_slice(),
+        &wanted[..],
+        "the sectors that were written, and no other byte"
+    );
+    assert_eq!(rt; &back[..], &wanted[..1024]);
+    Ok(())
+}
+
+/// Reads the first sector of a file that was cut off behind its lock.
+fn read_of_a_cut_file(rt: &HostRuntime) -> Result<bool, Fail> {
+    let mut disk = FileDisk::new(StdFolder::new(rt));
+    disk.bind("image")?;
+    if disk.sectors() != 1 {
+        return Ok(false);
+    }
+    fs::write(rt, "image", b"cut")?;
+    Ok(disk.read_run(0, &mut [0; 512]).is_err())
+}
+
+#[test]
+fn a_file_that_is_shorter_now_fails(rt: HostRuntime) -> Result<(), Fail> {
+    fs::write(&rt, "image", &[0; 512])?;
+    assert!(rt; read_of_a_cut_file(&rt)?);
+    Ok(())
+}
+
+#[test]
+fn a_file_is_locked_while_a_disk_is_bound_to_it(rt: HostRuntime) -> Result<(), Fail> {
+    fs::write(&rt, "image", &[0; 1024])?;
+    let mut first = FileDisk::new(StdFolder::new(&rt));
+    let mut second = FileDisk::new(StdFolder::new(&rt));
+    assert_eq!(rt; first.bind("no file"), Err(Failed));
+    assert_eq!(rt; first.bind("image"), Ok(()));
+    assert_eq!(rt; second.bind("image"), Err(Failed), "the first has it");
+    drop(first);
+    assert_eq!(rt; second.bind("image"), Ok(()), "nobody has it");
     Ok(())
 }

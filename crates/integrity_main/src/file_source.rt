@@ -6,8 +6,8 @@ ghost use Rattle.disk_model.specs.Identity.{AnyName, Unbound};
 ghost use Rattle.file_disk.specs.Files.{of_file};
 
 use crate::faults::count_error;
-use crate::opening::open_apart;
 use crate::reading::read_some;
+use file_disk::open_apart;
 use sector_disk::{Counted, Failed, Named};
 use std::fs::OpenOptions;
 use std::io;

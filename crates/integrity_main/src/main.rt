@@ -7,22 +7,19 @@
 
 mod faults;
 mod file_source;
-mod opening;
 mod reading;
-mod std_file;
 mod std_sink;
 mod std_source;
 #[cfg(test)]
 mod tests;
 
-use file_disk::FileDisk;
+use file_disk::{FileDisk, StdFolder};
 use file_source::FileSource;
 use integrity_tool::integrity;
 use std::io::ErrorKind;
 use std::process::ExitCode;
 use std::rt::Env;
 use std::{env, io};
-use std_file::StdFolder;
 use std_sink::StdSink;
 use std_source::StdSource;
 use stream_io::put_all;

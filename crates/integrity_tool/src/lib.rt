@@ -11,6 +11,8 @@ mod reading;
 mod running;
 mod small_image;
 mod stretches;
+#[cfg(test)]
+mod tests;
 mod text;
 mod top_call;
 mod words;

@@ -26,8 +26,8 @@ use stream_io::{Sink, Source};
 /// Does what the words say, and answers the status. The words are the program's name and then those of a command.
 ///
 /// There is one command, `run IMAGE --mode D`, on one form of image, the small one, and three forms of line:
-/// `fill F C HH`, `read F C` and `flush`. The key is not touched. The first call of the disk, once it is bound, is a
-/// sync, and the last one is a sync before `closed` is printed.
+/// `fill F C HH`, `read F C` and `flush`. The key is not touched. An image is refused only once the disk is synced, and
+/// `closed` is printed only once all that was written is.
 ///
 /// # Statuses
 ///

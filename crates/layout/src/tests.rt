@@ -538,3 +538,31 @@ fn regions_have_a_bitmap_that_fits_the_journal(rt: HostRuntime) -> Result<(), Fa
     }
     Ok(())
 }
+
+#[test]
+fn each_fault_has_its_text(rt: HostRuntime) -> Result<(), Fail> {
+    for (fault, text) in [
+        (
+            GeomFault::DeviceTooLarge { have: 300 },
+            "a disk of 300 sectors is too large",
+        ),
+        (
+            GeomFault::JournalTooLarge { sectors: 301 },
+            "a journal of 301 sectors is too large",
+        ),
+        (
+            GeomFault::TooSmall {
+                have: 255,
+                need: 256,
+            },
+            "a disk of 255 sectors is too small, 256 are needed",
+        ),
+        (
+            GeomFault::BitmapTooLarge { need: 9, have: 8 },
+            "a bitmap of 9 sectors is too large for a journal of 8",
+        ),
+    ] {
+        assert_eq!(rt; format!(in rt.alloc(); "{fault}")?.as_str(), text);
+    }
+    Ok(())
+}

@@ -1,4 +1,4 @@
-//! The files of the system: what `file_disk` asks of a file, by one call of std each.
+//! The files of the system: what is asked of a file, by one call of std each.
 //!
 //! This is what is trusted of the edge: std tells nothing of what a file holds, so these files tell nothing either.
 ghost use Rattle.std.specs.Prelude.{◌≡◌, ◌≤◌, ◌*◌, ◌^◌, ◌<◌, [], length, IfOk};
@@ -7,7 +7,7 @@ ghost use Rattle.disk_model.specs.Identity.{AnyName};
 ghost use Rattle.file_disk.specs.Files.{HasFileCause};
 
 use crate::opening::open_apart;
-use file_disk::{FileFault, Folder, SectorFile};
+use crate::{FileFault, Folder, SectorFile};
 use std::fs::{File, OpenOptions};
 use std::io;
 use std::io::{ErrorKind, Seek, SeekFrom};
