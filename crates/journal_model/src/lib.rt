@@ -1,4 +1,7 @@
 //! Definitions and laws: what a disk in journal mode stands for, at every cut and after each step.
+//!
+//! `specs/JournaledDisk.antt` is the file to read first: `StandsFor` says which candidates of a sector are right, and
+//! `IsCutOf` what an image then gives. A commit, a placed entry, a settle and an erasure each keep it.
 #![tactic(auto)]
 
 ghost use Rattle.journal_model.specs.Batch.{BatchLaw};

@@ -1,11 +1,11 @@
 -- What a first sync leaves.
-use Rattle.std.proofs.Common.{ℕ, refl, sym, subst, List}
+use Rattle.std.proofs.Common.{inl, inr, ℕ, refl, sym, subst, List}
 use Rattle.std.proofs.Math.Path.{fun_ext}
 use Rattle.std.specs.List.{Contains}
 use Rattle.disk_model.specs.Disk.{Content, IsImage, EachImage, last_image, newest_only}
 use Rattle.disk_model.proofs.DiskLemmas.{newest_only-image, newest_only-pending}
 use Rattle.place_model.specs.Format.{DiskFormat, OpensAs, HasCells, cells_on}
-use Rattle.place_model.specs.FirstSync.{FirstSyncLaw, IsSettled}
+use Rattle.place_model.specs.FirstSync.{FirstSyncLaw, OpeningLeftLaw, IsSettled}
 
 -- ---- for callers
 
@@ -25,3 +25,9 @@ newest_only-cells d entry opens image is =
 
 pub first_sync_law : FirstSyncLaw
 first_sync_law d entry reads opens = (newest_only-settled entry reads, newest_only-cells d entry opens)
+
+pub opening_left_law : OpeningLeftLaw
+opening_left_law d base entry c moment image is = elim moment [
+  | inl same ↦ inl (subst (λ (x : Content). IsImage x image) same is)
+  | inr each ↦ inr (each image is)
+]

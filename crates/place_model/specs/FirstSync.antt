@@ -20,3 +20,8 @@ abbrev pub FirstSyncLaw : Type 0
 FirstSyncLaw = (d : DiskFormat) (entry : Content) → IsImage entry (last_image entry)
     → OpensAs d (last_image entry) → IsSettled entry (newest_only entry)
     × EachImage (HasCells d (cells_on d (last_image entry))) (newest_only entry)
+
+-- So what a cut of an opening leaves is an image at entry, or one with the cells at opening.
+abbrev pub OpeningLeftLaw : Type 0
+OpeningLeftLaw = (d : DiskFormat) (base : ℕ → Cell) (entry c : Content) → IsOfOpening d base entry c
+    → EachImage (λ image. IsImage entry image ⊎ HasCells d base image) c

@@ -3,7 +3,7 @@
 //! `specs/Format.antt` is the file to read first: the disk, its tags and the cells of its images.
 #![tactic(auto)]
 
-ghost use Rattle.place_model.specs.FirstSync.{FirstSyncLaw};
+ghost use Rattle.place_model.specs.FirstSync.{FirstSyncLaw, OpeningLeftLaw};
 ghost use Rattle.place_model.specs.Kind.{BitmapKindLaw, DirectKindLaw, JournalKindLaw};
 ghost use Rattle.place_model.specs.Left.{BitmapPendingLaw, DirectPendingLaw, JournalPendingLaw};
 
@@ -15,8 +15,10 @@ pub fn pending_write_leaves_all()
 {}
 
 /// The first sync of an opening leaves one of the images that the disk had at entry, with the cells that reads give.
+/// A cut before it leaves an image at entry, and any later one those cells.
 pub fn first_sync_settles()
-    ensures { FirstSyncLaw }
+    ensures sync { FirstSyncLaw }
+    ensures left { OpeningLeftLaw }
 {}
 
 /// What a cut leaves by the format that was opened may be left of the device, by the superblock of what is left.
