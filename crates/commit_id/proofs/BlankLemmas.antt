@@ -3,7 +3,8 @@ use Rattle.std.proofs.Common.{◌≡◌, ◌≢◌, ℕ, ◌+◌, ◌*◌, ◌<�
 use Rattle.std.specs.Prelude.{slice_index}
 use Rattle.std.proofs.lemmas.Bool.{and_parts, and_right, eq-eqb, ne_eqb, lt-ltb, true≢false}
 use Rattle.image_model.specs.Below.{any_below}
-use Rattle.image_model.specs.Scan.{Grid, SectorCell, Number, Zero, Other, IsGrid, cell_at, cell_number, is_zero, is_blank_sector, is_blank_with, blank_number}
+use Rattle.image_model.specs.Scan.{Grid, SectorCell, IsGrid, cell_at, cell_number, is_zero, is_blank_sector, is_blank_with, blank_number}
+use Rattle.image_model.specs.declared.sector_cell.Cell.TheVariants.{Number, Zero, Other}
 use Rattle.image_model.specs.Walk.{bears}
 use Rattle.commit_id.specs.declared.tally.Tally.{Tally}
 use Rattle.commit_id.specs.Tally.{count_below, bears_at, IsTally}

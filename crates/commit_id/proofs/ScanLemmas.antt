@@ -5,16 +5,18 @@ use Rattle.std.specs.List.{position_or_len}
 use Rattle.std.proofs.lemmas.Bool.{le-ltb, ltb-true, true≢false, false_from_ne_true}
 use Rattle.std.proofs.lemmas.List.Sums.{position_or_len_is}
 use Rattle.image_model.specs.Below.{all_below}
-use Rattle.image_model.specs.Scan.{Grid, SectorCell, Zero, FourNumbers, IsGrid, cell_number, numbers_of, blank_number, blank_plan, first_place, scan_fault_of, walk_of_grid}
-use Rattle.image_model.specs.Walk.{Plan, bears, is_numbered, occurs, later, newest, plan_at, plan_by, plan_of}
+use Rattle.image_model.specs.Scan.{Grid, SectorCell, IsGrid, cell_number, numbers_of, blank_number, blank_plan, first_place, scan_fault_of, walk_of_grid}
+use Rattle.image_model.specs.declared.sector_cell.Cell.TheVariants.{Zero}
+use Rattle.image_model.specs.declared.scan_fault.ScanFault.TheVariants.{FourNumbers}
+use Rattle.image_model.specs.Walk.{bears, is_numbered, occurs, later, newest, plan_at, plan_by, plan_of}
+use Rattle.image_model.specs.declared.journal_plan.Plan.{Plan}
 use Rattle.image_model.proofs.BelowLemmas.{all_from, all_at, any_at}
 use Rattle.image_model.proofs.NumberLemmas.{later_low, newest_tells, newest_none}
 use Rattle.image_model.proofs.ScanLemmas.{place_inside, place_low}
 use Rattle.image_model.proofs.WalkLemmas.{plan_is, numbered_at, numbered_from, occurs_at, occurs_found, some_is, bears_it}
-use Rattle.commit_id.specs.declared.scanning.ScanFault.{ScanFault}
+use Rattle.image_model.specs.declared.scan_fault.ScanFault.{ScanFault}
 use Rattle.commit_id.specs.declared.tally.Tally.{Tally}
 use Rattle.commit_id.specs.declared.spread.Spread.{Spread}
-use Rattle.commit_id.specs.Fault.{fault_told}
 use Rattle.commit_id.specs.Spread.{IsSpread, has_reached}
 use Rattle.commit_id.specs.Tally.{count_below, bears_at, is_numbered_at, IsTally}
 use Rattle.commit_id.proofs.CountLemmas.{any_count, any_last}
@@ -68,7 +70,7 @@ module _ (grid : Grid) (is_grid : IsGrid grid) where
 
   -- With a sector without a number the journal has the fault.
   pub walk_of_grid-unnumbered : (fault : ScanFault) → blank_number grid ≡ None → all_below (grid.sections * grid.sectors) (is_numbered_at grid) ≡ false
-      → fault_told fault ≡ scan_fault_of grid → walk_of_grid grid ≡ Err (fault_told fault)
+      → fault ≡ scan_fault_of grid → walk_of_grid grid ≡ Err fault
   walk_of_grid-unnumbered fault not_blank some told =
       walk_of_grid-fault grid not_blank (plan_of-unnumbered grid (false_from_ne_true _ (λ numbered. true≢false (sym (numbered_all numbered) ∙ some))))
       ∙ ap (λ f. Err f) (sym told)

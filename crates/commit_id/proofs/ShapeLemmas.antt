@@ -6,7 +6,7 @@ use Rattle.std.proofs.Math.Nat.{pow-le-pow_right}
 use Rattle.image_model.specs.Geometry.{entry_size, entries_per_sector, section_entries, section_sectors}
 use Rattle.image_model.proofs.Bounds.{HasEntries, has_entries}
 use Rattle.commit_id.specs.declared.shape.Shape.{Shape}
-use Rattle.commit_id.specs.Shape.{shape_of, IsShape}
+use Rattle.commit_id.specs.Shape.{as_shape, IsShape}
 
 -- A block has 1 to 8 sectors.
 spb_high : (log2 : ℕ) → log2 ≤ 3 → 2 ^ log2 ≤ 8
@@ -39,10 +39,10 @@ is_shape log2 tag spb entry low size is least most whole =
 -- ---- for callers
 
 -- How large the numbers of a shape can be.
-pub shape_holds : (shape : Shape) → IsShape shape → (1 ≤ shape.spb) × (shape.spb ≤ 8) × HasEntries (shape_of shape)
+pub shape_holds : (shape : Shape) → IsShape shape → (1 ≤ shape.spb) × (shape.spb ≤ 8) × HasEntries (as_shape shape)
 shape_holds shape is =
     let some = pow_pos is.log2_spb.0 in
     let few = spb_high is.log2_spb.0 is.log2_spb.1 in
     let least : 1 ≤ shape.spb = omega (arith, is.log2_spb.2) in
     let most : shape.spb ≤ 8 = omega (arith, is.log2_spb.2) in
-    (least, most, has_entries (shape_of shape) least most is.tag.0 is.tag.1)
+    (least, most, has_entries (as_shape shape) least most is.tag.0 is.tag.1)

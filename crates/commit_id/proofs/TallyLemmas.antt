@@ -7,13 +7,15 @@ use Rattle.std.proofs.lemmas.Bool.{cases_Bool, cases_eq, eq-eqb, ne_eqb, lt-ltb,
 use Rattle.std.proofs.lemmas.List.Sums.{position_or_len_is}
 use Rattle.std.proofs.lemmas.Option.{none-some}
 use Rattle.image_model.specs.Below.{all_below}
-use Rattle.image_model.specs.Scan.{Grid, SectorCell, Number, Zero, Other, NoNumber, cell_at, cell_number, found_in, first_place, is_blank_sector, is_zero, scan_fault_of}
+use Rattle.image_model.specs.Scan.{Grid, SectorCell, cell_at, cell_number, found_in, first_place, is_blank_sector, is_zero, scan_fault_of}
+use Rattle.image_model.specs.declared.sector_cell.Cell.TheVariants.{Number, Zero, Other}
+use Rattle.image_model.specs.declared.scan_fault.ScanFault.TheVariants.{NoNumber}
 use Rattle.image_model.specs.Walk.{bears}
 use Rattle.image_model.proofs.BelowLemmas.{all_at}
 use Rattle.image_model.proofs.WalkLemmas.{bears_it, bears_other}
 use Rattle.std.specs.Option.{option_or}
-use Rattle.commit_id.specs.declared.scanning.ScanFault.{ScanFault}
-use Rattle.commit_id.specs.declared.scanning.ScanFault.TheVariants.{NoNumber as Unnumbered}
+use Rattle.image_model.specs.declared.scan_fault.ScanFault.{ScanFault}
+use Rattle.image_model.specs.declared.scan_fault.ScanFault.TheVariants.{NoNumber as Unnumbered}
 use Rattle.commit_id.specs.declared.tally.Tally.{Tally}
 use Rattle.commit_id.specs.Tally.{count_below, IsPlace, bears_at, is_numbered_at, TellsUnnumbered, IsTally, AddsNumber}
 use Rattle.commit_id.proofs.CountLemmas.{count_below-passes, count_below-fails, count_below-none, count_below-le}

@@ -1,7 +1,5 @@
 pub mod Shape
 pub mod Ids
 pub mod Grid
-pub mod Plan
-pub mod Fault
 pub mod Tally
 pub mod Spread

@@ -3,8 +3,7 @@ use Rattle.std.specs.Prelude.{◌≡◌, ℕ, zero, suc, ◌+◌, ◌/◌, ◌%�
 use Rattle.image_model.specs.Below.{all_below}
 use Rattle.image_model.specs.Scan.{Grid, cell_at, cell_number, first_place, is_blank_sector, scan_fault_of}
 use Rattle.image_model.specs.Walk.{bears}
-use Rattle.commit_id.specs.Fault.{fault_told}
-use Rattle.commit_id.specs.declared.scanning.ScanFault.{ScanFault}
+use Rattle.image_model.specs.declared.scan_fault.ScanFault.{ScanFault}
 use Rattle.commit_id.specs.declared.tally.Tally.{Tally}
 
 -- How many numbers below n pass.
@@ -29,7 +28,7 @@ is_numbered_at grid k = is_some (cell_number (cell_at grid k))
 -- None where the first k sectors bear numbers, and else why a journal that is not blank has no plan.
 abbrev pub TellsUnnumbered : Grid → ℕ → Option ScanFault → Type 0
 TellsUnnumbered grid k None = all_below k (is_numbered_at grid) ≡ true
-TellsUnnumbered grid k (Some fault) = (all_below k (is_numbered_at grid) ≡ false) × (fault_told fault ≡ scan_fault_of grid)
+TellsUnnumbered grid k (Some fault) = (all_below k (is_numbered_at grid) ≡ false) × (fault ≡ scan_fault_of grid)
 
 -- The tally of the first k sectors.
 pub record IsTally (grid : Grid) (k : ℕ) (tally : Tally) : Type 0 where

@@ -1,8 +1,8 @@
 //! Which sections of a journal count after a cut: the shape of a section, the commit ids of its
 //! sectors, and the scan of a journal by the numbers that these ids bear.
 //!
-//! A contract sees the types as they are; `specs/` maps each to the definitions of `image_model`.
-//! `specs/Shape.antt` is the file to read first.
+//! `Cell`, `Plan`, `State` and `ScanFault` are types of `image_model`; a `Shape` and a `Grid` are mapped to the
+//! definitions there by `as_shape` and `as_grid`. `specs/Shape.antt` is the file to read first.
 #![tactic(auto)]
 
 mod grid;
@@ -15,8 +15,8 @@ mod tally;
 #[cfg(test)]
 mod tests;
 
-pub use grid::{Cell, Grid};
+pub use grid::Grid;
 pub use ids::{id, number_of};
-pub use plan::{Plan, State};
-pub use scanning::{ScanFault, scan};
+pub use image_model::{Cell, Plan, ScanFault, State};
+pub use scanning::scan;
 pub use shape::Shape;

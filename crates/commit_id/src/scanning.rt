@@ -1,31 +1,15 @@
 //! The scan of a journal: its plan, or why it is refused.
 ghost use Rattle.std.specs.Prelude.{◌≡◌, ◌*◌, Ok, Err, IfErr, IfOk};
 ghost use Rattle.image_model.specs.Scan.{IsGrid, walk_of_grid};
-ghost use Rattle.commit_id.specs.Fault.{fault_told};
-ghost use Rattle.commit_id.specs.Grid.{journal_of};
-ghost use Rattle.commit_id.specs.Plan.{plan_told};
+ghost use Rattle.commit_id.specs.Grid.{as_grid};
 ghost use Rattle.commit_id.specs.Spread.{IsSpread};
 ghost use Rattle.commit_id.specs.Tally.{IsTally};
 
 use crate::grid::Grid;
-use crate::plan::Plan;
+use crate::plan::blank_plan;
 use crate::spread::Spread;
 use crate::tally::Tally;
-
-/// Why a journal has no plan. The first that holds is told.
-#[derive(Clone, Copy, Debug, PartialEq, Eq)]
-pub enum ScanFault {
-    /// A sector bears no number: `sector` of `section` is the first, and `found` is the id there.
-    NoNumber {
-        section: u64,
-        sector: u64,
-        found: u64,
-    },
-    /// All four numbers stand: `places` has the section and the sector where each first does.
-    FourNumbers {
-        places: [(u64, u64); 4],
-    },
-}
+use image_model::{Plan, ScanFault};
 
 /// The plan of the journal that the grid shows. It passes over the grid once, and takes no memory.
 ///
@@ -36,16 +20,16 @@ pub enum ScanFault {
 /// - `NoNumber`: a sector bears no number, and the journal is not blank.
 /// - `FourNumbers`: all four numbers stand.
 pub fn scan(grid: &Grid) -> Result<Plan, ScanFault>
-    requires { IsGrid (journal_of grid.now) }
+    requires { IsGrid (as_grid grid.now) }
 
     ensures plan { IfOk result (λ plan.
-        walk_of_grid (journal_of grid.now) ≡ Ok (plan_told plan)) }
+        walk_of_grid (as_grid grid.now) ≡ Ok plan) }
     ensures fault { IfErr result (λ fault.
-        walk_of_grid (journal_of grid.now) ≡ Err (fault_told fault)) }
+        walk_of_grid (as_grid grid.now) ≡ Err fault) }
 {
     let (tally, spread) = survey(grid);
     if let Some(number) = tally.blank_number(grid) {
-        return Ok(Plan::blank(number));
+        return Ok(blank_plan(number));
     }
     if let Some(fault) = tally.unnumbered {
         return Err(fault);
@@ -60,10 +44,10 @@ pub fn scan(grid: &Grid) -> Result<Plan, ScanFault>
 
 /// The tally of all sectors of a grid, and the spread over all its sections.
 fn survey(grid: &Grid) -> (Tally, Spread)
-    requires grid { IsGrid (journal_of grid.now) }
+    requires grid { IsGrid (as_grid grid.now) }
 
-    ensures tally { IsTally (journal_of grid.now) (grid.now.sections * grid.now.sectors) result.0 }
-    ensures spread { IsSpread (journal_of grid.now) grid.now.sections result.1 }
+    ensures tally { IsTally (as_grid grid.now) (grid.now.sections * grid.now.sectors) result.0 }
+    ensures spread { IsSpread (as_grid grid.now) grid.now.sections result.1 }
 {
     let mut tally = Tally::new();
     let mut spread = Spread::new();

@@ -1,17 +1,9 @@
 //! The shape of a journal section: how long an entry is, how many a section has, and its sectors.
 ghost use Rattle.std.specs.Prelude.{◌≡◌, ◌^◌, ◌≤◌};
 ghost use Rattle.std.specs.Int.{IsInRange};
-ghost use Rattle.commit_id.specs.Shape.{shape_of, IsShape};
+ghost use Rattle.commit_id.specs.Shape.{as_shape, IsShape};
 
-/// How many metadata sectors a section has.
-///
-/// Source: Linux, `drivers/md/dm-integrity.c`, `JOURNAL_BLOCK_SECTORS`.
-const META_SECTORS: u64 = 8;
-
-/// How many bytes of a metadata sector hold entries. Its commit id has the others.
-///
-/// Source: Linux, `drivers/md/dm-integrity.c`, `JOURNAL_SECTOR_DATA`.
-const ENTRY_BYTES: u64 = 504;
+use image_model::{ID_FROM, META_SECTORS};
 
 /// What an entry begins on a multiple of, in bytes.
 ///
@@ -43,21 +35,21 @@ impl Shape {
         requires log2_spb { log2_spb ≤ 3 }
         requires tag_size { IsInRange 1 32 tag_size }
 
-        ensures shape { shape_of result ≡ record { spb = 2 ^ log2_spb; tag_size = tag_size } }
+        ensures shape { as_shape result ≡ record { spb = 2 ^ log2_spb; tag_size = tag_size } }
         ensures is_shape { IsShape result }
     {
         let spb = 1 << log2_spb;
         let tag = tag_size as u64;
         let entry = (8 + 8 * spb + tag).next_multiple_of(ENTRY_STEP);
-        let per_sector = ENTRY_BYTES / entry;
-        let entries = META_SECTORS * per_sector;
+        let per_sector = ID_FROM as u64 / entry;
+        let entries = META_SECTORS as u64 * per_sector;
         Shape {
             spb,
             tag,
             entry,
             per_sector,
             entries,
-            sectors: META_SECTORS + entries * spb,
+            sectors: META_SECTORS as u64 + entries * spb,
         }
     }
 }

@@ -3,10 +3,10 @@
 ghost use Rattle.std.specs.Prelude.{◌≡◌, ℕ, ◌+◌, ◌-◌, ◌^◌, ◌<◌, ◌≤◌, ◌==◌, nat_lt, ◌&&◌, if◌then◌else◌, slice_index};
 ghost use Rattle.image_model.specs.Scan.{Grid as Journal};
 ghost use Rattle.image_model.specs.Walk.{later, newest, plan_by};
-ghost use Rattle.commit_id.specs.Plan.{plan_told};
 ghost use Rattle.commit_id.specs.Spread.{IsSpread, has_reached};
 
-use crate::plan::Plan;
+use crate::plan::plan_by;
+use image_model::Plan;
 
 /// How far each number reaches over the first sections of a journal.
 #[derive(Drop)]
@@ -44,11 +44,11 @@ impl Spread {
     pub(crate) fn plan(&self, sections: u64, newest: u8) -> Plan
         requires newest { newest < 4 }
 
-        ensures { plan_told result ≡ plan_by sections (has_reached self.now (later 2 newest))
+        ensures { result ≡ plan_by sections (has_reached self.now (later 2 newest))
             (slice_index self.now.reach newest) (slice_index self.now.whole newest) newest }
     {
         let two_on = (newest + 2) % 4;
-        Plan::by(
+        plan_by(
             sections,
             self.reach[two_on as usize] > 0,
             self.reach[newest as usize],

@@ -3,11 +3,11 @@
 
 ghost use Rattle.std.specs.Prelude.{◌≡◌, ℕ, ◌+◌, ◌*◌, ◌^◌, ◌<◌, slice_index, None};
 ghost use Rattle.image_model.specs.Scan.{Grid as Journal, IsGrid, blank_number, cell_at, cell_number, found_in};
-ghost use Rattle.commit_id.specs.Grid.{journal_of};
+ghost use Rattle.commit_id.specs.Grid.{as_grid};
 ghost use Rattle.commit_id.specs.Tally.{AddsNumber, IsPlace, IsTally, TellsUnnumbered};
 
-use crate::grid::{Cell, Grid};
-use crate::scanning::ScanFault;
+use crate::grid::Grid;
+use image_model::{Cell, ScanFault};
 
 /// What the first sectors of a journal show.
 #[derive(Drop)]
@@ -25,7 +25,7 @@ pub(crate) struct Tally {
 impl Tally {
     /// The tally of no sector.
     pub(crate) fn new() -> Tally
-        ensures { (grid : Grid) → IsTally (journal_of grid) 0 result }
+        ensures { (grid : Grid) → IsTally (as_grid grid) 0 result }
     {
         Tally {
             counts: [0; 4],
@@ -37,11 +37,11 @@ impl Tally {
 
     /// The number of a blank journal, where this is the tally of one.
     pub(crate) fn blank_number(&self, grid: &Grid) -> Option<u8>
-        requires grid { IsGrid (journal_of grid.now) }
-        requires whole { IsTally (journal_of grid.now)
+        requires grid { IsGrid (as_grid grid.now) }
+        requires whole { IsTally (as_grid grid.now)
             (grid.now.sections * grid.now.sectors) self.now }
 
-        ensures { result ≡ blank_number (journal_of grid.now) }
+        ensures { result ≡ blank_number (as_grid grid.now) }
     {
         if self.blanks == 0 || grid.used_outside {
             return None;
@@ -57,13 +57,13 @@ impl Tally {
 
     /// Adds the next sector of the grid.
     pub(crate) fn add(&mut self, grid: &Grid, section: u64, sector: u64)
-        requires grid { IsGrid (journal_of grid.now) }
+        requires grid { IsGrid (as_grid grid.now) }
         requires section { section < grid.now.sections }
         requires sector { sector < grid.now.sectors }
-        requires next { IsTally (journal_of grid.now)
+        requires next { IsTally (as_grid grid.now)
             (section * grid.now.sectors + sector) self.old }
 
-        ensures { IsTally (journal_of grid.now)
+        ensures { IsTally (as_grid grid.now)
             (section * grid.now.sectors + sector + 1) self.new }
     {
         let k = section * grid.sectors + sector;

@@ -1,7 +1,7 @@
 //! Shapes, ids and scans that were worked out by hand, and journals that the Linux kernel left.
 ghost use Rattle.std.specs.Prelude.{◌≡◌, ℕ, ◌<◌, IfOk, IsTrue, Some};
 ghost use Rattle.image_model.specs.Scan.{IsGrid, cell_number};
-ghost use Rattle.commit_id.specs.Grid.{cell_of, journal_of};
+ghost use Rattle.commit_id.specs.Grid.{as_grid};
 
 use crate::{Cell, Grid, Plan, ScanFault, Shape, State, id, number_of, scan};
 use std::alloc::Global;
@@ -23,7 +23,7 @@ const ZERO: &[Cell] = &[Cell::Zero];
 
 /// Whether a cell has none but a commit number.
 fn is_cell(cell: Cell) -> bool
-    ensures { IsTrue result → (number : ℕ) → cell_number (cell_of cell) ≡ Some number → number < 4 }
+    ensures { IsTrue result → (number : ℕ) → cell_number cell ≡ Some number → number < 4 }
 {
     match cell {
         Cell::Number(number) => number < 4,
@@ -33,7 +33,7 @@ fn is_cell(cell: Cell) -> bool
 
 /// Whether the fields of a grid agree.
 fn is_grid(grid: &Grid) -> bool
-    ensures { IsTrue result → IsGrid (journal_of grid.now) }
+    ensures { IsTrue result → IsGrid (as_grid grid.now) }
 {
     let sectors = grid.cells.len() as u64;
     for cell in &grid.cells {
@@ -49,7 +49,7 @@ fn is_grid(grid: &Grid) -> bool
 
 /// The grid of a journal whose sectors bear these runs.
 fn grid_of(alloc: Global, sections: u64, sectors: u64, runs: &[Run]) -> Result<Grid, Fail>
-    ensures { IfOk result (λ grid. IsGrid (journal_of grid)) }
+    ensures { IfOk result (λ grid. IsGrid (as_grid grid)) }
 {
     let mut cells = Vec::new(alloc);
     for (times, pattern) in runs {

@@ -6,6 +6,8 @@ use Rattle.std.proofs.lemmas.List.{drop-take, take-take, drop-drop, drop-append-
 use Rattle.std.proofs.lemmas.Slice.{take-put_mid, take-put_mid_below}
 use borrow.Rule.Slice.PartMut.{put_mid, post_of}
 use Rattle.disk_model.specs.Disk.{Content, sector_in, with_sectors, with_run, AddsSome}
+use Rattle.disk_model.specs.Moments.{EachMoment, FromStart}
+use Rattle.disk_model.proofs.MomentsLemmas.{EachMoment-weaker, FromStart-weaker}
 use Rattle.disk_model.proofs.DiskLemmas.{within_or_out, with_sectors-in, with_sectors-out}
 
 -- ---- parts of some bytes
@@ -117,3 +119,23 @@ AddsSome-next at from done bytes rest start later whole all_whole within place i
       ∙ with_sectors-next at (done / 512) (length bytes / 512 - done / 512) bytes start s
       ∙ ap (λ (k : ℕ). with_sectors k at bytes start s) all)
 ]
+
+-- What a part of the first sectors adds, a part of all may add too.
+pub AddsSome-take : (at count : ℕ) (bytes : List ℕ) (start later : Content) → 512 * count ≤ length bytes → AddsSome at (take (512 * count) bytes) start later → AddsSome at bytes start later
+AddsSome-take at count bytes start later within adds s = elim (adds s) [
+  | inl same ↦ inl same
+  | inr written ↦ elim (within_or_out at count s) [
+    | inl first ↦
+        inr (written ∙ with_run-take at count bytes start s within ∙ with_sectors-in count at bytes start s first.0 first.1
+        ∙ sym (with_sectors-in (length bytes / 512) at bytes start s first.0 (omega (arith, first.1, within))))
+    | inr out ↦ inl (written ∙ with_run-take at count bytes start s within ∙ with_sectors-out count at bytes start s out)
+  ]
+]
+
+-- The same at each moment, for a part of so many bytes.
+pub part_adds : {a b : List Content} (at size : ℕ) (bytes part : List ℕ) → size ≡ 512 * (size / 512) → size ≤ length bytes → part ≡ take size bytes
+    → EachMoment a b (FromStart a (AddsSome at part)) → EachMoment a b (FromStart a (AddsSome at bytes))
+part_adds {a} at size bytes part whole within is each =
+    EachMoment-weaker (FromStart-weaker a (AddsSome at part) (AddsSome at bytes)
+    (λ start later told adds. AddsSome-take at (size / 512) bytes start later (omega (arith, whole, within))
+    (subst (λ (p : List ℕ). AddsSome at p start later) (is ∙ ap (λ (k : ℕ). take k bytes) whole) adds))) each

@@ -1,6 +1,6 @@
 -- What a call of a file may do: a part of what it is asked, nothing as it was interrupted, or fail.
 -- Own: a file is seen by its whole sectors, and a call of it does whole sectors.
-use Rattle.std.specs.Prelude.{◌≡◌, ℕ, ◌+◌, ◌*◌, ◌/◌, ◌<◌, ◌≤◌, List, Option, Some, None, Result, Err}
+use Rattle.std.specs.Prelude.{◌≡◌, ℕ, ◌*◌, ◌/◌, ◌<◌, ◌≤◌, List, Option, Some, None, Result, Err}
 use Rattle.disk_model.specs.Causes.{Rose}
 use Rattle.std.specs.Option.{ForSome}
 use Rattle.disk_model.specs.Disk.{Content, IsRun}

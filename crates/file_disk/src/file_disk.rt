@@ -45,9 +45,11 @@ impl<O: Folder + Drop> Counted for FileDisk<O> {
 
 impl<O: Folder + Drop> Named for FileDisk<O> {
     fn bind(&mut self, name: &str) -> Result<(), Failed>
-        ensures bound { OnOk result (IsBoundTo name.now (of_file no_disk O.File.identity self.new.file).name) }
+        ensures bound { OnOk result
+            (IsBoundTo name.now (of_file no_disk O.File.identity self.new.file).name) }
 
-        ensures fails { OnErr result (IsSome self.old.file ⊎ Rose (O.faults self.old.folder) (O.faults self.new.folder)) }
+        ensures fails { OnErr result (IsSome self.old.file
+            ⊎ Rose (O.faults self.old.folder) (O.faults self.new.folder)) }
         ensures cause { HasCause
             (self.old.faults + (O.faults self.old.folder + of_file 0 O.File.faults self.old.file))
             (self.new.faults + (O.faults self.new.folder + of_file 0 O.File.faults self.new.file)) result }
@@ -71,7 +73,8 @@ impl<O: Folder + Drop> Disk for FileDisk<O> {
 
     ghost moments = { λ disk. of_file [] O.File.moments disk.file };
 
-    ghost named = { λ disk name. named_as O.File.identity O.File.moments (O.named disk.folder name) disk.file };
+    ghost named = { λ disk name.
+        named_as O.File.identity O.File.moments (O.named disk.folder name) disk.file };
 
     fn sectors(&self) -> u64 {
         match &self.file {
@@ -101,23 +104,26 @@ impl<O: Folder + Drop> Disk for FileDisk<O> {
         }
     }
 
-    ghost reads_an_image = { λ disk c told. elim disk.file as (λ o. content_now (of_file [] O.File.moments o) ≡ Some c
-        → IsImage c (last_image c)) [
+    ghost reads_an_image = { λ disk c told. elim disk.file as (λ o.
+        content_now (of_file [] O.File.moments o) ≡ Some c → IsImage c (last_image c)) [
           | None ↦ λ told. absurd (none-some c told)
           | Some file ↦ λ told. O.File.reads_an_image file c told
         ] told };
 
-    ghost whole_sectors = { λ disk c sector x told low has. elim disk.file as (λ o. content_now (of_file [] O.File.moments o) ≡ Some c
-        → sector < (of_file no_disk O.File.identity o).sectors → length x ≡ 512) [
+    ghost whole_sectors = { λ disk c sector x told low has. elim disk.file as (λ o.
+        content_now (of_file [] O.File.moments o) ≡ Some c → sector < (of_file no_disk O.File.identity o).sectors → length x ≡ 512) [
           | None ↦ λ told low. absurd (none-some c told)
           | Some file ↦ λ told low. O.File.whole_sectors file c sector x told low has
         ] told low };
 
     ghost identity_name = { λ disk. refl };
 
-    ghost named_if_bound = { λ disk name bound. elim disk.file as (λ o. IsBoundTo name (of_file no_disk O.File.identity o).name
-        → named_as O.File.identity O.File.moments (O.named disk.folder name) o
-        ≡ record { sectors = (of_file no_disk O.File.identity o).sectors; moments = of_file [] O.File.moments o }) [
+    ghost named_if_bound = { λ disk name bound. elim disk.file as (λ o.
+        IsBoundTo name (of_file no_disk O.File.identity o).name → named_as O.File.identity O.File.moments (O.named disk.folder name) o
+        ≡ record {
+          sectors = (of_file no_disk O.File.identity o).sectors;
+          moments = of_file [] O.File.moments o;
+        }) [
           | None ↦ λ bound. absurd bound
           | Some file ↦ λ bound. refl
         ] bound };

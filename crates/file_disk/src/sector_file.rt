@@ -106,8 +106,8 @@ pub trait SectorFile {
         → IsImage c (last_image c) };
 
     /// Each candidate of its sectors has 512 bytes.
-    ghost whole_sectors: { (file : Self) (c : Content) (sector : ℕ) (x : List ℕ) → content_now (moments file) ≡ Some c
-        → sector < (identity file).sectors → Contains (c sector) x → length x ≡ 512 };
+    ghost whole_sectors: { (file : Self) (c : Content) (sector : ℕ) (x : List ℕ)
+        → content_now (moments file) ≡ Some c → sector < (identity file).sectors → Contains (c sector) x → length x ≡ 512 };
 }
 
 /// What opens files by their names.

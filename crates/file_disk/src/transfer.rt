@@ -41,7 +41,8 @@ fn read_some<F: SectorFile>(file: &mut F, from: u64, buffer: &mut [u8]) -> Resul
     ensures whole { IfOk result (λ n. n ≡ 512 * (n / 512)) }
     ensures within { IfOk result (λ n. n ≤ length buffer.new) }
     ensures goes_on { IfOk result (λ n. F.interruptions file.new < F.interruptions file.old + n) }
-    ensures read { IfOk result (λ n. ForSome (content_now (F.moments file.old)) (Reads (from / 512) (take n buffer.new))) }
+    ensures read { IfOk result (λ n. ForSome (content_now (F.moments file.old))
+        (Reads (from / 512) (take n buffer.new))) }
 
     ensures cause { HasCause (F.faults file.old) (F.faults file.new) result }
 

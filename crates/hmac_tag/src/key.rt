@@ -1,8 +1,9 @@
 //! The key of a keyed hash, and the hash that tags are made by.
 ghost use Rattle.std.specs.Prelude.{◌≡◌, ◌↔◌, ◌<◌, ℕ, length, IfOk, IsErrOf};
 
-use std::alloc::Global;
+use std::alloc::{AllocError, Global};
 use std::marker::Model;
+use thiserror::Error;
 
 /// How many bytes a key has at most.
 ///
@@ -10,14 +11,27 @@ use std::marker::Model;
 const LONGEST_KEY: usize = 4096;
 
 /// Why some bytes are no key. The first that holds is told.
-#[derive(Clone, Copy, Debug, PartialEq, Eq)]
+#[derive(Clone, Copy, Debug, PartialEq, Eq, Error)]
 pub enum KeyFault {
     /// There are none.
+    #[error("an empty key")]
     Empty,
     /// There are more than 4096: there are `len`.
+    #[error("a key of {len} bytes is too long")]
     TooLong { len: u64 },
     /// Memory ran out.
+    #[error("out of memory")]
     Memory,
+}
+
+impl From<AllocError> for KeyFault {
+    ghost use Rattle.hmac_tag.specs.declared.key.KeyFault.TheVariants.{Memory};
+
+    ghost from_gives = { λ _ fault. fault ≡ Memory };
+
+    fn from(_error: AllocError) -> KeyFault {
+        KeyFault::Memory
+    }
 }
 
 /// A key of 1 to 4096 bytes. It has no `Debug`, so that it leaves no text.
@@ -56,7 +70,7 @@ impl Key {
             let len = bytes.len() as u64;
             return Err(KeyFault::TooLong { len });
         }
-        let bytes = Vec::from_slice(alloc, bytes).map_err(|_| KeyFault::Memory)?;
+        let bytes = Vec::from_slice(alloc, bytes)?;
         Ok(Key { bytes })
     }
 

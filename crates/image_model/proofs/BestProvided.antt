@@ -6,7 +6,8 @@ use Rattle.std.proofs.lemmas.Nat.{row_fits, div-add-mod', mod_below, pow_pos}
 use Rattle.std.proofs.Math.Nat.{mul-mod_left}
 use Rattle.image_model.specs.declared.flags.TheConstants.{DIRTY_BITMAP}
 use Rattle.image_model.specs.Superblock.{Superblock, has_flag, HasLayout}
-use Rattle.image_model.specs.Geometry.{Geometry, layout_of, journal_sectors, initial, sector_at, bitmap_sectors_for, size_faults, best_provided, best_provided_of, DeviceTooLarge, JournalTooLarge, TooSmall}
+use Rattle.image_model.specs.Geometry.{Geometry, layout_of, journal_sectors, initial, sector_at, bitmap_sectors_for, size_faults, best_provided, best_provided_of}
+use Rattle.image_model.specs.declared.geom_fault.GeomFault.TheVariants.{DeviceTooLarge, JournalTooLarge, TooSmall}
 use Rattle.image_model.specs.Faults.{ok_unless}
 use Rattle.image_model.specs.GeometryLaws.{FitsDisk, BestProvidedLaw, NoneProvidedLaw}
 use Rattle.image_model.proofs.FaultLemmas.{ok_unless-told}

@@ -11,7 +11,8 @@ use Rattle.image_model.specs.declared.blanks.TheConstants.{BLANKS_COUNT}
 use Rattle.image_model.specs.CommitId.{id_in, number_of, commit_number}
 use Rattle.image_model.specs.Geometry.{Geometry, section_at, section_sectors, journal_sectors, bitmap_sectors_for, fitting_log2_region, IsGeometry}
 use Rattle.image_model.specs.Grid.{is_zero_sector, cell_by, sector_cell, grid_with, blank_bound, GridLaw}
-use Rattle.image_model.specs.Scan.{Zero, cell_at, cell_number, numbers_of}
+use Rattle.image_model.specs.Scan.{cell_at, cell_number, numbers_of}
+use Rattle.image_model.specs.declared.sector_cell.Cell.TheVariants.{Zero}
 use Rattle.image_model.proofs.Bounds.{has_entries}
 use Rattle.image_model.proofs.CommitIdLemmas.{number_of_tells, number_of-zero}
 use Rattle.image_model.proofs.Regions.{fitting_log2_region_is}

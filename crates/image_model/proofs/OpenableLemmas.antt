@@ -14,8 +14,8 @@ use Rattle.image_model.specs.Geometry.{Geometry, layout_of, IsGeometry}
 use Rattle.image_model.specs.Grid.{walk_of}
 use Rattle.image_model.specs.Openable.{first_sector, IsReadable, is_block_start, IsReplayable, IsOpenable, JournalFault, Scan, entry_fault, journal_fault_of, JournalFaultLaw}
 use Rattle.image_model.specs.Section.{Entry}
-use Rattle.image_model.specs.Scan.{ScanFault}
-use Rattle.image_model.specs.Walk.{Plan}
+use Rattle.image_model.specs.declared.scan_fault.ScanFault.{ScanFault}
+use Rattle.image_model.specs.declared.journal_plan.Plan.{Plan}
 use Rattle.image_model.specs.Superblock.{has_flag, IsAccepted}
 use Rattle.image_model.proofs.CellsLemmas.{counted_entries-journal, counted_entries-bitmap}
 use Rattle.image_model.proofs.GeometryOf.{geometry_given, geometry_apart}

@@ -7,8 +7,12 @@ use Rattle.std.proofs.lemmas.Nat.{div-add-mod', mod_below, div_below, mul-add-lt
 use Rattle.std.proofs.lemmas.Option.{none-some, same_Some}
 use Rattle.image_model.specs.CommitId.{commit_numbers}
 use Rattle.image_model.specs.Below.{any_below}
-use Rattle.image_model.specs.Walk.{State, Rest, Mixed, Erasing, Plan, bears, is_numbered, occurs, later, newest, reach, whole_sections, state_at, range, plan_at, plan_of, sections_of}
-use Rattle.image_model.specs.Scan.{SectorCell, Number, Zero, Other, Grid, IsGrid, cell_at, cell_number, number_at, found_in, is_zero, numbers_of, is_blank_sector, is_blank_with, blank_number, first_place, scan_fault_of, walk_of_grid}
+use Rattle.image_model.specs.Walk.{bears, is_numbered, occurs, later, newest, reach, whole_sections, state_at, range, plan_at, plan_of, sections_of}
+use Rattle.image_model.specs.declared.journal_plan.State.{State}
+use Rattle.image_model.specs.declared.journal_plan.State.TheVariants.{Rest, Mixed, Erasing}
+use Rattle.image_model.specs.declared.journal_plan.Plan.{Plan}
+use Rattle.image_model.specs.Scan.{SectorCell, Grid, IsGrid, cell_at, cell_number, number_at, found_in, is_zero, numbers_of, is_blank_sector, is_blank_with, blank_number, first_place, scan_fault_of, walk_of_grid}
+use Rattle.image_model.specs.declared.sector_cell.Cell.TheVariants.{Number, Zero, Other}
 use Rattle.image_model.specs.Tables.{IsWalkOfTwo, IsBlankSector, IsBlank, IsNumbered, IsPlanOf, IsFirstPlace, IsFaultOf, ScanLaw}
 use Rattle.image_model.proofs.BelowLemmas.{any_at, any_found, all_from, all_at, all_or_some}
 use Rattle.image_model.proofs.NumberLemmas.{four_numbers, first_of_four, first_of_four_tells, cases_option, newest_none}

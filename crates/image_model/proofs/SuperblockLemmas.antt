@@ -11,7 +11,8 @@ use Rattle.std.proofs.lemmas.Bool.Decides.{Decides-eqb}
 use Rattle.std.proofs.lemmas.Slice.Eq.{slice_eq-Decides}
 use Rattle.std.specs.Int.{w32, bit_not, is_in_range, IsInRange}
 use Rattle.image_model.specs.declared.flags.TheConstants.{HAVE_JOURNAL_MAC, RECALCULATING, DIRTY_BITMAP, FIXED_PADDING, FIXED_HMAC, INLINE, KNOWN_FLAGS}
-use Rattle.image_model.specs.Superblock.{Superblock, has_flag, unknown_flags, is_provided, superblock_faults, magic, fields_in, superblock_of, superblock_bytes, version_for, IsAccepted, Magic}
+use Rattle.image_model.specs.Superblock.{Superblock, has_flag, unknown_flags, is_provided, superblock_faults, magic, fields_in, superblock_of, superblock_bytes, version_for, IsAccepted}
+use Rattle.image_model.specs.declared.super_fields.SuperFault.TheVariants.{Magic}
 use Rattle.image_model.specs.Faults.{ok_unless}
 use Rattle.image_model.specs.SuperblockLaws.{FitsBytes, ToldLaw, ReadsBackLaw, WrittenLaw}
 use Rattle.image_model.proofs.SectorLemmas.{number_in-bytes_of, number_in-lt, length-piece}

@@ -4,7 +4,9 @@ use Rattle.std.specs.List.{range_with_len}
 use Rattle.std.specs.Prelude.{is_some}
 use Rattle.std.proofs.lemmas.Bool.{cases_eq, cases_lt, eq-eqb, ne_eqb, false_from_ne_true}
 use Rattle.std.proofs.lemmas.Option.{same_Some}
-use Rattle.image_model.specs.Walk.{Plan, Rest, Numbers, holds, is_wholly, occurs, is_numbered, later, newest, reach, whole_sections, plan_at, plan_of, sections_of, ring}
+use Rattle.image_model.specs.Walk.{Numbers, holds, is_wholly, occurs, is_numbered, later, newest, reach, whole_sections, plan_at, plan_of, sections_of, ring}
+use Rattle.image_model.specs.declared.journal_plan.Plan.{Plan}
+use Rattle.image_model.specs.declared.journal_plan.State.TheVariants.{Rest}
 use Rattle.image_model.specs.Tables.{NewestLaw, IsWholly, IsAtRest, IsWalkOfTwo}
 use Rattle.image_model.proofs.BelowLemmas.{last_le, last_above, last_below, last_passes, front_le, front_passes, front_above, front_below}
 use Rattle.image_model.proofs.NumberLemmas.{newest_is, newest_apart, newest_three, newest_four, newest_tells, later_low, later_back, later_forth, later_two, later_three, only_three}

@@ -7,7 +7,8 @@ use Rattle.std.specs.List.{range_with_len}
 use Rattle.std.specs.Option.{option_map}
 use Rattle.std.specs.Prelude.{is_some}
 use Rattle.image_model.specs.Below.{all_below}
-use Rattle.image_model.specs.Walk.{Plan, Numbers, bears, holds, is_wholly, occurs, is_numbered, later, newest, reach, whole_sections, state_at, range, plan_at, plan_of, sections_of}
+use Rattle.image_model.specs.Walk.{Numbers, bears, holds, is_wholly, occurs, is_numbered, later, newest, reach, whole_sections, state_at, range, plan_at, plan_of, sections_of}
+use Rattle.image_model.specs.declared.journal_plan.Plan.{Plan}
 use Rattle.image_model.proofs.BelowLemmas.{any_at, any_none, any_found, all_from, all_at, any_same, all_same, last_same, front_same}
 
 -- ---- what a sector bears

@@ -8,11 +8,13 @@ use Rattle.image_model.specs.CommitId.{commit_id, number_of, id_in}
 use Rattle.image_model.specs.Geometry.{Geometry, layout_of, entry_size, entries_per_sector, section_entries, section_sectors, regions_for, bitmap_sectors_for, fitting_log2_region, tag_run_of, sector_at, data_at, tag_offset, tag_at}
 use Rattle.image_model.specs.Grid.{grid_with, blank_bound, walk_of}
 use Rattle.image_model.specs.Openable.{Scan, JournalBlock, entry_fault, journal_fault_of}
-use Rattle.image_model.specs.Scan.{NoNumber, walk_of_grid}
+use Rattle.image_model.specs.Scan.{walk_of_grid}
+use Rattle.image_model.specs.declared.scan_fault.ScanFault.TheVariants.{NoNumber}
 use Rattle.image_model.specs.Section.{is_used, entry_at}
 use Rattle.image_model.specs.Sectors.{bytes_of}
 use Rattle.image_model.specs.Superblock.{Superblock}
-use Rattle.image_model.specs.Walk.{Rest, Mixed, Blank, plan_of}
+use Rattle.image_model.specs.Walk.{plan_of}
+use Rattle.image_model.specs.declared.journal_plan.State.TheVariants.{Rest, Mixed, Blank}
 
 -- Fields with blocks of one sector and one section.
 abbrev fields : ℕ → ℕ → ℕ → Superblock

@@ -2,7 +2,8 @@
 -- the kernel's documentation.
 use Rattle.std.proofs.Common.{◌≡◌, Ok, Err, refl}
 use Rattle.image_model.specs.Superblock.{Superblock}
-use Rattle.image_model.specs.Geometry.{Shape, entry_size, entries_per_sector, section_entries, section_sectors, tag_run_of, layout_of, section_at, journal_sectors, initial, sector_at, data_at, tag_offset, tag_at, region_of, regions, regions_for, bitmap_sectors_for, fitting_log2_region, geometry_of, best_provided, best_provided_of, JournalTooLarge, DeviceTooLarge, TooSmall, BitmapTooLarge}
+use Rattle.image_model.specs.Geometry.{Shape, entry_size, entries_per_sector, section_entries, section_sectors, tag_run_of, layout_of, section_at, journal_sectors, initial, sector_at, data_at, tag_offset, tag_at, region_of, regions, regions_for, bitmap_sectors_for, fitting_log2_region, geometry_of, best_provided, best_provided_of}
+use Rattle.image_model.specs.declared.geom_fault.GeomFault.TheVariants.{JournalTooLarge, DeviceTooLarge, TooSmall, BitmapTooLarge}
 use Rattle.image_model.proofs.WorkedImages.{small, kernel_straddling, kernel_large_blocks, kernel_oldest}
 
 -- ---- the small image: 256 sectors, interleave 8, one section, tags of 32 bytes

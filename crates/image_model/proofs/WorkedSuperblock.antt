@@ -1,7 +1,8 @@
 -- Values of specs/Superblock.antt from outside: the format's table, images that the kernel made, and the order of faults.
 use Rattle.std.proofs.Common.{◌≡◌, ℕ, List, [], ◌∷◌, ◌++◌, replicate, Ok, Err, refl}
 use Rattle.image_model.specs.Sectors.{piece}
-use Rattle.image_model.specs.Superblock.{Superblock, fields_in, superblock_of, superblock_bytes, version_for, Magic, Version, JournalMac, Inline, Flags, Interleave, BlockSize, TagSize, Sections, Provided}
+use Rattle.image_model.specs.Superblock.{Superblock, fields_in, superblock_of, superblock_bytes, version_for}
+use Rattle.image_model.specs.declared.super_fields.SuperFault.TheVariants.{Magic, Version, JournalMac, Inline, Flags, Interleave, BlockSize, TagSize, Sections, Provided}
 use Rattle.image_model.proofs.WorkedImages.{small, small_bytes, kernel_small, kernel_small_bytes, kernel_straddling, kernel_straddling_bytes, kernel_large_blocks, kernel_large_blocks_bytes}
 
 -- ---- images

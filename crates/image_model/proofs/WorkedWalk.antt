@@ -1,7 +1,13 @@
 -- Walks at values from outside, by computing.
 use Rattle.std.proofs.Common.{◌≡◌, ℕ, refl, Bool, true, false, List, [], ◌∷◌, replicate, Result, Ok, Err, flat_map}
-use Rattle.image_model.specs.Walk.{State, Rest, Mixed, Erasing, Blank, Plan, plan_of, sections_of}
-use Rattle.image_model.specs.Scan.{SectorCell, Number, Zero, Other, ScanFault, NoNumber, FourNumbers, walk_of_grid}
+use Rattle.image_model.specs.Walk.{plan_of, sections_of}
+use Rattle.image_model.specs.declared.journal_plan.State.{State}
+use Rattle.image_model.specs.declared.journal_plan.State.TheVariants.{Rest, Mixed, Erasing, Blank}
+use Rattle.image_model.specs.declared.journal_plan.Plan.{Plan}
+use Rattle.image_model.specs.Scan.{SectorCell, walk_of_grid}
+use Rattle.image_model.specs.declared.sector_cell.Cell.TheVariants.{Number, Zero, Other}
+use Rattle.image_model.specs.declared.scan_fault.ScanFault.{ScanFault}
+use Rattle.image_model.specs.declared.scan_fault.ScanFault.TheVariants.{NoNumber, FourNumbers}
 
 -- Sectors in order, so many of each cell.
 abbrev sectors_in : List (ℕ × SectorCell) → List SectorCell

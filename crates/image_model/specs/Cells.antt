@@ -11,8 +11,9 @@ use Rattle.image_model.specs.Section.{Entry, entry_at}
 use Rattle.image_model.specs.Sectors.{piece, bytes_at}
 use Rattle.image_model.specs.Superblock.{Superblock, has_flag}
 use Rattle.image_model.specs.Tag.{tag_of}
-use Rattle.image_model.specs.Scan.{ScanFault}
-use Rattle.image_model.specs.Walk.{Plan, sections_of}
+use Rattle.image_model.specs.declared.scan_fault.ScanFault.{ScanFault}
+use Rattle.image_model.specs.Walk.{sections_of}
+use Rattle.image_model.specs.declared.journal_plan.Plan.{Plan}
 
 -- The bytes of a block and a tag.
 pub record Cell : Type 0 where

@@ -1,6 +1,8 @@
 -- Where the journal, the tags and the data lie on a disk, and which blocks of the device make a region.
 -- Source: Linux, Documentation/admin-guide/device-mapper/dm-integrity.rst, and drivers/md/dm-integrity.c, by function.
 use Rattle.std.specs.Prelude.{◌≡◌, ◌≤◌, ℕ, zero, suc, ◌+◌, ◌-◌, ◌*◌, ◌/◌, ◌%◌, ◌^◌, Bool, ◌&&◌, ◌==◌, nat_le, nat_lt, if◌then◌else◌, List, [], ◌∷◌, ◌++◌, Result}
+use Rattle.image_model.specs.declared.geom_fault.GeomFault.{GeomFault}
+use Rattle.image_model.specs.declared.geom_fault.GeomFault.TheVariants.{DeviceTooLarge, JournalTooLarge, TooSmall, BitmapTooLarge}
 use Rattle.image_model.specs.declared.flags.TheConstants.{DIRTY_BITMAP, FIXED_PADDING}
 use Rattle.image_model.specs.Faults.{ok_unless}
 use Rattle.image_model.specs.Superblock.{Superblock, has_flag}
@@ -125,22 +127,15 @@ least_from passes from (suc count) = if passes from then from else least_from pa
 unfoldable pub fitting_log2_region : Geometry → ℕ
 fitting_log2_region g = least_from (λ k. nat_le (bitmap_sectors_for g.blocks k) (journal_sectors g)) g.log2_region 48
 
--- Why fields and a disk give no geometry, in the order in which it is judged. Each number is one of sectors.
-pub data GeometryFault : Type 0 where
-  DeviceTooLarge : (have : ℕ) → GeometryFault
-  JournalTooLarge : (have : ℕ) → GeometryFault
-  TooSmall : (have need : ℕ) → GeometryFault
-  BitmapTooLarge : (need have : ℕ) → GeometryFault
-
 -- The faults by size alone, each beside its test, on a disk of so many sectors. Own: both bounds.
-abbrev pub size_faults : Geometry → ℕ → List (Bool × GeometryFault)
+abbrev pub size_faults : Geometry → ℕ → List (Bool × GeomFault)
 size_faults g sectors =
     (nat_lt (2 ^ 48) sectors, DeviceTooLarge sectors)
     ∷ (nat_lt (2 ^ 20) (journal_sectors g), JournalTooLarge (journal_sectors g))
     ∷ []
 
 -- Those, and the faults by where the data and the bitmap end.
-abbrev pub geometry_faults : Superblock → ℕ → List (Bool × GeometryFault)
+abbrev pub geometry_faults : Superblock → ℕ → List (Bool × GeomFault)
 geometry_faults s sectors =
     let g = layout_of s in
     let need = sector_at g (s.provided - 1) + 1 in
@@ -151,7 +146,7 @@ geometry_faults s sectors =
     ∷ []
 
 -- The geometry of the fields on a disk of so many sectors, or the first fault.
-unfoldable pub geometry_of : Superblock → ℕ → Result Geometry GeometryFault
+unfoldable pub geometry_of : Superblock → ℕ → Result Geometry GeomFault
 geometry_of s sectors = ok_unless (geometry_faults s sectors) (layout_of s)
 
 -- The most sectors, a multiple of 8, whose data lie on a disk of so many: those of whole areas, and of one cut short.
@@ -162,7 +157,7 @@ best_provided g sectors =
     (space / area * g.interleave + (space % area - g.tag_run)) / 8 * 8
 
 -- The provided sectors of a new image, or the first fault. The field `provided` is not looked at.
-unfoldable pub best_provided_of : Superblock → ℕ → Result ℕ GeometryFault
+unfoldable pub best_provided_of : Superblock → ℕ → Result ℕ GeomFault
 best_provided_of s sectors =
     let g = layout_of s in
     let best = best_provided g sectors in

@@ -2,7 +2,8 @@
 use Rattle.std.specs.Prelude.{◌≡◌, ◌≢◌, ◌⊎◌, ℕ, ◌+◌, ◌-◌, ◌*◌, ◌%◌, ◌^◌, ◌<◌, ◌≤◌, ⊤, IsTrue, ◌↔◌, Ok, Err}
 use Rattle.image_model.specs.declared.flags.TheConstants.{DIRTY_BITMAP}
 use Rattle.image_model.specs.Superblock.{Superblock, has_flag, HasLayout, IsAccepted}
-use Rattle.image_model.specs.Geometry.{Geometry, IsGeometry, section_sectors, layout_of, section_at, journal_sectors, sector_at, data_at, tag_at, bitmap_sectors, bitmap_sectors_for, fitting_log2_region, geometry_of, best_provided_of, TooSmall}
+use Rattle.image_model.specs.Geometry.{Geometry, IsGeometry, section_sectors, layout_of, section_at, journal_sectors, sector_at, data_at, tag_at, bitmap_sectors, bitmap_sectors_for, fitting_log2_region, geometry_of, best_provided_of}
+use Rattle.image_model.specs.declared.geom_fault.GeomFault.TheVariants.{TooSmall}
 
 -- The geometry of the fields has room on a disk of so many sectors.
 pub record FitsDisk (s : Superblock) (sectors : ℕ) : Type 0 where

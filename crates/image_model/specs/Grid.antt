@@ -9,8 +9,10 @@ use Rattle.image_model.specs.CommitId.{id_in, commit_number}
 use Rattle.image_model.specs.Geometry.{Geometry, section_at, section_sectors, section_entries, journal_sectors, bitmap_sectors_for, fitting_log2_region, IsGeometry}
 use Rattle.image_model.specs.Sectors.{bytes_at}
 use Rattle.image_model.specs.Section.{is_used}
-use Rattle.image_model.specs.Scan.{SectorCell, Number, Zero, Other, ScanFault, Grid, IsGrid, numbers_of, walk_of_grid}
-use Rattle.image_model.specs.Walk.{Plan}
+use Rattle.image_model.specs.Scan.{SectorCell, Grid, IsGrid, numbers_of, walk_of_grid}
+use Rattle.image_model.specs.declared.sector_cell.Cell.TheVariants.{Number, Zero, Other}
+use Rattle.image_model.specs.declared.scan_fault.ScanFault.{ScanFault}
+use Rattle.image_model.specs.declared.journal_plan.Plan.{Plan}
 
 -- All bytes of a sector are zero.
 abbrev pub is_zero_sector : List ℕ → Bool

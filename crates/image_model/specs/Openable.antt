@@ -11,7 +11,7 @@ use Rattle.image_model.specs.Geometry.{Geometry, geometry_of}
 use Rattle.image_model.specs.Grid.{walk_of}
 use Rattle.image_model.specs.Section.{Entry}
 use Rattle.image_model.specs.Superblock.{Superblock, has_flag, superblock_of}
-use Rattle.image_model.specs.Scan.{ScanFault}
+use Rattle.image_model.specs.declared.scan_fault.ScanFault.{ScanFault}
 
 -- The bytes of a disk's first sector, and none where it has no sector.
 abbrev pub first_sector : ℕ → Image → List ℕ

@@ -3,22 +3,19 @@
 use Rattle.std.specs.Prelude.{◌≡◌, ℕ, ◌+◌, ◌*◌, ◌/◌, ◌%◌, ◌<◌, ◌≤◌, nat_lt, Bool, true, false, not, ◌&&◌, ◌||◌, if◌then◌else◌, Option, Some, None, is_none, ok_or, option_map, find, Result, List, [], ◌∷◌, length, map, slice_index_or}
 use Rattle.std.specs.List.{position_or_len}
 use Rattle.std.specs.Option.{option_or}
+use Rattle.image_model.specs.declared.scan_fault.ScanFault.{ScanFault}
+use Rattle.image_model.specs.declared.scan_fault.ScanFault.TheVariants.{NoNumber, FourNumbers}
+use Rattle.image_model.specs.declared.sector_cell.Cell.{Cell}
+use Rattle.image_model.specs.declared.sector_cell.Cell.TheVariants.{Number, Zero, Other}
 use Rattle.image_model.specs.CommitId.{commit_numbers}
 use Rattle.image_model.specs.Below.{any_below, all_below}
-use Rattle.image_model.specs.Walk.{Blank, Plan, Numbers, bears, plan_of}
+use Rattle.image_model.specs.Walk.{Numbers, bears, plan_of}
+use Rattle.image_model.specs.declared.journal_plan.State.TheVariants.{Blank}
+use Rattle.image_model.specs.declared.journal_plan.Plan.{Plan}
 
--- What stands in the place of a journal sector's commit id: one of its own ids, the end of 512 zero
--- bytes, or another id.
-pub data SectorCell : Type 0 where
-  Number : (number : ℕ) → SectorCell
-  Zero : SectorCell
-  Other : (found : ℕ) → SectorCell
-
--- Why a journal has no plan: the first sector without a number and what is found there, or the first
--- place of each of the four numbers.
-pub data ScanFault : Type 0 where
-  NoNumber : (section sector found : ℕ) → ScanFault
-  FourNumbers : (places : List (ℕ × ℕ)) → ScanFault
+-- What stands in the place of a journal sector's commit id.
+abbrev pub SectorCell : Type 0
+SectorCell = Cell
 
 -- A journal as the scan sees it: so many sections of so many sectors, the cell of each sector, how
 -- many of them, from the first on, a bitmap would have, and whether a used entry stands elsewhere than

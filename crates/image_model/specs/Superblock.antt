@@ -4,22 +4,15 @@ use Rattle.std.specs.Prelude.{◌≡◌, ℕ, ◌%◌, ◌^◌, ◌≤◌, max, 
 use Rattle.std.specs.List.{starts_with}
 use Rattle.std.specs.Int.{w32, bit_not, is_in_range, IsInRange}
 use Rattle.image_model.specs.declared.flags.TheConstants.{HAVE_JOURNAL_MAC, RECALCULATING, DIRTY_BITMAP, FIXED_PADDING, FIXED_HMAC, INLINE, KNOWN_FLAGS}
+use Rattle.image_model.specs.declared.super_fields.Super.{Super}
+use Rattle.image_model.specs.declared.super_fields.SuperFault.{SuperFault}
+use Rattle.image_model.specs.declared.super_fields.SuperFault.TheVariants.{Magic, Version, JournalMac, Inline, Flags, Interleave, BlockSize, TagSize, Sections, Provided}
 use Rattle.image_model.specs.Faults.{ok_unless}
 use Rattle.image_model.specs.Sectors.{piece, number_in, bytes_of, zero_bytes}
 
--- The fields. A tag's size is in bytes, `provided` and `recalc_sector` in sectors of the device. A block has
--- 2 ^ log2_spb sectors, an area the data of 2 ^ log2_interleave sectors, a region 2 ^ log2_region blocks.
-pub record Superblock : Type 0 where
-  pub version : ℕ
-  pub log2_interleave : ℕ
-  pub tag_size : ℕ
-  pub sections : ℕ
-  pub provided : ℕ
-  pub flags : ℕ
-  pub log2_spb : ℕ
-  pub log2_region : ℕ
-  pub recalc_sector : ℕ
-  pub salt : List ℕ
+-- The fields. A tag's size is in bytes, `provided` and `recalc_sector` in sectors of the device.
+abbrev pub Superblock : Type 0
+Superblock = Super
 
 -- The flag is set.
 abbrev pub has_flag : ℕ → ℕ → Bool
@@ -29,25 +22,12 @@ has_flag flag flags = not (bit_and flags flag == 0)
 abbrev pub unknown_flags : ℕ → ℕ
 unknown_flags flags = bit_and flags (bit_not w32 KNOWN_FLAGS)
 
--- Why a superblock is refused, in the order in which it is judged: with the field, and of the flags the unknown ones.
-pub data SuperblockFault : Type 0 where
-  Magic : SuperblockFault
-  Version : ℕ → SuperblockFault
-  JournalMac : ℕ → SuperblockFault
-  Inline : ℕ → SuperblockFault
-  Flags : ℕ → SuperblockFault
-  Interleave : ℕ → SuperblockFault
-  BlockSize : ℕ → SuperblockFault
-  TagSize : ℕ → SuperblockFault
-  Sections : ℕ → SuperblockFault
-  Provided : ℕ → SuperblockFault
-
 -- The provided sectors are whole blocks, at least one, and no more than a disk may have.
 abbrev pub is_provided : Superblock → Bool
 is_provided s = is_in_range 1 (2 ^ 48) s.provided && s.provided % 2 ^ s.log2_spb == 0
 
 -- The faults of the fields, each beside its test. Own: the order, and the bounds of a tag and of the provided sectors.
-abbrev pub superblock_faults : Superblock → List (Bool × SuperblockFault)
+abbrev pub superblock_faults : Superblock → List (Bool × SuperFault)
 superblock_faults s =
     (not (is_in_range 1 5 s.version), Version s.version)
     ∷ (has_flag HAVE_JOURNAL_MAC s.flags, JournalMac s.flags)
@@ -80,7 +60,7 @@ fields_in bytes = record {
 }
 
 -- What the bytes of sector 0 tell: the fields, or the first fault. No bytes at all have no magic.
-unfoldable pub superblock_of : List ℕ → Result Superblock SuperblockFault
+unfoldable pub superblock_of : List ℕ → Result Superblock SuperFault
 superblock_of bytes =
     let s = fields_in bytes in
     ok_unless ((not (starts_with nat_eq bytes magic), Magic) ∷ superblock_faults s) s

@@ -3,8 +3,13 @@
 -- Own: as the walk.
 use Rattle.std.specs.Prelude.{◌≡◌, ◌≢◌, ℕ, ◌+◌, ◌*◌, ◌-◌, ◌<◌, ◌≤◌, min, Bool, true, false, Option, Some, None, Ok, IfOk, IfErr, List, [], ◌∷◌, ◌++◌, map, length, slice_index_or}
 use Rattle.std.specs.List.{range_with_len}
-use Rattle.image_model.specs.Walk.{State, Rest, Mixed, Erasing, Blank, Numbers, occurs, later, newest, sections_of, ring}
-use Rattle.image_model.specs.Scan.{Zero, ScanFault, NoNumber, FourNumbers, Grid, IsGrid, cell_at, number_at, found_in, numbers_of, blank_plan, walk_of_grid}
+use Rattle.image_model.specs.Walk.{Numbers, occurs, later, newest, sections_of, ring}
+use Rattle.image_model.specs.declared.journal_plan.State.{State}
+use Rattle.image_model.specs.declared.journal_plan.State.TheVariants.{Rest, Mixed, Erasing, Blank}
+use Rattle.image_model.specs.Scan.{Grid, IsGrid, cell_at, number_at, found_in, numbers_of, blank_plan, walk_of_grid}
+use Rattle.image_model.specs.declared.sector_cell.Cell.TheVariants.{Zero}
+use Rattle.image_model.specs.declared.scan_fault.ScanFault.{ScanFault}
+use Rattle.image_model.specs.declared.scan_fault.ScanFault.TheVariants.{NoNumber, FourNumbers}
 
 -- Whether a number occurs, and those one, two and three laps on.
 abbrev pub laps_of : (ℕ → Bool) → ℕ → List Bool

@@ -3,22 +3,11 @@
 -- commit id stands on all its sectors. Own: the order of the sections, the states and the refusals.
 use Rattle.std.specs.Prelude.{ℕ, ◌+◌, ◌-◌, ◌%◌, ◌==◌, nat_lt, Bool, false, not, ◌&&◌, if◌then◌else◌, Option, Some, None, is_some, option_map, find, List, [], ◌∷◌, ◌++◌}
 use Rattle.std.specs.List.{range_with_len}
+use Rattle.image_model.specs.declared.journal_plan.Plan.{Plan}
+use Rattle.image_model.specs.declared.journal_plan.State.{State}
+use Rattle.image_model.specs.declared.journal_plan.State.TheVariants.{Rest, Mixed, Erasing, Blank}
 use Rattle.image_model.specs.CommitId.{commit_numbers}
 use Rattle.image_model.specs.Below.{any_below, all_below, past_last, front_length}
-
--- The state of a journal: at rest, with the section and the number that are written next; within a
--- commit or an erasure that was cut, with the newest number; blank, with the number of what is not zero.
-pub data State : Type 0 where
-  Rest : (next number : ℕ) → State
-  Mixed : (newest : ℕ) → State
-  Erasing : (newest : ℕ) → State
-  Blank : (number : ℕ) → State
-
--- The state, and the sections that count: two ranges in order, each from its first section to the one
--- after its last.
-pub record Plan : Type 0 where
-  pub state : State
-  pub walk : List (ℕ × ℕ)
 
 -- ---- numbers
 

@@ -2,11 +2,12 @@
 ghost use Rattle.std.specs.Prelude.{◌≡◌, ⊤, None};
 ghost use Rattle.std.proofs.Common.{refl};
 ghost use Rattle.std.proofs.lemmas.Option.{none-some};
-ghost use Rattle.disk_model.specs.Identity.{AnyName};
+ghost use Rattle.disk_model.specs.Identity.{AnyName, Unbound};
+ghost use Rattle.file_disk.specs.Files.{of_file};
 
 use crate::faults::count_error;
-use crate::opening::open_apart;
 use crate::reading::read_some;
+use file_disk::open_apart;
 use sector_disk::{Counted, Failed, Named};
 use std::fs::OpenOptions;
 use std::io;
@@ -37,7 +38,7 @@ impl<R: Files + Drop> FileSource<R> {
 impl<R: Files + Drop> Counted for FileSource<R> {
     ghost faults = { λ source. source.faults };
 
-    ghost binding = { λ source. AnyName };
+    ghost binding = { λ source. of_file Unbound (λ file. AnyName) source.file };
 
     ghost tells_same = { λ name a b. ⊤ };
 }

@@ -1,20 +1,19 @@
 //! The program: its files, its standard input and output, and its status.
 //!
-//! What it does is `integrity` of `integrity_tool`, which is proved over any disk, source and sink. These here
-//! stand for what the system has: each makes calls of std, counts what fails, and tells nothing of content.
+//! What it does is `integrity` of `integrity_tool`, which is proved over any disk, source and sink. The disk is that of
+//! `file_disk`, over the files of the system. These here stand for what the system has: each makes calls of std, counts
+//! what fails, and tells nothing of content.
 #![tactic(auto)]
 
 mod faults;
-mod file_disk;
 mod file_source;
-mod opening;
 mod reading;
 mod std_sink;
 mod std_source;
 #[cfg(test)]
 mod tests;
 
-use file_disk::FileDisk;
+use file_disk::{FileDisk, StdFolder};
 use file_source::FileSource;
 use integrity_tool::integrity;
 use std::io::ErrorKind;
@@ -34,7 +33,7 @@ fn words_of<R: Env + AllocGlobal>(rt: &R) -> io::Result<Vec<String>> {
 }
 
 fn main(rt: HostRuntime) -> ExitCode {
-    let mut disk = FileDisk::new(&rt);
+    let mut disk = FileDisk::new(StdFolder::new(&rt));
     let mut key = FileSource::new(&rt);
     let mut script = StdSource::new(&rt);
     let mut out = StdSink::new(&rt);

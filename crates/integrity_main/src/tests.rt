@@ -1,44 +1,13 @@
 //! Tests of the adapters over files that they make: no clause says what reaches a file or comes from it.
-use crate::file_disk::FileDisk;
 use crate::file_source::FileSource;
 use crate::std_sink::StdSink;
-use sector_disk::{Disk, Failed, Named};
+use sector_disk::{Failed, Named};
 use std::fmt::Display;
 use std::fs::File;
 use std::io::{ErrorKind, Print, Write};
 use std::test::Fail;
 use std::{fs, io};
 use stream_io::{Sink, Source, put_all};
-
-#[test]
-fn a_disk_is_the_whole_sectors_of_its_file(rt: HostRuntime) -> Result<(), Fail> {
-    let mut wanted = [0xaa; 1636];
-    fs::write(&rt, "image", &wanted)?;
-    let mut disk = FileDisk::new(&rt);
-    assert_eq!(rt; disk.sectors(), 0, "before bind");
-    assert_eq!(rt; disk.sync(), Err(Failed), "before bind");
-    assert_eq!(rt; disk.bind("no file"), Err(Failed));
-    assert_eq!(rt; disk.bind("image"), Ok(()));
-    assert_eq!(rt; disk.sectors(), 3);
-    disk.write_run(1, &[0xbb; 1024])?;
-    disk.sync()?;
-    wanted[512..1536].fill(0xbb);
-    assert_eq!(rt;
-        fs::read(&rt, "image")?.as_slice(),
-        &wanted[..],
-        "the sectors that were written, and no other byte"
-    );
-    let mut buffer = [0; 1024];
-    disk.read_run(0, &mut buffer)?;
-    assert_eq!(rt; &buffer[..], &wanted[..1024]);
-    fs::write(&rt, "image", b"cut")?;
-    assert_eq!(rt;
-        disk.read_run(0, &mut buffer),
-        Err(Failed),
-        "the file is shorter now"
-    );
-    Ok(())
-}
 
 #[test]
 fn a_source_gives_its_file(rt: HostRuntime) -> Result<(), Fail> {

@@ -6,7 +6,7 @@ use Rattle.integrity_tool.specs.Script.{HasNoNewline}
 use Rattle.integrity_tool.specs.Lines.{LineReading, BeginsLine, FindsWholeLine, FindsLine, TakesRun, EndsRun}
 use Rattle.integrity_tool.specs.declared.line_reader.NextLine.{NextLine}
 use Rattle.integrity_tool.specs.declared.line_reader.NextLine.TheVariants.{Line, End, LongLine, LongScript}
-use Rattle.integrity_tool.specs.declared.line_reader.TheConstants.{MOST_LINE}
+use Rattle.device_model.specs.Grammar.{most_line}
 
 -- ---- what two states of a source tell
 
@@ -51,7 +51,7 @@ BeginsLine-run start old new before left begins run = record {
 }
 
 FindsWholeLine-run : (start old new : LineReading) (before left : List ℕ) → BeginsLine start old before (old.unread ++ left) → TakesRun (10 ∷ []) old new
-    → length new.line ≤ MOST_LINE → FindsWholeLine start new before (new.unread ++ left)
+    → length new.line ≤ most_line → FindsWholeLine start new before (new.unread ++ left)
 FindsWholeLine-run start old new before left begins run short = record {
   takes = record {
     plain = HasNoNewline-run (10 ∷ []) old new begins.plain run;
@@ -66,7 +66,7 @@ FindsWholeLine-run start old new before left begins run short = record {
 -- The reader is inside a line that began when it stood at `start` and its source had `first` left.
 pub record IsInLine (start : LineReading) (first : Option (List ℕ)) (now : LineReading) (last : Option (List ℕ)) : Type 0 where
   pub begins : ForSome first (λ left. IsSomeAnd last (λ later. BeginsLine start now (start.unread ++ left) (now.unread ++ later)))
-  pub short : length now.line ≤ MOST_LINE
+  pub short : length now.line ≤ most_line
   pub counted : now.taken ≡ start.taken + length now.line
 
 -- More bytes were read.
@@ -103,7 +103,7 @@ IsInLine-run start old new first last inside (run, short, more) = record {
 -- ---- where the line ends
 
 run_ends : (next : NextLine) (start old new : LineReading) (before later : List ℕ) → BeginsLine start old before (old.unread ++ later)
-    → length old.line ≤ MOST_LINE → 0 < length old.unread → EndsRun (Some next) old new → FindsLine next start new before (new.unread ++ later)
+    → length old.line ≤ most_line → 0 < length old.unread → EndsRun (Some next) old new → FindsLine next start new before (new.unread ++ later)
 run_ends Line start old new before later begins short more (run, fits) = FindsWholeLine-run start old new before later begins run fits
 run_ends End start old new before later begins short more run = absurd run
 run_ends LongLine start old new before later begins short more (run, long) = record {
@@ -120,7 +120,7 @@ run_ends LongScript start old new before later begins short more (same, bound) =
     })
 
 script_ends : (next : NextLine) (start now : LineReading) (before after text : List ℕ) → now.line ≡ text → BeginsLine start now before after
-    → length now.line ≤ MOST_LINE → (now.line ≢ [] → next ≡ Line) → (now.line ≡ [] → next ≡ End) → after ≡ [] → FindsLine next start now before after
+    → length now.line ≤ most_line → (now.line ≢ [] → next ≡ Line) → (now.line ≡ [] → next ≡ End) → after ≡ [] → FindsLine next start now before after
 script_ends next start now before after [] is begins short line end none =
     rw (end is) (begins.bytes ∙ (rw (is, none) refl), none, omega (arith, begins.counted, ap length is))
 script_ends next start now before after (x ∷ xs) is begins short line end none =
@@ -160,5 +160,5 @@ FindsLine-end next start old now first middle last inside same read no_unread li
     (λ left between later begins goes.
     let begins_now = BeginsLine-read start old now (start.unread ++ left) between later begins same goes.0 in
     let none : now.unread ++ later ≡ [] = rw (no_unread, goes.1 no_unread) refl in
-    let short : length now.line ≤ MOST_LINE = rw (ap (λ (r : LineReading). r.line) same) inside.short in
+    let short : length now.line ≤ most_line = rw (ap (λ (r : LineReading). r.line) same) inside.short in
     script_ends next start now (start.unread ++ left) (now.unread ++ later) now.line refl begins_now short line end none)

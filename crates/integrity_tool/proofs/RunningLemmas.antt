@@ -27,7 +27,7 @@ use Rattle.integrity_tool.specs.Script.{TakesLine, BeginsWith, BeginsWithNone, I
 use Rattle.integrity_tool.specs.declared.ended.Ended.{Ended}
 use Rattle.integrity_tool.specs.declared.ended.Ended.TheVariants.{Words, Line, Length, Image as ImageEnds, Disk, Script, Sink, Memory}
 use Rattle.integrity_tool.specs.declared.line.Line.{Line as ReadLine}
-use Rattle.integrity_tool.specs.declared.line_reader.TheConstants.{MOST_SCRIPT}
+use Rattle.device_model.specs.ScriptBytes.{most_script}
 use Rattle.integrity_tool.specs.declared.line_reader.NextLine.TheVariants.{End}
 use Rattle.integrity_tool.proofs.GrammarLemmas.{length-line_bytes-le}
 use Rattle.integrity_tool.proofs.ScriptLemmas.{BeginsWith-none, BeginsWith-push, BeginsWithNone-line, BeginsWithNone-long}
@@ -40,15 +40,15 @@ next_is_end number old new before after found = found.0
 pub next_is_counted : (old new : LineReading) (before after : List ℕ) → FindsWholeLine old new before after → new.taken + length after ≡ old.taken + length before
 next_is_counted old new before after found = found.counted
 
-pub next_is_line : (number : ℕ) (old new : LineReading) (line : ReadLine) (before after : List ℕ) → new.taken ≤ MOST_SCRIPT → FindsWholeLine old new before after → IsLine small_blocks.blocks new.line (line_of line)
+pub next_is_line : (number : ℕ) (old new : LineReading) (line : ReadLine) (before after : List ℕ) → new.taken ≤ most_script → FindsWholeLine old new before after → IsLine small_blocks.blocks new.line (line_of line)
     → FindsNext number old.taken before after (Ok (Some line))
 next_is_line number old new line before after within found is = (is.runnable, subst (λ (l : List ℕ). TakesLine before l after) is.bytes_are found.takes, omega (arith, within, found.counted))
 
-pub next_is_refused : (number : ℕ) (old new : LineReading) (before after : List ℕ) → new.taken ≤ MOST_SCRIPT → FindsWholeLine old new before after → IsNoLine small_blocks.blocks new.line
+pub next_is_refused : (number : ℕ) (old new : LineReading) (before after : List ℕ) → new.taken ≤ most_script → FindsWholeLine old new before after → IsNoLine small_blocks.blocks new.line
     → FindsNext number old.taken before after (Err (Line number))
 next_is_refused number old new before after within found none = (refl, (new.line, after, omega (arith, within, found.counted), inl (found.takes, none)))
 
-pub next_is_long : (number : ℕ) (old new : LineReading) (before after : List ℕ) → new.taken ≤ MOST_SCRIPT → FindsLongLine old new before after → FindsNext number old.taken before after (Err (Line number))
+pub next_is_long : (number : ℕ) (old new : LineReading) (before after : List ℕ) → new.taken ≤ most_script → FindsLongLine old new before after → FindsNext number old.taken before after (Err (Line number))
 next_is_long number old new before after within found = (
   refl,
   (

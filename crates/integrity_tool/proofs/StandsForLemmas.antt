@@ -9,7 +9,7 @@ use Rattle.disk_model.proofs.DiskLemmas.{newest_only-image, image_of_nothing_pen
 use Rattle.disk_model.proofs.MomentsLemmas.{EachMoment-weaker, content_at_end}
 use Rattle.image_model.specs.Geometry.{data_at, tag_at}
 use Rattle.device_model.specs.Cut.{IsUnflushed, MayBeLeftDirect, flushed_cells}
-use Rattle.device_model.specs.History.{BlockWrite, History, Change, Written, Flushed, opened, with_change, with_changes, written_cell}
+use Rattle.device_model.specs.History.{BlockWrite, History, Change, Begun, Written, Flushed, opened, with_change, with_changes, written_cell}
 use Rattle.device_model.specs.Transcript.{filled}
 use Rattle.device_model.proofs.CutLemmas.{MayBeLeftDirect-begun, IsUnflushed-pending, IsUnflushed-written, IsUnflushed-begun, flushed_cells-written, flushed_cells-flushed}
 use Rattle.device_model.proofs.HistoryLemmas.{cells_now-written_same, cells_now-written_other, cells_now-flushed, flushed-le-with_change, fill_of, filled-more, with_changes-filled_more}
@@ -79,6 +79,7 @@ left_at_rest c h stands image is = record { flushed = λ b below not. stands.set
 
 left_begun : (c : Content) (h : History) (changes : List Change) → StandsFor c h → EachImage (λ image. MayBeLeftDirect small_blocks.tag small_blocks.blocks (begun changes h) (small_cells image)) c
 left_begun c h [] stands = left_at_rest c h stands
+left_begun c h (Begun w ∷ changes) stands = left_at_rest c h stands
 left_begun c h (Written w ∷ changes) stands =
     λ image is. MayBeLeftDirect-begun small_blocks.tag small_blocks.blocks h (Some w) (small_cells image) stands.nothing_pending (left_at_rest c h stands image is)
 left_begun c h (Flushed ∷ changes) stands = left_at_rest c h stands

@@ -4,7 +4,8 @@ use Rattle.std.specs.Prelude.{◌≡◌, ◌≢◌, ℕ, ◌+◌, ◌<◌, ◌�
 use Rattle.integrity_tool.specs.Script.{HasNoNewline, TakesLine}
 use Rattle.integrity_tool.specs.declared.line_reader.NextLine.{NextLine}
 use Rattle.integrity_tool.specs.declared.line_reader.NextLine.TheVariants.{Line, End, LongLine, LongScript}
-use Rattle.integrity_tool.specs.declared.line_reader.TheConstants.{MOST_LINE, MOST_SCRIPT}
+use Rattle.device_model.specs.Grammar.{most_line}
+use Rattle.device_model.specs.ScriptBytes.{most_script}
 
 -- A reader of lines: the bytes that it has read and not taken, its line, and how many bytes it took since it was made.
 pub record LineReading : Type 0 where
@@ -23,19 +24,19 @@ pub record BeginsLine (old new : LineReading) (before after : List ℕ) : Type 0
 -- It took a line, with its newline where it has one.
 pub record FindsWholeLine (old new : LineReading) (before after : List ℕ) : Type 0 where
   pub takes : TakesLine before new.line after
-  pub short : length new.line ≤ MOST_LINE
+  pub short : length new.line ≤ most_line
   pub counted : new.taken + length after ≡ old.taken + length before
 
 -- It took one byte more than a line may have.
 pub record FindsLongLine (old new : LineReading) (before after : List ℕ) : Type 0 where
   pub begins : BeginsLine old new before after
-  pub long : length new.line ≡ MOST_LINE + 1
+  pub long : length new.line ≡ most_line + 1
 
 -- It took all bytes of a script that are run. The line does not end in them, and more bytes are to come.
 pub record FindsLongScript (old new : LineReading) (before after : List ℕ) : Type 0 where
   pub begins : BeginsLine old new before after
-  pub short : length new.line ≤ MOST_LINE
-  pub bound : new.taken ≡ MOST_SCRIPT
+  pub short : length new.line ≤ most_line
+  pub bound : new.taken ≡ most_script
   pub more : after ≢ []
 
 -- What is told is what it found.
@@ -54,12 +55,12 @@ pub record TakesRun (ending : List ℕ) (old new : LineReading) : Type 0 where
   pub unread : old.unread ≡ run ++ (ending ++ new.unread)
   pub line : new.line ≡ old.line ++ run
   pub taken : new.taken ≡ old.taken + length run + length ending
-  pub within : new.taken ≤ MOST_SCRIPT
+  pub within : new.taken ≤ most_script
 
 -- What is told of a run is what it ended at. Nothing is told where the line goes on behind the unread bytes.
 abbrev pub EndsRun : Option NextLine → LineReading → LineReading → Type 0
-EndsRun (Some Line) old new = TakesRun (10 ∷ []) old new × (length new.line ≤ MOST_LINE)
+EndsRun (Some Line) old new = TakesRun (10 ∷ []) old new × (length new.line ≤ most_line)
 EndsRun (Some End) old new = ⊥
-EndsRun (Some LongLine) old new = TakesRun [] old new × (length new.line ≡ MOST_LINE + 1)
-EndsRun (Some LongScript) old new = (new ≡ old) × (old.taken ≡ MOST_SCRIPT)
-EndsRun None old new = TakesRun [] old new × (length new.line ≤ MOST_LINE) × (old.taken < new.taken)
+EndsRun (Some LongLine) old new = TakesRun [] old new × (length new.line ≡ most_line + 1)
+EndsRun (Some LongScript) old new = (new ≡ old) × (old.taken ≡ most_script)
+EndsRun None old new = TakesRun [] old new × (length new.line ≤ most_line) × (old.taken < new.taken)

@@ -4,7 +4,8 @@ use Rattle.std.specs.Prelude.{◌≡◌, ◌≢◌, ◌⊎◌, ℕ, ◌+◌, ◌
 use Rattle.std.specs.List.{All}
 use Rattle.device_model.specs.Transcript.{Line}
 use Rattle.integrity_tool.specs.Grammar.{line_bytes, IsRunnable, IsLine}
-use Rattle.integrity_tool.specs.declared.line_reader.TheConstants.{MOST_LINE, MOST_SCRIPT}
+use Rattle.device_model.specs.Grammar.{most_line}
+use Rattle.device_model.specs.ScriptBytes.{most_script}
 
 -- No byte of it is a newline.
 abbrev pub HasNoNewline : List ℕ → Type 0
@@ -34,17 +35,17 @@ BeginsWithNone blocks rest =
 
 -- All that stands before is within the bound of a script.
 abbrev pub IsWithinBound : ℕ → List ℕ → Type 0
-IsWithinBound size rest = size ≤ MOST_SCRIPT + length rest
+IsWithinBound size rest = size ≤ most_script + length rest
 
 -- Within the bound it begins with a line that cannot be run, or with one byte more than a line may have.
 abbrev pub BeginsRefused : ℕ → ℕ → List ℕ → Type 0
 BeginsRefused blocks size rest =
     (bytes : List ℕ) × (after : List ℕ) × IsWithinBound size after
     × ((TakesLine rest bytes after × ((line : Line) → ¬ IsLine blocks bytes line))
-    ⊎ ((rest ≡ bytes ++ after) × HasNoNewline bytes × (length bytes ≡ MOST_LINE + 1)))
+    ⊎ ((rest ≡ bytes ++ after) × HasNoNewline bytes × (length bytes ≡ most_line + 1)))
 
 -- No newline stands in it up to the bound, and it goes on behind that.
 abbrev pub CrossesBound : ℕ → List ℕ → Type 0
 CrossesBound size rest =
-    (bytes : List ℕ) × (after : List ℕ) × (size ≡ MOST_SCRIPT + length after) × (rest ≡ bytes ++ after)
-    × HasNoNewline bytes × (length bytes ≤ MOST_LINE) × (after ≢ [])
+    (bytes : List ℕ) × (after : List ℕ) × (size ≡ most_script + length after) × (rest ≡ bytes ++ after)
+    × HasNoNewline bytes × (length bytes ≤ most_line) × (after ≢ [])

@@ -1,16 +1,13 @@
 -- What the top call promises of its status, its text and its disk.
 use Rattle.std.specs.Prelude.{◌≡◌, ◌⊎◌, ℕ, ◌<◌, List, ◌++◌, length, take}
-use Rattle.std.specs.Option.{ForSome}
 use Rattle.disk_model.specs.Disk.{Content, Image, IsImage, last_image}
-use Rattle.disk_model.specs.Identity.{NamedDisk}
-use Rattle.disk_model.specs.Moments.{content_now}
 use Rattle.device_model.specs.Ending.{Ending, RefusedWords, RefusedImage, DiskFailed, NoMemory, status_of, fault_text}
 use Rattle.device_model.specs.Transcript.{Line}
 use Rattle.integrity_tool.specs.Form.{IsOfForm, small_blocks}
 use Rattle.integrity_tool.specs.Leaving.{IsLeftBy, RunsAndLeaves}
 use Rattle.integrity_tool.specs.Script.{BeginsWith, BeginsWithNone}
 use Rattle.integrity_tool.specs.Words.{IsRunWords}
-use Rattle.integrity_tool.specs.declared.line_reader.TheConstants.{MOST_SCRIPT}
+use Rattle.device_model.specs.ScriptBytes.{most_script}
 
 -- What a run is given: the words, how many sectors the disk has and what they hold, and the script.
 pub record Start : Type 0 where
@@ -22,10 +19,6 @@ pub record Start : Type 0 where
 abbrev pub start_of : List (List ℕ) → ℕ → Content → List ℕ → Start
 start_of words sectors content script = record { words = words; sectors = sectors; content = content; script = script }
 
--- A disk that is bound is what stood under its name, where this was told: so many sectors, and these moments.
-pub record IsThere (named : NamedDisk) (sectors : ℕ) (moments : List Content) : Type 0 where
-  pub is : ForSome (content_now named.moments) (λ c. named ≡ record { sectors = sectors; moments = moments })
-
 -- The disk's image is of the form that there is.
 abbrev pub HasForm : Start → Type 0
 HasForm start = IsOfForm start.sectors (last_image start.content)
@@ -34,7 +27,7 @@ HasForm start = IsOfForm start.sectors (last_image start.content)
 abbrev pub IsRefusedScript : List ℕ → Type 0
 IsRefusedScript script =
     ((lines : List Line) × (rest : List ℕ) × BeginsWith small_blocks.blocks script lines rest × BeginsWithNone small_blocks.blocks rest)
-    ⊎ (MOST_SCRIPT < length script)
+    ⊎ (most_script < length script)
 
 -- Each image of the later content is one of the first.
 pub record NarrowsImages (first later : Content) : Type 0 where

@@ -9,8 +9,10 @@ mod line_reader;
 mod pieces;
 mod reading;
 mod running;
-mod runs;
 mod small_image;
+mod stretches;
+#[cfg(test)]
+mod tests;
 mod text;
 mod top_call;
 mod words;

@@ -12,12 +12,10 @@ use std::alloc::Global;
 use std::marker::Model;
 use stream_io::Source;
 
-/// The most bytes of a script that are run.
-///
-/// Own: docs/DECISIONS.md, "Bounds of a script".
+/// The most bytes of a script that are run: `most_script` of `device_model`, `specs/ScriptBytes.antt`.
 pub const MOST_SCRIPT: u64 = 16_777_216;
 
-/// The most bytes of a line, without its newline.
+/// The most bytes of a line, without its newline: `most_line` of `device_model`, `specs/Grammar.antt`.
 pub const MOST_LINE: usize = 65_536;
 
 /// How many bytes of a source are read at a time.
@@ -122,16 +120,19 @@ pub struct LineReader {
 impl Model for LineReader {
     ghost use Rattle.std.specs.Prelude.{◌+◌, ◌≤◌, vec_capacity};
     ghost use Rattle.integrity_tool.specs.Lines.{LineReading};
-    ghost use Rattle.integrity_tool.specs.declared.line_reader.TheConstants.{MOST_LINE, MOST_SCRIPT};
+    ghost use Rattle.device_model.specs.Grammar.{most_line};
+    ghost use Rattle.device_model.specs.ScriptBytes.{most_script};
 
     ghost Value = { LineReading };
 
     ghost view = { λ reader. record { unread = reader.piece; line = reader.line.items; taken = reader.taken } };
 
-    ghost invariant = { λ reader. (MOST_LINE + 1 ≤ vec_capacity reader.line) × (reader.taken ≤ MOST_SCRIPT) };
+    ghost invariant = { λ reader. (most_line + 1 ≤ vec_capacity reader.line) × (reader.taken ≤ most_script) };
 }
 
 impl LineReader {
+    ghost use Rattle.device_model.specs.Grammar.{most_line};
+    ghost use Rattle.device_model.specs.ScriptBytes.{most_script};
     ghost use Rattle.integrity_tool.specs.Lines.{BeginsLine, FindsLine, EndsRun};
 
     /// Nothing is read yet.
@@ -175,7 +176,7 @@ impl LineReader {
         ensures err { OnErr result (ForSome (S.left script.old) (λ left. IsSomeAnd (S.left script.new)
             (λ later. BeginsLine self.old self.new (self.old.unread ++ left) (self.new.unread ++ later)))) }
 
-        ensures within { self.new.taken ≤ MOST_SCRIPT }
+        ensures within { self.new.taken ≤ most_script }
     {
         self.line.clear();
         while self.has_more(script)? {
@@ -201,7 +202,7 @@ impl LineReader {
         ensures err { OnErr result ((self.new ≡ self.old) × (S.left script.new ≡ S.left script.old)) }
 
         ensures same { self.new ≡ record self.old { unread = self.new.unread } }
-        ensures within { self.new.taken ≤ MOST_SCRIPT }
+        ensures within { self.new.taken ≤ most_script }
     {
         if self.piece.unread().is_empty() {
             self.piece.fill(script)?;
@@ -224,7 +225,7 @@ impl LineReader {
     /// Takes the unread bytes of the line, and its newline where it stands among them.
     fn take_run(&mut self) -> Option<NextLine>
         requires unread { 0 < length self.old.unread }
-        requires line { length self.old.line ≤ MOST_LINE }
+        requires line { length self.old.line ≤ most_line }
 
         ensures { EndsRun result self.old self.new }
     {
@@ -252,8 +253,8 @@ impl LineReader {
     /// Takes the next bytes into the line.
     fn take(&mut self, count: usize)
         requires unread { count ≤ length self.old.unread }
-        requires line { length self.old.line + count ≤ MOST_LINE + 1 }
-        requires taken { self.old.taken + count ≤ MOST_SCRIPT }
+        requires line { length self.old.line + count ≤ most_line + 1 }
+        requires taken { self.old.taken + count ≤ most_script }
 
         ensures { self.new ≡ record {
           unread = drop count self.old.unread;

@@ -9,6 +9,7 @@ ghost use Rattle.disk_model.specs.Identity.{HasSectors, IsBound};
 ghost use Rattle.disk_model.specs.Moments.{content_now, EachMoment, FromStart};
 ghost use Rattle.device_model.specs.Reply.{read_reply};
 ghost use Rattle.device_model.specs.Transcript.{Fill, Read, Flush, Session, after_line, line_result, read_text, is_fault, closed_text};
+ghost use Rattle.device_model.specs.ScriptBytes.{most_script};
 ghost use Rattle.integrity_tool.specs.Form.{small_blocks};
 ghost use Rattle.integrity_tool.specs.Grammar.{IsRunnable};
 ghost use Rattle.integrity_tool.specs.Line.{line_of};
@@ -23,7 +24,7 @@ ghost use Rattle.integrity_tool.specs.declared.small_image.TheConstants.{SMALL_S
 
 use crate::ended::Ended;
 use crate::line::{Line, read_line};
-use crate::line_reader::{LineReader, MOST_SCRIPT, NextLine};
+use crate::line_reader::{LineReader, NextLine};
 use crate::reading::{Found, read_blocks};
 use crate::small_image::{BLOCK_SIZE, SMALL_BLOCKS, SMALL_SECTORS, SMALL_SIZE};
 use crate::text::{longest_text, put_fault_text, put_flush_text, put_read_text, put_write_text};
@@ -94,7 +95,7 @@ pub fn run_script<D: Disk, S: Source, O: Sink>(
     ensures disk { result ≡ Err Ended.Disk → Rose (D.faults disk.old) (D.faults disk.new) }
     ensures script { result ≡ Err Ended.Script → Rose (S.faults script.old) (S.faults script.new) }
     ensures sink { result ≡ Err Ended.Sink → Rose (O.faults out.old) (O.faults out.new) }
-    ensures others { IfErr result EndsScript }
+    ensures errors { IfErr result EndsScript }
 
     ensures disk_later { D.faults disk.old ≤ D.faults disk.new }
     ensures script_later { S.faults script.old ≤ S.faults script.new }
@@ -133,12 +134,12 @@ fn next_line<S: Source>(
         reader.new.taken + length (reader.new.unread ++ later) ≡ reader.old.taken + length (reader.old.unread ++ left)))) }
 
     ensures script { result ≡ Err Ended.Script → Rose (S.faults script.old) (S.faults script.new) }
-    ensures others { IfErr result EndsScript }
+    ensures errors { IfErr result EndsScript }
     ensures not_disk { result ≢ Err Ended.Disk }
     ensures not_sink { result ≢ Err Ended.Sink }
 
     ensures script_later { S.faults script.old ≤ S.faults script.new }
-    ensures within { reader.new.taken ≤ MOST_SCRIPT }
+    ensures within { reader.new.taken ≤ most_script }
 {
     match reader.next_line(script) {
         Err(_) => Err(Ended::Script),
@@ -174,7 +175,7 @@ fn run_line<D: Disk, O: Sink>(
 
     ensures disk { result ≡ Err Ended.Disk → Rose (D.faults disk.old) (D.faults disk.new) }
     ensures sink { result ≡ Err Ended.Sink → Rose (O.faults out.old) (O.faults out.new) }
-    ensures others { IfErr result EndsLine }
+    ensures errors { IfErr result EndsLine }
 
     ensures disk_later { D.faults disk.old ≤ D.faults disk.new }
     ensures sink_later { O.faults out.old ≤ O.faults out.new }
@@ -214,7 +215,7 @@ fn run_fill<D: Disk, O: Sink>(
 
     ensures disk { result ≡ Err Ended.Disk → Rose (D.faults disk.old) (D.faults disk.new) }
     ensures sink { result ≡ Err Ended.Sink → Rose (O.faults out.old) (O.faults out.new) }
-    ensures others { IfErr result EndsLine }
+    ensures errors { IfErr result EndsLine }
 
     ensures disk_later { D.faults disk.old ≤ D.faults disk.new }
     ensures sink_later { O.faults out.old ≤ O.faults out.new }
@@ -248,7 +249,7 @@ fn run_flush<D: Disk, O: Sink>(disk: &mut D, out: &mut O, text: &mut Vec<u8>) ->
 
     ensures disk { result ≡ Err Ended.Disk → Rose (D.faults disk.old) (D.faults disk.new) }
     ensures sink { result ≡ Err Ended.Sink → Rose (O.faults out.old) (O.faults out.new) }
-    ensures others { IfErr result EndsLine }
+    ensures errors { IfErr result EndsLine }
 
     ensures disk_later { D.faults disk.old ≤ D.faults disk.new }
     ensures sink_later { O.faults out.old ≤ O.faults out.new }
@@ -292,7 +293,7 @@ fn run_read<D: Disk, O: Sink>(
 
     ensures disk { result ≡ Err Ended.Disk → Rose (D.faults disk.old) (D.faults disk.new) }
     ensures sink { result ≡ Err Ended.Sink → Rose (O.faults out.old) (O.faults out.new) }
-    ensures others { IfErr result EndsLine }
+    ensures errors { IfErr result EndsLine }
 
     ensures disk_later { D.faults disk.old ≤ D.faults disk.new }
     ensures sink_later { O.faults out.old ≤ O.faults out.new }
@@ -354,7 +355,7 @@ fn close<D: Disk, O: Sink>(disk: &mut D, out: &mut O) -> Result<(), Ended>
         → Rose (D.faults disk.old) (D.faults disk.new) × (O.held out.new ≡ O.held out.old) }
     ensures sink { result ≡ Err Ended.Sink
         → Rose (O.faults out.old) (O.faults out.new) × AddsPrefix closed_text (O.held out.old) (O.held out.new) }
-    ensures others { IfErr result EndsLine }
+    ensures errors { IfErr result EndsLine }
 
     ensures disk_later { D.faults disk.old ≤ D.faults disk.new }
     ensures sink_later { O.faults out.old ≤ O.faults out.new }

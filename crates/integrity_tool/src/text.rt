@@ -7,7 +7,7 @@ ghost use Rattle.device_model.specs.Transcript.{read_text, write_text};
 ghost use Rattle.integrity_tool.specs.Text.{longest_text};
 
 use crate::pieces::{put_bytes, put_number, put_tag};
-use crate::runs::put_runs;
+use crate::stretches::put_stretches;
 use hmac_tag::Tag;
 
 /// The most bytes of the text of a fault, whose number has 20 digits at most, and whose two tags have 64 each.
@@ -44,7 +44,7 @@ pub fn put_read_text(text: &mut Vec<u8>, first: u64, count: u64, bytes: &[u8])
     put_bytes(text, b" ");
     put_number(text, count);
     put_bytes(text, b" ");
-    put_runs(text, bytes);
+    put_stretches(text, bytes);
     put_bytes(text, b"\n");
 }
 

@@ -4,13 +4,13 @@ ghost use Rattle.std.specs.Option.{ForSome, option_map};
 ghost use Rattle.std.specs.String.{string_bytes};
 ghost use Rattle.disk_model.specs.Causes.{Rose};
 ghost use Rattle.disk_model.specs.Disk.{HasNothingPending, OnlyAdds, last_image, newest_only};
-ghost use Rattle.disk_model.specs.Identity.{IsBound, IsBoundTo, NamedDisk};
+ghost use Rattle.disk_model.specs.Identity.{IsBound, IsBoundTo, IsThere};
 ghost use Rattle.disk_model.specs.Moments.{content_now, EachMoment, FromStart};
 ghost use Rattle.integrity_tool.specs.Form.{IsOfForm};
 ghost use Rattle.integrity_tool.specs.Leaving.{IsOfScript};
 ghost use Rattle.integrity_tool.specs.Running.{RefusesScript, ending_by};
 ghost use Rattle.integrity_tool.specs.Standing.{IsOfBlock};
-ghost use Rattle.integrity_tool.specs.Top.{start_of, IsRefusedScript, IsThere, Leaves, MayBeLeft, Tells};
+ghost use Rattle.integrity_tool.specs.Top.{start_of, IsRefusedScript, Leaves, MayBeLeft, Tells};
 ghost use Rattle.device_model.specs.Ending.{Complete, status_of};
 ghost use Rattle.integrity_tool.specs.Words.{IsRunWords, image_word};
 
@@ -26,8 +26,8 @@ use stream_io::{Sink, Source};
 /// Does what the words say, and answers the status. The words are the program's name and then those of a command.
 ///
 /// There is one command, `run IMAGE --mode D`, on one form of image, the small one, and three forms of line:
-/// `fill F C HH`, `read F C` and `flush`. The key is not touched. The first call of the disk, once it is bound, is a
-/// sync, and the last one is a sync before `closed` is printed.
+/// `fill F C HH`, `read F C` and `flush`. The key is not touched. An image is refused only once the disk is synced, and
+/// `closed` is printed only once all that was written is.
 ///
 /// # Statuses
 ///
@@ -246,7 +246,7 @@ fn open<D: Disk>(disk: &mut D) -> Result<(), Ended>
     ensures synced_first { result ≡ Err Ended.Image → content_now (D.moments disk.new)
         ≡ option_map newest_only (content_now (D.moments disk.old)) }
     ensures disk { result ≡ Err Ended.Disk → Rose (D.faults disk.old) (D.faults disk.new) }
-    ensures others { IfErr result (λ ended. ended ≡ Ended.Image ⊎ ended ≡ Ended.Disk) }
+    ensures errors { IfErr result (λ ended. ended ≡ Ended.Image ⊎ ended ≡ Ended.Disk) }
 
     ensures disk_later { D.faults disk.old ≤ D.faults disk.new }
     ensures identity { D.identity disk.new ≡ D.identity disk.old }

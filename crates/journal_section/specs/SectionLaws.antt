@@ -1,7 +1,7 @@
 -- What the bytes of a section follow from.
 use Rattle.std.specs.Prelude.{◌≡◌, ℕ, ◌<◌, List, slice_index, Option}
 use Rattle.commit_id.specs.declared.shape.Shape.{Shape}
-use Rattle.commit_id.specs.Shape.{shape_of, IsShape}
+use Rattle.commit_id.specs.Shape.{as_shape, IsShape}
 use Rattle.image_model.specs.Section.{Entry}
 use Rattle.journal_section.specs.Entries.{BearsNumber, HoldsEntries}
 
@@ -9,6 +9,6 @@ use Rattle.journal_section.specs.Entries.{BearsNumber, HoldsEntries}
 abbrev pub SectionIsTold : Type 0
 SectionIsTold = (shape : Shape) (i number : ℕ) (entries : List (Option Entry)) (one other : List ℕ) → IsShape shape
     → ((at : ℕ) → slice_index one at < 256) → ((at : ℕ) → slice_index other at < 256)
-    → HoldsEntries (shape_of shape) entries one → HoldsEntries (shape_of shape) entries other
-    → BearsNumber (shape_of shape) i number one → BearsNumber (shape_of shape) i number other
+    → HoldsEntries (as_shape shape) entries one → HoldsEntries (as_shape shape) entries other
+    → BearsNumber (as_shape shape) i number one → BearsNumber (as_shape shape) i number other
     → one ≡ other

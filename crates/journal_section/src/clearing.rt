@@ -1,6 +1,6 @@
 //! An empty section.
 ghost use Rattle.std.specs.Prelude.{◌≡◌, ℕ, ◌+◌, ◌*◌, ◌^◌, ◌<◌, length, replicate, None, slice_index};
-ghost use Rattle.commit_id.specs.Shape.{shape_of, IsShape};
+ghost use Rattle.commit_id.specs.Shape.{as_shape, IsShape};
 ghost use Rattle.image_model.specs.Section.{entry_from};
 ghost use Rattle.journal_section.specs.Entries.{BearsNumber, HoldsEntries, IsWithin};
 
@@ -18,8 +18,8 @@ pub fn clear(shape: Shape, i: u64, number: u8, bytes: &mut [u8])
     requires number { number < 4 }
     requires bytes { length bytes.old ≡ 512 * shape.sectors }
 
-    ensures number { BearsNumber (shape_of shape) i number bytes.new }
-    ensures entries { HoldsEntries (shape_of shape) (replicate shape.entries None) bytes.new }
+    ensures number { BearsNumber (as_shape shape) i number bytes.new }
+    ensures entries { HoldsEntries (as_shape shape) (replicate shape.entries None) bytes.new }
 {
     bytes.fill(0);
     for n in 0..shape.entries {

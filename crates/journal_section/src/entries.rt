@@ -1,7 +1,7 @@
 //! The entries of a section, put and read.
 ghost use Rattle.std.specs.Prelude.{◌≡◌, ℕ, ◌+◌, ◌*◌, ◌^◌, ◌<◌, ◌≤◌, List, length, take, None, slice_index_or};
 ghost use Rattle.std.specs.Option.{option_map};
-ghost use Rattle.commit_id.specs.Shape.{shape_of, IsShape};
+ghost use Rattle.commit_id.specs.Shape.{as_shape, IsShape};
 ghost use Rattle.image_model.specs.Section.{Entry};
 ghost use Rattle.journal_section.specs.Entries.{entries_of};
 ghost use Rattle.journal_section.specs.Pieces.{HasPieces, PutsEntry, with_pieces};
@@ -9,10 +9,11 @@ ghost use Rattle.journal_section.specs.View.{view_of};
 ghost use Rattle.journal_section.specs.Fields.{HasFields};
 
 use crate::blocks::put_fronts;
-use crate::places::{HIGH_HALF, ID_FROM, SECTOR, WORD, entry_from, put, put_number};
+use crate::places::{HIGH_HALF, WORD, entry_from, put, put_number};
 use byteorder::{ByteOrder, LittleEndian};
 use commit_id::Shape;
 use hmac_tag::Tag;
+use image_model::{ID_FROM, SECTOR_SIZE};
 
 /// The higher half of the sector's number in an unused entry.
 ///
@@ -37,7 +38,7 @@ pub fn entry(shape: Shape, meta: &[u8], n: u64) -> Option<EntryView>
     requires n { n < shape.entries }
 
     ensures { (bytes : List ℕ) → take 4096 bytes ≡ meta.now
-        → result ≡ option_map view_of (slice_index_or (entries_of (shape_of shape) bytes) n None) }
+        → result ≡ option_map view_of (slice_index_or (entries_of (as_shape shape) bytes) n None) }
 {
     let from = entry_from(shape, n);
     if LittleEndian::read_u32(&meta[from + HIGH_HALF..]) == UNUSED {
@@ -72,9 +73,9 @@ pub fn put_entry(
     requires tag { length tag.now ≡ shape.tag }
 
     ensures put { let entry : Entry = record { sector = sector; bytes = block.now; tag = tag.now } in
-        (bytes : List ℕ) → HasPieces (shape_of shape) n meta.old parts.old bytes
-        → PutsEntry (shape_of shape) n entry bytes
-        (with_pieces (shape_of shape) n meta.new parts.new bytes) }
+        (bytes : List ℕ) → HasPieces (as_shape shape) n meta.old parts.old bytes
+        → PutsEntry (as_shape shape) n entry bytes
+        (with_pieces (as_shape shape) n meta.new parts.new bytes) }
 {
     let from = entry_from(shape, n);
     put_fields(
@@ -100,7 +101,7 @@ fn put_fields(shape: Shape, place: &mut [u8], sector: u64, block: &[u8], tag: &T
     place.fill(0);
     put_number(place, 0, sector);
     for k in 0..shape.spb as usize {
-        let last = SECTOR * k + ID_FROM;
+        let last = SECTOR_SIZE * k + ID_FROM;
         put(place, WORD * (k + 1), &block[last..last + WORD]);
     }
     put(place, tag_from(shape), tag.bytes());

@@ -1,6 +1,6 @@
 //! Where the parts of a section lie, and how bytes are put there.
 ghost use Rattle.std.specs.Prelude.{◌≡◌, ◌+◌, ◌*◌, ◌≤◌, ◌<◌, length};
-ghost use Rattle.commit_id.specs.Shape.{shape_of, IsShape};
+ghost use Rattle.commit_id.specs.Shape.{as_shape, IsShape};
 ghost use Rattle.image_model.specs.Geometry.{entry_size};
 ghost use Rattle.image_model.specs.Section.{entry_from};
 ghost use Rattle.image_model.specs.Sectors.{bytes_of};
@@ -8,31 +8,17 @@ ghost use Rattle.journal_section.specs.Pieces.{with_piece};
 
 use byteorder::{ByteOrder, LittleEndian};
 use commit_id::Shape;
+use image_model::{META_SECTORS, SECTOR_SIZE};
 
-/// The size of a sector in bytes.
+/// The size of a number in an entry, in bytes.
 ///
-/// Source: Linux, `include/linux/blk_types.h`, `SECTOR_SIZE`.
-pub(crate) const SECTOR: usize = 512;
-
-/// The byte of a journal sector where its commit id begins.
-///
-/// Source: Linux, `drivers/md/dm-integrity.c`, `JOURNAL_SECTOR_DATA`.
-pub(crate) const ID_FROM: usize = 504;
-
-/// The size of a commit id, and of a sector's number, in bytes.
-///
-/// Source: Linux, `drivers/md/dm-integrity.c`, `commit_id_t` and `struct journal_entry`.
+/// Source: Linux, `drivers/md/dm-integrity.c`, `struct journal_entry`.
 pub(crate) const WORD: usize = 8;
 
 /// The byte of an entry where the higher half of its sector's number begins.
 ///
 /// Source: Linux, `drivers/md/dm-integrity.c`, `struct journal_entry`.
 pub(crate) const HIGH_HALF: usize = 4;
-
-/// How many metadata sectors a section has.
-///
-/// Source: Linux, `drivers/md/dm-integrity.c`, `JOURNAL_BLOCK_SECTORS`.
-const META_SECTORS: usize = 8;
 
 /// The byte of the metadata where entry `n` begins.
 ///
@@ -41,16 +27,16 @@ pub(crate) fn entry_from(shape: Shape, n: u64) -> usize
     requires shape { IsShape shape }
     requires n { n < shape.entries }
 
-    ensures place { result ≡ entry_from (shape_of shape) n }
+    ensures place { result ≡ entry_from (as_shape shape) n }
     ensures fits { result + shape.entry ≤ 4096 }
 
     // How large an entry is, for those who index in it.
-    ensures size { shape.entry ≡ entry_size (shape_of shape) }
+    ensures size { shape.entry ≡ entry_size (as_shape shape) }
     ensures fields { 8 + 8 * shape.spb + shape.tag ≤ shape.entry }
     ensures spb { shape.spb ≤ 8 }
 {
     let n = n as usize;
-    SECTOR * (n % META_SECTORS) + n / META_SECTORS * shape.entry as usize
+    SECTOR_SIZE * (n % META_SECTORS) + n / META_SECTORS * shape.entry as usize
 }
 
 /// Puts the piece into the bytes, from byte `from` on.

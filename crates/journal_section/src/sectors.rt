@@ -4,9 +4,9 @@ ghost use Rattle.disk_model.specs.Disk.{sector_in};
 ghost use Rattle.image_model.specs.CommitId.{commit_number, id_in};
 ghost use Rattle.image_model.specs.Grid.{is_zero_sector};
 
-use crate::places::{ID_FROM, SECTOR};
 use byteorder::{ByteOrder, LittleEndian};
 use commit_id::number_of;
+use image_model::{ID_FROM, SECTOR_SIZE};
 
 /// What stands in the place of the commit id of sector `j`: its last 8 bytes.
 ///
@@ -16,7 +16,7 @@ pub fn id_at(bytes: &[u8], j: u64) -> u64
 
     ensures { result ≡ id_in (sector_in bytes.now j) }
 {
-    LittleEndian::read_u64(&bytes[SECTOR * j as usize + ID_FROM..])
+    LittleEndian::read_u64(&bytes[SECTOR_SIZE * j as usize + ID_FROM..])
 }
 
 /// Whether sector `j` has 512 zero bytes.
@@ -25,8 +25,8 @@ pub fn is_zero(bytes: &[u8], j: u64) -> bool
 
     ensures { result ≡ is_zero_sector (sector_in bytes.now j) }
 {
-    let from = SECTOR * j as usize;
-    are_zero(&bytes[from..from + SECTOR])
+    let from = SECTOR_SIZE * j as usize;
+    are_zero(&bytes[from..from + SECTOR_SIZE])
 }
 
 /// The commit number that sector `j` of section `i` bears. None where it bears none.

@@ -6,9 +6,9 @@ use Rattle.image_model.specs.declared.flags.TheConstants.{FIXED_PADDING}
 use Rattle.image_model.specs.Superblock.{Superblock, has_flag, HasLayout}
 use Rattle.image_model.specs.Geometry.{round_up, journal_sectors, tag_run_of, layout_of}
 use Rattle.image_model.proofs.Bounds.{journal_sectors-low, tag_run_of-high}
-use Rattle.commit_id.specs.Shape.{shape_of, IsShape}
+use Rattle.commit_id.specs.Shape.{as_shape, IsShape}
 use Rattle.layout.specs.declared.layout.Layout.{Layout}
-use Rattle.layout.specs.Layout.{geometry_in, IsLayout}
+use Rattle.layout.specs.Layout.{as_geometry, IsLayout}
 
 -- What an exponent of at most 31 gives has room.
 shifted_is : (log2 : ℕ) → log2 ≤ 31 → (1 * 2 ^ log2 % 2 ^ 64 ≡ 2 ^ log2) × (2 ^ log2 ≤ 2 ^ 31)
@@ -58,7 +58,7 @@ tag_run_of-is s blocks padding padded h blocks_are padding_is least most whole =
 
 -- What is computed of accepted fields is a layout.
 pub IsLayout-of : (s : Superblock) (layout : Layout) → HasLayout s → s.sections < 2 ^ 32 → IsShape layout.shape
-    → shape_of layout.shape ≡ record { spb = 2 ^ s.log2_spb; tag_size = s.tag_size }
+    → as_shape layout.shape ≡ record { spb = 2 ^ s.log2_spb; tag_size = s.tag_size }
     → layout.sections ≡ s.sections → layout.interleave ≡ 1 * 2 ^ s.log2_interleave % 2 ^ 64
     → layout.tag_run ≡ tag_run_of s → IsLayout layout
 IsLayout-of s layout h few shape shape_is sections_are interleave_is run_is =
@@ -66,7 +66,7 @@ IsLayout-of s layout h few shape shape_is sections_are interleave_is run_is =
     let least = pow-le-pow_right {n = 2} (omega arith) {i = 3} {j = s.log2_interleave} h.log2_interleave.0 in
     let run = tag_run_of-high s h in
     let journal = journal_sectors-low s h few in
-    let same : journal_sectors (geometry_in layout) ≡ journal_sectors (layout_of s) = rw (sections_are, shape_is) refl in
+    let same : journal_sectors (as_geometry layout) ≡ journal_sectors (layout_of s) = rw (sections_are, shape_is) refl in
     record {
       shape = shape;
       interleave = (omega arith, omega arith);

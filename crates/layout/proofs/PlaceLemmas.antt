@@ -5,19 +5,19 @@ use Rattle.image_model.specs.Geometry.{area_at, data_at, sector_at, tag_at, tag_
 use Rattle.image_model.proofs.GeometryLemmas.{data_at-inside, tag_at-inside}
 use Rattle.image_model.proofs.Regions.{blocks-low}
 use Rattle.layout.specs.declared.layout.Layout.{Layout}
-use Rattle.layout.specs.Layout.{geometry_in, FitsADisk}
+use Rattle.layout.specs.Layout.{as_geometry, FitsADisk}
 
 -- The first sector of a block, the sector of its data and that of its tag can be told in 64 bits.
 pub record HasPlace (layout : Layout) (block : ℕ) : Type 0 where
   pub first : block * layout.shape.spb < 2 ^ 52
-  pub sector : sector_at (geometry_in layout) (block * layout.shape.spb) < 2 ^ 48
-  pub tag : area_at (geometry_in layout) (block * layout.shape.spb / layout.interleave)
-      + tag_offset (geometry_in layout) block / 512 < 2 ^ 48
+  pub sector : sector_at (as_geometry layout) (block * layout.shape.spb) < 2 ^ 48
+  pub tag : area_at (as_geometry layout) (block * layout.shape.spb / layout.interleave)
+      + tag_offset (as_geometry layout) block / 512 < 2 ^ 48
 
 pub has_place : (layout : Layout) (block : ℕ) → FitsADisk layout → block < layout.blocks → HasPlace layout block
 unfolding data_at tag_at
 has_place layout block fits inside =
-    let g = geometry_in layout in
+    let g = as_geometry layout in
     let h = fits.geometry in
     let spb = h.spb in
     let blocks = blocks-low g (2 ^ 48) h in

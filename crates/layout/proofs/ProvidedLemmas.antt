@@ -4,7 +4,9 @@ use Rattle.std.specs.Prelude.{◌==◌}
 use Rattle.std.proofs.lemmas.Bool.{eq-eqb, le-ltb, ne_eqb}
 use Rattle.image_model.specs.Faults.{ok_unless}
 use Rattle.image_model.specs.Superblock.{Superblock}
-use Rattle.image_model.specs.Geometry.{Geometry, GeometryFault, TooSmall, best_provided, best_provided_of, initial, journal_sectors, layout_of, size_faults}
+use Rattle.image_model.specs.Geometry.{Geometry, best_provided, best_provided_of, initial, journal_sectors, layout_of, size_faults}
+use Rattle.image_model.specs.declared.geom_fault.GeomFault.{GeomFault}
+use Rattle.image_model.specs.declared.geom_fault.GeomFault.TheVariants.{TooSmall}
 use Rattle.image_model.proofs.FaultLemmas.{ok_unless-append_err}
 use Rattle.layout.specs.Layout.{IsWithinLimits}
 use Rattle.layout.proofs.RoomLemmas.{journal_within}
@@ -16,13 +18,13 @@ least_sectors g = initial g + g.tag_run + 8
 -- ---- for callers
 
 -- What is refused by size alone is refused.
-pub best_provided_of-refused : (s : Superblock) (sectors : ℕ) (fault : GeometryFault)
+pub best_provided_of-refused : (s : Superblock) (sectors : ℕ) (fault : GeomFault)
     → Err fault ≡ ok_unless (size_faults (layout_of s) sectors) (layout_of s) → Err fault ≡ best_provided_of s sectors
 unfolding best_provided_of
 best_provided_of-refused s sectors fault told =
     let g = layout_of s in
     let best = best_provided g sectors in
-    let later : List (Bool × GeometryFault) = (best == 0, TooSmall sectors (least_sectors g)) ∷ [] in
+    let later : List (Bool × GeomFault) = (best == 0, TooSmall sectors (least_sectors g)) ∷ [] in
     sym (ok_unless-append_err (size_faults g sectors) later g best fault (sym told))
 
 -- A disk that can provide no sector is too small.

@@ -5,7 +5,9 @@ use Rattle.std.proofs.lemmas.Bool.{lt-ltb, le-ltb}
 use Rattle.image_model.specs.declared.flags.TheConstants.{DIRTY_BITMAP}
 use Rattle.image_model.specs.Faults.{ok_unless}
 use Rattle.image_model.specs.Superblock.{Superblock, has_flag, IsAccepted}
-use Rattle.image_model.specs.Geometry.{Geometry, GeometryFault, TooSmall, BitmapTooLarge, bitmap_sectors, geometry_of, journal_sectors, layout_of, sector_at, size_faults}
+use Rattle.image_model.specs.Geometry.{Geometry, bitmap_sectors, geometry_of, journal_sectors, layout_of, sector_at, size_faults}
+use Rattle.image_model.specs.declared.geom_fault.GeomFault.{GeomFault}
+use Rattle.image_model.specs.declared.geom_fault.GeomFault.TheVariants.{TooSmall, BitmapTooLarge}
 use Rattle.image_model.proofs.Bounds.{sector_at-low}
 use Rattle.image_model.proofs.FaultLemmas.{ok_unless-append_err}
 use Rattle.image_model.proofs.GeometryOf.{geometry_given}
@@ -31,14 +33,14 @@ last_sector_fits s sectors g h within =
     (sector_at-low s (s.provided - 1) h.layout (journal_within s sectors g within) (omega arith))
 
 -- What is refused by size alone is refused.
-pub geometry_of-refused : (s : Superblock) (sectors : ℕ) (fault : GeometryFault)
+pub geometry_of-refused : (s : Superblock) (sectors : ℕ) (fault : GeomFault)
     → Err fault ≡ ok_unless (size_faults (layout_of s) sectors) (layout_of s) → Err fault ≡ geometry_of s sectors
 unfolding geometry_of
 geometry_of-refused s sectors fault told =
     let g = layout_of s in
     let need = last_sector s g + 1 in
     let has_long_bitmap = has_flag DIRTY_BITMAP s.flags && nat_lt (journal_sectors g) (bitmap_sectors g) in
-    let later : List (Bool × GeometryFault) =
+    let later : List (Bool × GeomFault) =
     (nat_lt sectors need, TooSmall sectors need)
     ∷ (has_long_bitmap, BitmapTooLarge (bitmap_sectors g) (journal_sectors g))
     ∷ [] in

@@ -5,13 +5,13 @@ use Rattle.std.specs.Int.{IsInRange}
 use Rattle.image_model.specs.Geometry.{Geometry, Shape as SectionShape, entry_size, entries_per_sector, section_entries, section_sectors, layout_of, journal_sectors, IsGeometry}
 use Rattle.image_model.specs.Superblock.{Superblock}
 use Rattle.commit_id.specs.declared.shape.Shape.{Shape}
-use Rattle.commit_id.specs.Shape.{shape_of, IsShape}
+use Rattle.commit_id.specs.Shape.{as_shape, IsShape}
 use Rattle.layout.specs.declared.layout.Layout.{Layout}
 
 -- The geometry.
-abbrev pub geometry_in : Layout → Geometry
-geometry_in layout = record {
-  shape = shape_of layout.shape;
+abbrev pub as_geometry : Layout → Geometry
+as_geometry layout = record {
+  shape = as_shape layout.shape;
   sections = layout.sections;
   interleave = layout.interleave;
   tag_run = layout.tag_run;
@@ -24,12 +24,12 @@ pub record IsLayout (layout : Layout) : Type 0 where
   pub shape : IsShape layout.shape
   pub interleave : IsInRange 8 (2 ^ 31) layout.interleave
   pub tag_run : layout.tag_run ≤ 2 ^ 32
-  pub journal : journal_sectors (geometry_in layout) < 2 ^ 41
+  pub journal : journal_sectors (as_geometry layout) < 2 ^ 41
 
 -- The geometry is one on some disk.
 pub record FitsADisk (layout : Layout) : Type 0 where
   pub numbers : IsLayout layout
-  pub geometry : IsGeometry (geometry_in layout) (2 ^ 48)
+  pub geometry : IsGeometry (as_geometry layout) (2 ^ 48)
 
 -- The geometry is that of the fields, and disk and journal have no more sectors than they may.
 pub record IsWithinLimits (s : Superblock) (sectors : ℕ) (g : Geometry) : Type 0 where
@@ -38,8 +38,8 @@ pub record IsWithinLimits (s : Superblock) (sectors : ℕ) (g : Geometry) : Type
   pub journal : journal_sectors g ≤ 2 ^ 20
 
 -- The shape of a section with all its numbers.
-abbrev pub shape_in : SectionShape → Shape
-shape_in shape = record {
+abbrev pub full_shape : SectionShape → Shape
+full_shape shape = record {
   spb = shape.spb;
   tag = shape.tag_size;
   entry = entry_size shape;
@@ -49,9 +49,9 @@ shape_in shape = record {
 }
 
 -- The layout of a geometry.
-abbrev pub layout_in : Geometry → Layout
-layout_in g = record {
-  shape = shape_in g.shape;
+abbrev pub as_layout : Geometry → Layout
+as_layout g = record {
+  shape = full_shape g.shape;
   sections = g.sections;
   interleave = g.interleave;
   tag_run = g.tag_run;
@@ -60,8 +60,8 @@ layout_in g = record {
 }
 
 -- It is the layout whose geometry that is.
-pub layout_in-geometry_in : (layout : Layout) → FitsADisk layout → layout_in (geometry_in layout) ≡ layout
-layout_in-geometry_in layout fits i = record {
+pub as_layout-as_geometry : (layout : Layout) → FitsADisk layout → as_layout (as_geometry layout) ≡ layout
+as_layout-as_geometry layout fits i = record {
   shape = record {
     spb = layout.shape.spb;
     tag = layout.shape.tag;

@@ -4,20 +4,16 @@
 //! A `Geometry` is made only where no two things overlap and all lie on the disk (`Geometry::new`,
 //! `apart`). So each place is computed without a test, and fits its number.
 ghost use Rattle.std.specs.Prelude.{◌≡◌, ◌<◌, ◌^◌, IfOk};
-ghost use Rattle.std.specs.Result.{result_map_both};
 ghost use Rattle.image_model.specs.Geometry.{bitmap_sectors, data_at, fitting_log2_region, geometry_of, initial, IsGeometry, region_of, regions, section_at, tag_at};
 ghost use Rattle.image_model.specs.GeometryLaws.{IsFitting, LiesApart};
 ghost use Rattle.image_model.specs.Superblock.{IsAccepted};
-ghost use Rattle.commit_id.specs.Shape.{shape_of, IsShape};
-ghost use Rattle.superblock.specs.Fields.{fields_of};
-ghost use Rattle.layout.specs.Fault.{fault_of};
+ghost use Rattle.commit_id.specs.Shape.{as_shape, IsShape};
 
-use crate::fault::GeomFault;
 use crate::layout::Layout;
 use crate::regions::{bitmap_sectors_for, fitting_log2_region, region_of, regions_for};
 use commit_id::Shape;
+use image_model::{GeomFault, Super};
 use std::marker::Model;
-use superblock::Super;
 
 /// Where all that an image has lies on its disk.
 ///
@@ -30,18 +26,18 @@ pub struct Geometry {
 
 impl Model for Geometry {
     ghost use Rattle.image_model.specs.Geometry.{Geometry};
-    ghost use Rattle.layout.specs.Layout.{geometry_in, layout_in, FitsADisk, layout_in-geometry_in};
+    ghost use Rattle.layout.specs.Layout.{as_geometry, as_layout, FitsADisk, as_layout-as_geometry};
 
     ghost Value = { Geometry };
 
-    ghost view = { λ geometry. geometry_in geometry.layout };
+    ghost view = { λ geometry. as_geometry geometry.layout };
 
     ghost invariant = { λ geometry. FitsADisk geometry.layout };
 
-    ghost inverse = { λ g. record { layout = layout_in g } };
+    ghost inverse = { λ g. record { layout = as_layout g } };
 
     ghost inverse_ok = { λ geometry fits i. record {
-      layout = layout_in-geometry_in geometry.layout fits i;
+      layout = as_layout-as_geometry geometry.layout fits i;
     } };
 }
 
@@ -60,10 +56,10 @@ impl Geometry {
     ///
     /// Source: Linux, `drivers/md/dm-integrity.c`, `dm_integrity_ctr`.
     pub fn new(fields: &Super, disk_sectors: u64) -> Result<Geometry, GeomFault>
-        requires fields { IsAccepted (fields_of fields.now) }
+        requires fields { IsAccepted fields.now }
 
-        ensures told { result_map_both (λ g. g) fault_of result
-            ≡ geometry_of (fields_of fields.now) disk_sectors }
+        ensures told { result
+            ≡ geometry_of fields.now disk_sectors }
         ensures geometry { IfOk result (λ g. IsGeometry g disk_sectors) }
 
         // No two parts of the image overlap, and each is on the disk.
@@ -92,7 +88,7 @@ impl Geometry {
 
     /// What a section of the journal looks like.
     pub fn shape(&self) -> Shape
-        ensures shape { shape_of result ≡ self.now.shape }
+        ensures shape { as_shape result ≡ self.now.shape }
         ensures is_shape { IsShape result }
     {
         self.layout.shape

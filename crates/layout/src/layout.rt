@@ -4,20 +4,13 @@ ghost use Rattle.std.specs.Result.{result_map_both};
 ghost use Rattle.image_model.specs.Faults.{ok_unless};
 ghost use Rattle.image_model.specs.Geometry.{area_at, best_provided, data_at, geometry_of, initial, journal_sectors, layout_of, section_at, sector_at, size_faults, tag_at, tag_run_of};
 ghost use Rattle.image_model.specs.Superblock.{has_flag, HasLayout, IsAccepted};
-ghost use Rattle.superblock.specs.Fields.{fields_of};
-ghost use Rattle.layout.specs.Fault.{fault_of};
-ghost use Rattle.layout.specs.Layout.{geometry_in, FitsADisk, IsLayout, IsWithinLimits};
+ghost use Rattle.layout.specs.Layout.{as_geometry, FitsADisk, IsLayout, IsWithinLimits};
 
-use crate::fault::GeomFault;
 use crate::regions::bitmap_sectors_for;
 use commit_id::Shape;
-use image_model::{DIRTY_BITMAP, FIXED_PADDING};
-use superblock::{MOST_SECTORS, Super};
-
-/// How many sectors the journal may have at most.
-///
-/// Own: 2^20.
-const MOST_JOURNAL_SECTORS: u64 = 1 << 20;
+use image_model::{
+    DIRTY_BITMAP, FIXED_PADDING, GeomFault, MOST_JOURNAL_SECTORS, MOST_SECTORS, Super,
+};
 
 /// How many sectors the superblock takes.
 ///
@@ -58,9 +51,9 @@ pub(crate) struct Layout {
 impl Layout {
     /// The layout of these fields.
     pub(crate) fn of(fields: Super) -> Layout
-        requires fields { HasLayout (fields_of fields) }
+        requires fields { HasLayout fields }
 
-        ensures layout { geometry_in result ≡ layout_of (fields_of fields) }
+        ensures layout { as_geometry result ≡ layout_of fields }
         ensures is_layout { IsLayout result }
     {
         Layout {
@@ -82,13 +75,13 @@ impl Layout {
     /// - `DeviceTooLarge`: the disk has more than 2^48 sectors.
     /// - `JournalTooLarge`: the journal has more than 2^20.
     pub(crate) fn on_disk(fields: Super, disk_sectors: u64) -> Result<Layout, GeomFault>
-        requires fields { HasLayout (fields_of fields) }
+        requires fields { HasLayout fields }
 
         ensures within { IfOk result
-            (λ layout. IsWithinLimits (fields_of fields) disk_sectors (geometry_in layout)) }
+            (λ layout. IsWithinLimits fields disk_sectors (as_geometry layout)) }
         ensures is_layout { IfOk result (λ layout. IsLayout layout) }
-        ensures fault { let g = layout_of (fields_of fields) in
-            IfErr result (λ fault. Err (fault_of fault) ≡ ok_unless (size_faults g disk_sectors) g) }
+        ensures fault { let g = layout_of fields in
+            IfErr result (λ fault. Err fault ≡ ok_unless (size_faults g disk_sectors) g) }
     {
         let layout = Layout::of(fields);
         if disk_sectors > MOST_SECTORS {
@@ -113,10 +106,10 @@ impl Layout {
     /// - `BitmapTooLarge`: the flag for a bitmap is set, and it needs more sectors than the journal
     ///   has.
     pub(crate) fn with_room(fields: Super, disk_sectors: u64) -> Result<Layout, GeomFault>
-        requires fields { IsAccepted (fields_of fields) }
+        requires fields { IsAccepted fields }
 
-        ensures told { result_map_both geometry_in fault_of result
-            ≡ geometry_of (fields_of fields) disk_sectors }
+        ensures told { result_map_both as_geometry (λ fault. fault) result
+            ≡ geometry_of fields disk_sectors }
         ensures is_layout { IfOk result (λ layout. IsLayout layout) }
     {
         let layout = Layout::on_disk(fields, disk_sectors)?;
@@ -137,7 +130,7 @@ impl Layout {
     pub(crate) fn journal_sectors(self) -> u64
         requires layout { IsLayout self }
 
-        ensures { result ≡ journal_sectors (geometry_in self) }
+        ensures { result ≡ journal_sectors (as_geometry self) }
     {
         self.sections * self.shape.sectors
     }
@@ -146,7 +139,7 @@ impl Layout {
     pub(crate) fn initial(self) -> u64
         requires layout { IsLayout self }
 
-        ensures { result ≡ initial (geometry_in self) }
+        ensures { result ≡ initial (as_geometry self) }
     {
         SUPERBLOCK_SECTORS + self.journal_sectors()
     }
@@ -156,7 +149,7 @@ impl Layout {
         requires layout { IsLayout self }
         requires section { section < self.sections }
 
-        ensures { result ≡ section_at (geometry_in self) section }
+        ensures { result ≡ section_at (as_geometry self) section }
     {
         SUPERBLOCK_SECTORS + section * self.shape.sectors
     }
@@ -164,9 +157,9 @@ impl Layout {
     /// The sector of the disk where an area begins: first its tags, then its data.
     pub(crate) fn area_at(self, area: u64) -> u64
         requires layout { IsLayout self }
-        requires fits { area_at (geometry_in self) area < 2 ^ 64 }
+        requires fits { area_at (as_geometry self) area < 2 ^ 64 }
 
-        ensures { result ≡ area_at (geometry_in self) area }
+        ensures { result ≡ area_at (as_geometry self) area }
     {
         self.initial() + area * (self.tag_run + self.interleave)
     }
@@ -175,9 +168,9 @@ impl Layout {
     #[tactic(auto, unfolding(image_model::specs::Geometry::sector_at))]
     pub(crate) fn sector_at(self, sector: u64) -> u64
         requires layout { IsLayout self }
-        requires fits { sector_at (geometry_in self) sector < 2 ^ 64 }
+        requires fits { sector_at (as_geometry self) sector < 2 ^ 64 }
 
-        ensures { result ≡ sector_at (geometry_in self) sector }
+        ensures { result ≡ sector_at (as_geometry self) sector }
     {
         let area = self.area_at(sector / self.interleave);
         area + self.tag_run + sector % self.interleave
@@ -189,7 +182,7 @@ impl Layout {
         requires layout { FitsADisk self }
         requires block { block < self.blocks }
 
-        ensures { result ≡ data_at (geometry_in self) block }
+        ensures { result ≡ data_at (as_geometry self) block }
     {
         self.sector_at(block * self.shape.spb)
     }
@@ -200,7 +193,7 @@ impl Layout {
         requires layout { FitsADisk self }
         requires block { block < self.blocks }
 
-        ensures { result ≡ tag_at (geometry_in self) block }
+        ensures { result ≡ tag_at (as_geometry self) block }
     {
         let sector = block * self.shape.spb;
         let byte = sector % self.interleave / self.shape.spb * self.shape.tag;
@@ -215,7 +208,7 @@ impl Layout {
         requires layout { IsLayout self }
         requires disk_sectors { disk_sectors ≤ 2 ^ 48 }
 
-        ensures { result ≡ best_provided (geometry_in self) disk_sectors }
+        ensures { result ≡ best_provided (as_geometry self) disk_sectors }
     {
         let space = disk_sectors.saturating_sub(self.initial());
         let area = self.tag_run + self.interleave;
@@ -226,9 +219,9 @@ impl Layout {
 
 /// How many sectors the tags of an area take.
 fn tag_run(fields: Super) -> u64
-    requires fields { HasLayout (fields_of fields) }
+    requires fields { HasLayout fields }
 
-    ensures { result ≡ tag_run_of (fields_of fields) }
+    ensures { result ≡ tag_run_of fields }
 {
     let blocks = 1 << (fields.log2_interleave - fields.log2_spb);
     (blocks * fields.tag_size as u64).next_multiple_of(padding(fields.flags)) / 512

@@ -1,15 +1,11 @@
 //! How many sectors a disk can provide.
 ghost use Rattle.std.specs.Prelude.{◌≡◌, IfOk};
-ghost use Rattle.std.specs.Result.{result_map_both};
 ghost use Rattle.image_model.specs.Geometry.{best_provided_of};
 ghost use Rattle.image_model.specs.GeometryLaws.{IsBestProvided};
 ghost use Rattle.image_model.specs.Superblock.{HasLayout};
-ghost use Rattle.superblock.specs.Fields.{fields_of};
-ghost use Rattle.layout.specs.Fault.{fault_of};
 
-use crate::fault::GeomFault;
 use crate::layout::{Layout, PROVIDED_STEP};
-use superblock::Super;
+use image_model::{GeomFault, Super};
 
 /// The sectors that a new image with these fields provides on a disk of so many sectors: the most that
 /// have their data on it, a multiple of 8. The field `provided` is not looked at.
@@ -24,11 +20,11 @@ use superblock::Super;
 ///
 /// Source: Linux, `drivers/md/dm-integrity.c`, `initialize_superblock`.
 pub fn best_provided(fields: &Super, disk_sectors: u64) -> Result<u64, GeomFault>
-    requires fields { HasLayout (fields_of fields.now) }
+    requires fields { HasLayout fields.now }
 
-    ensures told { result_map_both (λ best. best) fault_of result
-        ≡ best_provided_of (fields_of fields.now) disk_sectors }
-    ensures best { IfOk result (IsBestProvided (fields_of fields.now) disk_sectors) }
+    ensures told { result
+        ≡ best_provided_of fields.now disk_sectors }
+    ensures best { IfOk result (IsBestProvided fields.now disk_sectors) }
 {
     let layout = Layout::on_disk(*fields, disk_sectors)?;
     let best = layout.best_provided(disk_sectors);

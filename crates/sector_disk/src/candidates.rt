@@ -91,7 +91,8 @@ pub fn copy_choice(base: &[u8], events: &[Event], choice: &[u32], out: &mut [u8]
     requires out { length out.old ≡ length base.now }
 
     ensures { EachIndex choice.now (λ s. sector_in out.new s
-        ≡ slice_index_or (content_after (content_of_bytes base.now) events.now s) (slice_index choice.now s) []) }
+        ≡ slice_index_or (content_after (content_of_bytes base.now) events.now s)
+        (slice_index choice.now s) []) }
 {
     for (s, index) in choice.iter().enumerate() {
         copy_candidate(

@@ -121,8 +121,8 @@ pub trait Disk: Counted {
         → IsImage c (last_image c) };
 
     /// Each candidate of its sectors has 512 bytes.
-    ghost whole_sectors: { (disk : Self) (c : Content) (sector : ℕ) (x : List ℕ) → content_now (moments disk) ≡ Some c
-        → sector < (identity disk).sectors → Contains (c sector) x → length x ≡ 512 };
+    ghost whole_sectors: { (disk : Self) (c : Content) (sector : ℕ) (x : List ℕ)
+        → content_now (moments disk) ≡ Some c → sector < (identity disk).sectors → Contains (c sector) x → length x ≡ 512 };
 
     /// The name of what it is, is the one that it was bound to.
     ghost identity_name: { (disk : Self) → (identity disk).name ≡ Self.binding disk };

@@ -46,7 +46,8 @@ impl MemDisk {
     ///
     /// - `Memory`: there is none for these.
     pub fn new(alloc: Global, sectors: u64, writes: u64) -> Result<MemDisk, Memory>
-        ensures { IfOk result (λ disk. record_of disk ≡ fresh_disk sectors (replicate (512 * sectors) 0) writes) }
+        ensures { IfOk result (λ disk.
+            record_of disk ≡ fresh_disk sectors (replicate (512 * sectors) 0) writes) }
     {
         let Some(size) = sectors.checked_mul(512) else {
             return Err(Memory);
@@ -171,7 +172,8 @@ impl Disk for MemDisk {
 
     ghost reads_an_image = { λ d c told. last_image_is_image d.base.items d.events.items c told };
 
-    ghost whole_sectors = { λ d c sector x told low has. candidates_are_whole d.sectors d.base.items d.events.items c
+    ghost whole_sectors = { λ d c sector x told low has.
+        candidates_are_whole d.sectors d.base.items d.events.items c
         sector x d.base_size d.whole_events told low has };
 
     ghost identity_name = { λ d. refl };
@@ -187,7 +189,8 @@ impl Disk for MemDisk {
     fn read_run(&mut self, at: u64, buffer: &mut [u8]) -> Result<(), Failed>
         requires { IsRun at (length buffer.old) (record_of self.old).sectors }
 
-        ensures read { OnOk result (ForSome (content_now (moments_told (record_of self.old))) (Reads at buffer.new)) }
+        ensures read { OnOk result (ForSome (content_now (moments_told (record_of self.old)))
+            (Reads at buffer.new)) }
 
         ensures fails { IsErr result ↔ IsRefused (record_of self.old) }
         ensures cause { HasCause (record_of self.old).plan.faults (record_of self.new).plan.faults result }
@@ -213,7 +216,8 @@ impl Disk for MemDisk {
         ensures refused { IsRefused (record_of self.old)
             → record_of self.new ≡ after_call result (record_of self.old) }
         ensures appended { ¬ IsRefused (record_of self.old)
-            → record_of self.new ≡ with_writes (min (length bytes.now / 512) (sectors_left (record_of self.old)))
+            → record_of self.new
+            ≡ with_writes (min (length bytes.now / 512) (sectors_left (record_of self.old)))
             at bytes.now (after_call result (record_of self.old)) }
 
         ensures identity { (record_of self.new).sectors ≡ (record_of self.old).sectors }

@@ -1,14 +1,12 @@
 //! Reads a superblock.
 ghost use Rattle.std.specs.Prelude.{◌≡◌, ◌↔◌, ◌≤◌, Err, IfErr, IfOk, IsOk};
-ghost use Rattle.std.specs.Result.{result_map_both};
 ghost use Rattle.image_model.specs.Faults.{ok_unless};
 ghost use Rattle.image_model.specs.Superblock.{IsAccepted, is_provided, fields_in, superblock_bytes, superblock_faults, superblock_of};
-ghost use Rattle.superblock.specs.Fields.{fault_of, fields_of};
 ghost use Rattle.superblock.specs.Pads.{with_zero_pads};
 
-use crate::fields::{MAGIC, MOST_SECTORS, Super, SuperFault};
+use crate::magic::MAGIC;
 use byteorder::{ByteOrder, LittleEndian};
-use image_model::{HAVE_JOURNAL_MAC, INLINE, KNOWN_FLAGS};
+use image_model::{HAVE_JOURNAL_MAC, INLINE, KNOWN_FLAGS, MOST_SECTORS, Super, SuperFault};
 
 /// The fields that the first sector of an image tells.
 ///
@@ -29,12 +27,12 @@ use image_model::{HAVE_JOURNAL_MAC, INLINE, KNOWN_FLAGS};
 ///
 /// Source: Linux, `drivers/md/dm-integrity.c`, `dm_integrity_ctr`.
 pub fn read(bytes: &[u8; 512]) -> Result<Super, SuperFault>
-    ensures told { result_map_both fields_of fault_of result ≡ superblock_of bytes.now }
-    ensures accepted { IfOk result (λ fields. IsAccepted (fields_of fields)) }
+    ensures told { result ≡ superblock_of bytes.now }
+    ensures accepted { IfOk result (λ fields. IsAccepted fields) }
 
     // What is read is written again as it stood, but for the pads.
     ensures written_again { IfOk result
-        (λ fields. superblock_bytes (fields_of fields) ≡ with_zero_pads bytes.now) }
+        (λ fields. superblock_bytes fields ≡ with_zero_pads bytes.now) }
 {
     if !bytes.starts_with(&MAGIC) {
         return Err(SuperFault::Magic);
@@ -48,9 +46,9 @@ pub fn read(bytes: &[u8; 512]) -> Result<Super, SuperFault>
 ///
 /// The first fault that `read` would tell of the fields.
 pub fn judge(fields: &Super) -> Result<(), SuperFault>
-    ensures accepted { IsOk result ↔ IsAccepted (fields_of fields.now) }
-    ensures fault { let s = fields_of fields.now in
-        IfErr result (λ fault. Err (fault_of fault) ≡ ok_unless (superblock_faults s) s) }
+    ensures accepted { IsOk result ↔ IsAccepted fields.now }
+    ensures fault { let s = fields.now in
+        IfErr result (λ fault. Err fault ≡ ok_unless (superblock_faults s) s) }
 {
     accepted(*fields)?;
     Ok(())
@@ -58,7 +56,7 @@ pub fn judge(fields: &Super) -> Result<(), SuperFault>
 
 /// The fields, whatever stands in them.
 fn fields_in(bytes: &[u8; 512]) -> Super
-    ensures { fields_of result ≡ fields_in bytes.now }
+    ensures { result ≡ fields_in bytes.now }
 {
     let mut salt = [0; 16];
     salt.copy_from_slice(&bytes[48..64]);
@@ -78,8 +76,8 @@ fn fields_in(bytes: &[u8; 512]) -> Super
 
 /// The fields, where none of them is refused.
 fn accepted(fields: Super) -> Result<Super, SuperFault>
-    ensures { result_map_both fields_of fault_of result
-        ≡ ok_unless (superblock_faults (fields_of fields)) (fields_of fields) }
+    ensures { result
+        ≡ ok_unless (superblock_faults fields) fields }
 {
     let flags = fields.flags;
     if !(1..=5).contains(&fields.version) {
@@ -117,7 +115,7 @@ fn accepted(fields: Super) -> Result<Super, SuperFault>
 /// Whether the provided sectors are whole blocks, at least one, and no more than a disk may have.
 fn is_provided(fields: Super) -> bool
     requires { fields.log2_spb ≤ 3 }
-    ensures { result ≡ is_provided (fields_of fields) }
+    ensures { result ≡ is_provided fields }
 {
     (1..=MOST_SECTORS).contains(&fields.provided) && fields.provided % (1 << fields.log2_spb) == 0
 }

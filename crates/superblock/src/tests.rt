@@ -194,3 +194,31 @@ fn the_version_is_the_one_that_the_flags_need_and_none_below_the_one_read(rt: Ho
         assert_eq!(rt; version_for(flags, read), version, "flags {flags}");
     }
 }
+
+#[test]
+fn each_fault_has_its_text(rt: HostRuntime) -> Result<(), Fail> {
+    for (fault, text) in [
+        (SuperFault::Magic, "no magic"),
+        (SuperFault::Version { v: 6 }, "version 6"),
+        (
+            SuperFault::JournalMac { flags: 0x1b },
+            "a journal with a code of its own, flags 0x1b",
+        ),
+        (
+            SuperFault::Inline { flags: 0x28 },
+            "inline tags, flags 0x28",
+        ),
+        (SuperFault::Flags { unknown: 0xc0 }, "unknown flags 0xc0"),
+        (SuperFault::Interleave { v: 2 }, "log2 of the interleave 2"),
+        (
+            SuperFault::BlockSize { v: 4 },
+            "log2 of the sectors of a block 4",
+        ),
+        (SuperFault::TagSize { v: 33 }, "tag size 33"),
+        (SuperFault::Sections { v: 0 }, "sections 0"),
+        (SuperFault::Provided { v: 81 }, "provided sectors 81"),
+    ] {
+        assert_eq!(rt; format!(in rt.alloc(); "{fault}")?.as_str(), text);
+    }
+    Ok(())
+}

@@ -2,26 +2,25 @@
 ghost use Rattle.std.specs.Prelude.{◌≡◌, ◌++◌, Ok, drop};
 ghost use Rattle.image_model.specs.Superblock.{IsAccepted, superblock_bytes, superblock_of, version_for};
 ghost use Rattle.image_model.specs.SuperblockLaws.{FitsBytes};
-ghost use Rattle.superblock.specs.Fields.{fields_of};
 
-use crate::fields::{MAGIC, Super};
+use crate::magic::MAGIC;
 use byteorder::{ByteOrder, LittleEndian};
-use image_model::{DIRTY_BITMAP, FIXED_HMAC, FIXED_PADDING, RECALCULATING};
+use image_model::{DIRTY_BITMAP, FIXED_HMAC, FIXED_PADDING, RECALCULATING, Super};
 
 /// Writes the fields, with zeros in the pads. The bytes from 64 on stay.
 pub fn write(fields: &Super, bytes: &mut [u8; 512])
-    requires fields { IsAccepted (fields_of fields.now) }
+    requires fields { IsAccepted fields.now }
 
-    ensures written { bytes.new ≡ superblock_bytes (fields_of fields.now) ++ drop 64 bytes.old }
-    ensures read_back { superblock_of bytes.new ≡ Ok (fields_of fields.now) }
+    ensures written { bytes.new ≡ superblock_bytes fields.now ++ drop 64 bytes.old }
+    ensures read_back { superblock_of bytes.new ≡ Ok fields.now }
 {
     bytes[..64].copy_from_slice(&superblock_bytes(*fields));
 }
 
 /// The bytes of the fields, with zeros in the pads.
 fn superblock_bytes(fields: Super) -> [u8; 64]
-    ensures bytes { result ≡ superblock_bytes (fields_of fields) }
-    ensures fits { FitsBytes (fields_of fields) }
+    ensures bytes { result ≡ superblock_bytes fields }
+    ensures fits { FitsBytes fields }
 {
     let mut bytes = [0; 64];
     bytes[..8].copy_from_slice(&MAGIC);

@@ -1,9 +1,9 @@
 use Rattle.std.proofs.Common.{inl, inr, ◌<◌, arith, sym, ◌∙◌, ap, length}
 use Rattle.std.proofs.lemmas.Bool.{cases_eq}
-use Rattle.std.proofs.lemmas.List.{get_or-map}
-use Rattle.image_model.specs.Scan.{Zero, cell_number}
-use Rattle.commit_id.specs.declared.grid.Cell.TheVariants.{Number}
-use Rattle.commit_id.specs.Grid.{cell_of}
+use Rattle.image_model.specs.Scan.{cell_number}
+use Rattle.image_model.specs.declared.sector_cell.Cell.TheVariants.{Zero}
+use Rattle.image_model.specs.declared.sector_cell.Cell.TheVariants.{Number}
+use Rattle.commit_id.proofs.GridLemmas.{same_place}
 use Rattle.commit_id.proofs.tests.is_grid.Goals as goal
 
 pub loop-cell-preserved : goal.loop-cell-preserved
@@ -12,6 +12,6 @@ loop-cell-preserved c k number low is = elim (cases_eq k c.loop-cell.cell-index)
       let read = c.deref-cell-items.ensures.value in
       let here : k < length c.args.grid.now.cells.items = omega (arith, c.loop-cell-test.true, ap length read) in
       c.is_cell.ensures c.if-not-is_cell.false number
-      (rw (read, ← same) (ap cell_number (sym (get_or-map cell_of c.args.grid.now.cells.items k (Number 0) Zero here)) ∙ is))
+      (rw (read, ← same) (ap cell_number (same_place c.args.grid.now.cells.items k (Number 0) Zero here) ∙ is))
   | inr before ↦ c.loop-cell.invariant k number (omega arith) is
 ]

@@ -1,4 +1,4 @@
-use Rattle.std.proofs.Common.{◌≡◌, ◌+◌, ◌/◌, ℕ, List, rules, arith, ap, take}
+use Rattle.std.proofs.Common.{◌/◌, rules, arith, ap, take}
 use Rattle.std.proofs.lemmas.List.{take_rest}
 use Rattle.disk_model.proofs.SectorLemmas.{written_next}
 use Rattle.file_disk.proofs.TransferLemmas.{moments_more}

@@ -22,7 +22,7 @@ returns-in_err-line-clause-runs g c content told script told_script before told_
     let p = err_from_is_err_and c.from_residual.result c.from_residual.ensures.1 in
     rw (p.1, p.2) (both_told _ _ _ _ _ (c.loop-line.invariant.way content script before told told_script told_before) c.in_err-line.ensures.next
     (λ left later way found. ends_at_next content script before c.loop-line.number c.loop-line.found_fault (c.loop-line.room.reader.unread ++ left) (g.O.Sink.held c.loop-line.out) (content_now (g.D.Disk.moments c.loop-line.disk)) way.0 c.loop-line.room.reader.taken (c.next_line.new.reader.unread ++ later) _ way.1 found
-    c.in_err-line.ensures.others (λ e. c.in_err-line.ensures.not_disk (ap (λ (x : Ended). Err x) e)) (λ e. c.in_err-line.ensures.not_sink (ap (λ (x : Ended). Err x) e))))
+    c.in_err-line.ensures.errors (λ e. c.in_err-line.ensures.not_disk (ap (λ (x : Ended). Err x) e)) (λ e. c.in_err-line.ensures.not_sink (ap (λ (x : Ended). Err x) e))))
 
 pub returns-in_err-fault-clause-runs : goal.returns-in_err-fault-clause-runs
 returns-in_err-fault-clause-runs g c content told script told_script before told_before =
@@ -32,7 +32,7 @@ returns-in_err-fault-clause-runs g c content told script told_script before told
     let s = session content script before c.loop-line.number c.loop-line.found_fault (c.loop-line.room.reader.unread ++ left) (g.O.Sink.held c.loop-line.out) (content_now (g.D.Disk.moments c.loop-line.disk)) way.0 in
     told_here _ _ _ way.0.stands (λ d told_now stands.
     ends_in_line content script before c.loop-line.number c.loop-line.found_fault (c.loop-line.room.reader.unread ++ left) (g.O.Sink.held c.loop-line.out) (content_now (g.D.Disk.moments c.loop-line.disk)) way.0 _ _ (inl (line_of c.in-Some.line, c.next_line.new.reader.unread ++ later, found.0, found.1, within_script script (c.loop-line.room.reader.unread ++ left) (c.next_line.new.reader.unread ++ later) c.loop-line.room.reader.taken way.1 found.2, refl)) (holds_at_end _ d told_now (MayBeCut-none d s.history _ stands) (c.in_err-fault.ensures.moments d s told_now stands))
-    c.loop-line.room.reader.taken (c.next_line.new.reader.unread ++ later) c.in-Some.line _ _ way.1 found (c.in_err-fault.ensures.prints d s told_now stands) c.in_err-fault.ensures.others)))
+    c.loop-line.room.reader.taken (c.next_line.new.reader.unread ++ later) c.in-Some.line _ _ way.1 found (c.in_err-fault.ensures.prints d s told_now stands) c.in_err-fault.ensures.errors)))
 
 pub returns-in_err-fault-clause-moments : goal.returns-in_err-fault-clause-moments
 returns-in_err-fault-clause-moments g c content told script told_script =
@@ -92,7 +92,7 @@ returns-in_err-close-clause-runs g c content told script told_script before told
     let s = session content script before c.loop-line.number c.loop-line.found_fault (c.loop-line.room.reader.unread ++ left) (g.O.Sink.held c.loop-line.out) (content_now (g.D.Disk.moments c.loop-line.disk)) way.0 in
     told_here _ _ _ way.0.stands (λ d told_now stands.
     ends_by_close content script before c.loop-line.number c.loop-line.found_fault (c.loop-line.room.reader.unread ++ left) (g.O.Sink.held c.loop-line.out) (content_now (g.D.Disk.moments c.loop-line.disk)) way.0 _ (Flushed ∷ []) (inr (inl (found, refl))) (holds_at_end _ d told_now (MayBeCut-none d s.history (Flushed ∷ []) stands) (flush_moments d s.history told_now stands c.close.ensures.moments))
-    _ _ found c.in_err-close.ensures.others
+    _ _ found c.in_err-close.ensures.errors
     (λ e. (c.in_err-close.ensures.disk (ap (λ (x : Ended). Err x) e)).1) (λ e. (c.in_err-close.ensures.sink (ap (λ (x : Ended). Err x) e)).1))))
 
 pub returns-in_err-close-clause-moments : goal.returns-in_err-close-clause-moments

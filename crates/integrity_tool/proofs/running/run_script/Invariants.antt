@@ -4,7 +4,7 @@ use Rattle.disk_model.specs.Disk.{Content, OnlyAdds, last_image}
 use Rattle.disk_model.specs.Moments.{content_now, EachMoment, FromStart}
 use Rattle.integrity_tool.specs.Standing.{IsOfBlock}
 use Rattle.integrity_tool.specs.Leaving.{IsLeftBy, IsOfScript}
-use Rattle.integrity_tool.specs.declared.line_reader.TheConstants.{MOST_SCRIPT}
+use Rattle.device_model.specs.ScriptBytes.{most_script}
 use Rattle.integrity_tool.proofs.RunningLemmas.{IsUnderWay, IsFollowed, IsTaken}
 use Rattle.integrity_tool.proofs.running.run_script.Given as goal
 
@@ -16,7 +16,7 @@ invariant-loop-line g l = record {
   taken : ForSome (g.S.Source.left l.fn.script) (λ script. IsSomeAnd (g.S.Source.left l.script) (λ left. IsTaken script (l.room.reader.unread ++ left)
       × (l.room.reader.taken + length (l.room.reader.unread ++ left) ≡ length script)));
   numbered : l.number ≤ l.room.reader.taken + 1;
-  within : l.room.reader.taken ≤ MOST_SCRIPT;
+  within : l.room.reader.taken ≤ most_script;
   identity : g.D.Disk.identity l.disk ≡ g.D.Disk.identity l.fn.disk;
   followed : (c : Content) (script : List ℕ) → content_now (g.D.Disk.moments l.fn.disk) ≡ Some c → g.S.Source.left l.fn.script ≡ Some script
       → IsSomeAnd (g.S.Source.left l.script) (λ left. IsFollowed (last_image c) script l.number l.found_fault (l.room.reader.unread ++ left) (content_now (g.D.Disk.moments l.disk))
@@ -31,4 +31,4 @@ invariant-loop-line g l = record {
 }
 
 abbrev pub decreases-loop-line : goal.decreases-loop-line
-decreases-loop-line g l = MOST_SCRIPT - l.room.reader.taken
+decreases-loop-line g l = most_script - l.room.reader.taken

@@ -32,7 +32,7 @@ returns-in_err-open-clause-runs g c words run content told script told_script be
     let p = err_from_is_err_and c.from_residual.result c.from_residual.ensures.1 in
     let each = each_of_sync content content told (narrows_synced content (g.met.D.Disk.reads_an_image c.args.disk.now content told)) c.open.ensures.moments in
     rw (p.1, p.2, told_before) (refused_nothing_run (start_of words (g.D.Disk.identity c.args.disk.now).sectors content script) before _ _ run
-    (λ is form. c.in_err-open.ensures.image (ap (λ (x : Ended). Err x) is) content told form) c.in_err-open.ensures.others (holds_at_end (NarrowsImages content) content told (NarrowsImages-same content) each))
+    (λ is form. c.in_err-open.ensures.image (ap (λ (x : Ended). Err x) is) content told form) c.in_err-open.ensures.errors (holds_at_end (NarrowsImages content) content told (NarrowsImages-same content) each))
 
 pub returns-in_err-open-clause-moments : goal.returns-in_err-open-clause-moments
 returns-in_err-open-clause-moments g c words run content told script told_script =

@@ -1,5 +1,5 @@
 use Rattle.std.proofs.Common.{◌≡◌, ◌+◌, ◌*◌, ◌-◌, ◌++◌, refl, arith}
-use Rattle.commit_id.specs.Shape.{shape_of}
+use Rattle.commit_id.specs.Shape.{as_shape}
 use Rattle.commit_id.proofs.ShapeLemmas.{shape_holds}
 use Rattle.image_model.specs.Section.{entry_from}
 use Rattle.image_model.specs.Sectors.{piece}
@@ -14,7 +14,7 @@ loop-k-preserved c =
     let parts = c.args.parts.now in
     let k = c.loop-k.k in
     let from = 512 * k in
-    let entry = entry_from (shape_of c.args.shape) c.args.n in
+    let entry = entry_from (as_shape c.args.shape) c.args.n in
     let word = entry + 8 + 8 * k in
     let size : from + 504 - from ≡ 504 = omega arith in
     let is = c.entry_from-entry.ensures.place in
@@ -30,7 +30,7 @@ loop-k-preserved c =
 
 pub returns-clause-entry : goal.returns-clause-entry
 returns-clause-entry c =
-    let shape = shape_of c.args.shape in
+    let shape = as_shape c.args.shape in
     let meta = c.args.meta.now in
     let parts = c.args.parts.now in
     let all : c.loop-k.k ≡ c.args.shape.spb = omega arith in

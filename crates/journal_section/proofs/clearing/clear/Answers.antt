@@ -1,5 +1,5 @@
 use Rattle.std.proofs.Common.{◌+◌, ◌≤◌, length, replicate, Option, None, arith, ◌∙◌, ap, subst, sym}
-use Rattle.commit_id.specs.Shape.{shape_of}
+use Rattle.commit_id.specs.Shape.{as_shape}
 use Rattle.commit_id.proofs.ShapeLemmas.{shape_holds}
 use Rattle.image_model.specs.Section.{Entry, entry_from}
 use Rattle.journal_section.specs.Entries.{HoldsEntries}
@@ -19,7 +19,7 @@ put-requires c =
 pub loop-n-preserved : goal.loop-n-preserved
 loop-n-preserved c =
     let holds = (shape_holds c.args.shape c.requires.shape).2 in
-    let shape = shape_of c.args.shape in
+    let shape = as_shape c.args.shape in
     let many = holds.sectors_low in
     let sectors = c.requires.shape.sectors in
     let is = c.entry_from.ensures.place in
@@ -37,7 +37,7 @@ loop-n-preserved c =
 pub returns-clause-entries : goal.returns-clause-entries
 returns-clause-entries c =
     let holds = (shape_holds c.args.shape c.requires.shape).2 in
-    let shape = shape_of c.args.shape in
+    let shape = as_shape c.args.shape in
     let sectors = c.requires.shape.sectors in
     let entries = c.requires.shape.entries in
     let bytes = c.loop-n.bytes in

@@ -1,5 +1,5 @@
 use Rattle.std.proofs.Common.{◌≡◌, ◌+◌, ◌*◌, ◌-◌, ◌∙◌, ap, arith}
-use Rattle.commit_id.specs.Shape.{shape_of}
+use Rattle.commit_id.specs.Shape.{as_shape}
 use Rattle.commit_id.proofs.ShapeLemmas.{shape_holds}
 use Rattle.image_model.specs.Section.{entry_from}
 use Rattle.image_model.specs.Sectors.{number_in}
@@ -10,7 +10,7 @@ use Rattle.journal_section.proofs.entries.entry.Goals as goal
 
 pub returns-then-read_u32 : goal.returns-then-read_u32
 returns-then-read_u32 c =
-    let shape = shape_of c.args.shape in
+    let shape = as_shape c.args.shape in
     let meta = c.args.meta.now in
     let is = c.entry_from-from.ensures.place in
     let from = c.entry_from-from.result + 4 in
@@ -21,7 +21,7 @@ returns-then-read_u32 c =
 
 pub returns : goal.returns
 returns c =
-    let shape = shape_of c.args.shape in
+    let shape = as_shape c.args.shape in
     let meta = c.args.meta.now in
     let is = c.entry_from-from.ensures.place in
     let start = c.entry_from-from.result in

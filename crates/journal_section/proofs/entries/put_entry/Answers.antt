@@ -1,6 +1,6 @@
 use Rattle.std.proofs.Common.{◌+◌, ◌-◌, ◌++◌, ℕ, List, take, drop, ap, ◌∙◌, arith}
 use Rattle.std.proofs.lemmas.List.{drop-drop}
-use Rattle.commit_id.specs.Shape.{shape_of}
+use Rattle.commit_id.specs.Shape.{as_shape}
 use Rattle.commit_id.proofs.ShapeLemmas.{shape_holds}
 use Rattle.image_model.specs.Section.{Entry}
 use Rattle.journal_section.specs.Pieces.{with_piece}
@@ -10,7 +10,7 @@ use Rattle.journal_section.proofs.entries.put_entry.Goals as goal
 
 pub returns : goal.returns
 returns c =
-    let shape = shape_of c.args.shape in
+    let shape = as_shape c.args.shape in
     let entry : Entry = record { sector = c.args.sector; bytes = c.args.block.now; tag = c.args.tag.now } in
     let old : List ℕ = c.args.meta.now in
     let from : ℕ = c.entry_from-from.result in

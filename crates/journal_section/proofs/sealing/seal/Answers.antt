@@ -1,5 +1,5 @@
 use Rattle.std.proofs.Common.{◌∙◌, arith}
-use Rattle.commit_id.specs.Shape.{shape_of}
+use Rattle.commit_id.specs.Shape.{as_shape}
 use Rattle.commit_id.proofs.ShapeLemmas.{shape_holds}
 use Rattle.journal_section.proofs.ShapeLemmas.{sectors_few}
 use Rattle.journal_section.proofs.SectorsLemmas.{ids_more, others_stay, commit_number-written}
@@ -30,5 +30,5 @@ returns-clause-number c =
 
 pub returns-clause-entries : goal.returns-clause-entries
 returns-clause-entries c =
-    λ entries holds. HoldsEntries-sealed (shape_of c.args.shape) c.args.bytes.now c.loop-j.bytes entries
+    λ entries holds. HoldsEntries-sealed (as_shape c.args.shape) c.args.bytes.now c.loop-j.bytes entries
     (shape_holds c.args.shape c.requires.shape).2 (omega arith) c.loop-j.invariant.others holds

@@ -1,6 +1,7 @@
 use Rattle.std.proofs.Common.{Result, sym, ap, ◌∙◌, arith}
 use Rattle.image_model.specs.Faults.{ok_unless}
-use Rattle.image_model.specs.Superblock.{Superblock, SuperblockFault, superblock_faults}
+use Rattle.image_model.specs.Superblock.{Superblock, superblock_faults}
+use Rattle.image_model.specs.declared.super_fields.SuperFault.{SuperFault}
 use Rattle.image_model.proofs.SuperblockLemmas.{superblock_of-no_magic, superblock_of-magic}
 use Rattle.superblock.proofs.ReadingLemmas.{read_accepted, read_written_again}
 use Rattle.superblock.proofs.reading.read.Goals as goal
@@ -14,7 +15,7 @@ pub returns : goal.returns
 returns c =
     let bytes = c.args.bytes.now in
     let known = sym c.starts_with.ensures.value ∙ c.if-not-starts_with.false in
-    let judged : Superblock → Result Superblock SuperblockFault = λ s. ok_unless (superblock_faults s) s in
+    let judged : Superblock → Result Superblock SuperFault = λ s. ok_unless (superblock_faults s) s in
     let told = c.accepted.ensures ∙ ap judged c.fields_in.ensures ∙ sym (superblock_of-magic bytes known) in
     record {
       told = told;

@@ -1,5 +1,5 @@
 use Rattle.std.proofs.Common.{◌-◌, ◌≤◌}
-use Rattle.integrity_tool.specs.declared.line_reader.TheConstants.{MOST_SCRIPT}
+use Rattle.device_model.specs.ScriptBytes.{most_script}
 use Rattle.integrity_tool.proofs.LinesLemmas.{IsInLine}
 use Rattle.integrity_tool.proofs.line_reader.LineReader.next_line.Given as goal
 
@@ -10,4 +10,4 @@ invariant-loop-self g l = record {
 }
 
 abbrev pub decreases-loop-self : goal.decreases-loop-self
-decreases-loop-self g l = MOST_SCRIPT - l.self.taken
+decreases-loop-self g l = most_script - l.self.taken

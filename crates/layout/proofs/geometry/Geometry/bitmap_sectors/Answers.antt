@@ -1,9 +1,9 @@
 use Rattle.std.proofs.Common.{◌^◌}
 use Rattle.image_model.proofs.Regions.{blocks-low}
-use Rattle.layout.specs.Layout.{geometry_in}
+use Rattle.layout.specs.Layout.{as_geometry}
 use Rattle.layout.proofs.geometry.Geometry.bitmap_sectors.Goals as goal
 
 pub bitmap_sectors_for-requires : goal.bitmap_sectors_for-requires
 bitmap_sectors_for-requires c =
     let h = c.self.invariant.geometry in
-    record { blocks = (h.blocks, blocks-low (geometry_in c.self.inside.layout) (2 ^ 48) h) }
+    record { blocks = (h.blocks, blocks-low (as_geometry c.self.inside.layout) (2 ^ 48) h) }

@@ -1,15 +1,14 @@
 use Rattle.std.proofs.Common.{◌^◌, sym, arith}
 use Rattle.image_model.proofs.GeometryLemmas.{IsGeometry-larger}
 use Rattle.image_model.proofs.GeometryOf.{geometry_apart}
-use Rattle.superblock.specs.Fields.{fields_of}
-use Rattle.layout.specs.Layout.{geometry_in}
+use Rattle.layout.specs.Layout.{as_geometry}
 use Rattle.layout.proofs.geometry.Geometry.new.Goals as goal
 
 pub invariant_of-result : goal.invariant_of-result
 invariant_of-result c =
-    let g = geometry_in c.in_ok-layout.layout in
+    let g = as_geometry c.in_ok-layout.layout in
     let told = sym c.in_ok-layout.ensures.told in
-    let is = (geometry_apart (fields_of c.args.fields.now) c.args.disk_sectors g c.requires.fields told).0 in
+    let is = (geometry_apart c.args.fields.now c.args.disk_sectors g c.requires.fields told).0 in
     let low = is.device in
     record {
       numbers = c.in_ok-layout.ensures.is_layout;
@@ -19,9 +18,9 @@ invariant_of-result c =
 pub returns-clause-geometry : goal.returns-clause-geometry
 returns-clause-geometry c =
     let told = sym c.in_ok-layout.ensures.told in
-    (geometry_apart (fields_of c.args.fields.now) c.args.disk_sectors _ c.requires.fields told).0
+    (geometry_apart c.args.fields.now c.args.disk_sectors _ c.requires.fields told).0
 
 pub returns-clause-apart : goal.returns-clause-apart
 returns-clause-apart c =
     let told = sym c.in_ok-layout.ensures.told in
-    (geometry_apart (fields_of c.args.fields.now) c.args.disk_sectors _ c.requires.fields told).1
+    (geometry_apart c.args.fields.now c.args.disk_sectors _ c.requires.fields told).1

@@ -1,0 +1,204 @@
+//! The files of the system: what is asked of a file, by one call of std each.
+//!
+//! This is what is trusted of the edge: std tells nothing of what a file holds, so these files tell nothing either.
+ghost use Rattle.std.specs.Prelude.{◌≡◌, ◌≤◌, ◌*◌, ◌^◌, ◌<◌, [], length, IfOk};
+ghost use Rattle.std.proofs.lemmas.Option.{none-some};
+ghost use Rattle.disk_model.specs.Identity.{AnyName};
+ghost use Rattle.file_disk.specs.Files.{HasFileCause};
+
+use crate::opening::open_apart;
+use crate::{FileFault, Folder, SectorFile};
+use std::fs::{File, OpenOptions};
+use std::io;
+use std::io::{ErrorKind, Seek, SeekFrom};
+use std::os::unix::fs::FileExt;
+use std::rt::Files;
+
+/// The size of a sector in bytes.
+const SECTOR_SIZE: usize = 512;
+
+/// What has failed, and how often a call can still be interrupted.
+#[derive(Drop)]
+struct Calls {
+    faults: u64,
+    interruptions: u64,
+}
+
+impl Calls {
+    /// Nothing has failed, and calls can be interrupted 2^64 - 1 times.
+    fn new() -> Calls
+        ensures { result.faults ≡ 0 }
+    {
+        Calls {
+            faults: 0,
+            interruptions: u64::MAX,
+        }
+    }
+
+    /// Hands on what std has answered. An error is counted, and its kind is lost.
+    ///
+    /// # Errors
+    ///
+    /// - `Interrupted`: a signal came first.
+    /// - `Failed`: std has answered another error, or signals came too often.
+    fn judge<T>(&mut self, answer: io::Result<T>) -> Result<T, FileFault>
+        ensures value { IfOk result (λ value. answer ≡ Ok value) }
+
+        ensures cause { HasFileCause self.old.faults self.new.faults
+            self.old.interruptions self.new.interruptions result }
+    {
+        match answer {
+            Ok(value) => Ok(value),
+            Err(e) if e.kind() == ErrorKind::Interrupted && self.interruptions > 0 => {
+                self.interruptions -= 1;
+                Err(FileFault::Interrupted)
+            }
+            Err(_) => {
+                self.faults = self.faults.saturating_add(1);
+                Err(FileFault::Failed)
+            }
+        }
+    }
+}
+
+/// How many whole sectors a file has.
+#[derive(Drop)]
+struct Length {
+    sectors: u64,
+    ghost fits: { 512 * sectors < 2 ^ 64 },
+}
+
+/// A file or a block device of the system, which is locked as long as it is open.
+#[derive(Drop)]
+pub struct StdFile {
+    file: File,
+    length: Length,
+    calls: Calls,
+}
+
+impl SectorFile for StdFile {
+    ghost identity = { λ file. record { name = AnyName; sectors = file.length.sectors } };
+
+    ghost moments = { λ file. [] };
+
+    ghost faults = { λ file. file.calls.faults };
+
+    ghost interruptions = { λ file. file.calls.interruptions };
+
+    fn sectors(&self) -> u64 {
+        self.length.sectors
+    }
+
+    // A call that ends within its first sector is made again for that sector, to its end.
+    fn read_at(&mut self, from: u64, buffer: &mut [u8]) -> Result<usize, FileFault> {
+        let answer = self.file.read_at(buffer, from);
+        let count = self.calls.judge(answer)?;
+        if count >= SECTOR_SIZE {
+            return Ok(count - count % SECTOR_SIZE);
+        }
+        let answer = read_sector(&self.file, from, buffer);
+        self.calls.judge(answer)?;
+        Ok(SECTOR_SIZE)
+    }
+
+    fn write_at(&mut self, from: u64, bytes: &[u8]) -> Result<usize, FileFault> {
+        let answer = self.file.write_at(bytes, from);
+        let count = self.calls.judge(answer)?;
+        if count >= SECTOR_SIZE {
+            return Ok(count - count % SECTOR_SIZE);
+        }
+        let answer = write_sector(&self.file, from, bytes);
+        self.calls.judge(answer)?;
+        Ok(SECTOR_SIZE)
+    }
+
+    fn sync(&mut self) -> Result<(), FileFault> {
+        let answer = self.file.sync_all();
+        self.calls.judge(answer)
+    }
+
+    ghost fits = { λ file. file.length.fits };
+
+    ghost reads_an_image = { λ file c told. absurd (none-some c told) };
+
+    ghost whole_sectors = { λ file c sector x told low has. absurd (none-some c told) };
+}
+
+/// Reads the first sector of those from byte `from` on, whole.
+fn read_sector(file: &File, from: u64, buffer: &mut [u8]) -> io::Result<()>
+    requires { SECTOR_SIZE ≤ length buffer.old }
+{
+    file.read_exact_at(&mut buffer[..SECTOR_SIZE], from)
+}
+
+/// Writes the first sector of these bytes, whole.
+fn write_sector(file: &File, from: u64, bytes: &[u8]) -> io::Result<()>
+    requires { SECTOR_SIZE ≤ length bytes.now }
+{
+    file.write_all_at(&bytes[..SECTOR_SIZE], from)
+}
+
+/// The files of the system, by their paths.
+#[derive(Drop)]
+pub struct StdFolder<R: Files<File = File> + Drop> {
+    rt: R,
+    calls: Calls,
+}
+
+impl<R: Files<File = File> + Drop> StdFolder<R> {
+    /// The files that the program can reach. It opens none.
+    pub fn new(rt: R) -> StdFolder<R>
+        ensures { result.calls.faults ≡ 0 }
+    {
+        StdFolder {
+            rt,
+            calls: Calls::new(),
+        }
+    }
+}
+
+impl<R: Files<File = File> + Drop> Folder for StdFolder<R> {
+    type File = StdFile;
+
+    ghost faults = { λ folder. folder.calls.faults };
+
+    ghost interruptions = { λ folder. folder.calls.interruptions };
+
+    ghost named = { λ folder name. record { sectors = 0; moments = [] } };
+
+    fn open(&mut self, name: &str) -> Result<StdFile, FileFault> {
+        let answer = open_locked(&self.rt, name);
+        let (file, sectors) = self.calls.judge(answer)?;
+        Ok(StdFile {
+            file,
+            length: Length { sectors },
+            calls: Calls::new(),
+        })
+    }
+}
+
+/// Opens a file and locks it, and tells how many whole sectors it has: of a block device its end alone tells that.
+fn open_locked<R: Files<File = File>>(rt: &R, name: &str) -> io::Result<(File, u64)>
+    ensures { IfOk result (λ opened. 512 * opened.1 < 2 ^ 64) }
+{
+    let mut file = open_to_write_or_read(rt, name)?;
+    file.try_lock()?;
+    let sectors = file.seek(SeekFrom::End(0))? / 512;
+    Ok((file, sectors))
+}
+
+/// Opens a file for reads and writes, or for reads alone where it must not be written.
+fn open_to_write_or_read<R: Files<File = File>>(rt: &R, name: &str) -> io::Result<File> {
+    match open_apart(rt, OpenOptions::new().read(true).write(true), name) {
+        Err(e) if must_not_be_written(e.kind()) => open_apart(
+            rt,
+            OpenOptions::new().read(true),
+            name,
+        ),
+        answer => answer,
+    }
+}
+
+fn must_not_be_written(kind: ErrorKind) -> bool {
+    kind == ErrorKind::PermissionDenied || kind == ErrorKind::ReadOnlyFilesystem
+}

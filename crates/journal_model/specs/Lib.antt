@@ -1,0 +1,12 @@
+pub mod Cuts
+pub mod Entries
+pub mod JournaledDisk
+pub mod Steps
+pub mod StepLaws
+pub mod KeepsLaws
+pub mod HistoryOf
+pub mod Erasing
+pub mod Opening
+pub mod Batch
+pub mod View
+pub mod Recovery

@@ -1,0 +1,10 @@
+pub mod FormatLemmas
+pub mod TagsLemmas
+pub mod PlacedLemmas
+pub mod BlocksLemmas
+pub mod JournalLemmas
+pub mod LeftLemmas
+pub mod KindLemmas
+pub mod FirstSyncLemmas
+pub mod EachLemmas
+pub mod WorkedDisk

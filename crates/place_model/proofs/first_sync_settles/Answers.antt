@@ -1,0 +1,8 @@
+use Rattle.place_model.proofs.FirstSyncLemmas.{first_sync_law, opening_left_law}
+use Rattle.place_model.proofs.first_sync_settles.Goals as goal
+
+pub returns-clause-sync : goal.returns-clause-sync
+returns-clause-sync c = first_sync_law
+
+pub returns-clause-left : goal.returns-clause-left
+returns-clause-left c = opening_left_law

@@ -1,0 +1,27 @@
+-- The moments of an opening: what its first sync leaves, of a disk whose candidates are pending, and what stands before it.
+-- Own: an opening syncs before it writes.
+use Rattle.std.specs.Prelude.{◌≡◌, ◌⊎◌, ℕ}
+use Rattle.disk_model.specs.Disk.{Content, IsImage, EachImage, HasNothingPending, last_image, newest_only}
+use Rattle.image_model.specs.Cells.{Cell}
+use Rattle.place_model.specs.Format.{DiskFormat, cells_on, OpensAs, HasCells}
+
+-- The content is settled, and its image is one of those at entry: the one that reads gave.
+pub record IsSettled (entry c : Content) : Type 0 where
+  pub settled : HasNothingPending c
+  pub among : EachImage (IsImage entry) c
+  pub as_read : EachImage (λ image. (sector : ℕ) → image sector ≡ last_image entry sector) c
+
+-- A moment of an opening: the content is that at entry, or each image can be opened and has the cells at opening.
+abbrev pub IsOfOpening : DiskFormat → (ℕ → Cell) → (entry c : Content) → Type 0
+IsOfOpening d base entry c = (c ≡ entry) ⊎ EachImage (HasCells d base) c
+
+-- A sync settles what was pending at entry, and leaves the cells that reads give.
+abbrev pub FirstSyncLaw : Type 0
+FirstSyncLaw = (d : DiskFormat) (entry : Content) → IsImage entry (last_image entry)
+    → OpensAs d (last_image entry) → IsSettled entry (newest_only entry)
+    × EachImage (HasCells d (cells_on d (last_image entry))) (newest_only entry)
+
+-- So what a cut of an opening leaves is an image at entry, or one with the cells at opening.
+abbrev pub OpeningLeftLaw : Type 0
+OpeningLeftLaw = (d : DiskFormat) (base : ℕ → Cell) (entry c : Content) → IsOfOpening d base entry c
+    → EachImage (λ image. IsImage entry image ⊎ HasCells d base image) c

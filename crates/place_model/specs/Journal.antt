@@ -1,0 +1,27 @@
+-- The sectors of the journal on an image, their commit numbers, and the entries of its sections.
+-- Own: as the replay walk.
+use Rattle.std.specs.Prelude.{◌≡◌, ℕ, ◌+◌, ◌<◌, List, map, filter_map}
+use Rattle.std.specs.List.{range_with_len}
+use Rattle.disk_model.specs.Disk.{Image}
+use Rattle.image_model.specs.Cells.{entry_of}
+use Rattle.image_model.specs.CommitId.{commit_number}
+use Rattle.image_model.specs.Geometry.{Geometry, section_at, section_entries, section_sectors}
+use Rattle.image_model.specs.Section.{Entry}
+use Rattle.image_model.specs.Walk.{Numbers}
+
+-- The sector is one of the journal's.
+pub record IsOfJournal (g : Geometry) (sector : ℕ) : Type 0 where
+  pub section : ℕ
+  pub place : ℕ
+  pub inside : section < g.sections
+  pub narrow : place < section_sectors g.shape
+  pub is : sector ≡ section_at g section + place
+
+-- The commit numbers on the journal of an image.
+abbrev pub numbers_on : Geometry → Image → Numbers
+numbers_on g image section sector = commit_number section sector (image (section_at g section + sector))
+
+-- The used entries of a section of an image, in order.
+unfoldable pub entries_in : Geometry → Image → ℕ → List Entry
+entries_in g image section =
+    filter_map (entry_of g image) (map (λ n. (section, n)) (range_with_len 0 (section_entries g.shape)))

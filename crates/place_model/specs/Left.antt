@@ -1,0 +1,44 @@
+-- What a cut may leave of a device: an image that can be opened, whose cells its history allows.
+-- Own: what each mode promises.
+use Rattle.std.specs.Prelude.{◌≡◌, None}
+use Rattle.disk_model.specs.Disk.{Image}
+use Rattle.image_model.specs.Bitmap.{is_dirty}
+use Rattle.image_model.specs.Geometry.{region_of}
+use Rattle.device_model.specs.Cut.{MayBeLeftDirect, MayBeLeftJournal, MayBeLeftBitmap}
+use Rattle.device_model.specs.History.{BlockWrite, History, Begun, with_change}
+use Rattle.place_model.specs.Format.{DiskFormat, tagger_of, cells_on, OpensAs}
+
+-- The image may be left in direct mode: each block with no write that is not flushed holds what the flushed ones gave it.
+pub record IsLeftInDirect (d : DiskFormat) (h : History) (image : Image) : Type 0 where
+  pub opens : OpensAs d image
+  pub left : MayBeLeftDirect (tagger_of d) d.geometry.blocks h (cells_on d image)
+
+-- The image may be left in journal mode: its blocks hold what some of the first writes gave them, with every flushed one
+-- among them.
+pub record IsLeftInJournal (d : DiskFormat) (h : History) (image : Image) : Type 0 where
+  pub opens : OpensAs d image
+  pub left : MayBeLeftJournal (tagger_of d) d.geometry.blocks h (cells_on d image)
+
+-- The image may be left in bitmap mode: each sector of a block holds what some of the first writes gave it, and where the
+-- image's bit is clear the block holds what all writes gave it.
+pub record IsLeftInBitmap (d : DiskFormat) (h : History) (image : Image) : Type 0 where
+  pub opens : OpensAs d image
+  pub left : MayBeLeftBitmap (tagger_of d) d.geometry.blocks d.geometry.shape.spb
+      (λ b. is_dirty d.geometry image (region_of d.geometry b)) h (cells_on d image)
+
+-- ---- laws
+
+-- What may be left before a write may be left while it is under way, in direct mode,
+abbrev pub DirectPendingLaw : Type 0
+DirectPendingLaw = (d : DiskFormat) (h : History) (write : BlockWrite) (image : Image) → h.pending ≡ None
+    → IsLeftInDirect d h image → IsLeftInDirect d (with_change h (Begun write)) image
+
+-- in journal mode,
+abbrev pub JournalPendingLaw : Type 0
+JournalPendingLaw = (d : DiskFormat) (h : History) (write : BlockWrite) (image : Image) → h.pending ≡ None
+    → IsLeftInJournal d h image → IsLeftInJournal d (with_change h (Begun write)) image
+
+-- and in bitmap mode.
+abbrev pub BitmapPendingLaw : Type 0
+BitmapPendingLaw = (d : DiskFormat) (h : History) (write : BlockWrite) (image : Image) → h.pending ≡ None
+    → IsLeftInBitmap d h image → IsLeftInBitmap d (with_change h (Begun write)) image

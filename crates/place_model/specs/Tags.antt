@@ -1,0 +1,43 @@
+-- The tags of blocks in their places: what may be written there, and what reads of them give.
+use Rattle.std.specs.Prelude.{◌≡◌, ◌≢◌, ◌⊎◌, ℕ, ◌+◌, ◌/◌, ◌%◌, ◌<◌, ◌==◌, if◌then◌else◌, List, length, slice_index}
+use Rattle.disk_model.specs.Disk.{Content, last_image, IsOfRun}
+use Rattle.image_model.specs.Cells.{Cell}
+use Rattle.image_model.specs.Geometry.{Geometry, data_at, tag_at}
+
+-- The sector of the disk that holds byte i of the tag of block b, and the byte in it: a tag may straddle two sectors.
+-- Source: Linux, drivers/md/dm-integrity.c, get_metadata_sector_and_offset and dm_integrity_rw_tag.
+unfoldable pub tag_byte_at : Geometry → ℕ → ℕ → ℕ × ℕ
+tag_byte_at g b i = ((tag_at g b).0 + ((tag_at g b).1 + i) / 512, ((tag_at g b).1 + i) % 512)
+
+-- The tags with a new one of a block.
+abbrev pub with_block_tag : ℕ → List ℕ → (ℕ → List ℕ) → ℕ → List ℕ
+with_block_tag block tag tags b = if block == b then tag else tags b
+
+-- The bytes may be written to a sector of tags while the tags change from the old ones to the new: each byte of a tag is an
+-- old or a new one. Such a sector holds a byte of the tag of some block.
+-- Own: a sector of tags may be written at any time, also in the middle of a change.
+pub record IsOfTags (g : Geometry) (old new : ℕ → List ℕ) (sector : ℕ) (x : List ℕ) : Type 0 where
+  pub whole : length x ≡ 512
+  pub block : ℕ
+  pub byte : ℕ
+  pub block_low : block < g.blocks
+  pub byte_low : byte < g.shape.tag_size
+  pub is : sector ≡ (tag_byte_at g block byte).0
+  pub each : (b i : ℕ) → b < g.blocks → i < g.shape.tag_size → sector ≡ (tag_byte_at g b i).0
+      → (slice_index x (tag_byte_at g b i).1 ≡ slice_index (old b) i)
+      ⊎ (slice_index x (tag_byte_at g b i).1 ≡ slice_index (new b) i)
+
+-- The bytes may be written while a block gets a new cell: its data, and sectors of tags without and with its tag.
+abbrev pub IsOfCell : Geometry → ℕ → Cell → (ℕ → List ℕ) → ℕ → List ℕ → Type 0
+IsOfCell g b cell tags sector x =
+    IsOfRun (data_at g b) cell.bytes sector x ⊎ IsOfTags g tags (with_block_tag b cell.tag tags) sector x
+
+-- What reads give of the tags is these.
+pub record ReadsTags (g : Geometry) (tags : ℕ → List ℕ) (c : Content) : Type 0 where
+  pub each : (b i : ℕ) → b < g.blocks → i < g.shape.tag_size
+      → slice_index (last_image c (tag_byte_at g b i).0) (tag_byte_at g b i).1 ≡ slice_index (tags b) i
+
+-- Each sector that holds no byte of a tag has the candidates that it had.
+pub record KeepsOthers (g : Geometry) (old new : Content) : Type 0 where
+  pub each : (sector : ℕ) → ((b i : ℕ) → b < g.blocks → i < g.shape.tag_size → sector ≢ (tag_byte_at g b i).0)
+      → new sector ≡ old sector

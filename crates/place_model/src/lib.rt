@@ -1,0 +1,29 @@
+//! Definitions and laws: what all modes of a device share, from the disk that it opens to what a cut may leave of it.
+//!
+//! `specs/Format.antt` is the file to read first: the disk, its tags and the cells of its images.
+#![tactic(auto)]
+
+ghost use Rattle.place_model.specs.FirstSync.{FirstSyncLaw, OpeningLeftLaw};
+ghost use Rattle.place_model.specs.Kind.{BitmapKindLaw, DirectKindLaw, JournalKindLaw};
+ghost use Rattle.place_model.specs.Left.{BitmapPendingLaw, DirectPendingLaw, JournalPendingLaw};
+
+/// What may be left before a write may be left while it is under way.
+pub fn pending_write_leaves_all()
+    ensures direct { DirectPendingLaw }
+    ensures journal { JournalPendingLaw }
+    ensures bitmap { BitmapPendingLaw }
+{}
+
+/// The first sync of an opening leaves one of the images that the disk had at entry, with the cells that reads give.
+/// A cut before it leaves an image at entry, and any later one those cells.
+pub fn first_sync_settles()
+    ensures sync { FirstSyncLaw }
+    ensures left { OpeningLeftLaw }
+{}
+
+/// What a cut leaves by the format that was opened may be left of the device, by the superblock of what is left.
+pub fn cut_is_left_of_the_device()
+    ensures journal { JournalKindLaw }
+    ensures bitmap { BitmapKindLaw }
+    ensures direct { DirectKindLaw }
+{}
