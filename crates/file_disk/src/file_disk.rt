@@ -12,7 +12,8 @@ use crate::transfer::{open_file, read_all, sync_all, write_all};
 use crate::{Folder, SectorFile};
 use sector_disk::{Counted, Disk, Failed, Named};
 
-/// The whole sectors of a file. It has none until it is bound to the file's name, and is bound once.
+/// The whole sectors of a file. It has none until it is bound to the file's name, and then it is bound to no other: a
+/// `bind` to the same name changes nothing, and one to another name is a fault.
 #[derive(Drop)]
 pub struct FileDisk<O: Folder + Drop> {
     folder: O,
@@ -21,7 +22,7 @@ pub struct FileDisk<O: Folder + Drop> {
 }
 
 impl<O: Folder + Drop> FileDisk<O> {
-    /// Makes a disk that is bound to no file. It opens none. Its first `bind` is the only one that can succeed.
+    /// Makes a disk that is bound to no file. It opens none.
     pub fn new(folder: O) -> FileDisk<O>
         ensures { result ≡ record { folder = folder; file = None; faults = 0 } }
     {
@@ -58,6 +59,11 @@ impl<O: Folder + Drop> Named for FileDisk<O> {
             (named_as O.File.identity O.File.moments (O.named self.old.folder name.now) self.old.file)
             (named_as O.File.identity O.File.moments (O.named self.new.folder name.now) self.new.file) }
     {
+        if let Some(file) = &self.file
+            && file.has_name(name)
+        {
+            return Ok(());
+        }
         if self.file.is_some() {
             self.faults = self.faults.saturating_add(1);
             return Err(Failed);

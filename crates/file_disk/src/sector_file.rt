@@ -1,7 +1,7 @@
 //! What is asked of a file, and of the folder that opens it.
 //!
 //! Each call is one call of the system, which may be interrupted by a signal, or do a part of what it is asked.
-ghost use Rattle.std.specs.Prelude.{◌≡◌, ◌≤◌, ◌*◌, ◌/◌, ◌^◌, ◌<◌, List, ℕ, length, take, IfOk, OnOk, OnErr, Some};
+ghost use Rattle.std.specs.Prelude.{◌≡◌, ◌≤◌, ◌*◌, ◌/◌, ◌^◌, ◌<◌, List, ℕ, length, take, IsTrue, IfOk, OnOk, OnErr, Some};
 ghost use Rattle.std.specs.List.{Contains};
 ghost use Rattle.std.specs.Option.{ForSome, option_map};
 ghost use Rattle.disk_model.specs.Disk.{Content, IsImage, Reads, AddsSome, with_run, newest_only, last_image};
@@ -36,6 +36,10 @@ pub trait SectorFile {
     /// How many whole sectors it has.
     fn sectors(&self) -> u64
         ensures { result ≡ (identity self.now).sectors };
+
+    /// Whether it was opened by this name.
+    fn has_name(&self, name: &str) -> bool
+        ensures { IsTrue result → IsBoundTo name.now (identity self.now).name };
 
     /// Reads from byte `from` on into the front of the buffer, and tells how many bytes: whole sectors.
     ///

@@ -14,6 +14,11 @@ use std::io::{ErrorKind, Seek, SeekFrom};
 use std::os::unix::fs::FileExt;
 use std::rt::Files;
 
+/// How many bytes the name of a file has at most.
+///
+/// Source: Linux, `include/uapi/linux/limits.h`, `PATH_MAX`.
+const LONGEST_NAME: usize = 4096;
+
 /// The size of a sector in bytes.
 const SECTOR_SIZE: usize = 512;
 
@@ -68,10 +73,40 @@ struct Length {
     ghost fits: { 512 * sectors < 2 ^ 64 },
 }
 
+/// The name of a file.
+#[derive(Drop)]
+struct Name {
+    bytes: [u8; LONGEST_NAME],
+    len: usize,
+    ghost within: { len ≤ 4096 },
+}
+
+impl Name {
+    /// None where it is too long for the name of a file.
+    fn of(name: &str) -> Option<Name> {
+        let name = name.as_bytes();
+        if name.len() > LONGEST_NAME {
+            return None;
+        }
+        let mut bytes = [0; LONGEST_NAME];
+        bytes[..name.len()].copy_from_slice(name);
+        Some(Name {
+            bytes,
+            len: name.len(),
+        })
+    }
+
+    /// Whether it is this one.
+    fn is(&self, name: &str) -> bool {
+        &self.bytes[..self.len] == name.as_bytes()
+    }
+}
+
 /// A file or a block device of the system, which is locked as long as it is open.
 #[derive(Drop)]
 pub struct StdFile {
     file: File,
+    name: Name,
     length: Length,
     calls: Calls,
 }
@@ -87,6 +122,10 @@ impl SectorFile for StdFile {
 
     fn sectors(&self) -> u64 {
         self.length.sectors
+    }
+
+    fn has_name(&self, name: &str) -> bool {
+        self.name.is(name)
     }
 
     // A call that ends within its first sector is made again for that sector, to its end.
@@ -168,9 +207,10 @@ impl<R: Files<File = File> + Drop> Folder for StdFolder<R> {
 
     fn open(&mut self, name: &str) -> Result<StdFile, FileFault> {
         let answer = open_locked(&self.rt, name);
-        let (file, sectors) = self.calls.judge(answer)?;
+        let (file, name, sectors) = self.calls.judge(answer)?;
         Ok(StdFile {
             file,
+            name,
             length: Length { sectors },
             calls: Calls::new(),
         })
@@ -178,13 +218,16 @@ impl<R: Files<File = File> + Drop> Folder for StdFolder<R> {
 }
 
 /// Opens a file and locks it, and tells how many whole sectors it has: of a block device its end alone tells that.
-fn open_locked<R: Files<File = File>>(rt: &R, name: &str) -> io::Result<(File, u64)>
-    ensures { IfOk result (λ opened. 512 * opened.1 < 2 ^ 64) }
+fn open_locked<R: Files<File = File>>(rt: &R, name: &str) -> io::Result<(File, Name, u64)>
+    ensures { IfOk result (λ opened. 512 * opened.2 < 2 ^ 64) }
 {
+    let Some(kept) = Name::of(name) else {
+        return Err(ErrorKind::InvalidInput.into());
+    };
     let mut file = open_to_write_or_read(rt, name)?;
     file.try_lock()?;
     let sectors = file.seek(SeekFrom::End(0))? / 512;
-    Ok((file, sectors))
+    Ok((file, kept, sectors))
 }
 
 /// Opens a file for reads and writes, or for reads alone where it must not be written.

@@ -71,7 +71,7 @@ fn a_failing_call_is_told(rt: HostRuntime) -> Result<(), Fail> {
 }
 
 #[test]
-fn a_disk_is_bound_once(rt: HostRuntime) -> Result<(), Fail> {
+fn a_disk_is_bound_to_one_name(rt: HostRuntime) -> Result<(), Fail> {
     let mut disk = FileDisk::new(folder_of(rt.alloc(), 8, 1, &[])?);
     assert_eq!(rt; disk.bind("no file"), Err(Failed));
     assert_eq!(rt;
@@ -79,7 +79,8 @@ fn a_disk_is_bound_once(rt: HostRuntime) -> Result<(), Fail> {
         Ok(()),
         "after a name that there is not"
     );
-    assert_eq!(rt; disk.bind("image"), Err(Failed), "it is bound");
+    assert_eq!(rt; disk.bind("image"), Ok(()), "it is bound to that");
+    assert_eq!(rt; disk.bind("other"), Err(Failed), "it is bound");
     Ok(())
 }
 
@@ -135,6 +136,8 @@ fn a_file_is_locked_while_a_disk_is_bound_to_it(rt: HostRuntime) -> Result<(), F
     let mut second = FileDisk::new(StdFolder::new(&rt));
     assert_eq!(rt; first.bind("no file"), Err(Failed));
     assert_eq!(rt; first.bind("image"), Ok(()));
+    assert_eq!(rt; first.bind("image"), Ok(()), "it has it");
+    assert_eq!(rt; first.bind("images"), Err(Failed), "it has another");
     assert_eq!(rt; second.bind("image"), Err(Failed), "the first has it");
     drop(first);
     assert_eq!(rt; second.bind("image"), Ok(()), "nobody has it");

@@ -55,6 +55,10 @@ impl SectorFile for ShortFile {
         self.disk.sectors()
     }
 
+    fn has_name(&self, name: &str) -> bool {
+        name == "image"
+    }
+
     fn read_at(&mut self, from: u64, buffer: &mut [u8]) -> Result<usize, FileFault> {
         if self.interrupts.comes() {
             return Err(FileFault::Interrupted);
