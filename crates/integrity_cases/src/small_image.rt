@@ -18,7 +18,8 @@ const SUPERBLOCK: [u8; 32] = [
     8, 0, 0, 0, 0, 15, 0, 0,
 ];
 
-/// The byte where the data of a block lie. From sector 96 on there come areas, each of 8 sectors of tags and then 8
+/// The byte where the data of a block lie. From sector 96 on there come areas, each of 8 sectors of
+/// tags and then 8
 /// blocks.
 ///
 /// Source: Linux, Documentation/admin-guide/device-mapper/dm-integrity.rst, the layout of the device.
@@ -66,7 +67,8 @@ pub fn put_block(bytes: &mut [u8], block: u64, data: &[u8], tag: &[u8]) {
     put_at(bytes, tag_at(block), tag);
 }
 
-/// The digest of a block's number, as 8 bytes with the lowest first, and its bytes: its tag, where these are right.
+/// The digest of a block's number, as 8 bytes with the lowest first, and its bytes: its tag, where
+/// these are right.
 ///
 /// Source: FIPS 180-4, section 6.2.
 pub fn digest_of(block: u64, data: &[u8]) -> [u8; 32] {

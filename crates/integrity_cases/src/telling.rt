@@ -37,7 +37,8 @@ pub fn add(
     Ok(())
 }
 
-/// The status, and behind it the lines of the text, parted by ` / `. Of lines that repeat, one stands with their number;
+/// The status, and behind it the lines of the text, parted by ` / `. Of lines that repeat, one
+/// stands with their number;
 /// a last line that no newline ends has two dots behind it.
 pub fn outcome_of(alloc: Global, ended: &Ended) -> Result<String, AllocError> {
     let status = ended.status;
@@ -74,7 +75,8 @@ fn put_times(alloc: Global, out: &mut String, count: u64) -> Result<(), AllocErr
     out.push_str(times.as_str())
 }
 
-/// Puts what rows, or bits, have shown, each on lines of its own. Those that showed the same in a row are told once.
+/// Puts what rows, or bits, have shown, each on lines of its own. Those that showed the same in a
+/// row are told once.
 pub fn put_rows(
     alloc: Global,
     out: &mut String,

@@ -53,7 +53,8 @@ impl Trial {
     }
 }
 
-/// Tries each failure of a kind, and tells how many runs failed and how many images were looked at, or what is wrong.
+/// Tries each failure of a kind, and tells how many runs failed and how many images were looked at,
+/// or what is wrong.
 pub fn try_each(
     alloc: Global,
     counts: &mut Counts,

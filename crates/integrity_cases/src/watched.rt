@@ -1,4 +1,5 @@
-//! Objects in memory that count what is asked of them. They hand each call on, and tell nothing of their content.
+//! Objects in memory that count what is asked of them. They hand each call on, and tell nothing of
+//! their content.
 ghost use Rattle.std.specs.Prelude.{⊤, None, []};
 ghost use Rattle.std.proofs.Common.{refl};
 ghost use Rattle.std.proofs.lemmas.Option.{none-some};
@@ -90,7 +91,8 @@ pub struct WatchedDisk {
 }
 
 impl WatchedDisk {
-    /// Watches a disk from now on, which fails so. Where each sync does not have to be counted, one is handed on only if
+    /// Watches a disk from now on, which fails so. Where each sync does not have to be counted,
+    /// one is handed on only if
     /// it has something to settle: so a long script of flushes takes no memory.
     pub fn new(alloc: Global, mut disk: MemDisk, fails: Fails) -> Result<WatchedDisk, AllocError> {
         let added = vec![in alloc; 0; disk.sectors() as usize]?;
