@@ -23,13 +23,11 @@ pub struct Told<'t> {
 }
 
 /// Looks at the status and the text of a run that met a failure, beside those of the undisturbed
-/// run: the status is that
-/// of the failure, and the text whole lines that the undisturbed one begins with, and then the line
-/// of the failure.
+/// run: the status is that of the failure, and the text whole lines that the undisturbed one begins
+/// with, and then the line of the failure.
 ///
 /// Where the sink failed the text stops anywhere before its end. If only the last line is not
-/// whole, and tells another
-/// cause, the status is that of this cause.
+/// whole, and tells another cause, the status is that of this cause.
 pub fn judge_text(undisturbed: Told<'_>, told: Told<'_>, met: Met) -> Result<()> {
     let (status, line) = match met {
         Met::Nothing => (undisturbed.status, ""),
@@ -76,9 +74,8 @@ fn told_lines(text: &str) -> usize {
 }
 
 /// The images that lines of a script give, of which a cut leaves each block's data and tag from
-/// any: what the last flush
-/// has settled that the text tells, and behind it what each later fill gives, up to the one that
-/// may have begun.
+/// any: what the last flush has settled that the text tells, and behind it what each later fill
+/// gives, up to the one that may have begun.
 pub fn images_after(
     alloc: Global,
     base: &[u8],
@@ -148,8 +145,7 @@ fn fill_image(image: &mut [u8], text: &str) {
 }
 
 /// Looks at the bytes of what is left: the data of each block, and its tag, are those of one of the
-/// images, and all else
-/// is as in the first of them.
+/// images, and all else is as in the first of them.
 pub fn judge_left(alloc: Global, images: &[Vec<u8>], left: &[u8]) -> Result<()> {
     let Some(settled) = images.first() else {
         return Ok(());
@@ -206,8 +202,7 @@ pub fn digests_of(alloc: Global, image: &[u8]) -> Result<Vec<[u8; 32]>, AllocErr
 }
 
 /// Looks at what the reads of all blocks have told of what is left, beside its bytes. The tags are
-/// those of the image that
-/// the run began with.
+/// those of the image that the run began with.
 pub fn judge_reads(
     alloc: Global,
     base: &[u8],

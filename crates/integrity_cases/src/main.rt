@@ -1,10 +1,9 @@
-//! Runs cases of the program's one call over disks, scripts and sinks in memory, and prints what each shows.
+//! Runs cases of the program's one call over disks, scripts and sinks in memory, and prints what
+//! each shows.
 //!
 //! The cases stand in the standard input, and in the files that the words name; the form of a case
-//! is described at the
-//! head of `stdin`. A line that is none of a case ends the program with its number, and a case or a
-//! run that is not as it
-//! should be with status 1.
+//! is described at the head of `stdin`. A line that is none of a case ends the program with its
+//! number, and a case or a run that is not as it should be with status 1.
 #![tactic(auto)]
 
 mod case;

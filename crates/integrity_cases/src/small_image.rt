@@ -19,10 +19,10 @@ const SUPERBLOCK: [u8; 32] = [
 ];
 
 /// The byte where the data of a block lie. From sector 96 on there come areas, each of 8 sectors of
-/// tags and then 8
-/// blocks.
+/// tags and then 8 blocks.
 ///
-/// Source: Linux, Documentation/admin-guide/device-mapper/dm-integrity.rst, the layout of the device.
+/// Source: Linux, Documentation/admin-guide/device-mapper/dm-integrity.rst, the layout of the
+/// device.
 fn data_at(block: u64) -> usize {
     let block = (block % BLOCKS) as usize;
     512 * (104 + block / 8 * 16 + block % 8)

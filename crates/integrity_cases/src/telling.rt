@@ -38,8 +38,7 @@ pub fn add(
 }
 
 /// The status, and behind it the lines of the text, parted by ` / `. Of lines that repeat, one
-/// stands with their number;
-/// a last line that no newline ends has two dots behind it.
+/// stands with their number; a last line that no newline ends has two dots behind it.
 pub fn outcome_of(alloc: Global, ended: &Ended) -> Result<String, AllocError> {
     let status = ended.status;
     let text = ended.text.as_str();

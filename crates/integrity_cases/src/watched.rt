@@ -92,8 +92,8 @@ pub struct WatchedDisk {
 
 impl WatchedDisk {
     /// Watches a disk from now on, which fails so. Where each sync does not have to be counted,
-    /// one is handed on only if
-    /// it has something to settle: so a long script of flushes takes no memory.
+    /// one is handed on only if it has something to settle: so a long script of flushes takes
+    /// no memory.
     pub fn new(alloc: Global, mut disk: MemDisk, fails: Fails) -> Result<WatchedDisk, AllocError> {
         let added = vec![in alloc; 0; disk.sectors() as usize]?;
         let skips_syncs = fails.disk.is_none() && fails.stop.is_none();
