@@ -1,3 +1,9 @@
 pub mod Table
 pub mod Rows
 pub mod ByClap
+pub mod Numbers
+pub mod Given
+pub mod Judging
+pub mod Commands
+pub mod Answers
+pub mod Found

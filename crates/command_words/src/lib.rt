@@ -1,5 +1,20 @@
 //! The words of a command: which words are which command, read by `clap`.
 #![tactic(auto)]
 
+mod command;
+mod given;
+mod judging;
 mod line;
+mod numbers;
+mod parsing;
 mod table;
+mod values;
+mod words_fault;
+
+pub use command::{Check, Command, Dump, Exercise, Format, Run};
+pub use parsing::parse;
+pub use values::{
+    BlockSize, Checked, FileName, HashChoice, Interleave, Log2BlocksPerBit, Mode, Padding,
+    RequestCount, SectionCount, TagSize, Wipe, Within,
+};
+pub use words_fault::WordsFault;

@@ -9,16 +9,14 @@ use crate::table::{CommandRow, OptionRow, Takes, commands};
 use clap::{Arg, ArgAction, Command};
 use std::alloc::{AllocError, Global};
 
-fn place(alloc: Global, name: &'static str) -> Arg<'static>
+fn place<'w>(alloc: Global, name: &'static str) -> Arg<'w>
     ensures rule { rule_of result ≡ place_rule name.entry.now }
     ensures local { result.global ≡ false }
 {
-    Arg::new(alloc, name)
-        .action(ArgAction::Set)
-        .required(true)
+    Arg::new(alloc, name).action(ArgAction::Set).required(true)
 }
 
-fn option(alloc: Global, row: &'static OptionRow) -> Arg<'static>
+fn option<'w>(alloc: Global, row: &'static OptionRow) -> Arg<'w>
     ensures rule { rule_of result ≡ option_rule (as_option row.entry.now) }
     ensures local { result.global ≡ false }
 {
@@ -26,12 +24,10 @@ fn option(alloc: Global, row: &'static OptionRow) -> Arg<'static>
         Takes::Value => ArgAction::Set,
         Takes::Nothing => ArgAction::SetTrue,
     };
-    Arg::new(alloc, row.name)
-        .long(row.name)
-        .action(action)
+    Arg::new(alloc, row.name).long(row.name).action(action)
 }
 
-fn command(alloc: Global, row: &'static CommandRow) -> Result<Command<'static>, AllocError>
+fn command<'w>(alloc: Global, row: &'static CommandRow) -> Result<Command<'w>, AllocError>
     ensures app { IfOk result (λ c. app_of c ≡ entry_app (as_entry row.entry.now)) }
     ensures local { IfOk result (λ c. (out-Command c).has_globals ≡ false) }
 {
@@ -45,7 +41,7 @@ fn command(alloc: Global, row: &'static CommandRow) -> Result<Command<'static>, 
     Ok(command)
 }
 
-fn program(alloc: Global) -> Result<Command<'static>, AllocError>
+pub(crate) fn program<'w>(alloc: Global) -> Result<Command<'w>, AllocError>
     ensures app { IfOk result (λ c. app_of c ≡ app) }
 {
     let mut program = Command::new(alloc, "integrity")

@@ -31,19 +31,33 @@ pub(crate) struct CommandRow {
 }
 
 pub(crate) const IMAGE: &str = "IMAGE";
+
 pub(crate) const SEED: &str = "SEED";
+
 pub(crate) const COUNT: &str = "COUNT";
+
 pub(crate) const INTEGRITY: &str = "integrity";
+
 pub(crate) const KEY_FILE: &str = "integrity-key-file";
+
 pub(crate) const MODE: &str = "mode";
+
 pub(crate) const PLACED: &str = "placed";
+
 pub(crate) const TAG_SIZE: &str = "tag-size";
+
 pub(crate) const SECTOR_SIZE: &str = "sector-size";
+
 pub(crate) const INTERLEAVE: &str = "interleave-sectors";
+
 pub(crate) const SECTIONS: &str = "sections";
+
 pub(crate) const BLOCKS_PER_BIT: &str = "log2-blocks-per-bit";
+
 pub(crate) const SALT: &str = "salt";
+
 pub(crate) const LEGACY_PADDING: &str = "integrity-legacy-padding";
+
 pub(crate) const NO_WIPE: &str = "no-wipe";
 
 static COMMANDS: [CommandRow; 5] = [
@@ -51,25 +65,64 @@ static COMMANDS: [CommandRow; 5] = [
         name: "format",
         places: &[IMAGE],
         options: &[
-            OptionRow { name: INTEGRITY, takes: Takes::Value },
-            OptionRow { name: KEY_FILE, takes: Takes::Value },
-            OptionRow { name: TAG_SIZE, takes: Takes::Value },
-            OptionRow { name: SECTOR_SIZE, takes: Takes::Value },
-            OptionRow { name: INTERLEAVE, takes: Takes::Value },
-            OptionRow { name: SECTIONS, takes: Takes::Value },
-            OptionRow { name: BLOCKS_PER_BIT, takes: Takes::Value },
-            OptionRow { name: SALT, takes: Takes::Value },
-            OptionRow { name: LEGACY_PADDING, takes: Takes::Nothing },
-            OptionRow { name: NO_WIPE, takes: Takes::Nothing },
+            OptionRow {
+                name: INTEGRITY,
+                takes: Takes::Value,
+            },
+            OptionRow {
+                name: KEY_FILE,
+                takes: Takes::Value,
+            },
+            OptionRow {
+                name: TAG_SIZE,
+                takes: Takes::Value,
+            },
+            OptionRow {
+                name: SECTOR_SIZE,
+                takes: Takes::Value,
+            },
+            OptionRow {
+                name: INTERLEAVE,
+                takes: Takes::Value,
+            },
+            OptionRow {
+                name: SECTIONS,
+                takes: Takes::Value,
+            },
+            OptionRow {
+                name: BLOCKS_PER_BIT,
+                takes: Takes::Value,
+            },
+            OptionRow {
+                name: SALT,
+                takes: Takes::Value,
+            },
+            OptionRow {
+                name: LEGACY_PADDING,
+                takes: Takes::Nothing,
+            },
+            OptionRow {
+                name: NO_WIPE,
+                takes: Takes::Nothing,
+            },
         ],
     },
     CommandRow {
         name: "run",
         places: &[IMAGE],
         options: &[
-            OptionRow { name: MODE, takes: Takes::Value },
-            OptionRow { name: INTEGRITY, takes: Takes::Value },
-            OptionRow { name: KEY_FILE, takes: Takes::Value },
+            OptionRow {
+                name: MODE,
+                takes: Takes::Value,
+            },
+            OptionRow {
+                name: INTEGRITY,
+                takes: Takes::Value,
+            },
+            OptionRow {
+                name: KEY_FILE,
+                takes: Takes::Value,
+            },
         ],
     },
     CommandRow {
@@ -81,9 +134,18 @@ static COMMANDS: [CommandRow; 5] = [
         name: "check",
         places: &[IMAGE],
         options: &[
-            OptionRow { name: INTEGRITY, takes: Takes::Value },
-            OptionRow { name: KEY_FILE, takes: Takes::Value },
-            OptionRow { name: PLACED, takes: Takes::Nothing },
+            OptionRow {
+                name: INTEGRITY,
+                takes: Takes::Value,
+            },
+            OptionRow {
+                name: KEY_FILE,
+                takes: Takes::Value,
+            },
+            OptionRow {
+                name: PLACED,
+                takes: Takes::Nothing,
+            },
         ],
     },
     CommandRow {

@@ -1,0 +1,86 @@
+//! A command, with its options.
+
+use crate::values::{
+    BlockSize, Checked, FileName, HashChoice, Interleave, Log2BlocksPerBit, Mode, Padding,
+    RequestCount, SectionCount, TagSize, Wipe,
+};
+
+/// A command that the words of a program give.
+#[derive(Debug, Drop)]
+pub enum Command {
+    /// Writes a new image.
+    Format(Format),
+    /// Runs a script on an image.
+    Run(Run),
+    /// Prints what an image tells of itself.
+    Dump(Dump),
+    /// Compares the tags of an image.
+    Check(Check),
+    /// Runs requests on an image that a number decides.
+    Exercise(Exercise),
+}
+
+/// `format IMAGE`.
+#[derive(Debug, Drop)]
+pub struct Format {
+    /// The image.
+    pub image: FileName,
+    /// The hash of its tags.
+    pub hash: HashChoice,
+    /// The size of its tags.
+    pub tag_size: TagSize,
+    /// The size of its blocks.
+    pub block_size: BlockSize,
+    /// The data of an area.
+    pub interleave: Interleave,
+    /// The sections of its journal.
+    pub sections: SectionCount,
+    /// What a bit of a bitmap stands for.
+    pub log2_blocks_per_bit: Log2BlocksPerBit,
+    /// What stands before all that a tag is computed of, if there is something.
+    pub salt: Option<[u8; 16]>,
+    /// The padding of tags.
+    pub padding: Padding,
+    /// What the blocks hold then.
+    pub wipe: Wipe,
+}
+
+/// `run IMAGE --mode M`.
+#[derive(Debug, Drop)]
+pub struct Run {
+    /// The image.
+    pub image: FileName,
+    /// Where a write goes first.
+    pub mode: Mode,
+    /// The hash of its tags.
+    pub hash: HashChoice,
+}
+
+/// `dump IMAGE`.
+#[derive(Debug, Drop)]
+pub struct Dump {
+    /// The image.
+    pub image: FileName,
+}
+
+/// `check IMAGE`.
+#[derive(Debug, Drop)]
+pub struct Check {
+    /// The image.
+    pub image: FileName,
+    /// The hash of its tags.
+    pub hash: HashChoice,
+    /// What is checked.
+    pub checked: Checked,
+}
+
+/// `exercise IMAGE SEED COUNT`.
+#[derive(Debug, Drop)]
+pub struct Exercise {
+    /// The image.
+    pub image: FileName,
+    /// The number that decides the requests.
+    pub seed: u64,
+    /// How many requests there are.
+    pub count: RequestCount,
+}

@@ -1,0 +1,202 @@
+//! Judges the values of places and options, and the rules between them.
+ghost use Rattle.std.specs.Prelude.{◌≡◌, IfOk, option_and_then, option_map};
+ghost use Rattle.command_words.specs.Answers.{Answers};
+ghost use Rattle.command_words.specs.Found.{given_in};
+ghost use Rattle.command_words.specs.Judging;
+
+use crate::command::{Check, Command, Dump, Exercise, Format, Run};
+use crate::given::Given;
+use crate::numbers::{number, number_or, number_within};
+use crate::table::{
+    BLOCKS_PER_BIT, COUNT, IMAGE, INTEGRITY, INTERLEAVE, KEY_FILE, LEGACY_PADDING, MODE, NO_WIPE,
+    PLACED, SALT, SECTIONS, SECTOR_SIZE, SEED, TAG_SIZE,
+};
+use crate::values::{BlockSize, Checked, FileName, HashChoice, Interleave, Mode, Padding, Wipe};
+use crate::words_fault::WordsFault;
+use hex::FromHex;
+use std::alloc::{AllocError, Global};
+
+/// The command of this name, with what the words give it.
+pub(crate) fn command_named(
+    alloc: Global,
+    name: &str,
+    given: &Given<'_>,
+) -> Result<Command, WordsFault>
+    ensures { Answers (Judging.command_named name.now (given_in given.now)) result }
+{
+    match name {
+        "format" => format(alloc, given),
+        "run" => run(alloc, given),
+        "dump" => dump(alloc, given),
+        "check" => check(alloc, given),
+        "exercise" => exercise(alloc, given),
+        _ => Err(WordsFault::Refused),
+    }
+}
+
+fn format(alloc: Global, given: &Given<'_>) -> Result<Command, WordsFault>
+    ensures { Answers (Judging.format_of (given_in given.now)) result }
+{
+    let image = image(alloc, given)?;
+    let hash = hash(alloc, given)?;
+    let tag_size = number_or(given.value(TAG_SIZE), 32).ok_or(WordsFault::Refused)?;
+    let block_size = block_size_or_512(given.value(SECTOR_SIZE)).ok_or(WordsFault::Refused)?;
+    let interleave = interleave_or_32768(given.value(INTERLEAVE)).ok_or(WordsFault::Refused)?;
+    let sections = number_or(given.value(SECTIONS), 4).ok_or(WordsFault::Refused)?;
+    let log2_blocks_per_bit = number_or(given.value(BLOCKS_PER_BIT), 15).ok_or(
+        WordsFault::Refused,
+    )?;
+    let salt = salt_or_none(given.value(SALT)).ok_or(WordsFault::Refused)?;
+    Ok(Command::Format(Format {
+        image,
+        hash,
+        tag_size,
+        block_size,
+        interleave,
+        sections,
+        log2_blocks_per_bit,
+        salt,
+        padding: padding(given),
+        wipe: wipe(given),
+    }))
+}
+
+fn run(alloc: Global, given: &Given<'_>) -> Result<Command, WordsFault>
+    ensures { Answers (Judging.run_of (given_in given.now)) result }
+{
+    let image = image(alloc, given)?;
+    let mode = mode(given).ok_or(WordsFault::Refused)?;
+    let hash = hash(alloc, given)?;
+    Ok(Command::Run(Run { image, mode, hash }))
+}
+
+fn dump(alloc: Global, given: &Given<'_>) -> Result<Command, WordsFault>
+    ensures { Answers (Judging.dump_of (given_in given.now)) result }
+{
+    let image = image(alloc, given)?;
+    Ok(Command::Dump(Dump { image }))
+}
+
+fn check(alloc: Global, given: &Given<'_>) -> Result<Command, WordsFault>
+    ensures { Answers (Judging.check_of (given_in given.now)) result }
+{
+    let image = image(alloc, given)?;
+    let hash = hash(alloc, given)?;
+    let checked = checked(given);
+    Ok(Command::Check(Check {
+        image,
+        hash,
+        checked,
+    }))
+}
+
+fn exercise(alloc: Global, given: &Given<'_>) -> Result<Command, WordsFault>
+    ensures { Answers (Judging.exercise_of (given_in given.now)) result }
+{
+    let image = image(alloc, given)?;
+    let seed = given
+        .value(SEED)
+        .and_then(number)
+        .ok_or(WordsFault::Refused)?;
+    let count = given
+        .value(COUNT)
+        .and_then(number_within)
+        .ok_or(WordsFault::Refused)?;
+    Ok(Command::Exercise(Exercise { image, seed, count }))
+}
+
+/// The image.
+fn image(alloc: Global, given: &Given<'_>) -> Result<FileName, WordsFault>
+    ensures { Answers (given_in given.now IMAGE.now) result }
+{
+    let name = given.value(IMAGE).ok_or(WordsFault::Refused)?;
+    Ok(FileName::new(alloc, name)?)
+}
+
+/// The hash, and the file of its key, which is given exactly where the hash is keyed.
+fn hash(alloc: Global, given: &Given<'_>) -> Result<HashChoice, WordsFault>
+    ensures { Answers (Judging.hash_of (given_in given.now)) result }
+{
+    let name = given.value(INTEGRITY).unwrap_or("sha256");
+    match (name, given.value(KEY_FILE)) {
+        ("sha256", None) => Ok(HashChoice::Sha256),
+        ("hmac-sha256", Some(key_file)) => {
+            let key_file = FileName::new(alloc, key_file)?;
+            Ok(HashChoice::HmacSha256 { key_file })
+        }
+        _ => Err(WordsFault::Refused),
+    }
+}
+
+fn mode(given: &Given<'_>) -> Option<Mode>
+    ensures { result ≡ option_and_then Judging.mode_named (given_in given.now MODE.now) }
+{
+    match given.value(MODE)? {
+        "J" => Some(Mode::Journal),
+        "D" => Some(Mode::Direct),
+        _ => None,
+    }
+}
+
+fn block_size_or_512(text: Option<&str>) -> Option<BlockSize>
+    ensures { result ≡ Judging.block_size_or_512 (option_map (λ text. text.now) text.entry) }
+{
+    let Some(text) = text else {
+        return Some(BlockSize::Bytes512);
+    };
+    match number(text)? {
+        512 => Some(BlockSize::Bytes512),
+        1024 => Some(BlockSize::Bytes1024),
+        2048 => Some(BlockSize::Bytes2048),
+        4096 => Some(BlockSize::Bytes4096),
+        _ => None,
+    }
+}
+
+fn interleave_or_32768(text: Option<&str>) -> Option<Interleave>
+    ensures { result ≡ Judging.interleave_or_32768 (option_map (λ text. text.now) text.entry) }
+{
+    match text {
+        Some(text) => Interleave::new(number(text)?),
+        None => Interleave::new(32768),
+    }
+}
+
+fn salt_or_none(text: Option<&str>) -> Option<Option<[u8; 16]>>
+    ensures { result ≡ Judging.salt_or_none (option_map (λ text. text.now) text.entry) }
+{
+    match text {
+        Some(text) => Some(Some(<[u8; 16]>::from_hex(text).ok()?)),
+        None => Some(None),
+    }
+}
+
+fn padding(given: &Given<'_>) -> Padding
+    ensures { result ≡ Judging.padding_of (given_in given.now) }
+{
+    if given.has(LEGACY_PADDING) {
+        Padding::Legacy
+    } else {
+        Padding::Fixed
+    }
+}
+
+fn wipe(given: &Given<'_>) -> Wipe
+    ensures { result ≡ Judging.wipe_of (given_in given.now) }
+{
+    if given.has(NO_WIPE) {
+        Wipe::Nothing
+    } else {
+        Wipe::Zeros
+    }
+}
+
+fn checked(given: &Given<'_>) -> Checked
+    ensures { result ≡ Judging.checked_of (given_in given.now) }
+{
+    if given.has(PLACED) {
+        Checked::Placed
+    } else {
+        Checked::Cells
+    }
+}
