@@ -1,3 +1,4 @@
+pub mod HelpLemmas
 pub mod FoldLemmas
 pub mod NumberLemmas
 pub mod ReadingLemmas

@@ -1,8 +1,6 @@
 -- What `clap` has read, by its clauses.
-use Rattle.std.proofs.Common.{◌≡◌, ◌∙◌, ℕ, Bool, true, refl, sym, ap, ap₂, List, [], ◌∷◌, Option, Some, None, option_map, unwrap_or, ◌⊎◌, inl, inr}
-use Rattle.std.specs.Prelude.{Box}
-use Rattle.std.specs.Box.{box_value}
-use Rattle.clap.specs.Words.{IsAmong, Kinds, Row, fault_of, found_of, is_simple, subcommand_of, is_simple_and_free, rows_of, subcommand_name_of, subcommand_rows, subcommand_rows_of}
+use Rattle.std.proofs.Common.{◌≡◌, ◌∙◌, true, refl, sym, ap, ap₂, List, [], ◌∷◌, Option, Some, None, option_map, unwrap_or, ◌⊎◌, inl, inr}
+use Rattle.clap.specs.Words.{IsAmong, Kinds, Row, fault_of, is_simple, subcommand_of, is_simple_and_free, subcommand_name_of, subcommand_rows_of}
 use Rattle.clap.specs.declared.error.ErrorKind.{ErrorKind}
 use Rattle.clap.specs.declared.error.ErrorKind.TheVariants.{OutOfMemory}
 use Rattle.clap.specs.declared.ArgMatches.{ArgMatches}
@@ -11,7 +9,6 @@ use Rattle.command_words.specs.Table.{Text}
 use Rattle.command_words.specs.ByClap.{app}
 use Rattle.command_words.specs.Answers.{fault_by}
 use Rattle.command_words.specs.Commands.{reading_of, unless_refused}
-use Rattle.command_words.specs.declared.words_fault.WordsFault.{WordsFault}
 use Rattle.command_words.specs.declared.words_fault.WordsFault.TheVariants.{Refused, Memory}
 
 -- The words of `clap` tell all of the program.

@@ -1,5 +1,5 @@
 -- What `clap` is told of the table, and what it makes of words.
-use Rattle.std.specs.Prelude.{List, map, true, Some, fold, codes}
+use Rattle.std.specs.Prelude.{map, true, Some, fold, codes}
 use Rattle.clap.specs.Words.{App, Rule, new_app, new_rule, with_rule, with_subcommand}
 use Rattle.clap.specs.declared.builder.ArgAction.{ArgAction}
 use Rattle.clap.specs.declared.builder.ArgAction.TheVariants.{Set, SetTrue}

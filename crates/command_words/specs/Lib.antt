@@ -7,3 +7,4 @@ pub mod Judging
 pub mod Commands
 pub mod Answers
 pub mod Found
+pub mod Come

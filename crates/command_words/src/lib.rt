@@ -1,6 +1,7 @@
 //! The words of a command: which words are which command, read by `clap`.
 #![tactic(auto)]
 
+mod coming;
 mod command;
 mod given;
 mod judging;
@@ -11,6 +12,7 @@ mod table;
 mod values;
 mod words_fault;
 
+pub use coming::has_come;
 pub use command::{Check, Command, Dump, Exercise, Format, Run};
 pub use parsing::parse;
 pub use values::{

@@ -1,7 +1,8 @@
 //! The words of a program, and the command that they are.
-ghost use Rattle.std.specs.Prelude.{◌≡◌, IfOk, IsErrOf, None, Some, map, IsTrue, drop};
+ghost use Rattle.std.specs.Prelude.{◌≡◌, IfOk, IsErrOf, None, Some, map, drop};
+ghost use Rattle.std.specs.List.{list_any};
 ghost use Rattle.std.specs.String.{string_bytes};
-ghost use Rattle.command_words.specs.Commands.{command_of, asks_for_help, is_question};
+ghost use Rattle.command_words.specs.Commands.{asks_for_help, begins_with_help, command_of, is_question};
 
 use crate::command::Command;
 use crate::given::Given;
@@ -33,16 +34,32 @@ pub fn parse(alloc: Global, words: &[String]) -> Result<Command, WordsFault>
 fn asks_for_help(words: &[String]) -> bool
     ensures { result ≡ asks_for_help (drop 1 (map string_bytes words.now)) }
 {
-    let Some((_program, words)) = words.split_first() else {
-        return false;
-    };
+    match words.split_first() {
+        Some((_program, words)) => has_question(words) || begins_with_help(words),
+        None => false,
+    }
+}
+
+/// Whether a word asks for help or for the version.
+fn has_question(words: &[String]) -> bool
+    ensures { result ≡ list_any (λ word. is_question (string_bytes word)) words.now }
+{
     words.iter().any(|word| is_question(word.as_str()))
-        || words.first().is_some_and(|word| word.as_str() == "help")
 }
 
 /// Whether the word asks for help or for the version.
 fn is_question(word: &str) -> bool
     ensures { result ≡ is_question word.now }
 {
-    matches!(word, "-h" | "--help" | "-V" | "--version")
+    word == "-h" || word == "--help" || word == "-V" || word == "--version"
+}
+
+/// Whether the first word is `help`.
+fn begins_with_help(words: &[String]) -> bool
+    ensures { result ≡ begins_with_help (map string_bytes words.now) }
+{
+    match words.first() {
+        Some(word) => word.as_str() == "help",
+        None => false,
+    }
 }

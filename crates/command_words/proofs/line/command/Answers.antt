@@ -1,4 +1,4 @@
-use Rattle.std.proofs.Common.{◌≡◌, ◌∙◌, ap, arith, rules}
+use Rattle.std.proofs.Common.{◌∙◌, ap, rules}
 use Rattle.clap.specs.Words.{app_of, with_rule}
 use Rattle.command_words.specs.ByClap.{option_rule, place_rule}
 use Rattle.command_words.specs.Rows.{as_option}

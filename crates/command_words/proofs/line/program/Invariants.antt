@@ -1,7 +1,6 @@
 -- The program so far has the first commands of the table.
-use Rattle.std.proofs.Common.{◌≡◌, false, fold, map, take}
+use Rattle.std.proofs.Common.{◌≡◌, fold, map, take}
 use Rattle.clap.specs.Words.{app_of}
-use Rattle.clap.specs.declared.builder.Command.TheViews.{out-Command}
 use Rattle.command_words.specs.ByClap.{bare_app, with_entry}
 use Rattle.command_words.specs.Rows.{as_entry}
 use Rattle.command_words.proofs.line.program.Given as goal
