@@ -9,6 +9,8 @@ mod line;
 mod numbers;
 mod parsing;
 mod table;
+#[cfg(test)]
+mod tests;
 mod values;
 mod words_fault;
 
