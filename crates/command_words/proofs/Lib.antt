@@ -2,3 +2,5 @@ pub mod HelpLemmas
 pub mod FoldLemmas
 pub mod NumberLemmas
 pub mod ReadingLemmas
+pub mod PlainFacts
+pub mod PlainWalk

@@ -8,3 +8,4 @@ pub mod Commands
 pub mod Answers
 pub mod Found
 pub mod Come
+pub mod PlainForm

@@ -8,6 +8,7 @@ mod judging;
 mod line;
 mod numbers;
 mod parsing;
+mod plain_law;
 mod table;
 #[cfg(test)]
 mod tests;
@@ -21,4 +22,5 @@ pub use values::{
     BlockSize, Checked, FileName, HashChoice, Interleave, Log2BlocksPerBit, Mode, Padding,
     RequestCount, SectionCount, TagSize, Wipe, Within,
 };
+pub use plain_law::plain_words_are_their_command;
 pub use words_fault::WordsFault;
