@@ -4,3 +4,5 @@ pub mod NumberLemmas
 pub mod ReadingLemmas
 pub mod PlainFacts
 pub mod PlainWalk
+pub mod PlainRows
+pub mod PlainLemmas

@@ -1,5 +1,5 @@
 -- What `clap` is told of each command of the table, as far as plain words ask for it.
-use Rattle.std.proofs.Common.{◌≡◌, ◌<◌, ◌&&◌, ◌||◌, ◌+◌, ℕ, zero, suc, Bool, true, false, not, refl, arith, List, [], ◌∷◌, ◌++◌, map, min, length, Option, Some, None, option_map, subst}
+use Rattle.std.proofs.Common.{◌≡◌, ◌<◌, ◌&&◌, ◌||◌, ◌+◌, ℕ, zero, suc, Bool, true, false, not, refl, arith, List, [], ◌∷◌, ◌++◌, map, min, length, Option, Some, None, option_map, subst, codes}
 use Rattle.std.specs.List.{Contains, find, list_all, list_any, slice_index_or}
 use Rattle.std.specs.Str.{bytes_eq}
 use Rattle.clap.specs.Lexer.{long_of, usize_max}
@@ -66,6 +66,8 @@ pub record IsLeafOf (entry : Entry) (s : Shape) : Type 0 where
   pub met : option_map (λ s. s.0) (find (answers_to entry.name) (names_of (built app))) ≡ Some entry.name
   pub found : find (λ s. answers_to entry.name (label_of s)) (built app).subs ≡ Some s
   pub asks : is_question entry.name ≡ false
+  pub helpless : bytes_eq entry.name (codes "help") ≡ false
+  pub unset : default_pairs s.rules ≡ unset_pairs entry.options
 
 fact : (c : List Rule) (places : List Text) (option : OptionEntry) → arg_by_long c option.name ≡ Some (filled (option_rule option))
     → arg_by_id c option.name ≡ Some (filled (option_rule option)) → long_of (45 ∷ 45 ∷ option.name) ≡ Some (option.name, None)
@@ -87,6 +89,8 @@ format_leaf = record {
   met = refl;
   found = refl;
   asks = refl;
+  helpless = refl;
+  unset = refl;
 }
 
 pub run_leaf : IsLeafOf run_entry (leaf run_entry)
@@ -103,6 +107,8 @@ run_leaf = record {
   met = refl;
   found = refl;
   asks = refl;
+  helpless = refl;
+  unset = refl;
 }
 
 pub dump_leaf : IsLeafOf dump_entry (leaf dump_entry)
@@ -119,6 +125,8 @@ dump_leaf = record {
   met = refl;
   found = refl;
   asks = refl;
+  helpless = refl;
+  unset = refl;
 }
 
 pub check_leaf : IsLeafOf check_entry (leaf check_entry)
@@ -135,6 +143,8 @@ check_leaf = record {
   met = refl;
   found = refl;
   asks = refl;
+  helpless = refl;
+  unset = refl;
 }
 
 pub exercise_leaf : IsLeafOf exercise_entry (leaf exercise_entry)
@@ -151,6 +161,8 @@ exercise_leaf = record {
   met = refl;
   found = refl;
   asks = refl;
+  helpless = refl;
+  unset = refl;
 }
 
 -- Each command of the table is a leaf.

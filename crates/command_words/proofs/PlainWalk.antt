@@ -27,7 +27,7 @@ pub record NoFlag (word : Text) : Type 0 where
   pub long : long_of word ≡ None
   pub short : short_of word ≡ None
 
-first_apart : (x : ℕ) (xs : Text) → IsPlainWord (x ∷ xs) → nat_eq x 45 ≡ false
+pub first_apart : (x : ℕ) (xs : Text) → IsPlainWord (x ∷ xs) → nat_eq x 45 ≡ false
 first_apart x xs plain = go (nat_eq x 45) refl
   where
     go : (b : Bool) → nat_eq x 45 ≡ b → nat_eq x 45 ≡ false
@@ -92,7 +92,7 @@ valued_at name = filled (option_rule (valued name))
 abbrev flag_at : Text → Rule
 flag_at name = filled (option_rule (flag name))
 
-and_false : (b : Bool) → (b && false) ≡ false
+pub and_false : (b : Bool) → (b && false) ≡ false
 and_false true = refl
 and_false false = refl
 
