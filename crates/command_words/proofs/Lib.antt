@@ -6,3 +6,4 @@ pub mod PlainFacts
 pub mod PlainWalk
 pub mod PlainRows
 pub mod PlainLemmas
+mod Worked

@@ -87,9 +87,9 @@ module _ (entry : Entry) (s : Shape) (is : IsLeafOf entry s) (places : List Text
   leaf_passes uses known =
       let runs = leaf_runs uses known in
       let given : (id : Text) → list_any (λ place. bytes_eq place id) entry.places ≡ true
-          → is_given id (fold with_default (map row_for (pairs_of uses)) s.rules) ≡ true =
-          λ id has. defaults_given id s.rules (map row_for (pairs_of uses)) (is_given-map id (pairs_of uses)
-          (has_name-append (place_pairs entry.places places) (map use_pair uses) id (has_name-places entry.places places id are ∙ has))) in
+      → is_given id (fold with_default (map row_for (pairs_of uses)) s.rules) ≡ true =
+      λ id has. defaults_given id s.rules (map row_for (pairs_of uses)) (is_given-map id (pairs_of uses)
+      (has_name-append (place_pairs entry.places places) (map use_pair uses) id (has_name-places entry.places places id are ∙ has))) in
       let all_there = none_missing s.rules entry.places (fold with_default (map row_for (pairs_of uses)) s.rules) is.required given in
       level_quiet s (words_of uses) runs.rows runs.pending runs.position (pairs_of uses) is.again is.helps is.enters runs.passes runs.ends
       runs.holds runs.quiet (defaults_pass s.rules (map row_for (pairs_of uses)) is.defaults) all_there
@@ -198,10 +198,10 @@ plain_law program entry places uses has are known =
     let pairs = pairs_of entry s is places are uses in
     let rows = rows_after s.rules [] rest in
     let found : (id : Text) → first_of id rows ≡ plain_given entry places uses id =
-        λ id. ap (first_of id) (leaf_rows entry s is places are uses known)
-        ∙ plain_found id s.rules pairs
-        ∙ ap (λ defaults. looked_up (pairs ++ defaults) id) is.unset
-        ∙ ap (λ all. looked_up all id) (append_assoc (place_pairs entry.places places) (map use_pair uses) (unset_pairs entry.options)) in
+    λ id. ap (first_of id) (leaf_rows entry s is places are uses known)
+    ∙ plain_found id s.rules pairs
+    ∙ ap (λ defaults. looked_up (pairs ++ defaults) id) is.unset
+    ∙ ap (λ all. looked_up all id) (append_assoc (place_pairs entry.places places) (map use_pair uses) (unset_pairs entry.options)) in
     judged (program ∷ entry.name ∷ rest) s.name rows
     (fault_by entry s is program rest (leaf_passes entry s is places are uses known))
     (read_by entry s is program rest)

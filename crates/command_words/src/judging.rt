@@ -1,5 +1,5 @@
 //! Judges the values of places and options, and the rules between them.
-ghost use Rattle.std.specs.Prelude.{◌≡◌, IfOk, option_and_then, option_map};
+ghost use Rattle.std.specs.Prelude.{◌≡◌, option_and_then, option_map};
 ghost use Rattle.command_words.specs.Answers.{Answers};
 ghost use Rattle.command_words.specs.Found.{given_in};
 ghost use Rattle.command_words.specs.Judging;
@@ -14,7 +14,7 @@ use crate::table::{
 use crate::values::{BlockSize, Checked, FileName, HashChoice, Interleave, Mode, Padding, Wipe};
 use crate::words_fault::WordsFault;
 use hex::FromHex;
-use std::alloc::{AllocError, Global};
+use std::alloc::Global;
 
 /// The command of this name, with what the words give it.
 pub(crate) fn command_named(
@@ -34,6 +34,7 @@ pub(crate) fn command_named(
     }
 }
 
+/// `format IMAGE`.
 fn format(alloc: Global, given: &Given<'_>) -> Result<Command, WordsFault>
     ensures { Answers (Judging.format_of (given_in given.now)) result }
 {
@@ -61,6 +62,7 @@ fn format(alloc: Global, given: &Given<'_>) -> Result<Command, WordsFault>
     }))
 }
 
+/// `run IMAGE --mode M`.
 fn run(alloc: Global, given: &Given<'_>) -> Result<Command, WordsFault>
     ensures { Answers (Judging.run_of (given_in given.now)) result }
 {
@@ -70,6 +72,7 @@ fn run(alloc: Global, given: &Given<'_>) -> Result<Command, WordsFault>
     Ok(Command::Run(Run { image, mode, hash }))
 }
 
+/// `dump IMAGE`.
 fn dump(alloc: Global, given: &Given<'_>) -> Result<Command, WordsFault>
     ensures { Answers (Judging.dump_of (given_in given.now)) result }
 {
@@ -77,6 +80,7 @@ fn dump(alloc: Global, given: &Given<'_>) -> Result<Command, WordsFault>
     Ok(Command::Dump(Dump { image }))
 }
 
+/// `check IMAGE`.
 fn check(alloc: Global, given: &Given<'_>) -> Result<Command, WordsFault>
     ensures { Answers (Judging.check_of (given_in given.now)) result }
 {
@@ -90,6 +94,7 @@ fn check(alloc: Global, given: &Given<'_>) -> Result<Command, WordsFault>
     }))
 }
 
+/// `exercise IMAGE SEED COUNT`.
 fn exercise(alloc: Global, given: &Given<'_>) -> Result<Command, WordsFault>
     ensures { Answers (Judging.exercise_of (given_in given.now)) result }
 {
@@ -128,6 +133,7 @@ fn hash(alloc: Global, given: &Given<'_>) -> Result<HashChoice, WordsFault>
     }
 }
 
+/// The mode. It has no default.
 fn mode(given: &Given<'_>) -> Option<Mode>
     ensures { result ≡ option_and_then Judging.mode_named (given_in given.now MODE.now) }
 {
@@ -138,6 +144,7 @@ fn mode(given: &Given<'_>) -> Option<Mode>
     }
 }
 
+/// The size of a block, 512 bytes where none is given.
 fn block_size_or_512(text: Option<&str>) -> Option<BlockSize>
     ensures { result ≡ Judging.block_size_or_512 (option_map (λ text. text.now) text.entry) }
 {
@@ -153,6 +160,7 @@ fn block_size_or_512(text: Option<&str>) -> Option<BlockSize>
     }
 }
 
+/// The data of an area, 32768 sectors where none is given.
 fn interleave_or_32768(text: Option<&str>) -> Option<Interleave>
     ensures { result ≡ Judging.interleave_or_32768 (option_map (λ text. text.now) text.entry) }
 {
@@ -162,6 +170,7 @@ fn interleave_or_32768(text: Option<&str>) -> Option<Interleave>
     }
 }
 
+/// The salt that 32 hexadecimal digits of either case write, none where none is given.
 fn salt_or_none(text: Option<&str>) -> Option<Option<[u8; 16]>>
     ensures { result ≡ Judging.salt_or_none (option_map (λ text. text.now) text.entry) }
 {
@@ -171,6 +180,7 @@ fn salt_or_none(text: Option<&str>) -> Option<Option<[u8; 16]>>
     }
 }
 
+/// The padding of tags.
 fn padding(given: &Given<'_>) -> Padding
     ensures { result ≡ Judging.padding_of (given_in given.now) }
 {
@@ -181,6 +191,7 @@ fn padding(given: &Given<'_>) -> Padding
     }
 }
 
+/// What becomes of the blocks.
 fn wipe(given: &Given<'_>) -> Wipe
     ensures { result ≡ Judging.wipe_of (given_in given.now) }
 {
@@ -191,6 +202,7 @@ fn wipe(given: &Given<'_>) -> Wipe
     }
 }
 
+/// What is checked.
 fn checked(given: &Given<'_>) -> Checked
     ensures { result ≡ Judging.checked_of (given_in given.now) }
 {

@@ -1,4 +1,8 @@
-//! The words of a command: which words are which command, read by `clap`.
+//! Which words are which command: read by `clap`, and judged by a table of commands and options.
+//!
+//! A contract sees a `FileName` as the list of its bytes, a `Within` and an `Interleave` as their number. Which words are
+//! which command is `command_of` in `specs/Commands.antt`, the file to read first; `specs/Table.antt` has the table, and
+//! `specs/PlainForm.antt` words whose command is told without a word on `clap`. `line.rt` and `given.rt` alone see `clap`.
 #![tactic(auto)]
 
 mod coming;
@@ -18,9 +22,9 @@ mod words_fault;
 pub use coming::has_come;
 pub use command::{Check, Command, Dump, Exercise, Format, Run};
 pub use parsing::parse;
+pub use plain_law::plain_words_are_their_command;
 pub use values::{
     BlockSize, Checked, FileName, HashChoice, Interleave, Log2BlocksPerBit, Mode, Padding,
     RequestCount, SectionCount, TagSize, Wipe, Within,
 };
-pub use plain_law::plain_words_are_their_command;
 pub use words_fault::WordsFault;

@@ -1,4 +1,4 @@
-//! What `clap` is told of the table.
+//! What `clap` is told of the table: a command a row, which has no help and no version to show.
 ghost use Rattle.std.specs.Prelude.{◌≡◌, IfOk, false, true, fold};
 ghost use Rattle.clap.specs.Words.{app_of, rule_of, is_simple_and_free, is_simple};
 ghost use Rattle.clap.specs.declared.builder.Command.TheViews.{out-Command};
@@ -9,6 +9,7 @@ use crate::table::{CommandRow, OptionRow, Takes, commands};
 use clap::{Arg, ArgAction, Command};
 use std::alloc::{AllocError, Global};
 
+/// A word that is no option. It is required.
 fn place<'w>(alloc: Global, name: &'static str) -> Arg<'w>
     ensures rule { rule_of result ≡ place_rule name.entry.now }
     ensures local { result.global ≡ false }
@@ -16,6 +17,7 @@ fn place<'w>(alloc: Global, name: &'static str) -> Arg<'w>
     Arg::new(alloc, name).action(ArgAction::Set).required(true)
 }
 
+/// An option of one value, or a flag.
 fn option<'w>(alloc: Global, row: &'static OptionRow) -> Arg<'w>
     ensures rule { rule_of result ≡ option_rule (as_option row.entry.now) }
     ensures local { result.global ≡ false }
@@ -27,6 +29,7 @@ fn option<'w>(alloc: Global, row: &'static OptionRow) -> Arg<'w>
     Arg::new(alloc, row.name).long(row.name).action(action)
 }
 
+/// A command, with its places and its options.
 fn command<'w>(alloc: Global, row: &'static CommandRow) -> Result<Command<'w>, AllocError>
     ensures app { IfOk result (λ c. app_of c ≡ entry_app (as_entry row.entry.now)) }
     ensures local { IfOk result (λ c. (out-Command c).has_globals ≡ false) }
@@ -41,6 +44,7 @@ fn command<'w>(alloc: Global, row: &'static CommandRow) -> Result<Command<'w>, A
     Ok(command)
 }
 
+/// The program, with all its commands. One of them is required.
 pub(crate) fn program<'w>(alloc: Global) -> Result<Command<'w>, AllocError>
     ensures app { IfOk result (λ c. app_of c ≡ app) }
 {

@@ -30,36 +30,66 @@ pub(crate) struct CommandRow {
     pub(crate) options: &'static [OptionRow],
 }
 
+/// The place of the image.
 pub(crate) const IMAGE: &str = "IMAGE";
 
+/// The place of the number that decides an exercise.
 pub(crate) const SEED: &str = "SEED";
 
+/// The place of how many requests an exercise makes.
 pub(crate) const COUNT: &str = "COUNT";
 
+/// The hash of the tags.
+///
+/// Source: integritysetup(8), `--integrity`.
 pub(crate) const INTEGRITY: &str = "integrity";
 
+/// The file of the hash's key.
+///
+/// Source: integritysetup(8), `--integrity-key-file`; that the whole file is the key is own.
 pub(crate) const KEY_FILE: &str = "integrity-key-file";
 
+/// Where a write goes first. Own.
 pub(crate) const MODE: &str = "mode";
 
+/// What stands in the places is checked. Own.
 pub(crate) const PLACED: &str = "placed";
 
+/// The size of a tag in bytes.
+///
+/// Source: integritysetup(8), `--tag-size`.
 pub(crate) const TAG_SIZE: &str = "tag-size";
 
+/// The size of a block in bytes.
+///
+/// Source: integritysetup(8), `--sector-size`.
 pub(crate) const SECTOR_SIZE: &str = "sector-size";
 
+/// The data of an area in sectors.
+///
+/// Source: integritysetup(8), `--interleave-sectors`.
 pub(crate) const INTERLEAVE: &str = "interleave-sectors";
 
+/// The sections of a journal. Own.
 pub(crate) const SECTIONS: &str = "sections";
 
+/// What a bit of a bitmap stands for, as a power of two. Own.
 pub(crate) const BLOCKS_PER_BIT: &str = "log2-blocks-per-bit";
 
+/// The salt of the tags. Own.
 pub(crate) const SALT: &str = "salt";
 
+/// The padding of tags of old.
+///
+/// Source: integritysetup(8), `--integrity-legacy-padding`.
 pub(crate) const LEGACY_PADDING: &str = "integrity-legacy-padding";
 
+/// The blocks are left as they are.
+///
+/// Source: integritysetup(8), `--no-wipe`.
 pub(crate) const NO_WIPE: &str = "no-wipe";
 
+/// The table. Whatever comes to it is one row here, or one option in a row.
 static COMMANDS: [CommandRow; 5] = [
     CommandRow {
         name: "format",

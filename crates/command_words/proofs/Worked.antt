@@ -1,0 +1,92 @@
+-- Values from outside, computed from the definitions.
+use Rattle.std.proofs.Common.{◌≡◌, refl, codes, List, [], ◌∷◌, Option, Some, None}
+use Rattle.std.specs.Fmt.{digits}
+use Rattle.std.specs.Int.Count.{ones}
+use Rattle.clap.proofs.OnLiterals.{clap_on_literals}
+use Rattle.command_words.specs.Table.{Text}
+use Rattle.command_words.specs.Numbers.{interleave_of, number_of, number_within}
+use Rattle.command_words.specs.Commands.{asks_for_help, command_of}
+use Rattle.command_words.specs.declared.command.Command.{Command}
+use Rattle.command_words.specs.declared.command.Command.TheVariants as command
+use Rattle.command_words.specs.declared.values.HashChoice.TheVariants.{Sha256, HmacSha256}
+use Rattle.command_words.specs.declared.values.Mode.TheVariants.{Journal, Direct}
+
+-- The largest number of 64 bits, and one more: 2^64 - 1 and 2^64.
+number_of-largest : number_of (codes "18446744073709551615") ≡ Some 18446744073709551615
+unfolding digits
+number_of-largest = refl
+
+number_of-too_large : number_of (codes "18446744073709551616") ≡ None
+unfolding digits
+number_of-too_large = refl
+
+number_of-zero : number_of (codes "0") ≡ Some 0
+unfolding digits
+number_of-zero = refl
+
+number_of-leading_zero : number_of (codes "01") ≡ None
+unfolding digits
+number_of-leading_zero = refl
+
+number_of-plus : number_of (codes "+1") ≡ None
+unfolding digits
+number_of-plus = refl
+
+number_of-none : number_of [] ≡ None
+unfolding digits
+number_of-none = refl
+
+number_within-end : number_within 1 32 (codes "32") ≡ Some 32
+unfolding digits
+number_within-end = refl
+
+number_within-beyond : number_within 1 32 (codes "33") ≡ None
+unfolding digits
+number_within-beyond = refl
+
+interleave_of-least : interleave_of 8 ≡ Some 8
+unfolding ones
+interleave_of-least = refl
+
+interleave_of-no_power : interleave_of 24 ≡ None
+unfolding ones
+interleave_of-no_power = refl
+
+-- What `clap` makes of such words: an option may stand before the image, and its value behind `=`.
+command_of-equals : command_of (codes "integrity" ∷ codes "run" ∷ codes "--mode=D" ∷ codes "I" ∷ [])
+    ≡ Some (command.Run (record { image = codes "I"; mode = Direct; hash = Sha256 }))
+unfolding clap_on_literals
+command_of-equals = refl
+
+-- An option may be given once, and a mode is `J` or `D`.
+command_of-twice : command_of (codes "integrity" ∷ codes "run" ∷ codes "I" ∷ codes "--mode" ∷ codes "D"
+    ∷ codes "--mode" ∷ codes "D" ∷ []) ≡ None
+unfolding clap_on_literals
+command_of-twice = refl
+
+command_of-other_mode : command_of (codes "integrity" ∷ codes "run" ∷ codes "I" ∷ codes "--mode" ∷ codes "X" ∷ [])
+    ≡ None
+unfolding clap_on_literals
+command_of-other_mode = refl
+
+-- The key file is given exactly where the hash is keyed.
+command_of-keyed : command_of (codes "integrity" ∷ codes "run" ∷ codes "I" ∷ codes "--mode" ∷ codes "J"
+    ∷ codes "--integrity" ∷ codes "hmac-sha256" ∷ codes "--integrity-key-file=" ∷ [])
+    ≡ Some (command.Run (record { image = codes "I"; mode = Journal; hash = HmacSha256 [] }))
+unfolding clap_on_literals
+command_of-keyed = refl
+
+command_of-keyless : command_of (codes "integrity" ∷ codes "run" ∷ codes "I" ∷ codes "--mode" ∷ codes "J"
+    ∷ codes "--integrity" ∷ codes "hmac-sha256" ∷ []) ≡ None
+unfolding clap_on_literals
+command_of-keyless = refl
+
+-- Behind `--` a word may begin with `-`; one that asks for help makes all of them no command.
+command_of-dashes : command_of (codes "integrity" ∷ codes "dump" ∷ codes "--" ∷ codes "-I" ∷ [])
+    ≡ Some (command.Dump (record { image = codes "-I" }))
+unfolding clap_on_literals
+command_of-dashes = refl
+
+command_of-question : command_of (codes "integrity" ∷ codes "dump" ∷ codes "--" ∷ codes "-h" ∷ []) ≡ None
+unfolding clap_on_literals
+command_of-question = refl
