@@ -1,5 +1,6 @@
 -- A list that is folded one element at a time, as a loop does.
-use Rattle.std.proofs.Common.{◌≡◌, ◌<◌, ◌≤◌, ◌+◌, ℕ, zero, suc, add-one, ap, arith, List, [], ◌∷◌, map, fold, take, length, get_or}
+use Rattle.std.proofs.Common.{◌≡◌, ◌<◌, ◌≤◌, ◌+◌, ℕ, zero, suc, add-one, ap, arith, List, [], ◌∷◌, map, fold, take}
+use Rattle.std.proofs.Common.{length, get_or}
 
 next : {X Y Z : Type 0} (g : Y → Z → Y) (f : X → Z) (a now : Y) (xs : List X) (i : ℕ) (d : X) → i < length xs
     → now ≡ fold g a (take i (map f xs)) → g now (f (get_or xs i d)) ≡ fold g a (take (suc i) (map f xs))

@@ -19,10 +19,14 @@ number_of-decimal n text fits written =
 
 -- A text that no number is written as writes none.
 pub number_of-none : (text : List ℕ) → ((n : ℕ) → n < 2 ^ 64 → text ≡ decimal n → ⊥) → number_of text ≡ None
-number_of-none text none = go (nat_lt (digits_value 10 text) (2 ^ 64) && bytes_eq (decimal (digits_value 10 text)) text) refl
+number_of-none text none = go (nat_lt (digits_value 10 text) (2 ^ 64) && bytes_eq (decimal
+    (digits_value 10 text)) text) refl
   where
-    go : (b : Bool) → (nat_lt (digits_value 10 text) (2 ^ 64) && bytes_eq (decimal (digits_value 10 text)) text) ≡ b → number_of text ≡ None
+    go : (b : Bool)
+        → (nat_lt (digits_value 10 text) (2 ^ 64) && bytes_eq (decimal (digits_value 10 text)) text) ≡ b
+        → number_of text ≡ None
     go false e = rw e refl
     go true e =
         let parts = both _ _ e in
-        absurd (none (digits_value 10 text) (ltb-true _ _ parts.0) (sym ((bytes_eq-Decides (decimal (digits_value 10 text)) text).0 parts.1)))
+        absurd (none (digits_value 10 text) (ltb-true _ _ parts.0) (sym ((bytes_eq-Decides (decimal
+        (digits_value 10 text)) text).0 parts.1)))

@@ -1,13 +1,16 @@
 -- What `clap` is told of each command of the table, as far as plain words ask for it.
-use Rattle.std.proofs.Common.{◌≡◌, ◌<◌, ◌&&◌, ◌||◌, ◌+◌, ℕ, zero, suc, Bool, true, false, not, refl, arith, List, [], ◌∷◌, ◌++◌, map, min, length, Option, Some, None, option_map, subst, codes}
+use Rattle.std.proofs.Common.{◌≡◌, ◌<◌, ◌||◌, ◌+◌, ℕ, zero, suc, true, false, not, refl, arith, List, []}
+use Rattle.std.proofs.Common.{◌∷◌, ◌++◌, min, length, Some, None, option_map, subst, codes}
 use Rattle.std.specs.List.{Contains, find, list_all, list_any, slice_index_or}
 use Rattle.std.specs.Str.{bytes_eq}
 use Rattle.clap.specs.Lexer.{long_of, usize_max}
 use Rattle.clap.specs.Walk.{Rule, Text, answers_to, arg_by_id, arg_by_index, arg_by_long}
-use Rattle.clap.specs.Simple.{Shape, built, built_leaf, filled, inherited, label_of, marked_built, names_of, with_index, with_leaf_noted}
+use Rattle.clap.specs.Simple.{Shape, built, built_leaf, filled, inherited, label_of, marked_built, names_of}
+use Rattle.clap.specs.Simple.{with_index, with_leaf_noted}
 use Rattle.clap.specs.Faults.{given_default_fault}
 use Rattle.clap.proofs.OnLiterals.{clap_on_literals}
-use Rattle.command_words.specs.Table.{Entry, OptionEntry, check_entry, dump_entry, exercise_entry, format_entry, run_entry, table}
+use Rattle.command_words.specs.Table.{Entry, OptionEntry, check_entry, dump_entry, exercise_entry, format_entry}
+use Rattle.command_words.specs.Table.{run_entry, table}
 use Rattle.command_words.specs.ByClap.{app, entry_app, option_rule, place_rule}
 use Rattle.command_words.specs.Commands.{is_question}
 use Rattle.command_words.specs.PlainForm.{unset_pairs}
@@ -69,16 +72,43 @@ pub record IsLeafOf (entry : Entry) (s : Shape) : Type 0 where
   pub helpless : bytes_eq entry.name (codes "help") ≡ false
   pub unset : default_pairs s.rules ≡ unset_pairs entry.options
 
-fact : (c : List Rule) (places : List Text) (option : OptionEntry) → arg_by_long c option.name ≡ Some (filled (option_rule option))
-    → arg_by_id c option.name ≡ Some (filled (option_rule option)) → long_of (45 ∷ 45 ∷ option.name) ≡ Some (option.name, None)
-    → bytes_eq (45 ∷ 45 ∷ option.name) (45 ∷ 45 ∷ []) ≡ false → list_any (λ place. bytes_eq place option.name) places ≡ false
+fact : (c : List Rule) (places : List Text) (option : OptionEntry)
+    → arg_by_long c option.name ≡ Some (filled (option_rule option))
+    → arg_by_id c option.name ≡ Some (filled (option_rule option))
+    → long_of (45 ∷ 45 ∷ option.name) ≡ Some (option.name, None)
+    → bytes_eq (45 ∷ 45 ∷ option.name) (45 ∷ 45 ∷ []) ≡ false
+    → list_any (λ place. bytes_eq place option.name) places ≡ false
     → is_question (45 ∷ 45 ∷ option.name) ≡ false → HasOption c places option
 fact c places option a b d e f g = record { by_long = a; by_id = b; long = d; dashes = e; apart = f; asks = g }
 
 pub format_leaf : IsLeafOf format_entry (leaf format_entry)
 unfolding clap_on_literals
 format_leaf = record {
-  options = (fact _ _ _ refl refl refl refl refl refl, (fact _ _ _ refl refl refl refl refl refl, (fact _ _ _ refl refl refl refl refl refl, (fact _ _ _ refl refl refl refl refl refl, (fact _ _ _ refl refl refl refl refl refl, (fact _ _ _ refl refl refl refl refl refl, (fact _ _ _ refl refl refl refl refl refl, (fact _ _ _ refl refl refl refl refl refl, (fact _ _ _ refl refl refl refl refl refl, (fact _ _ _ refl refl refl refl refl refl, tt))))))))));
+  options = (
+    fact _ _ _ refl refl refl refl refl refl,
+    (
+      fact _ _ _ refl refl refl refl refl refl,
+      (
+        fact _ _ _ refl refl refl refl refl refl,
+        (
+          fact _ _ _ refl refl refl refl refl refl,
+          (
+            fact _ _ _ refl refl refl refl refl refl,
+            (
+              fact _ _ _ refl refl refl refl refl refl,
+              (
+                fact _ _ _ refl refl refl refl refl refl,
+                (
+                  fact _ _ _ refl refl refl refl refl refl,
+                  (fact _ _ _ refl refl refl refl refl refl, (fact _ _ _ refl refl refl refl refl refl, tt)),
+                ),
+              ),
+            ),
+          ),
+        ),
+      ),
+    ),
+  );
   places = (refl, refl, refl, refl, tt);
   required = refl;
   defaults = (refl, (refl, (refl, (refl, (refl, (refl, (refl, (refl, (refl, (refl, (refl, tt)))))))))));
@@ -96,7 +126,13 @@ format_leaf = record {
 pub run_leaf : IsLeafOf run_entry (leaf run_entry)
 unfolding clap_on_literals
 run_leaf = record {
-  options = (fact _ _ _ refl refl refl refl refl refl, (fact _ _ _ refl refl refl refl refl refl, (fact _ _ _ refl refl refl refl refl refl, tt)));
+  options = (
+    fact _ _ _ refl refl refl refl refl refl,
+    (
+      fact _ _ _ refl refl refl refl refl refl,
+      (fact _ _ _ refl refl refl refl refl refl, tt),
+    ),
+  );
   places = (refl, refl, refl, refl, tt);
   required = refl;
   defaults = (refl, (refl, (refl, (refl, tt))));
@@ -132,7 +168,13 @@ dump_leaf = record {
 pub check_leaf : IsLeafOf check_entry (leaf check_entry)
 unfolding clap_on_literals
 check_leaf = record {
-  options = (fact _ _ _ refl refl refl refl refl refl, (fact _ _ _ refl refl refl refl refl refl, (fact _ _ _ refl refl refl refl refl refl, tt)));
+  options = (
+    fact _ _ _ refl refl refl refl refl refl,
+    (
+      fact _ _ _ refl refl refl refl refl refl,
+      (fact _ _ _ refl refl refl refl refl refl, tt),
+    ),
+  );
   places = (refl, refl, refl, refl, tt);
   required = refl;
   defaults = (refl, (refl, (refl, (refl, tt))));

@@ -1,12 +1,11 @@
 -- What is read of the rows that plain words leave, with the defaults behind them.
-use Rattle.std.proofs.Common.{◌≡◌, ◌∙◌, ◌&&◌, ◌||◌, Bool, true, false, not, refl, sym, ap, ap₂, subst, List, [], ◌∷◌, ◌++◌, map, fold, Option, Some, None, is_some, true≢false}
-use Rattle.std.specs.Prelude.{if◌then◌else◌, option_and_then, slice_get}
-use Rattle.std.specs.List.{find, list_all, list_any}
-use Rattle.std.specs.Option.{option_map_or}
+use Rattle.std.proofs.Common.{◌≡◌, ◌∙◌, ◌&&◌, ◌||◌, Bool, true, false, not, refl, sym, ap, ap₂, subst, List, [], ◌∷◌}
+use Rattle.std.proofs.Common.{◌++◌, map, fold, Option, Some, None, is_some, true≢false}
+use Rattle.std.specs.Prelude.{if◌then◌else◌, slice_get}
+use Rattle.std.specs.List.{list_all, list_any}
 use Rattle.std.specs.Str.{bytes_eq}
 use Rattle.std.proofs.lemmas.Slice.Eq.{bytes_eq-Decides}
 use Rattle.clap.proofs.WalkLemmas.{both}
-use Rattle.clap.specs.Facts.{explicit_source}
 use Rattle.clap.specs.Walk.{Row, Rule, Text, first_of, has_row, is_empty, more_values, reading_by, with_default}
 use Rattle.clap.specs.Takes.{is_given}
 use Rattle.clap.specs.Faults.{defaults_fault, given_default_fault}
@@ -60,7 +59,8 @@ first_of-push id (x ∷ xs) r valued one =
     ∙ sym (or_some-assoc (row_value id x) (first_of id xs) (row_value id r))
     ∙ ap (λ o. or_some o (row_value id r)) (sym (first_of-more id x xs valued.0))
 
-Valued-push : (rows : List Row) (r : Row) → Valued rows → is_some (slice_get r.values 0) ≡ true → Valued (rows ++ r ∷ [])
+Valued-push : (rows : List Row) (r : Row) → Valued rows → is_some (slice_get r.values 0) ≡ true
+    → Valued (rows ++ r ∷ [])
 Valued-push [] r valued one = (one, tt)
 Valued-push (x ∷ xs) r valued one = (valued.0, Valued-push xs r valued.1 one)
 
@@ -94,7 +94,8 @@ data Defaulted (rows : List Row) (a : Rule) : List Row → Type 0 where
 defaulted : (rows : List Row) (a : Rule) → Defaulted rows a (with_default rows a)
 defaulted rows a = go (has_row a.id rows) refl a.defaults refl
   where
-    go : (b : Bool) → has_row a.id rows ≡ b → (values : List Text) → a.defaults ≡ values → Defaulted rows a (with_default rows a)
+    go : (b : Bool) → has_row a.id rows ≡ b → (values : List Text) → a.defaults ≡ values
+        → Defaulted rows a (with_default rows a)
     go true e values is =
         let same : with_default rows a ≡ rows = rw e refl in
         subst (λ all. Defaulted rows a all) (sym same) (stays e)
@@ -106,7 +107,8 @@ defaulted rows a = go (has_row a.id rows) refl a.defaults refl
         rw (e, is) (added_absent (more_values DefaultValue (v ∷ vs)) (default_row a v vs ∷ []) rows a.id e) in
         subst (λ all. Defaulted rows a all) (sym same) (added v vs is e)
 
-looked_up-append : (xs ys : List (Text × Text)) (id : Text) → looked_up (xs ++ ys) id ≡ or_some (looked_up xs id) (looked_up ys id)
+looked_up-append : (xs ys : List (Text × Text)) (id : Text)
+    → looked_up (xs ++ ys) id ≡ or_some (looked_up xs id) (looked_up ys id)
 looked_up-append [] ys id = refl
 looked_up-append (x ∷ xs) ys id = go (bytes_eq x.0 id) refl (looked_up-append xs ys id)
   where
@@ -118,21 +120,27 @@ looked_up-append (x ∷ xs) ys id = go (bytes_eq x.0 id) refl (looked_up-append 
 -- what a default adds to what is found
 default_found : (id : Text) (rows : List Row) (a : Rule) (next : List Row) → Valued rows → Defaulted rows a next
     → Valued next × ((more : Option Text)
-    → or_some (first_of id next) more ≡ or_some (first_of id rows) (or_some (looked_up (default_pair a a.defaults) id) more))
+    → or_some (first_of id next) more
+    ≡ or_some (first_of id rows) (or_some (looked_up (default_pair a a.defaults) id) more))
 default_found id rows a next valued (stays has) = (valued, λ more. go (bytes_eq a.id id) refl more)
   where
     go : (b : Bool) → bytes_eq a.id id ≡ b → (more : Option Text)
-        → or_some (first_of id rows) more ≡ or_some (first_of id rows) (or_some (looked_up (default_pair a a.defaults) id) more)
+        → or_some (first_of id rows) more
+        ≡ or_some (first_of id rows) (or_some (looked_up (default_pair a a.defaults) id) more)
     go true e more =
         let same : a.id ≡ id = (bytes_eq-Decides a.id id).0 e in
-        or_some-told (first_of id rows) _ _ (has_row-told id rows valued (subst (λ name. has_row name rows ≡ true) same has))
+        or_some-told (first_of id rows) _ _ (has_row-told id rows valued (subst (λ name. has_row name rows
+        ≡ true) same has))
     go false e more = ap (λ o. or_some (first_of id rows) (or_some o more)) (sym (apart a.defaults))
       where
         apart : (values : List Text) → looked_up (default_pair a values) id ≡ None
         apart [] = refl
         apart (v ∷ vs) = rw e refl
-default_found id rows a next valued (none is) =
-    (valued, λ more. ap (λ values. or_some (first_of id rows) (or_some (looked_up (default_pair a values) id) more)) (sym is))
+default_found id rows a next valued (none is) = (
+  valued,
+  λ more. ap (λ values. or_some (first_of id rows) (or_some (looked_up
+      (default_pair a values) id) more)) (sym is),
+)
 default_found id rows a next valued (added v vs is has) = (
   Valued-push rows (default_row a v vs) valued refl,
   λ more. ap (λ o. or_some o more) (first_of-push id rows (default_row a v vs) valued refl)
@@ -181,7 +189,8 @@ chosen : (b : Bool) (kinds : Kinds) → kinds ≡ [] → (if b then [] else kind
 chosen true kinds is = refl
 chosen false kinds is = is
 
-pub defaults_pass : (c : List Rule) (rows : List Row) → Each (λ a. given_default_fault a a.defaults ≡ []) c → defaults_fault rows c ≡ []
+pub defaults_pass : (c : List Rule) (rows : List Row) → Each (λ a. given_default_fault a a.defaults ≡ []) c
+    → defaults_fault rows c ≡ []
 unfolding defaults_fault
 defaults_pass [] rows each = refl
 defaults_pass (a ∷ c) rows each =
@@ -197,17 +206,20 @@ is_given-append id (r ∷ rs) more given = go (bytes_eq r.id id) refl (is_given-
     go true e rest = rw e (rw e at given)
     go false e rest = rw e (rest (rw e at given))
 
-default_given : (id : Text) (rows : List Row) (a : Rule) (next : List Row) → Defaulted rows a next → is_given id rows ≡ true → is_given id next ≡ true
+default_given : (id : Text) (rows : List Row) (a : Rule) (next : List Row) → Defaulted rows a next
+    → is_given id rows ≡ true → is_given id next ≡ true
 default_given id rows a next (stays has) given = given
 default_given id rows a next (none is) given = given
 default_given id rows a next (added v vs is has) given = is_given-append id rows (default_row a v vs ∷ []) given
 
-pub defaults_given : (id : Text) (c : List Rule) (rows : List Row) → is_given id rows ≡ true → is_given id (fold with_default rows c) ≡ true
+pub defaults_given : (id : Text) (c : List Rule) (rows : List Row) → is_given id rows ≡ true
+    → is_given id (fold with_default rows c) ≡ true
 defaults_given id [] rows given = given
 defaults_given id (a ∷ c) rows given =
     defaults_given id c (with_default rows a) (default_given id rows a (with_default rows a) (defaulted rows a) given)
 
-pub is_given-map : (id : Text) (pairs : List (Text × Text)) → has_name pairs id ≡ true → is_given id (map row_for pairs) ≡ true
+pub is_given-map : (id : Text) (pairs : List (Text × Text)) → has_name pairs id ≡ true
+    → is_given id (map row_for pairs) ≡ true
 is_given-map id [] has = absurd (true≢false (sym has))
 is_given-map id (pair ∷ pairs) has = go (bytes_eq pair.0 id) refl (is_given-map id pairs)
   where

@@ -1,22 +1,25 @@
 -- The walk over plain words: what is held after each of them, and that none is refused.
-use Rattle.std.proofs.Common.{◌≡◌, ◌≢◌, ◌∙◌, ◌<◌, ◌&&◌, ◌||◌, ◌+◌, ◌==◌, ℕ, zero, suc, Bool, true, false, not, refl, sym, ap, ap₂, subst, arith, List, [], ◌∷◌, ◌++◌, map, fold, min, length, take, Option, Some, None, option_map, unwrap_or, codes, true≢false}
-use Rattle.std.specs.Prelude.{nat_eq, slice_get}
-use Rattle.std.specs.List.{All, find, flat_map, list_any}
+use Rattle.std.proofs.Common.{◌≡◌, ◌≢◌, ◌∙◌, ◌&&◌, ◌||◌, ◌+◌, ℕ, suc, Bool, true, false, refl}
+use Rattle.std.proofs.Common.{sym, ap, ap₂, subst, arith, List, [], ◌∷◌, ◌++◌, map, fold, min, Option}
+use Rattle.std.proofs.Common.{Some, None, codes, true≢false}
+use Rattle.std.specs.Prelude.{nat_eq}
+use Rattle.std.specs.List.{All, flat_map, list_any}
 use Rattle.std.proofs.lemmas.List.{append-nil, append_assoc}
 use Rattle.std.specs.Str.{bytes_eq}
-use Rattle.std.proofs.lemmas.Bool.{false≢true}
 use Rattle.std.proofs.lemmas.Slice.Eq.{bytes_eq-Decides}
 use Rattle.clap.specs.Lexer.{long_of, short_of, usize_max}
-use Rattle.clap.specs.Matches.{count_text}
-use Rattle.clap.specs.Walk.{Held, Row, Rule, Text, Walk, Waiting, arg_by_id, arg_by_index, arg_by_long, has_row, idle, more_values, option, reading_by, settled_rows, used, walk_from, walked, with_values, without, at_row}
+use Rattle.clap.specs.Walk.{Held, Row, Rule, Text, Walk, arg_by_id, arg_by_index, arg_by_long, has_row, idle}
+use Rattle.clap.specs.Walk.{more_values, option, settled_rows, used, walked, with_values}
+use Rattle.clap.specs.Walk.{without, at_row}
 use Rattle.clap.specs.Simple.{Shape, filled, with_index}
-use Rattle.clap.specs.Kinds.{Kinds, or_else}
+use Rattle.clap.specs.Kinds.{or_else}
 use Rattle.clap.specs.Faults.{settle_fault, turn_fault, use_fault, walk_fault}
 use Rattle.clap.specs.declared.parser.matches.ValueSource.TheVariants.{CommandLine}
 use Rattle.clap.specs.declared.builder.value_parser.Reading.TheVariants.{AsWritten}
-use Rattle.command_words.specs.Table.{Entry, OptionEntry, flag, valued}
+use Rattle.command_words.specs.Table.{Entry, flag, valued}
 use Rattle.command_words.specs.ByClap.{option_rule, place_rule}
-use Rattle.command_words.specs.PlainForm.{AreUsesOf, ArePlaces, IsPlainWord, IsUseOf, Use, With, Alone, use_name, use_pair, use_words, place_pairs}
+use Rattle.command_words.specs.PlainForm.{AreUsesOf, ArePlaces, IsPlainWord, Use, With, Alone, use_name}
+use Rattle.command_words.specs.PlainForm.{use_pair, use_words, place_pairs}
 use Rattle.command_words.proofs.PlainFacts.{Each, Each-at, HasOption, HasPlaces}
 
 -- ---- words
@@ -99,7 +102,8 @@ and_false false = refl
 module _ (c : List Rule) where
   place_step : (rows : List Row) (pending : Option (Text × List Text)) (k : ℕ) (name word : Text) → NoFlag word
       → arg_by_index c k ≡ Some (place_at k name) → min (k + 1) usize_max ≡ suc k
-      → walked c [] (standing rows pending k) word ≡ standing (settled_rows c pending rows) (Some (name, word ∷ [])) (suc k)
+      → walked c [] (standing rows pending k) word
+      ≡ standing (settled_rows c pending rows) (Some (name, word ∷ [])) (suc k)
   unfolding walked
   place_step rows pending k name word none by next =
       rw (none.dashes, none.long, none.short, by, next, and_false) refl
@@ -114,7 +118,8 @@ module _ (c : List Rule) where
   flag_step : (rows : List Row) (pending : Option (Text × List Text)) (k : ℕ) (name : Text)
       → bytes_eq (45 ∷ 45 ∷ name) (45 ∷ 45 ∷ []) ≡ false → long_of (45 ∷ 45 ∷ name) ≡ Some (name, None)
       → arg_by_long c name ≡ Some (flag_at name)
-      → walked c [] (standing rows pending k) (45 ∷ 45 ∷ name) ≡ standing (used (flag_at name) [] (settled_rows c pending rows)) None k
+      → walked c [] (standing rows pending k) (45 ∷ 45 ∷ name)
+      ≡ standing (used (flag_at name) [] (settled_rows c pending rows)) None k
   unfolding walked
   flag_step rows pending k name dashes long by = rw (dashes, long, by) refl
 
@@ -145,16 +150,19 @@ added_absent change missing (r ∷ rs) id absent = go (bytes_eq r.id id) refl (a
     go true e rest = absurd (true≢false (rw e at absent))
     go false e rest = rw e (ap (λ xs. r ∷ xs) (rest (rw e at absent)))
 
-map-push : (pairs : List (Text × Text)) (pair : Text × Text) → map row_for pairs ++ row_for pair ∷ [] ≡ map row_for (pairs ++ pair ∷ [])
+map-push : (pairs : List (Text × Text)) (pair : Text × Text)
+    → map row_for pairs ++ row_for pair ∷ [] ≡ map row_for (pairs ++ pair ∷ [])
 map-push [] pair = refl
 map-push (p ∷ pairs) pair = ap (λ rows. row_for p ∷ rows) (map-push pairs pair)
 
 with_values-map : (pairs : List (Text × Text)) (name value : Text) → has_name pairs name ≡ false
-    → with_values name AsWritten CommandLine (value ∷ []) (without name (map row_for pairs)) ≡ map row_for (pairs ++ (name, value) ∷ [])
+    → with_values name AsWritten CommandLine (value ∷ []) (without name (map row_for pairs))
+    ≡ map row_for (pairs ++ (name, value) ∷ [])
 with_values-map pairs name value apart =
     let absent = has_row-map pairs name ∙ apart in
     ap (with_values name AsWritten CommandLine (value ∷ [])) (without_absent (map row_for pairs) name absent)
-    ∙ added_absent (more_values CommandLine (value ∷ [])) (row_for (name, value) ∷ []) (map row_for pairs) name absent ∙ map-push pairs (name, value)
+    ∙ added_absent (more_values CommandLine (value ∷ [])) (row_for (name, value)
+    ∷ []) (map row_for pairs) name absent ∙ map-push pairs (name, value)
 
 place_used : (k : ℕ) (pairs : List (Text × Text)) (name value : Text) → has_name pairs name ≡ false
     → used (place_at k name) (value ∷ []) (map row_for pairs) ≡ map row_for (pairs ++ (name, value) ∷ [])
@@ -170,13 +178,15 @@ flag_used pairs name apart = with_values-map pairs name (codes "true") apart
 
 -- ---- no use and no word is refused
 
-place_quiet : (c : List Rule) (k : ℕ) (pairs : List (Text × Text)) (name value : Text) → arg_by_id c name ≡ Some (place_at k name)
+place_quiet : (c : List Rule) (k : ℕ) (pairs : List (Text × Text)) (name value : Text)
+    → arg_by_id c name ≡ Some (place_at k name)
     → has_name pairs name ≡ false → settle_fault c false (held_at (map row_for pairs) (Some (name, value ∷ []))) ≡ []
 place_quiet c k pairs name value by apart =
     let absent : has_row name (map row_for pairs) ≡ false = has_row-map pairs name ∙ apart in
     rw (by, absent) refl
 
-valued_quiet : (c : List Rule) (pairs : List (Text × Text)) (name value : Text) → arg_by_id c name ≡ Some (valued_at name)
+valued_quiet : (c : List Rule) (pairs : List (Text × Text)) (name value : Text)
+    → arg_by_id c name ≡ Some (valued_at name)
     → has_name pairs name ≡ false → settle_fault c false (held_at (map row_for pairs) (Some (name, value ∷ []))) ≡ []
 valued_quiet c pairs name value by apart =
     let absent : has_row name (map row_for pairs) ≡ false = has_row-map pairs name ∙ apart in
@@ -188,18 +198,23 @@ flag_quiet pairs name apart =
     let absent : has_row name (map row_for pairs) ≡ false = has_row-map pairs name ∙ apart in
     rw absent refl
 
-module _ (s : Shape) (again : s.args_override_self ≡ false) (rows : List Row) (pending : Option (Text × List Text)) (k : ℕ)
+module _ (s : Shape) (again : s.args_override_self
+    ≡ false) (rows : List Row) (pending : Option (Text × List Text)) (k : ℕ)
     (quiet : settle_fault s.rules false (held_at rows pending) ≡ []) where
   place_turn : (name word : Text) → NoFlag word → arg_by_index s.rules k ≡ Some (place_at k name)
       → turn_fault s [] (standing rows pending k) word ≡ []
   place_turn name word none by = rw (again, none.dashes, none.long, none.short, by, and_false, quiet) refl
 
-  option_turn : (name : Text) → bytes_eq (45 ∷ 45 ∷ name) (45 ∷ 45 ∷ []) ≡ false → long_of (45 ∷ 45 ∷ name) ≡ Some (name, None)
-      → arg_by_long s.rules name ≡ Some (valued_at name) → turn_fault s [] (standing rows pending k) (45 ∷ 45 ∷ name) ≡ []
+  option_turn : (name : Text) → bytes_eq (45 ∷ 45 ∷ name) (45 ∷ 45 ∷ []) ≡ false
+      → long_of (45 ∷ 45 ∷ name) ≡ Some (name, None)
+      → arg_by_long s.rules name ≡ Some (valued_at name)
+      → turn_fault s [] (standing rows pending k) (45 ∷ 45 ∷ name) ≡ []
   option_turn name dashes long by = rw (again, dashes, long, by, quiet) refl
 
-  flag_turn : (name : Text) → bytes_eq (45 ∷ 45 ∷ name) (45 ∷ 45 ∷ []) ≡ false → long_of (45 ∷ 45 ∷ name) ≡ Some (name, None)
-      → arg_by_long s.rules name ≡ Some (flag_at name) → use_fault false (flag_at name) [] (settled_rows s.rules pending rows) ≡ []
+  flag_turn : (name : Text) → bytes_eq (45 ∷ 45 ∷ name) (45 ∷ 45 ∷ []) ≡ false
+      → long_of (45 ∷ 45 ∷ name) ≡ Some (name, None)
+      → arg_by_long s.rules name ≡ Some (flag_at name)
+      → use_fault false (flag_at name) [] (settled_rows s.rules pending rows) ≡ []
       → turn_fault s [] (standing rows pending k) (45 ∷ 45 ∷ name) ≡ []
   flag_turn name dashes long by use_quiet = rw (again, dashes, long, by, quiet, use_quiet) refl
 
@@ -220,7 +235,8 @@ pub record Runs (s : Shape) (w : Walk) (words : List Text) (pairs : List (Text �
   pub passes : walk_fault s [] w words ≡ []
 
 runs_next : (s : Shape) (w next : Walk) (word : Text) (words : List Text) (pairs : List (Text × Text))
-    → walked s.rules [] w word ≡ next → turn_fault s [] w word ≡ [] → Runs s next words pairs → Runs s w (word ∷ words) pairs
+    → walked s.rules [] w word ≡ next → turn_fault s [] w word ≡ [] → Runs s next words pairs
+    → Runs s w (word ∷ words) pairs
 unfolding walk_fault
 runs_next s w next word words pairs step turn runs = record {
   rows = runs.rows;
@@ -271,7 +287,8 @@ joined s w words pairs more pair runs = subst (λ all. Runs s w words all) (appe
 
 module _ (s : Shape) (again : s.args_override_self ≡ false) (entry : Entry)
     (facts : Each (HasOption s.rules entry.places) entry.options) where
-  pub uses_run : (uses : List Use) (rows : List Row) (pending : Option (Text × List Text)) (k : ℕ) (pairs : List (Text × Text))
+  pub uses_run : (uses : List Use) (rows : List Row) (pending : Option (Text × List Text)) (k : ℕ) (pairs : List
+      (Text × Text))
       → settled_rows s.rules pending rows ≡ map row_for pairs → settle_fault s.rules false (held_at rows pending) ≡ []
       → AreUsesOf entry uses → Fresh pairs uses
       → Runs s (standing rows pending k) (flat_map use_words uses) (pairs ++ map use_pair uses)
@@ -288,11 +305,17 @@ module _ (s : Shape) (again : s.args_override_self ≡ false) (entry : Entry)
   uses_run (With name value ∷ uses) rows pending k pairs holds quiet are fresh =
       let has = Each-at (HasOption s.rules entry.places) entry.options (valued name) facts are.0.0 in
       let none = no_flag value are.0.1 in
-      joined s (standing rows pending k) (flat_map use_words (With name value ∷ uses)) pairs (map use_pair uses) (name, value)
-      (runs_next s (standing rows pending k) (waiting_for name (map row_for pairs) k) (45 ∷ 45 ∷ name) (value ∷ flat_map use_words uses) _
+      joined s (standing rows pending k) (flat_map use_words (With name value
+      ∷ uses)) pairs (map use_pair uses) (name, value)
+      (runs_next s (standing rows pending k) (waiting_for name (map row_for pairs) k) (45 ∷ 45 ∷ name) (value
+      ∷ flat_map use_words uses) _
       (option_step s.rules rows pending k name has.dashes has.long has.by_long ∙ ap (λ r. waiting_for name r k) holds)
       (option_turn s again rows pending k quiet name has.dashes has.long has.by_long)
-      (runs_next s (waiting_for name (map row_for pairs) k) (standing (map row_for pairs) (Some (name, value ∷ [])) k) value (flat_map use_words uses) _
+      (runs_next s (waiting_for name (map row_for pairs) k) (standing (map row_for pairs) (Some (
+        name,
+        value
+            ∷ [],
+      )) k) value (flat_map use_words uses) _
       (value_step s.rules (map row_for pairs) k name value none has.by_id)
       (value_turn s (map row_for pairs) k name value none)
       (uses_run uses (map row_for pairs) (Some (name, value ∷ [])) k (pairs ++ (name, value) ∷ [])
@@ -301,13 +324,16 @@ module _ (s : Shape) (again : s.args_override_self ≡ false) (entry : Entry)
   uses_run (Alone name ∷ uses) rows pending k pairs holds quiet are fresh =
       let has = Each-at (HasOption s.rules entry.places) entry.options (flag name) facts are.0 in
       let use_quiet = flag_quiet pairs name fresh.0 in
-      joined s (standing rows pending k) (flat_map use_words (Alone name ∷ uses)) pairs (map use_pair uses) (name, codes "true")
-      (runs_next s (standing rows pending k) (standing (map row_for (pairs ++ (name, codes "true") ∷ [])) None k) (45 ∷ 45 ∷ name) (flat_map use_words uses) _
+      joined s (standing rows pending k) (flat_map use_words (Alone name
+      ∷ uses)) pairs (map use_pair uses) (name, codes "true")
+      (runs_next s (standing rows pending k) (standing (map row_for (pairs ++ (name, codes "true")
+      ∷ [])) None k) (45 ∷ 45 ∷ name) (flat_map use_words uses) _
       (flag_step s.rules rows pending k name has.dashes has.long has.by_long
       ∙ ap (λ r. standing r None k) (ap (used (flag_at name) []) holds ∙ flag_used pairs name fresh.0))
       (flag_turn s again rows pending k quiet name has.dashes has.long has.by_long
       (ap (use_fault false (flag_at name) []) holds ∙ use_quiet))
-      (uses_run uses (map row_for (pairs ++ (name, codes "true") ∷ [])) None k (pairs ++ (name, codes "true") ∷ []) refl refl
+      (uses_run uses (map row_for (pairs ++ (name, codes "true") ∷ [])) None k (pairs ++ (name, codes "true")
+      ∷ []) refl refl
       are.2 (Fresh-push pairs (name, codes "true") uses fresh.1 are.1)))
 
 -- ---- the places
@@ -337,7 +363,8 @@ Continues s words pairs all = (rows : List Row) (pending : Option (Text × List 
     → Runs s (standing rows pending k) words all
 
 module _ (s : Shape) (again : s.args_override_self ≡ false) (rest : List Text) (all : List (Text × Text)) where
-  pub places_run : (names words : List Text) (rows : List Row) (pending : Option (Text × List Text)) (k : ℕ) (pairs : List (Text × Text))
+  pub places_run : (names words : List Text) (rows : List Row) (pending : Option (Text × List Text)) (k : ℕ)
+      (pairs : List (Text × Text))
       → settled_rows s.rules pending rows ≡ map row_for pairs → settle_fault s.rules false (held_at rows pending) ≡ []
       → HasPlaces s.rules k names → ArePlaces names words → FreshNames pairs names
       → Continues s rest (pairs ++ place_pairs names words) all
@@ -348,8 +375,13 @@ module _ (s : Shape) (again : s.args_override_self ≡ false) (rest : List Text)
   places_run (name ∷ names) [] rows pending k pairs holds quiet has are fresh go = absurd are
   places_run (name ∷ names) (word ∷ words) rows pending k pairs holds quiet has are fresh go =
       let none = no_flag word are.0 in
-      runs_next s (standing rows pending k) (standing (map row_for pairs) (Some (name, word ∷ [])) (suc k)) word (words ++ rest) all
-      (place_step s.rules rows pending k name word none has.0 has.2 ∙ ap (λ r. standing r (Some (name, word ∷ [])) (suc k)) holds)
+      runs_next s (standing rows pending k) (standing (map row_for pairs) (Some (
+        name,
+        word
+            ∷ [],
+      )) (suc k)) word (words ++ rest) all
+      (place_step s.rules rows pending k name word none has.0 has.2
+      ∙ ap (λ r. standing r (Some (name, word ∷ [])) (suc k)) holds)
       (place_turn s again rows pending k quiet name word none has.0)
       (places_run names words (map row_for pairs) (Some (name, word ∷ [])) (suc k) (pairs ++ (name, word) ∷ [])
       (rw has.1 (place_used k pairs name word fresh.0)) (place_quiet s.rules k pairs name word has.1 fresh.0)

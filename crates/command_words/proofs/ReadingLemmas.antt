@@ -1,6 +1,8 @@
 -- What `clap` has read, by its clauses.
-use Rattle.std.proofs.Common.{◌≡◌, ◌∙◌, true, refl, sym, ap, ap₂, List, [], ◌∷◌, Option, Some, None, option_map, unwrap_or, ◌⊎◌, inl, inr}
-use Rattle.clap.specs.Words.{IsAmong, Kinds, Row, fault_of, is_simple, subcommand_of, is_simple_and_free, subcommand_name_of, subcommand_rows_of}
+use Rattle.std.proofs.Common.{◌≡◌, ◌∙◌, true, refl, sym, ap, ap₂, List, [], ◌∷◌, Option, Some, None, option_map}
+use Rattle.std.proofs.Common.{unwrap_or, ◌⊎◌, inl, inr}
+use Rattle.clap.specs.Words.{IsAmong, Kinds, Row, fault_of, is_simple, subcommand_of, is_simple_and_free}
+use Rattle.clap.specs.Words.{subcommand_name_of, subcommand_rows_of}
 use Rattle.clap.specs.declared.error.ErrorKind.{ErrorKind}
 use Rattle.clap.specs.declared.error.ErrorKind.TheVariants.{OutOfMemory}
 use Rattle.clap.specs.declared.ArgMatches.{ArgMatches}
@@ -26,7 +28,8 @@ kinds_read_none read kind [] h = absurd h
 kinds_read_none read kind (k ∷ ks) h = refl
 
 -- A refusal leaves nothing read.
-pub refused_reads_none : (words : List Text) (kind : ErrorKind) → (kind ≡ OutOfMemory) ⊎ IsAmong kind (fault_of app words)
+pub refused_reads_none : (words : List Text) (kind : ErrorKind)
+    → (kind ≡ OutOfMemory) ⊎ IsAmong kind (fault_of app words)
     → Refused ≡ fault_by kind → reading_of words ≡ None
 refused_reads_none words kind (inl memory) by = cc_refused (by ∙ ap fault_by memory)
   where
@@ -46,7 +49,8 @@ named_rows None name rows e f = cc
 named_rows (Some p) name rows e f =
     ap Some (ap₂ (λ (a : Text) (b : List Row). (a, b)) (sym (same_text name p.0 e)) (sym (same_rows rows p.1 f)))
 
-option_map-map : {A B C : Type 0} (g : B → C) (f : A → B) (o : Option A) → option_map g (option_map f o) ≡ option_map (λ x. g (f x)) o
+option_map-map : {A B C : Type 0} (g : B → C) (f : A → B) (o : Option A)
+    → option_map g (option_map f o) ≡ option_map (λ x. g (f x)) o
 option_map-map g f None = refl
 option_map-map g f (Some x) = refl
 

@@ -1,12 +1,10 @@
 -- Values from outside, computed from the definitions.
-use Rattle.std.proofs.Common.{◌≡◌, refl, codes, List, [], ◌∷◌, Option, Some, None}
+use Rattle.std.proofs.Common.{◌≡◌, refl, codes, [], ◌∷◌, Some, None}
 use Rattle.std.specs.Fmt.{digits}
 use Rattle.std.specs.Int.Count.{ones}
 use Rattle.clap.proofs.OnLiterals.{clap_on_literals}
-use Rattle.command_words.specs.Table.{Text}
 use Rattle.command_words.specs.Numbers.{interleave_of, number_of, number_within}
-use Rattle.command_words.specs.Commands.{asks_for_help, command_of}
-use Rattle.command_words.specs.declared.command.Command.{Command}
+use Rattle.command_words.specs.Commands.{command_of}
 use Rattle.command_words.specs.declared.command.Command.TheVariants as command
 use Rattle.command_words.specs.declared.values.HashChoice.TheVariants.{Sha256, HmacSha256}
 use Rattle.command_words.specs.declared.values.Mode.TheVariants.{Journal, Direct}

@@ -1,5 +1,6 @@
 -- Which words are which command.
-use Rattle.std.specs.Prelude.{◌||◌, List, [], ◌∷◌, Bool, false, Option, None, if◌then◌else◌, drop, option_and_then, codes}
+use Rattle.std.specs.Prelude.{◌||◌, List, [], ◌∷◌, Bool, false, Option, None, if◌then◌else◌, drop, option_and_then}
+use Rattle.std.specs.Prelude.{codes}
 use Rattle.std.specs.List.{list_any}
 use Rattle.std.specs.Str.{bytes_eq}
 use Rattle.clap.specs.Words.{Kinds, Row, fault_of, first_of, subcommand_of}

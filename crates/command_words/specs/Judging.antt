@@ -1,6 +1,7 @@
 -- Which command the words give: the values of its places and options, and the rules between them.
 -- Own, but for what integritysetup(8) has under the same names.
-use Rattle.std.specs.Prelude.{◌==◌, ℕ, List, Option, Some, None, if◌then◌else◌, option_and_then, option_map, unwrap_or, codes}
+use Rattle.std.specs.Prelude.{◌==◌, ℕ, List, Option, Some, None, if◌then◌else◌, option_and_then, option_map}
+use Rattle.std.specs.Prelude.{unwrap_or, codes}
 use Rattle.std.specs.Str.{bytes_eq}
 use Rattle.std.specs.Result.{result_ok}
 use Rattle.hex.specs.Hex.{decode_sized}

@@ -1,7 +1,8 @@
 -- Numbers in words: decimal digits without leading zeros, below 2^64.
 -- Own: they are written as in a script.
 use Rattle.std.specs.Int.{is_power_of_two}
-use Rattle.std.specs.Prelude.{◌&&◌, ◌^◌, ℕ, Bool, IsTrue, List, Option, Some, None, if◌then◌else◌, nat_lt, nat_le, option_and_then}
+use Rattle.std.specs.Prelude.{◌&&◌, ◌^◌, ℕ, Bool, IsTrue, List, Option, Some, None, if◌then◌else◌, nat_lt, nat_le}
+use Rattle.std.specs.Prelude.{option_and_then}
 use Rattle.std.specs.Fmt.{decimal}
 use Rattle.std.specs.Str.{bytes_eq}
 use Rattle.std.specs.Str.Parse.{digits_value}

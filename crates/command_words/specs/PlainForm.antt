@@ -1,6 +1,6 @@
 -- Words in plain form, whose command is told without a word on `clap`: the command, its places in order, and then
 -- options, each at most once. No place and no value begins with `-`.
-use Rattle.std.specs.Prelude.{◌≡◌, ◌≢◌, List, [], ◌∷◌, ◌++◌, map, Option, Some, None, if◌then◌else◌, codes, take}
+use Rattle.std.specs.Prelude.{◌≡◌, ◌≢◌, List, [], ◌∷◌, ◌++◌, map, Some, None, if◌then◌else◌, codes, take}
 use Rattle.std.specs.List.{All, Contains, flat_map}
 use Rattle.std.specs.Str.{bytes_eq}
 use Rattle.command_words.specs.declared.table.Takes.{Takes}

@@ -8,7 +8,8 @@ use Rattle.command_words.proofs.line.command.Given as goal
 
 abbrev pub invariant-loop-name : goal.invariant-loop-name
 invariant-loop-name l = record {
-  app : app_of l.command ≡ fold with_rule (new_app l.row.name.now) (take l.name-index (map (λ name. place_rule name.now) l.name-items));
+  app : app_of l.command
+      ≡ fold with_rule (new_app l.row.name.now) (take l.name-index (map (λ name. place_rule name.now) l.name-items));
   local : (out-Command l.command).has_globals ≡ false;
 }
 

@@ -1,6 +1,7 @@
 use Rattle.std.proofs.Common.{◌≡◌, ◌∙◌, ap, subst, map, []}
 use Rattle.std.specs.String.{string_bytes}
-use Rattle.clap.specs.Words.{App, HasKind, fault_of, found_of, is_simple, is_simple_and_free, kind_of, rows_of, subcommand_of, subcommand_rows_of}
+use Rattle.clap.specs.Words.{App, HasKind, fault_of, found_of, is_simple, is_simple_and_free, kind_of, rows_of}
+use Rattle.clap.specs.Words.{subcommand_of, subcommand_rows_of}
 use Rattle.command_words.specs.Answers.{fault_by}
 use Rattle.command_words.specs.declared.words_fault.WordsFault.TheVariants.{Refused}
 use Rattle.command_words.proofs.ReadingLemmas.{app_is_free, app_is_simple, matches_read, refused_reads_none}
