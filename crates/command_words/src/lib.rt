@@ -1,8 +1,9 @@
 //! Which words are which command: read by `clap`, and judged by a table of commands and options.
 //!
-//! A contract sees a `FileName` as the list of its bytes, a `Within` and an `Interleave` as their number. Which words are
-//! which command is `command_of` in `specs/Commands.antt`, the file to read first; `specs/Table.antt` has the table, and
-//! `specs/PlainForm.antt` words whose command is told without a word on `clap`. `line.rt` and `given.rt` alone see `clap`.
+//! A contract sees a `FileName` as the list of its bytes, a `Within` and an `Interleave` as their number. Which words
+//! are which command is `command_of` in `specs/Commands.antt`, the file to read first; `specs/Table.antt` has the
+//! table, and `specs/PlainForm.antt` words whose command is told without a word on `clap`. `line.rt` and `given.rt`
+//! alone see `clap`.
 #![tactic(auto)]
 
 mod coming;

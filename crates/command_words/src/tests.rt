@@ -1,13 +1,13 @@
 //! Words and the commands that they are.
 
-use crate::{WordsFault, has_come, parse};
+use crate::{Command, Interleave, TagSize, WordsFault, has_come, parse};
 use std::alloc::{AllocError, Global};
 use std::test::Fail;
 
 /// Words that are a command, parted by `|`, and a part of what `Debug` shows of it.
 ///
 /// Source: what clap 4 makes of such words without settings of its own, and the ends of the values.
-static TAKEN: [(&str, &str); 26] = [
+static TAKEN: [(&str, &str); 30] = [
     (
         "run|I|--mode|D",
         "Run(Run { image: FileName { name: \"I\" }, mode: Direct, hash: Sha256 })",
@@ -49,11 +49,23 @@ static TAKEN: [(&str, &str); 26] = [
     ),
     (
         "format|I",
-        "tag_size: Within { number: 32 }, block_size: Bytes512, interleave: Interleave { sectors: 32768 }, sections: Within { number: 4 }, log2_blocks_per_bit: Within { number: 15 }, salt: None, padding: Fixed, wipe: Zeros }",
+        "tag_size: Within { number: 32 }, block_size: Bytes512",
+    ),
+    (
+        "format|I",
+        "interleave: Interleave { sectors: 32768 }, sections: Within { number: 4 }",
+    ),
+    (
+        "format|I",
+        "log2_blocks_per_bit: Within { number: 15 }, salt: None, padding: Fixed, wipe: Zeros }",
     ),
     (
         "format|I|--tag-size|1|--sections|1|--log2-blocks-per-bit|0",
-        "tag_size: Within { number: 1 }, block_size: Bytes512, interleave: Interleave { sectors: 32768 }, sections: Within { number: 1 }, log2_blocks_per_bit: Within { number: 0 }",
+        "tag_size: Within { number: 1 }",
+    ),
+    (
+        "format|I|--tag-size|1|--sections|1|--log2-blocks-per-bit|0",
+        "sections: Within { number: 1 }, log2_blocks_per_bit: Within { number: 0 }",
     ),
     (
         "format|I|--tag-size=32|--sections=1048576|--log2-blocks-per-bit=47",
@@ -70,7 +82,11 @@ static TAKEN: [(&str, &str); 26] = [
     ("format|--sector-size|2048|I", "block_size: Bytes2048"),
     (
         "format|--sector-size|4096|I|--no-wipe|--integrity-legacy-padding",
-        "block_size: Bytes4096, interleave: Interleave { sectors: 32768 }, sections: Within { number: 4 }, log2_blocks_per_bit: Within { number: 15 }, salt: None, padding: Legacy, wipe: Nothing }",
+        "block_size: Bytes4096",
+    ),
+    (
+        "format|I|--no-wipe|--integrity-legacy-padding",
+        "padding: Legacy, wipe: Nothing }",
     ),
     (
         "format|I|--salt|000102030405060708090a0b0c0d0eFF",
@@ -178,6 +194,18 @@ fn words_are_their_command(rt: HostRuntime) -> Result<(), Fail> {
 fn no_words_are_no_command(rt: HostRuntime) -> Result<(), Fail> {
     let none = Vec::new(rt.alloc());
     assert!(rt; parse(rt.alloc(), none.as_slice()).is_err());
+    Ok(())
+}
+
+#[test]
+fn values_are_those_of_the_words(rt: HostRuntime) -> Result<(), Fail> {
+    let words = words_of(rt.alloc(), "format|I|--tag-size|4|--interleave-sectors|16")?;
+    let Command::Format(format) = parse(rt.alloc(), words.as_slice())? else {
+        return Err("another command")?;
+    };
+    assert!(rt; format.image.as_str() == "I");
+    assert!(rt; format.tag_size.number() == 4 && format.interleave.sectors() == 16);
+    assert!(rt; TagSize::new(33).is_none() && Interleave::new(24).is_none());
     Ok(())
 }
 
