@@ -20,6 +20,11 @@ abbrev pub Each : {X : Type 0} → (X → Type 0) → List X → Type 0
 Each P [] = Unit {0}
 Each P (x ∷ xs) = P x × Each P xs
 
+-- One more element has P.
+infixr 4 ◌▹◌
+abbrev ◌▹◌ : {A B : Type 0} → A → B → A × B
+one ▹ others = (one, others)
+
 Each-index : {X : Type 0} (P : X → Type 0) (xs : List X) (k : ℕ) (d x : X) → k < length xs → slice_index_or xs k d ≡ x
     → Each P xs → P x
 Each-index P [] k d x lt at each = absurd (omega arith)
@@ -84,34 +89,14 @@ fact c places option a b d e f g = record { by_long = a; by_id = b; long = d; da
 pub format_leaf : IsLeafOf format_entry (leaf format_entry)
 unfolding clap_on_literals
 format_leaf = record {
-  options = (
-    fact _ _ _ refl refl refl refl refl refl,
-    (
-      fact _ _ _ refl refl refl refl refl refl,
-      (
-        fact _ _ _ refl refl refl refl refl refl,
-        (
-          fact _ _ _ refl refl refl refl refl refl,
-          (
-            fact _ _ _ refl refl refl refl refl refl,
-            (
-              fact _ _ _ refl refl refl refl refl refl,
-              (
-                fact _ _ _ refl refl refl refl refl refl,
-                (
-                  fact _ _ _ refl refl refl refl refl refl,
-                  (fact _ _ _ refl refl refl refl refl refl, (fact _ _ _ refl refl refl refl refl refl, tt)),
-                ),
-              ),
-            ),
-          ),
-        ),
-      ),
-    ),
-  );
+  options = fact _ _ _ refl refl refl refl refl refl ▹ fact _ _ _ refl refl refl refl refl refl
+      ▹ fact _ _ _ refl refl refl refl refl refl ▹ fact _ _ _ refl refl refl refl refl refl
+      ▹ fact _ _ _ refl refl refl refl refl refl ▹ fact _ _ _ refl refl refl refl refl refl
+      ▹ fact _ _ _ refl refl refl refl refl refl ▹ fact _ _ _ refl refl refl refl refl refl
+      ▹ fact _ _ _ refl refl refl refl refl refl ▹ fact _ _ _ refl refl refl refl refl refl ▹ tt;
   places = (refl, refl, refl, refl, tt);
   required = refl;
-  defaults = (refl, (refl, (refl, (refl, (refl, (refl, (refl, (refl, (refl, (refl, (refl, tt)))))))))));
+  defaults = refl ▹ refl ▹ refl ▹ refl ▹ refl ▹ refl ▹ refl ▹ refl ▹ refl ▹ refl ▹ refl ▹ tt;
   again = refl;
   helps = refl;
   enters = refl;
@@ -126,16 +111,11 @@ format_leaf = record {
 pub run_leaf : IsLeafOf run_entry (leaf run_entry)
 unfolding clap_on_literals
 run_leaf = record {
-  options = (
-    fact _ _ _ refl refl refl refl refl refl,
-    (
-      fact _ _ _ refl refl refl refl refl refl,
-      (fact _ _ _ refl refl refl refl refl refl, tt),
-    ),
-  );
+  options = fact _ _ _ refl refl refl refl refl refl ▹ fact _ _ _ refl refl refl refl refl refl
+      ▹ fact _ _ _ refl refl refl refl refl refl ▹ tt;
   places = (refl, refl, refl, refl, tt);
   required = refl;
-  defaults = (refl, (refl, (refl, (refl, tt))));
+  defaults = refl ▹ refl ▹ refl ▹ refl ▹ tt;
   again = refl;
   helps = refl;
   enters = refl;
@@ -153,7 +133,7 @@ dump_leaf = record {
   options = tt;
   places = (refl, refl, refl, refl, tt);
   required = refl;
-  defaults = (refl, tt);
+  defaults = refl ▹ tt;
   again = refl;
   helps = refl;
   enters = refl;
@@ -168,16 +148,11 @@ dump_leaf = record {
 pub check_leaf : IsLeafOf check_entry (leaf check_entry)
 unfolding clap_on_literals
 check_leaf = record {
-  options = (
-    fact _ _ _ refl refl refl refl refl refl,
-    (
-      fact _ _ _ refl refl refl refl refl refl,
-      (fact _ _ _ refl refl refl refl refl refl, tt),
-    ),
-  );
+  options = fact _ _ _ refl refl refl refl refl refl ▹ fact _ _ _ refl refl refl refl refl refl
+      ▹ fact _ _ _ refl refl refl refl refl refl ▹ tt;
   places = (refl, refl, refl, refl, tt);
   required = refl;
-  defaults = (refl, (refl, (refl, (refl, tt))));
+  defaults = refl ▹ refl ▹ refl ▹ refl ▹ tt;
   again = refl;
   helps = refl;
   enters = refl;
@@ -195,7 +170,7 @@ exercise_leaf = record {
   options = tt;
   places = (refl, refl, refl, refl, (refl, refl, refl, refl, (refl, refl, refl, refl, tt)));
   required = refl;
-  defaults = (refl, (refl, (refl, tt)));
+  defaults = refl ▹ refl ▹ refl ▹ tt;
   again = refl;
   helps = refl;
   enters = refl;
@@ -209,4 +184,4 @@ exercise_leaf = record {
 
 -- Each command of the table is a leaf.
 pub leaves : Each (λ entry. IsLeafOf entry (leaf entry)) table
-leaves = (format_leaf, (run_leaf, (dump_leaf, (check_leaf, (exercise_leaf, tt)))))
+leaves = format_leaf ▹ run_leaf ▹ dump_leaf ▹ check_leaf ▹ exercise_leaf ▹ tt
