@@ -117,7 +117,8 @@ impl<O: Folder + Drop> Disk for FileDisk<O> {
         ] told };
 
     ghost whole_sectors = { λ disk c sector x told low has. elim disk.file as (λ o.
-        content_now (of_file [] O.File.moments o) ≡ Some c → sector < (of_file no_disk O.File.identity o).sectors → length x ≡ 512) [
+        content_now (of_file [] O.File.moments o) ≡ Some c
+        → sector < (of_file no_disk O.File.identity o).sectors → length x ≡ 512) [
           | None ↦ λ told low. absurd (none-some c told)
           | Some file ↦ λ told low. O.File.whole_sectors file c sector x told low has
         ] told low };
@@ -125,7 +126,8 @@ impl<O: Folder + Drop> Disk for FileDisk<O> {
     ghost identity_name = { λ disk. refl };
 
     ghost named_if_bound = { λ disk name bound. elim disk.file as (λ o.
-        IsBoundTo name (of_file no_disk O.File.identity o).name → named_as O.File.identity O.File.moments (O.named disk.folder name) o
+        IsBoundTo name (of_file no_disk O.File.identity o).name
+        → named_as O.File.identity O.File.moments (O.named disk.folder name) o
         ≡ record {
           sectors = (of_file no_disk O.File.identity o).sectors;
           moments = of_file [] O.File.moments o;

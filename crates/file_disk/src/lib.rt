@@ -1,8 +1,8 @@
 //! A disk over any file whose calls may do a part of what they are asked, or be interrupted.
 //!
 //! `FileDisk` is proved to be a `Disk` over every such file, and tells its content where the file does. What a
-//! program trusts of its system is one `impl` of `Folder` and `SectorFile`, that of `std_file.rt`. `specs/Files.antt` is the file to read
-//! first.
+//! program trusts of its system is one `impl` of `Folder` and `SectorFile`, that of `std_file.rt`.
+//! `specs/Files.antt` is the file to read first.
 #![tactic(auto)]
 
 mod file_disk;

@@ -62,7 +62,8 @@ fn copy_candidate(base: &[u8], events: &[Event], at: u64, index: usize, out: &mu
 fn count_after(event: &Event, at: u64, count: usize) -> usize
     requires { count + 1 < 2 ^ 64 }
 
-    ensures count { (c : Content) → count ≡ length (c at) → result ≡ length (after_event event.now c at) }
+    ensures count { (c : Content) → count ≡ length (c at)
+        → result ≡ length (after_event event.now c at) }
     ensures bound { result ≤ count + 1 }
 {
     match event {
