@@ -1,7 +1,7 @@
 //! Makes the program's call on objects in memory, where calls fail as a case wants it.
-use crate::case::Case;
-use crate::watched::{Fails, WatchedDisk, WatchedSink, WatchedSource};
 use anyhow::{Result, bail};
+use case_disks::{WatchedDisk, WatchedSink, WatchedSource};
+use case_text::{Case, Fails};
 use integrity_tool::integrity;
 use sector_disk::MemDisk;
 use std::alloc::Global;

@@ -1,7 +1,7 @@
 //! Disks in memory, and the images of what a run left.
-use crate::case::Candidates;
-use crate::watched::WatchedDisk;
+use crate::WatchedDisk;
 use anyhow::{Result, bail};
+use case_text::Candidates;
 use sector_disk::{Disk, Failed, MemDisk};
 use std::alloc::Global;
 

@@ -1,6 +1,6 @@
 //! What must hold of a run that met a failure, computed from its script and from the disk that it began with.
-use crate::small_image::{BLOCKS, data_of, digest_of, is_small, put_block, tag_of};
-use anyhow::{Result, bail};
+use crate::Wrong;
+use crate::image_bytes::{BLOCKS, data_of, digest_of, is_small, put_block, tag_of};
 use std::alloc::{AllocError, Global};
 
 /// The failure that a run met.
@@ -28,35 +28,58 @@ pub struct Told<'t> {
 ///
 /// Where the sink failed the text stops anywhere before its end. If only the last line is not
 /// whole, and tells another cause, the status is that of this cause.
-pub fn judge_text(undisturbed: Told<'_>, told: Told<'_>, met: Met) -> Result<()> {
-    let (status, line) = match met {
-        Met::Nothing => (undisturbed.status, ""),
-        Met::Disk => (4, "fault disk\n"),
-        Met::Source => (5, "fault script\n"),
-        Met::Key => (5, "fault key\n"),
-        Met::Full { room } if told.text.len() as u64 != room => bail!("the sink is not full"),
-        Met::Sink | Met::Full { .. } => {
-            let is_last = told_lines(told.text) == told_lines(undisturbed.text);
-            let is_other = undisturbed.status >= 2 && is_last;
-            (if is_other { undisturbed.status } else { 6 }, "")
-        }
-    };
-    if told.status != status {
-        bail!("the status is not that of the failure");
+pub fn judge_text(undisturbed: Told<'_>, told: Told<'_>, met: Met) -> Result<(), Wrong> {
+    if let Met::Full { room } = met
+        && told.text.len() as u64 != room
+    {
+        return Err(Wrong::Run("the sink is not full"));
     }
+    if told.status != status_by(undisturbed, told, met) {
+        return Err(Wrong::Run("the status is not that of the failure"));
+    }
+    let line = last_line(met);
     let Some(before) = told.text.strip_suffix(line) else {
-        bail!("the text does not end with the line of the failure");
+        return Err(Wrong::Run("the text does not end with the line of the failure"));
     };
     let is_whole = line.is_empty() || before.is_empty() || before.ends_with('\n');
     if !is_whole || !undisturbed.text.starts_with(before) {
-        bail!("the text is no part of the undisturbed one");
+        return Err(Wrong::Run("the text is no part of the undisturbed one"));
     }
     let is_all = before.len() == undisturbed.text.len();
     match met {
-        Met::Nothing if !is_all => bail!("nothing failed, and the text is not the undisturbed one"),
+        Met::Nothing if !is_all => Err(Wrong::Run(
+            "nothing failed, and the text is not the undisturbed one",
+        )),
         Met::Nothing => Ok(()),
-        _ if is_all => bail!("the text is the undisturbed one"),
+        _ if is_all => Err(Wrong::Run("the text is the undisturbed one")),
         _ => Ok(()),
+    }
+}
+
+/// The status of a run that met a failure.
+fn status_by(undisturbed: Told<'_>, told: Told<'_>, met: Met) -> u8 {
+    match met {
+        Met::Nothing => undisturbed.status,
+        Met::Disk => 4,
+        Met::Source | Met::Key => 5,
+        Met::Sink | Met::Full { .. } => {
+            let is_last = told_lines(told.text) == told_lines(undisturbed.text);
+            if undisturbed.status >= 2 && is_last {
+                undisturbed.status
+            } else {
+                6
+            }
+        }
+    }
+}
+
+/// The last line of a run that met a failure, where the failure has one.
+fn last_line(met: Met) -> &'static str {
+    match met {
+        Met::Disk => "fault disk\n",
+        Met::Source => "fault script\n",
+        Met::Key => "fault key\n",
+        Met::Nothing | Met::Sink | Met::Full { .. } => "",
     }
 }
 
@@ -146,29 +169,13 @@ fn fill_image(image: &mut [u8], text: &str) {
 
 /// Looks at the bytes of what is left: the data of each block, and its tag, are those of one of the
 /// images, and all else is as in the first of them.
-pub fn judge_left(alloc: Global, images: &[Vec<u8>], left: &[u8]) -> Result<()> {
+pub fn judge_left(alloc: Global, images: &[Vec<u8>], left: &[u8]) -> Result<(), Wrong> {
     let Some(settled) = images.first() else {
         return Ok(());
     };
     let mut rest = left.to_vec(alloc)?;
     for block in 0..BLOCKS {
-        let (data, tag) = (data_of(left, block), tag_of(left, block));
-        let mut has_data = false;
-        let mut has_tag = false;
-        for image in images {
-            if data_of(image, block) == data {
-                has_data = true;
-            }
-            if tag_of(image, block) == tag {
-                has_tag = true;
-            }
-        }
-        if !has_data {
-            bail!("block {block} holds what it was not to hold");
-        }
-        if !has_tag {
-            bail!("the tag of block {block} is not that of what it was to hold");
-        }
+        judge_block(images, left, block)?;
         put_block(
             &mut rest,
             block,
@@ -177,7 +184,31 @@ pub fn judge_left(alloc: Global, images: &[Vec<u8>], left: &[u8]) -> Result<()> 
         );
     }
     if rest.as_slice() != settled.as_slice() {
-        bail!("a sector has changed where no block and no tag stands");
+        return Err(Wrong::Run("a sector has changed where no block and no tag stands"));
+    }
+    Ok(())
+}
+
+/// Looks at the data of a block that is left, and at its tag.
+fn judge_block(images: &[Vec<u8>], left: &[u8], block: u64) -> Result<(), Wrong> {
+    let (data, tag) = (data_of(left, block), tag_of(left, block));
+    let mut has_data = false;
+    let mut has_tag = false;
+    for image in images {
+        has_data = has_data || data_of(image, block) == data;
+        has_tag = has_tag || tag_of(image, block) == tag;
+    }
+    if !has_data {
+        return Err(Wrong::Block {
+            block,
+            what: "it holds what it was not to hold",
+        });
+    }
+    if !has_tag {
+        return Err(Wrong::Block {
+            block,
+            what: "the tag is not that of what it was to hold",
+        });
     }
     Ok(())
 }
@@ -209,10 +240,10 @@ pub fn judge_reads(
     digests: &[[u8; 32]],
     left: &[u8],
     told: Told<'_>,
-) -> Result<()> {
+) -> Result<(), Wrong> {
     if !is_small(left) {
         if told.status != 3 || told.text != "fault image form\n" {
-            bail!("what is left is no image, and is read");
+            return Err(Wrong::Run("what is left is no image, and is read"));
         }
         return Ok(());
     }
@@ -227,11 +258,14 @@ pub fn judge_reads(
             status = 1;
         }
         if !is_reply(alloc, left, block, &digest, line)? {
-            bail!("a read of block {block} does not give what is left");
+            return Err(Wrong::Block {
+                block,
+                what: "a read does not give what is left",
+            });
         }
     }
     if told.status != status || !told.text.ends_with("\nclosed\n") {
-        bail!("reads of what is left do not come to their end");
+        return Err(Wrong::Run("reads of what is left do not come to their end"));
     }
     Ok(())
 }
@@ -246,8 +280,8 @@ fn is_reply(
 ) -> Result<bool, AllocError> {
     let stored = tag_of(image, block);
     let wanted = if stored == digest.as_slice() {
-        let runs = runs_of(alloc, data_of(image, block))?;
-        format!(in alloc; "ok read {block} 1 {runs}\n")?
+        let stretches = stretches_of(alloc, data_of(image, block))?;
+        format!(in alloc; "ok read {block} 1 {stretches}\n")?
     } else {
         let stored = hex::encode(alloc, stored)?;
         let computed = hex::encode(alloc, digest)?;
@@ -256,16 +290,35 @@ fn is_reply(
     Ok(line == wanted.as_str())
 }
 
-/// The runs of like bytes.
-fn runs_of(alloc: Global, bytes: &[u8]) -> Result<String, AllocError> {
+/// The stretches of like bytes.
+fn stretches_of(alloc: Global, bytes: &[u8]) -> Result<String, AllocError> {
     let mut out = String::new(alloc);
-    for run in bytes.chunk_by(|a, b| *a == *b) {
-        if let Some(byte) = run.first() {
-            let comma = if out.is_empty() { "" } else { "," };
-            let count = run.len();
-            let run = format!(in alloc; "{comma}{byte:02x}*{count}")?;
-            out.push_str(run.as_str())?;
+    let mut last: Option<u8> = None;
+    for (from, byte) in bytes.iter().enumerate() {
+        if last != Some(*byte) {
+            last = Some(*byte);
+            put_stretch(alloc, &mut out, bytes.get(from..).unwrap_or(&[]), *byte)?;
         }
     }
     Ok(out)
+}
+
+/// Puts the stretch of this byte at the front of some bytes.
+fn put_stretch(alloc: Global, out: &mut String, bytes: &[u8], byte: u8) -> Result<(), AllocError> {
+    let count = count_alike(bytes, byte);
+    let comma = if out.is_empty() { "" } else { "," };
+    let stretch = format!(in alloc; "{comma}{byte:02x}*{count}")?;
+    out.push_str(stretch.as_str())
+}
+
+/// How many bytes at the front are this one.
+fn count_alike(bytes: &[u8], byte: u8) -> usize {
+    let mut count = 0usize;
+    for other in bytes {
+        if *other != byte {
+            break;
+        }
+        count = count.saturating_add(1);
+    }
+    count
 }

@@ -1,5 +1,5 @@
 //! What a case asks for.
-use crate::watched::Fails;
+use crate::Fails;
 use anyhow::Result;
 use std::alloc::{AllocError, Global};
 
@@ -151,17 +151,4 @@ pub fn name_of(kind: Kind) -> &'static str {
         Kind::Stop => "stop",
         Kind::Room => "room",
     }
-}
-
-/// These failures, and one of a kind with this number in place of another one.
-pub fn with_failure(mut fails: Fails, kind: Kind, number: u64) -> Fails {
-    match kind {
-        Kind::Disk => fails.disk = Some(number),
-        Kind::Source => fails.source = Some(number),
-        Kind::Sink => fails.sink = Some(number),
-        Kind::Key => fails.key = Some(number),
-        Kind::Stop => fails.stop = Some(number),
-        Kind::Room => fails.room = number,
-    }
-    fails
 }

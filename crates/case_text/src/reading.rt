@@ -1,5 +1,5 @@
 //! Reads what the lines of a case say.
-use crate::case::{Candidates, Case, Edit, Piece, Show, Start, kind_of, with_failure};
+use crate::{Candidates, Case, Edit, Piece, Show, Start, kind_of, with_failure};
 use anyhow::{Result, bail};
 use std::alloc::Global;
 

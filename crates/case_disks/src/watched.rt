@@ -5,34 +5,10 @@ ghost use Rattle.std.proofs.Common.{refl};
 ghost use Rattle.std.proofs.lemmas.Option.{none-some};
 ghost use Rattle.disk_model.specs.Identity.{AnyName};
 
+use case_text::Fails;
 use sector_disk::{Counted, Disk, Failed, MemDisk, Memory, Named};
 use std::alloc::{AllocError, Global};
 use stream_io::{MemSink, MemSource, Sink, Source};
-
-/// What fails in a run. Calls are numbered from 1.
-#[derive(Clone, Copy)]
-pub struct Fails {
-    pub disk: Option<u64>,
-    pub source: Option<u64>,
-    pub sink: Option<u64>,
-    pub key: Option<u64>,
-    /// After how many sector writes the disk stops.
-    pub stop: Option<u64>,
-    /// How many bytes of text the sink takes.
-    pub room: u64,
-}
-
-impl Fails {
-    /// Nothing fails.
-    pub const NONE: Fails = Fails {
-        disk: None,
-        source: None,
-        sink: None,
-        key: None,
-        stop: None,
-        room: 65_536,
-    };
-}
 
 /// What was asked of a disk.
 #[derive(Drop)]
