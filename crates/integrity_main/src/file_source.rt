@@ -12,7 +12,7 @@ use sector_disk::{Counted, Failed, Named};
 use std::fs::OpenOptions;
 use std::io;
 use std::rt::Files;
-use stream_io::Source;
+use stream_io::NamedSource;
 
 /// Gives the bytes of a file. It fails until it is bound to the file's name.
 #[derive(Drop)]
@@ -37,13 +37,13 @@ impl<R: Files + Drop> FileSource<R> {
 
 impl<R: Files + Drop> Counted for FileSource<R> {
     ghost faults = { λ source. source.faults };
-
-    ghost binding = { λ source. of_file Unbound (λ file. AnyName) source.file };
-
-    ghost tells_same = { λ name a b. ⊤ };
 }
 
 impl<R: Files + Drop> Named for FileSource<R> {
+    ghost binding = { λ source. of_file Unbound (λ file. AnyName) source.file };
+
+    ghost tells_same = { λ name a b. ⊤ };
+
     fn bind(&mut self, name: &str) -> Result<(), Failed> {
         let file = count_error(open(&self.rt, name), &mut self.faults)?;
         self.file = Some(file);
@@ -51,7 +51,7 @@ impl<R: Files + Drop> Named for FileSource<R> {
     }
 }
 
-impl<R: Files + Drop> Source for FileSource<R> {
+impl<R: Files + Drop> NamedSource for FileSource<R> {
     ghost left = { λ source. None };
 
     ghost named = { λ source name. None };

@@ -15,17 +15,13 @@ mod tests;
 
 use file_disk::{FileDisk, StdFolder};
 use file_source::FileSource;
-use integrity_tool::integrity;
+use integrity_tool::{end_without_memory, integrity};
 use std::io::ErrorKind;
 use std::process::ExitCode;
 use std::rt::Env;
 use std::{env, io};
 use std_sink::StdSink;
 use std_source::StdSource;
-use stream_io::put_all;
-
-/// The status of a program that has no memory for its words.
-const NO_MEMORY: u8 = 7;
 
 /// The words that the program is given, the first its name.
 fn words_of<R: Env + AllocGlobal>(rt: &R) -> io::Result<Vec<String>> {
@@ -40,8 +36,7 @@ fn main(rt: HostRuntime) -> ExitCode {
     let words = match words_of(&rt) {
         Ok(words) => words,
         Err(e) if e.kind() == ErrorKind::OutOfMemory => {
-            let _ = put_all(&mut out, b"fault memory\n");
-            return ExitCode::from(NO_MEMORY);
+            return ExitCode::from(end_without_memory(&mut out));
         }
         // One of them is no text. So they are no command, as no words are none.
         Err(_) => Vec::new(rt.alloc()),

@@ -1,8 +1,7 @@
 //! A sink that is the standard output.
 //!
 //! It holds back a line until it is whole, so that a line goes out by one call.
-ghost use Rattle.std.specs.Prelude.{◌≡◌, ◌≤◌, ◌<◌, ⊤, None};
-ghost use Rattle.disk_model.specs.Identity.{AnyName};
+ghost use Rattle.std.specs.Prelude.{◌≡◌, ◌≤◌, ◌<◌, None};
 ghost use Rattle.integrity_main.specs.declared.std_sink.TheConstants.{ROOM};
 
 use crate::faults::count_error;
@@ -39,10 +38,6 @@ impl<R: Print + Drop> StdSink<R> {
 
 impl<R: Print + Drop> Counted for StdSink<R> {
     ghost faults = { λ sink. sink.faults };
-
-    ghost binding = { λ sink. AnyName };
-
-    ghost tells_same = { λ name a b. ⊤ };
 }
 
 impl<R: Print + Drop> Sink for StdSink<R> {

@@ -1,8 +1,5 @@
 //! A source that is the standard input.
-ghost use Rattle.std.specs.Prelude.{◌≡◌, ⊤, None};
-ghost use Rattle.std.proofs.Common.{refl};
-ghost use Rattle.std.proofs.lemmas.Option.{none-some};
-ghost use Rattle.disk_model.specs.Identity.{AnyName};
+ghost use Rattle.std.specs.Prelude.{◌≡◌, None};
 
 use crate::faults::count_error;
 use crate::reading::read_some;
@@ -31,23 +28,13 @@ impl<R: Input> StdSource<R> {
 
 impl<R: Input> Counted for StdSource<R> {
     ghost faults = { λ source. source.faults };
-
-    ghost binding = { λ source. AnyName };
-
-    ghost tells_same = { λ name a b. ⊤ };
 }
 
 impl<R: Input> Source for StdSource<R> {
     ghost left = { λ source. None };
 
-    ghost named = { λ source name. None };
-
     fn read(&mut self, buffer: &mut [u8]) -> Result<usize, Failed> {
         let answer = read_some(&mut self.reader, buffer);
         count_error(answer, &mut self.faults)
     }
-
-    ghost named_if_bound = { λ source name bound. refl };
-
-    ghost same_named = { λ name a b bytes same told. absurd (none-some bytes told) };
 }
