@@ -8,7 +8,7 @@ ghost use Rattle.disk_model.specs.Identity.{AnyName};
 use case_text::Fails;
 use sector_disk::{Counted, Disk, Failed, MemDisk, Memory, Named};
 use std::alloc::{AllocError, Global};
-use stream_io::{MemSink, MemSource, Sink, Source};
+use stream_io::{MemFile, MemSink, MemSource, NamedSource, Sink, Source};
 
 /// What was asked of a disk.
 #[derive(Drop)]
@@ -100,13 +100,13 @@ impl Counted for WatchedDisk {
     ghost use Rattle.sector_disk.specs.MemDisk.{record_of};
 
     ghost faults = { λ d. (record_of d.disk).plan.faults };
-
-    ghost binding = { λ watched. AnyName };
-
-    ghost tells_same = { λ name a b. ⊤ };
 }
 
 impl Named for WatchedDisk {
+    ghost binding = { λ watched. AnyName };
+
+    ghost tells_same = { λ name a b. ⊤ };
+
     fn bind(&mut self, name: &str) -> Result<(), Failed> {
         self.disk.bind(name)
     }
@@ -165,8 +165,6 @@ impl Disk for WatchedDisk {
 #[derive(Drop)]
 pub struct WatchedSource<'b> {
     pub source: MemSource<'b>,
-    /// How many calls there were, those of `bind` included.
-    pub calls: u64,
     /// How many calls failed.
     pub failed: u64,
 }
@@ -178,44 +176,81 @@ impl<'b> WatchedSource<'b> {
         if let Some(call) = failing {
             source.fail_at(&[call]);
         }
-        WatchedSource {
-            source,
-            calls: 0,
-            failed: 0,
-        }
+        WatchedSource { source, failed: 0 }
     }
 }
 
 impl Counted for WatchedSource<'_> {
     ghost faults = { λ s. s.source.plan.faults };
-
-    ghost binding = { λ watched. AnyName };
-
-    ghost tells_same = { λ name a b. ⊤ };
-}
-
-impl Named for WatchedSource<'_> {
-    fn bind(&mut self, name: &str) -> Result<(), Failed> {
-        self.calls = self.calls.saturating_add(1);
-        self.source.bind(name)
-    }
 }
 
 impl Source for WatchedSource<'_> {
     ghost left = { λ s. None };
 
-    ghost named = { λ s name. None };
-
     fn read(&mut self, buffer: &mut [u8]) -> Result<usize, Failed> {
-        self.calls = self.calls.saturating_add(1);
         let answer = self.source.read(buffer);
         if answer.is_err() {
             self.failed = self.failed.saturating_add(1);
         }
         answer
     }
+}
 
-    ghost named_if_bound = { λ s name bound. refl };
+/// A named source in memory, with what was asked of it.
+#[derive(Drop)]
+pub struct WatchedFile<'b> {
+    pub file: MemFile<'b>,
+    /// How many calls there were, those of `bind` included.
+    pub calls: u64,
+    /// How many calls failed.
+    pub failed: u64,
+}
+
+impl<'b> WatchedFile<'b> {
+    /// Watches a source of these bytes, of which a call may fail.
+    pub fn new(bytes: &'b [u8], failing: Option<u64>) -> WatchedFile<'b> {
+        let mut file = MemFile::new(bytes);
+        if let Some(call) = failing {
+            file.fail_at(&[call]);
+        }
+        WatchedFile {
+            file,
+            calls: 0,
+            failed: 0,
+        }
+    }
+}
+
+impl Counted for WatchedFile<'_> {
+    ghost faults = { λ f. f.file.plan.faults };
+}
+
+impl Named for WatchedFile<'_> {
+    ghost binding = { λ watched. AnyName };
+
+    ghost tells_same = { λ name a b. ⊤ };
+
+    fn bind(&mut self, name: &str) -> Result<(), Failed> {
+        self.calls = self.calls.saturating_add(1);
+        self.file.bind(name)
+    }
+}
+
+impl NamedSource for WatchedFile<'_> {
+    ghost left = { λ f. None };
+
+    ghost named = { λ f name. None };
+
+    fn read(&mut self, buffer: &mut [u8]) -> Result<usize, Failed> {
+        self.calls = self.calls.saturating_add(1);
+        let answer = self.file.read(buffer);
+        if answer.is_err() {
+            self.failed = self.failed.saturating_add(1);
+        }
+        answer
+    }
+
+    ghost named_if_bound = { λ f name bound. refl };
 
     ghost same_named = { λ name a b bytes same told. absurd (none-some bytes told) };
 }
@@ -241,10 +276,6 @@ impl WatchedSink {
 
 impl Counted for WatchedSink {
     ghost faults = { λ s. s.sink.plan.faults };
-
-    ghost binding = { λ watched. AnyName };
-
-    ghost tells_same = { λ name a b. ⊤ };
 }
 
 impl Sink for WatchedSink {

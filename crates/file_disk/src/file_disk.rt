@@ -36,15 +36,15 @@ impl<O: Folder + Drop> FileDisk<O> {
 
 impl<O: Folder + Drop> Counted for FileDisk<O> {
     ghost faults = { λ disk. disk.faults + (O.faults disk.folder + of_file 0 O.File.faults disk.file) };
+}
 
+impl<O: Folder + Drop> Named for FileDisk<O> {
     ghost binding = { λ disk. (of_file no_disk O.File.identity disk.file).name };
 
     ghost tells_same = { λ name a b. TellsSame
         (named_as O.File.identity O.File.moments (O.named a.folder name) a.file)
         (named_as O.File.identity O.File.moments (O.named b.folder name) b.file) };
-}
 
-impl<O: Folder + Drop> Named for FileDisk<O> {
     fn bind(&mut self, name: &str) -> Result<(), Failed>
         ensures bound { OnOk result
             (IsBoundTo name.now (of_file no_disk O.File.identity self.new.file).name) }

@@ -5,6 +5,7 @@
 //! `specs/Files.antt` is the file to read first.
 #![tactic(auto)]
 
+mod calls;
 mod file_disk;
 mod opening;
 mod sector_file;
@@ -13,6 +14,7 @@ mod std_file;
 mod tests;
 mod transfer;
 
+pub use calls::Calls;
 pub use file_disk::FileDisk;
 pub use opening::open_apart;
 pub use sector_file::{FileFault, Folder, SectorFile};

@@ -1,6 +1,6 @@
 //! Makes the program's call on objects in memory, where calls fail as a case wants it.
 use anyhow::{Result, bail};
-use case_disks::{WatchedDisk, WatchedSink, WatchedSource};
+use case_disks::{WatchedDisk, WatchedFile, WatchedSink, WatchedSource};
 use case_text::{Case, Fails};
 use integrity_tool::integrity;
 use sector_disk::MemDisk;
@@ -23,7 +23,7 @@ pub struct Ended {
 /// Runs the program's call on a disk, with what a case gives, where this fails.
 pub fn run(alloc: Global, case: &Case, fails: Fails, disk: MemDisk) -> Result<Ended> {
     let mut disk = WatchedDisk::new(alloc, disk, fails)?;
-    let mut key = WatchedSource::new(&case.key, fails.key);
+    let mut key = WatchedFile::new(&case.key, fails.key);
     let mut script = WatchedSource::new(&case.script, fails.source);
     let Ok(mut out) = WatchedSink::new(alloc, fails) else {
         bail!("there is no memory for a sink");
@@ -52,7 +52,7 @@ fn call(
     alloc: Global,
     words: &[String],
     disk: &mut WatchedDisk,
-    key: &mut WatchedSource<'_>,
+    key: &mut WatchedFile<'_>,
     script: &mut WatchedSource<'_>,
     out: &mut WatchedSink,
 ) -> u8 {

@@ -8,43 +8,47 @@ ghost use Rattle.disk_model.specs.Disk.{Content, IsImage, IsRun, Reads, AddsSome
 ghost use Rattle.disk_model.specs.Identity.{Binding, DiskIdentity, IsBound, IsBoundTo, NamedDisk};
 ghost use Rattle.disk_model.specs.Moments.{EachSince, HasNow, IsChangedBy, content_now};
 
+use thiserror::Error;
+
 /// Something outside has failed: a disk, a source or a sink.
-#[derive(Clone, Copy, Debug, PartialEq, Eq)]
+#[derive(Clone, Copy, Debug, PartialEq, Eq, Error)]
+#[error("a call of the system has failed")]
 pub struct Failed;
 
 /// There was no memory for what a call was to make.
-#[derive(Clone, Copy, Debug, PartialEq, Eq)]
+#[derive(Clone, Copy, Debug, PartialEq, Eq, Error)]
+#[error("there is no memory")]
 pub struct Memory;
 
 /// An object that counts the faults of what it stands for.
 pub trait Counted {
     /// How often it has failed. The count never falls, and stays at 2^64 - 1 once it is there.
     ghost faults: { Self → ℕ };
-
-    /// The name that it is bound to. One that is never bound, as an output, stands for any.
-    ghost binding: { Self → Binding };
-
-    /// Two states tell the same of what has this name: what differs is the count, and what is bound.
-    ghost tells_same: { List ℕ → Self → Self → Type 0 };
 }
 
 /// An object that stands for nothing until it is bound to a name, as that of a file.
 pub trait Named: Counted {
+    /// The name that it is bound to. One in memory stands for any.
+    ghost binding: { Self → Binding };
+
+    /// Two states tell the same of what has this name: what differs is the count, and what is bound.
+    ghost tells_same: { List ℕ → Self → Self → Type 0 };
+
     /// Binds it to a name. What has this name stays as it is, and over memory nothing changes.
     ///
     /// # Errors
     ///
     /// - `Failed`: what has the name could not be reached.
     fn bind(&mut self, name: &str) -> Result<(), Failed>
-        ensures bound { OnOk result (IsBoundTo name.now (Self.binding self.new)) }
+        ensures bound { OnOk result (IsBoundTo name.now (binding self.new)) }
 
         ensures cause { HasCause (Self.faults self.old) (Self.faults self.new) result }
 
-        ensures same { Self.tells_same name.now self.old self.new };
+        ensures same { tells_same name.now self.old self.new };
 }
 
 /// A disk of sectors of 512 bytes.
-pub trait Disk: Counted {
+pub trait Disk: Named {
     /// What it is: the name that it is bound to, and how many sectors it has.
     ghost identity: { Self → DiskIdentity };
 

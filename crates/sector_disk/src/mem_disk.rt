@@ -132,18 +132,18 @@ impl MemDisk {
 }
 
 impl Counted for MemDisk {
-    ghost use Rattle.disk_model.specs.Identity.{AnyName};
-    ghost use Rattle.sector_disk.specs.MemDisk.{record_of, DiffersInFaults};
+    ghost use Rattle.sector_disk.specs.MemDisk.{record_of};
 
     ghost faults = { λ d. (record_of d).plan.faults };
+}
+
+impl Named for MemDisk {
+    ghost use Rattle.disk_model.specs.Identity.{AnyName};
+    ghost use Rattle.sector_disk.specs.MemDisk.{record_of, DiffersInFaults};
 
     ghost binding = { λ d. AnyName };
 
     ghost tells_same = { λ name a b. DiffersInFaults (record_of a) (record_of b) };
-}
-
-impl Named for MemDisk {
-    ghost use Rattle.sector_disk.specs.MemDisk.{record_of, DiffersInFaults};
 
     fn bind(&mut self, _name: &str) -> Result<(), Failed>
         ensures ok { IsOk result }
