@@ -7,9 +7,9 @@ ghost use Rattle.disk_model.specs.Disk.{HasNothingPending, OnlyAdds, last_image,
 ghost use Rattle.disk_model.specs.Identity.{IsBound, IsBoundTo, IsThere};
 ghost use Rattle.disk_model.specs.Moments.{content_now, EachMoment, FromStart};
 ghost use Rattle.integrity_tool.specs.Form.{IsOfForm};
-ghost use Rattle.integrity_tool.specs.Leaving.{IsOfScript};
-ghost use Rattle.integrity_tool.specs.Running.{RefusesScript, ending_by};
-ghost use Rattle.integrity_tool.specs.Standing.{IsOfBlock};
+ghost use Rattle.integrity_tool.specs.Cuts.{IsOfScript};
+ghost use Rattle.integrity_tool.specs.ScriptSteps.{RefusesScript, ending_by};
+ghost use Rattle.integrity_tool.specs.SmallDisk.{IsOfBlock};
 ghost use Rattle.integrity_tool.specs.Top.{start_of, IsRefusedScript, Leaves, MayBeLeft, Tells};
 ghost use Rattle.device_model.specs.Ending.{Complete, status_of};
 ghost use Rattle.integrity_tool.specs.Words.{IsRunWords, image_word};

@@ -15,7 +15,7 @@ use Rattle.device_model.proofs.ReplyLemmas.{read_reply-joined, read_reply-fault}
 use Rattle.integrity_tool.specs.declared.reading.Found.{Found}
 use Rattle.integrity_tool.specs.declared.reading.Found.TheVariants.{Matching, Differing}
 use Rattle.integrity_tool.specs.Form.{small_blocks, small_cells, small_geometry}
-use Rattle.integrity_tool.specs.Reading.{IsSmallRule, reply_of}
+use Rattle.integrity_tool.specs.Found.{IsSmallRule, reply_of}
 use Rattle.integrity_tool.proofs.SmallImage.{data_at-small, tag_sector-small, tag_byte-small}
 
 abbrev cell_of : List ℕ → List ℕ → Cell

@@ -16,7 +16,7 @@ use Rattle.image_model.specs.Geometry.{data_at, tag_at}
 use Rattle.image_model.specs.Sectors.{piece}
 use Rattle.image_model.proofs.TagLemmas.{length-tag_of}
 use Rattle.integrity_tool.specs.Form.{small_blocks, small_cells, small_geometry}
-use Rattle.integrity_tool.specs.Standing.{IsSettled, KeepsOthers, WritesBlock, WritesTag, IsOfBlocks, with_tag, tagged_cell}
+use Rattle.integrity_tool.specs.SmallDisk.{IsSettled, KeepsOthers, WritesBlock, WritesTag, IsOfBlocks, with_tag, tagged_cell}
 use Rattle.integrity_tool.proofs.SmallImage.{data_at-small, tag_sector-small, tag_byte-small}
 
 -- ---- a tag in its sector

@@ -9,7 +9,7 @@ use Rattle.integrity_tool.specs.Form.{small_blocks, small_cells}
 use Rattle.integrity_tool.specs.Grammar.{line_bytes, IsRunnable}
 use Rattle.integrity_tool.specs.Outcome.{Runs}
 use Rattle.integrity_tool.specs.Script.{TakesLine, BeginsWith, IsWithinBound}
-use Rattle.integrity_tool.specs.Standing.{IsOfBlocks, MayBeCut}
+use Rattle.integrity_tool.specs.SmallDisk.{IsOfBlocks, MayBeCut}
 
 -- The session after some lines on the blocks of an image.
 abbrev pub session_after : Image → List Line → Session

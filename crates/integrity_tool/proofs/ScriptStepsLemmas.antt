@@ -18,9 +18,9 @@ use Rattle.integrity_tool.specs.Grammar.{IsLine, IsRunnable}
 use Rattle.integrity_tool.specs.Line.{line_of, IsNoLine}
 use Rattle.integrity_tool.specs.Lines.{LineReading, FindsLine, FindsWholeLine, FindsLongLine, FindsLongScript}
 use Rattle.integrity_tool.specs.Outcome.{printed, IsNextText, EndsBy}
-use Rattle.integrity_tool.specs.Running.{Prints, FindsNext, EndsLine, EndsScript, RefusesScript}
-use Rattle.integrity_tool.specs.Leaving.{session_after, IsNextChanges, IsLeftBy, IsClosed, IsOfLine, IsOfScript, RunsAndLeaves}
-use Rattle.integrity_tool.specs.Standing.{StandsFor, MayBeCut, IsOfBlock}
+use Rattle.integrity_tool.specs.ScriptSteps.{Prints, FindsNext, EndsLine, EndsScript, RefusesScript}
+use Rattle.integrity_tool.specs.Cuts.{session_after, IsNextChanges, IsLeftBy, IsClosed, IsOfLine, IsOfScript, RunsAndLeaves}
+use Rattle.integrity_tool.specs.SmallDisk.{StandsFor, MayBeCut, IsOfBlock}
 use Rattle.integrity_tool.proofs.StandsForLemmas.{StandsFor-opened, MayBeCut-none, left_at_rest}
 use Rattle.integrity_tool.specs.Top.{IsRefusedScript}
 use Rattle.integrity_tool.specs.Script.{TakesLine, BeginsWith, BeginsWithNone, IsWithinBound, BeginsRefused, CrossesBound}
