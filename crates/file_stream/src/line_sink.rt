@@ -19,12 +19,15 @@ const ROOM: usize = 8192;
 /// Writes to a file what it takes, and holds back a line until it is whole, or its room is full. So a line goes out by
 /// one call, where the file takes it so.
 ///
-/// Where the file fails after it took some of the new bytes, these are told, and the next call fails.
+/// Where the file fails after it took some of the new bytes, these are told, and the next call fails. What is held back
+/// when the sink is dropped is never written.
 #[derive(Drop)]
 pub struct LineSink<F: OutputFile + Drop> {
     file: F,
     held_back: ArrayVec<u8, ROOM>,
+    /// A failure of the file that is to be told by the next call.
     untold: Option<Failed>,
+    /// How many failures were told. It stays at 2^64 - 1.
     faults: u64,
     ghost has_room: { array_vec_len held_back < most_held },
     ghost unended: { ¬ Contains held_back.items 10 },
@@ -77,7 +80,8 @@ impl<F: OutputFile + Drop> Sink for LineSink<F> {
     fn write(&mut self, bytes: &[u8]) -> Result<usize, Failed>
         ensures count { IfOk result (λ n. n ≤ length bytes.now) }
         ensures some { IfOk result (λ n. 0 < length bytes.now → 0 < n) }
-        ensures written { IfOk result (λ n. option_map (with_bytes self.new.held_back.items) (F.held self.new.file)
+        ensures written { IfOk result (λ n.
+            option_map (with_bytes self.new.held_back.items) (F.held self.new.file)
             ≡ option_map (with_bytes (take n bytes.now))
             (option_map (with_bytes self.old.held_back.items) (F.held self.old.file))) }
         ensures whole { IfOk result (λ n. IsNone self.new.untold
@@ -120,14 +124,15 @@ fn hold_back(held_back: &mut ArrayVec<u8, ROOM>, piece: &[u8])
     let _ = held_back.try_extend_from_slice(piece);
 }
 
-/// Writes what is held back, and then a piece, and tells how many bytes of the piece were written. Where the file fails,
-/// what it did not take of the bytes that were held back is held back, and no byte of the piece.
+/// Writes what is held back, and then a piece, and tells how many bytes of the piece were written. Where the file
+/// fails, what it did not take of the bytes that were held back stays held back, and no byte of the piece.
 fn write_out<F: OutputFile>(file: &mut F, held_back: &mut ArrayVec<u8, ROOM>, piece: &[u8]) -> usize
     requires room { array_vec_len held_back.old + length piece.now ≤ most_held }
 
     ensures within { result ≤ length piece.now }
     ensures written { option_map (with_bytes held_back.new.items) (F.held file.new)
-        ≡ option_map (with_bytes (take result piece.now)) (option_map (with_bytes held_back.old.items) (F.held file.old)) }
+        ≡ option_map (with_bytes (take result piece.now))
+        (option_map (with_bytes held_back.old.items) (F.held file.old)) }
     ensures held { IsRestOf held_back.old.items held_back.new.items }
 
     ensures short { result < length piece.now → Rose (F.faults file.old) (F.faults file.new) }

@@ -12,7 +12,7 @@ use thiserror::Error;
 
 /// Something outside has failed: a disk, a source or a sink.
 #[derive(Clone, Copy, Debug, PartialEq, Eq, Error)]
-#[error("a call of the system has failed")]
+#[error("a disk, a source or a sink has failed")]
 pub struct Failed;
 
 /// There was no memory for what a call was to make.

@@ -251,7 +251,7 @@ fn an_image_has_a_candidate_of_each_sector(rt: HostRuntime) -> Result<(), Fail> 
 #[test]
 fn each_fault_has_its_text(rt: HostRuntime) -> Result<(), Fail> {
     let failed = format!(in rt.alloc(); "{}", Failed)?;
-    assert_eq!(rt; failed.as_str(), "a call of the system has failed");
+    assert_eq!(rt; failed.as_str(), "a disk, a source or a sink has failed");
     let memory = format!(in rt.alloc(); "{}", Memory)?;
     assert_eq!(rt; memory.as_str(), "there is no memory");
     Ok(())

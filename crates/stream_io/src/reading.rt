@@ -32,8 +32,10 @@ pub fn read_named<S: NamedSource>(
     name: &str,
     most: usize,
 ) -> Result<Vec<u8>, ReadFault>
-    ensures read { IfOk result (λ bytes. ForSome (S.named source.old name.now) (λ all. bytes.items ≡ take most all)) }
-    ensures rest { OnOk result (ForSome (S.named source.old name.now) (λ all. S.left source.new ≡ Some (drop most all))) }
+    ensures read { IfOk result (λ bytes. ForSome (S.named source.old name.now) (λ all.
+        bytes.items ≡ take most all)) }
+    ensures rest { OnOk result (ForSome (S.named source.old name.now) (λ all.
+        S.left source.new ≡ Some (drop most all))) }
     ensures bound { OnOk result (IsBoundTo name.now (S.binding source.new)) }
 
     ensures failed { result ≡ Err ReadFault.Failed → Rose (S.faults source.old) (S.faults source.new) }
@@ -75,7 +77,8 @@ fn fill<S: NamedSource>(source: &mut S, buffer: &mut [u8]) -> Result<usize, Fail
 
     ensures read { IfOk result (λ n. ForSome (S.left source.old) (λ left.
         take n buffer.new ≡ take (length buffer.new) left)) }
-    ensures rest { OnOk result (S.left source.new ≡ option_map (drop (length buffer.new)) (S.left source.old)) }
+    ensures rest { OnOk result (S.left source.new
+        ≡ option_map (drop (length buffer.new)) (S.left source.old)) }
     ensures within { IfOk result (λ n. n ≤ length buffer.new) }
 
     ensures cause { HasCause (S.faults source.old) (S.faults source.new) result }

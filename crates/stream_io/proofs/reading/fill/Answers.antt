@@ -1,6 +1,5 @@
-use Rattle.std.proofs.Common.{rules, ℕ, ◌+◌, ◌-◌, List, Option, Some, sym, ◌∙◌, ap, arith, length, drop, subst, arith}
+use Rattle.std.proofs.Common.{rules, ◌∙◌, ap, drop}
 use Rattle.std.specs.Option.{option_map}
-use Rattle.stream_io.specs.Stream.{Gives}
 use Rattle.stream_io.proofs.ReadingLemmas.{filled_more, filled_all, left_all}
 use Rattle.stream_io.proofs.StreamLemmas.{left_more}
 use Rattle.stream_io.proofs.reading.fill.Goals as goal
