@@ -1,0 +1,4 @@
+mod SlotsLemmas
+mod NodesLemmas
+mod KeptLemmas
+mod IndexLemmas

@@ -1,0 +1,13 @@
+//! Which place of the journal has the newest data of a block.
+//!
+//! A contract sees an `Overlay` as how many places it can keep and the list of those that it keeps, in order of adding
+//! (`specs/Kept.antt`, the file to read first).
+#![tactic(auto)]
+
+mod node;
+mod place;
+mod place_log;
+mod table;
+
+pub use place::Place;
+
