@@ -1,7 +1,8 @@
 -- The places that are kept of some nodes.
-use Rattle.std.proofs.Common.{◌≡◌, ℕ, zero, suc, ◌+◌, ◌<◌, ◌≤◌, ◌==◌, inl, inr, Bool, true, false, ◌&&◌, not, List, [], ◌∷◌, ◌++◌, length, map, set, get_or, filter, if◌then◌else◌, Option, None, Some, option_map, refl, sym, ◌∙◌, ap, arith}
+use Rattle.std.proofs.Common.{◌≡◌, ℕ, zero, suc, ◌+◌, ◌<◌, ◌≤◌, ◌==◌, inl, inr, Bool, true, false, ◌&&◌, not, List, [], ◌∷◌, ◌++◌, length, map, set, get_or, take, filter, if◌then◌else◌, Option, None, Some, option_map, refl, sym, ◌∙◌, ap, arith}
 use Rattle.std.specs.Option.{option_or}
 use Rattle.std.proofs.lemmas.Bool.{cases_Bool}
+use Rattle.std.proofs.lemmas.List.{length-map}
 use Rattle.journal_overlay.specs.Kept.{newest_of, place_for, is_in}
 use Rattle.journal_overlay.specs.Nodes.{no_node, node_at, dropped, kept_places, kept_of, behind, IsLast}
 use Rattle.journal_overlay.specs.declared.node.Node.{Node}
@@ -90,3 +91,30 @@ none_in i (x ∷ nodes) none = elim (cases_Bool x.is_kept) [
       simp (stays, apart) (ap (λ (places : List Added). x.added ∷ places) (none_in i nodes (λ j. none (suc j))))
   | inr gone ↦ simp gone (none_in i nodes (λ j. none (suc j)))
 ]
+
+-- ---- how many are kept
+
+pub length-kept_places : (nodes : List Node) → length (kept_places nodes) ≡ length (filter (λ n. n.is_kept) nodes)
+length-kept_places nodes = length-map (filter (λ n. n.is_kept) nodes) (λ (n : Node). n.added)
+
+-- Before a node that is kept fewer are kept than in all.
+pub kept_below : (nodes : List Node) (k : ℕ) → (node_at nodes k).is_kept ≡ true → length (kept_places (take k nodes)) < length (kept_places nodes)
+kept_below [] k kept = absurd (true-false (sym kept))
+kept_below (x ∷ nodes) zero kept = simp kept (omega arith)
+kept_below (x ∷ nodes) (suc k) kept =
+    let rest = kept_below nodes k kept in
+    elim (cases_Bool x.is_kept) [
+      | inl stays ↦ simp stays (omega (arith, rest))
+      | inr gone ↦ simp gone rest
+    ]
+
+-- No more are kept of the first nodes than there are nodes.
+pub kept_le : (nodes : List Node) (k : ℕ) → length (kept_places (take k nodes)) ≤ length nodes
+kept_le nodes zero = omega arith
+kept_le [] (suc k) = omega arith
+kept_le (x ∷ nodes) (suc k) =
+    let rest = kept_le nodes k in
+    elim (cases_Bool x.is_kept) [
+      | inl stays ↦ simp stays (omega (arith, rest))
+      | inr gone ↦ simp gone (omega (arith, rest))
+    ]

@@ -53,3 +53,9 @@ pub record OthersStay (section : ℕ) (old new : PlaceLog) : Type 0 where
   pub nodes : length new.nodes.items ≡ length old.nodes.items
   pub table : new.sections ≡ old.sections
 
+-- The log has room for more nodes than places can be kept, and its kept places can be moved together.
+pub record IsOverlay (capacity : ℕ) (log : PlaceLog) (moved : ℕ) : Type 0 where
+  pub whole : IsWhole log
+  pub few : log.kept ≤ capacity
+  pub room : capacity < log.room
+  pub reserved : capacity ≤ moved

@@ -5,9 +5,12 @@
 #![tactic(auto)]
 
 mod node;
+mod overlay;
 mod place;
 mod place_log;
 mod table;
+#[cfg(test)]
+mod tests;
 
+pub use overlay::{Memory, Overlay};
 pub use place::Place;
-

@@ -1,12 +1,14 @@
 //! Every place that was added since the last sweep, and the tables that tell the newest of each block and section.
-ghost use Rattle.std.specs.Prelude.{◌≡◌, ◌≢◌, ◌+◌, ◌<◌, ◌≤◌, ◌++◌, ◌∷◌, [], length, filter, not, set, true, Some, IfOk, vec_capacity};
+ghost use Rattle.std.specs.Prelude.{◌≡◌, ◌+◌, ◌^◌, ◌<◌, ◌≤◌, ◌++◌, ◌∷◌, [], length, filter, not, set, true, Some, None, IsSome, IfOk, vec_capacity};
+ghost use Rattle.journal_overlay.specs.Slots.{last_at};
 ghost use Rattle.journal_overlay.specs.Index.{IsWhole, IsWholeBut, OthersStay, section_at};
-ghost use Rattle.journal_overlay.specs.Kept.{is_in};
+ghost use Rattle.journal_overlay.specs.Kept.{is_in, newest_of};
 ghost use Rattle.journal_overlay.specs.Nodes.{behind, dropped, kept_places, node_at};
 
 use crate::node::{Node, newest_kept};
-use crate::place::Added;
+use crate::place::{Added, Place};
 use crate::table::Table;
+use std::alloc::{AllocError, Global};
 
 /// The places in order of adding, dropped ones among them, with the last kept node of each block and section.
 #[derive(Drop)]
@@ -18,6 +20,38 @@ pub(crate) struct PlaceLog {
     pub(crate) room: usize,
     /// How many are kept.
     pub(crate) kept: usize,
+}
+
+impl PlaceLog {
+    /// A log that may have this many nodes, with tables of more homes than there may be keys.
+    pub(crate) fn with_room(alloc: Global, room: usize) -> Result<PlaceLog, AllocError>
+        requires { room < 2 ^ 60 }
+
+        ensures whole { IfOk result (λ log. IsWhole log) }
+        ensures nodes { IfOk result (λ log. log.nodes.items ≡ []) }
+        ensures room { IfOk result (λ log. log.room ≡ room) }
+    {
+        let nodes = Vec::with_capacity(alloc, room)?;
+        let blocks = Table::new(alloc, room + room / 3 + 1, room)?;
+        let sections = Table::new(alloc, room + room / 3 + 1, room)?;
+        Ok(PlaceLog {
+            nodes,
+            blocks,
+            sections,
+            room,
+            kept: 0,
+        })
+    }
+
+    /// The newest place of a block, if there is one.
+    pub(crate) fn newest(&self, block: u64) -> Option<Place>
+        requires { IsWhole self.now }
+
+        ensures { result ≡ newest_of block (kept_places self.now.nodes.items) }
+    {
+        let at = self.blocks.last(block)?;
+        Some(self.nodes[at].added.place)
+    }
 }
 
 /// Adds a place behind all others.
@@ -63,6 +97,19 @@ pub(crate) fn drop_section(log: &mut PlaceLog, section: u64)
     while let Some(at) = next {
         next = drop_node(log, at);
     }
+    tell_none(log, section);
+}
+
+/// Makes the table tell that a section has no kept node.
+fn tell_none(log: &mut PlaceLog, section: u64)
+    requires whole { IsWholeBut section None log.old }
+    requires told { IsSome (last_at log.old.sections.homes log.old.sections.slots.items section) }
+
+    ensures whole { IsWhole log.new }
+    ensures nodes { log.new.nodes ≡ log.old.nodes }
+    ensures room { log.new.room ≡ log.old.room }
+    ensures kept { log.new.kept ≡ log.old.kept }
+{
     log.sections.set_last(section, None);
 }
 
