@@ -1,10 +1,12 @@
 -- What a table of slots tells of each key, once a key came.
-use Rattle.std.proofs.Common.{◌≡◌, ◌≢◌, ◌⊎◌, inl, inr, ℕ, zero, suc, ◌+◌, ◌-◌, ◌<◌, ◌≤◌, ◌==◌, Bool, true, false, List, [], ◌∷◌, length, drop, set, get_or, replicate, filter, position, not, ltb, if◌then◌else◌, Option, None, Some, refl, sym, ◌∙◌, ap, subst, arith, length-set, get_or-set_same, get_or-set_other}
+use Rattle.std.proofs.Common.{◌≡◌, ◌≢◌, ◌⊎◌, inl, inr, ℕ, zero, suc, ◌+◌, ◌-◌, ◌<◌, ◌≤◌, ◌==◌, Bool, true, false, List, [], ◌∷◌, length, map, drop, set, get_or, replicate, filter, Option, None, Some, refl, sym, ◌∙◌, ap, subst, arith, length-set, get_or-set_same, get_or-set_other}
 use Rattle.std.specs.List.{position_or_len}
-use Rattle.std.proofs.lemmas.Bool.{cases_Bool, cases_lt, cases_eq, eqb-true, eq-eqb, ne_eqb, ltb-false}
+use Rattle.std.proofs.lemmas.Bool.{cases_Bool, cases_lt, cases_eq, eqb-true, eqb-false, eq-eqb, ne_eqb}
 use Rattle.std.proofs.lemmas.List.{get_or-drop, get_or_past, get_or-replicate, length-drop, length-replicate}
-use Rattle.std.proofs.lemmas.List.Sums.{fails_before_first, passes_at_first, prefix_len-le-length}
-use Rattle.journal_overlay.specs.Slots.{stops, is_used, last_in, home_of, slot_of, last_at, EndsAt, IsTable}
+use Rattle.std.proofs.lemmas.List.Sums.{fails_before_first, passes_at_first}
+use Rattle.journal_overlay.specs.Slots.{stops, is_used, last_in, mark_in, mark_of, home_of, slot_of, last_at, EndsAt, IsTable}
+use Rattle.journal_overlay.specs.declared.table.Mark.{Mark}
+use Rattle.journal_overlay.specs.declared.table.Mark.TheVariants.{Blank, Of}
 use Rattle.journal_overlay.specs.declared.table.Slot.{Slot}
 use Rattle.journal_overlay.specs.declared.table.Slot.TheVariants.{Free, Used}
 
@@ -16,18 +18,6 @@ true-false e = cc
 
 not_free : (key : ℕ) (last : Option ℕ) → Used key last ≡ Free → ⊥
 not_free key last e = cc
-
--- Where no element passes, the first that does is behind the last.
-pub position_or_len-none : (p : Slot → Bool) (xs : List Slot) → position p xs ≡ None → position_or_len p xs ≡ length xs
-position_or_len-none p xs none =
-    let most : position_or_len p xs ≤ length xs = prefix_len-le-length (λ (x : Slot). not (p x)) xs in
-    elim (cases_Bool (ltb (position_or_len p xs) (length xs))) [
-      | inl less ↦ absurd (some_none (sym (ap (λ (b : Bool). if b then Some (position_or_len p xs) else None) less) ∙ none))
-      | inr more ↦ omega (arith, ltb-false (position_or_len p xs) (length xs) more, most)
-    ]
-  where
-    some_none : {k : ℕ} → Some k ≡ None → ⊥
-    some_none e = cc
 
 -- ---- where a search ends
 
@@ -83,6 +73,32 @@ own_key key (Used own last) stop = inr (last, ap (λ (k : ℕ). Used k last) (eq
 
 same_key : (k l : ℕ) (a b : Option ℕ) → Used k a ≡ Used l b → k ≡ l
 same_key k l a b e = cc
+
+-- ---- marks
+
+-- A search ends at a slot without a mark,
+pub stops-free_mark : (key : ℕ) (slot : Slot) → mark_in slot ≡ Blank → stops key slot ≡ true
+stops-free_mark key Free is = refl
+stops-free_mark key (Used own last) is = absurd (some_none (mark_of own) is)
+  where
+    some_none : (m : ℕ) → Of m ≡ Blank → ⊥
+    some_none m e = cc
+
+-- and at none of another mark.
+pub stops-other_mark : (key m : ℕ) (slot : Slot) → mark_in slot ≡ Of m → (m == mark_of key) ≡ false → stops key slot ≡ false
+stops-other_mark key m Free is other = absurd (none_some is)
+  where
+    none_some : Blank ≡ Of m → ⊥
+    none_some e = cc
+stops-other_mark key m (Used own last) is other = ne_eqb own key (λ (e : own ≡ key). eqb-false m (mark_of key) other (same_mark (sym is) ∙ ap mark_of e))
+  where
+    same_mark : Of m ≡ Of (mark_of own) → m ≡ mark_of own
+    same_mark e = cc
+
+-- The marks of free slots.
+pub marks-free : (n : ℕ) → map mark_in (replicate n Free) ≡ replicate n Blank
+marks-free zero = refl
+marks-free (suc n) = ap (λ (marks : List Mark). Blank ∷ marks) (marks-free n)
 
 -- ---- how many slots are used
 

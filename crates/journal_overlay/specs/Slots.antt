@@ -2,6 +2,8 @@
 -- Own: a key has a home, and stands in the first slot from there on that was free when it came.
 use Rattle.std.specs.Prelude.{◌≡◌, ℕ, ◌+◌, ◌*◌, ◌/◌, ◌%◌, ◌^◌, ◌<◌, ◌≤◌, ◌==◌, Bool, true, false, List, length, drop, get_or, filter, Option, None}
 use Rattle.std.specs.List.{position_or_len}
+use Rattle.journal_overlay.specs.declared.table.Mark.{Mark}
+use Rattle.journal_overlay.specs.declared.table.Mark.TheVariants.{Blank, Of}
 use Rattle.journal_overlay.specs.declared.table.Slot.{Slot}
 use Rattle.journal_overlay.specs.declared.table.Slot.TheVariants.{Free, Used}
 
@@ -20,6 +22,15 @@ last_in (Used own last) = last
 -- The home of a key, among so many.
 unfoldable pub home_of : (homes key : ℕ) → ℕ
 home_of homes key = (key * 0x9e37_79b9_7f4a_7c15 % 2 ^ 64 / 2 ^ 32) % homes
+
+-- A byte of a key that differs between most keys.
+unfoldable pub mark_of : (key : ℕ) → ℕ
+mark_of key = key * 0x9e37_79b9_7f4a_7c15 % 2 ^ 64 / 2 ^ 56
+
+-- The mark of a slot.
+abbrev pub mark_in : Slot → Mark
+mark_in Free = Blank
+mark_in (Used own last) = Of (mark_of own)
 
 -- Where the search for a key ends: the first slot from its home on that is free or its own.
 abbrev pub slot_of : (homes : ℕ) → List Slot → (key : ℕ) → ℕ

@@ -3,9 +3,9 @@
 //! A key has a home, and stands in the first slot from there on that was free when it came. No key ever leaves, so a slot
 //! whose key stands nowhere any more is passed over and not taken for free. There are more slots than homes, so a search
 //! never turns round.
-ghost use Rattle.std.specs.Prelude.{◌≡◌, ◌+◌, ◌^◌, ◌<◌, ◌≤◌, length, position, replicate, set, IfOk};
+ghost use Rattle.std.specs.Prelude.{◌≡◌, ◌+◌, ◌^◌, ◌<◌, ◌≤◌, length, map, replicate, set, IfOk};
 ghost use Rattle.std.specs.List.{position_or_len};
-ghost use Rattle.journal_overlay.specs.Slots.{home_of, slot_of, last_at, stops};
+ghost use Rattle.journal_overlay.specs.Slots.{home_of, slot_of, last_at, stops, mark_in, mark_of};
 
 use std::alloc::{AllocError, Global};
 
@@ -35,11 +35,23 @@ impl Slot {
     }
 }
 
+/// What is looked at before a slot.
+#[derive(Clone, Copy)]
+pub(crate) enum Mark {
+    /// The slot is free.
+    Blank,
+    /// A byte of its key, which differs between most keys.
+    Of(u8),
+}
+
 /// The slots, and how many of them are homes.
 #[derive(Drop)]
 pub(crate) struct Table {
     pub(crate) slots: Vec<Slot>,
+    /// The mark of each slot's key, so that few other slots are looked at.
+    pub(crate) marks: Vec<Mark>,
     pub(crate) homes: usize,
+    ghost marked: { marks.items ≡ map mark_in slots.items },
 }
 
 impl Table {
@@ -51,7 +63,12 @@ impl Table {
         ensures homes { IfOk result (λ table. table.homes ≡ homes) }
     {
         let slots = Vec::from_elem(alloc, Slot::Free, homes + keys)?;
-        Ok(Table { slots, homes })
+        let marks = Vec::from_elem(alloc, Mark::Blank, homes + keys)?;
+        Ok(Table {
+            slots,
+            marks,
+            homes,
+        })
     }
 
     /// The slot of the key, or the one that it would take: the first from its home on that ends the search.
@@ -62,7 +79,7 @@ impl Table {
         ensures { result ≡ slot_of self.now.homes self.now.slots.items key }
     {
         let home = home_of(key, self.homes);
-        home + first_stop(&self.slots[home..], key)
+        home + first_stop(&self.slots[home..], &self.marks[home..], key)
     }
 
     /// Where the key stands last, if it does.
@@ -90,6 +107,7 @@ impl Table {
     {
         let slot = self.slot_of(key);
         self.slots[slot] = Slot::Used { key, last };
+        self.marks[slot] = Mark::Of(mark_of(key));
     }
 
     /// Frees all slots.
@@ -98,6 +116,7 @@ impl Table {
         ensures homes { self.new.homes ≡ self.old.homes }
     {
         self.slots.fill(Slot::Free);
+        self.marks.fill(Mark::Blank);
     }
 }
 
@@ -111,19 +130,38 @@ fn home_of(key: u64, homes: usize) -> usize
     (key.wrapping_mul(SPREAD) >> 32) as usize % homes
 }
 
-/// The first of the slots that ends a search for the key, or how many slots there are.
-fn first_stop(slots: &[Slot], key: u64) -> usize
+/// A byte of a key that differs between most keys.
+fn mark_of(key: u64) -> u8
+    ensures { result ≡ mark_of key }
+{
+    (key.wrapping_mul(SPREAD) >> 56) as u8
+}
+
+/// The first of the slots, which have these marks, that ends a search for the key, or how many slots there are.
+fn first_stop(slots: &[Slot], marks: &[Mark], key: u64) -> usize
+    requires { marks.now ≡ map mark_in slots.now }
+
     ensures first { result ≡ position_or_len (λ slot. stops key slot) slots.now }
     ensures bound { result ≤ length slots.now }
 {
-    match stop_of(slots, key) {
-        Some(n) => n,
-        None => slots.len(),
+    let own = mark_of(key);
+    for (n, mark) in marks.iter().enumerate() {
+        if ends_at(&slots[n], mark, own, key) {
+            return n;
+        }
     }
+    marks.len()
 }
 
-fn stop_of(slots: &[Slot], key: u64) -> Option<usize>
-    ensures { result ≡ position (λ slot. stops key slot) slots.now }
+/// Whether the search for the key of mark `own` ends at a slot. It looks at no slot of another mark.
+fn ends_at(slot: &Slot, mark: &Mark, own: u8, key: u64) -> bool
+    requires mark { mark.now ≡ mark_in slot.now }
+    requires own { own ≡ mark_of key }
+
+    ensures { result ≡ stops key slot.now }
 {
-    slots.iter().position(|slot| slot.stops(key))
+    match mark {
+        Mark::Blank => true,
+        Mark::Of(mark) => *mark == own && slot.stops(key),
+    }
 }
