@@ -27,7 +27,7 @@ TellsOthers homes slots nodes section = (i : ℕ) → i ≢ section → IsLast (
 pub record IsLog (log : PlaceLog) : Type 0 where
   pub few : length log.nodes.items ≤ log.room
   pub reserved : log.room ≤ vec_capacity log.nodes
-  pub small : log.room < 2 ^ 63
+  pub small : log.room < 2 ^ 32
   pub counted : log.kept ≡ length (filter (λ n. n.is_kept) log.nodes.items)
   pub index : IsIndex log.room log.blocks.homes log.blocks.slots.items log.sections.homes log.sections.slots.items log.nodes.items
 

@@ -14,13 +14,13 @@ pub(crate) struct Node {
     /// Its section was not dropped since.
     pub(crate) is_kept: bool,
     /// A node of the same block before this one, kept or not. None between them is kept.
-    pub(crate) older: Option<usize>,
+    pub(crate) older: Option<u32>,
     /// The kept node of the same section before this one.
-    pub(crate) fellow: Option<usize>,
+    pub(crate) fellow: Option<u32>,
 }
 
 /// The newest kept node of a block, from a node of it on backwards.
-pub(crate) fn newest_kept(nodes: &[Node], from: Option<usize>) -> Option<usize>
+pub(crate) fn newest_kept(nodes: &[Node], from: Option<u32>) -> Option<u32>
     requires linked { AreLinked nodes.now }
     requires there { behind from ≤ length nodes.now }
 
@@ -29,10 +29,10 @@ pub(crate) fn newest_kept(nodes: &[Node], from: Option<usize>) -> Option<usize>
 {
     let mut at = from;
     while let Some(k) = at {
-        if nodes[k].is_kept {
+        if nodes[k as usize].is_kept {
             break;
         }
-        at = nodes[k].older;
+        at = nodes[k as usize].older;
     }
     at
 }

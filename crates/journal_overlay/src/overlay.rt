@@ -14,10 +14,10 @@ use std::marker::Model;
 #[derive(Clone, Copy, Debug, PartialEq, Eq)]
 pub struct Memory;
 
-/// How many places can be kept at most, so that sizes of lists are no bother.
+/// How many places can be kept at most, so that a node is named by 32 bits.
 ///
-/// Own: 2^48.
-const MOST_PLACES: u64 = 1 << 48;
+/// Own: 2^31. A journal has at most 2^20 sectors.
+const MOST_PLACES: u64 = 1 << 31;
 
 /// The places of journaled blocks, in order of adding.
 #[derive(Drop)]

@@ -25,7 +25,7 @@ pub(crate) struct PlaceLog {
 impl PlaceLog {
     /// A log that may have this many nodes, with tables of more homes than there may be keys.
     pub(crate) fn with_room(alloc: Global, room: usize) -> Result<PlaceLog, AllocError>
-        requires { room < 2 ^ 60 }
+        requires { room < 2 ^ 32 }
 
         ensures whole { IfOk result (λ log. IsWhole log) }
         ensures nodes { IfOk result (λ log. log.nodes.items ≡ []) }
@@ -50,7 +50,7 @@ impl PlaceLog {
         ensures { result ≡ newest_of block (kept_places self.now.nodes.items) }
     {
         let at = self.blocks.last(block)?;
-        Some(self.nodes[at].added.place)
+        Some(self.nodes[at as usize].added.place)
     }
 }
 
@@ -65,7 +65,7 @@ pub(crate) fn append(log: &mut PlaceLog, added: Added)
     ensures room { log.new.room ≡ log.old.room }
     ensures nodes { length log.new.nodes.items ≡ length log.old.nodes.items + 1 }
 {
-    let at = log.nodes.len();
+    let at = log.nodes.len() as u32;
     let section = added.place.section;
     let node = Node {
         added,
@@ -153,7 +153,7 @@ fn clear(log: &mut PlaceLog)
 }
 
 /// Drops a node, the last kept one of its section, and tells the kept one before it there.
-fn drop_node(log: &mut PlaceLog, at: usize) -> Option<usize>
+fn drop_node(log: &mut PlaceLog, at: u32) -> Option<u32>
     requires { IsWholeBut (section_at at log.old) (Some at) log.old }
 
     ensures whole { IsWholeBut (section_at at log.old) result log.new }
@@ -171,13 +171,14 @@ fn drop_node(log: &mut PlaceLog, at: usize) -> Option<usize>
 }
 
 /// Makes a node one that is not kept, and tells it as it was.
-fn mark_dropped(nodes: &mut Vec<Node>, at: usize) -> Node
+fn mark_dropped(nodes: &mut Vec<Node>, at: u32) -> Node
     requires { at < length nodes.old.items }
 
     ensures node { result ≡ node_at nodes.old.items at }
     ensures dropped { nodes.new.items ≡ set nodes.old.items at (dropped (node_at nodes.old.items at)) }
     ensures capacity { vec_capacity nodes.new ≡ vec_capacity nodes.old }
 {
+    let at = at as usize;
     let node = nodes[at];
     nodes[at] = Node {
         is_kept: false,

@@ -20,7 +20,7 @@ pub(crate) enum Slot {
     /// No key came here.
     Free,
     /// This key came here; `last` is where it stands last, if it does.
-    Used { key: u64, last: Option<usize> },
+    Used { key: u64, last: Option<u32> },
 }
 
 impl Slot {
@@ -83,7 +83,7 @@ impl Table {
     }
 
     /// Where the key stands last, if it does.
-    pub(crate) fn last(&self, key: u64) -> Option<usize>
+    pub(crate) fn last(&self, key: u64) -> Option<u32>
         requires homes { 0 < self.now.homes }
         requires slots { self.now.homes ≤ length self.now.slots.items }
 
@@ -96,7 +96,7 @@ impl Table {
     }
 
     /// Makes this the place where the key stands last, or makes it stand nowhere.
-    pub(crate) fn set_last(&mut self, key: u64, last: Option<usize>)
+    pub(crate) fn set_last(&mut self, key: u64, last: Option<u32>)
         requires homes { 0 < self.old.homes }
         requires slots { self.old.homes ≤ length self.old.slots.items }
         requires room { slot_of self.old.homes self.old.slots.items key < length self.old.slots.items }
