@@ -1,9 +1,9 @@
 -- What the tables tell once a place is added, or a node dropped.
-use Rattle.std.proofs.Common.{◌≡◌, ◌≢◌, ◌⊎◌, inl, inr, ℕ, zero, suc, ◌+◌, ◌<◌, ◌≤◌, ◌==◌, Bool, true, false, ◌&&◌, not, List, [], ◌∷◌, ◌++◌, length, map, set, get_or, filter, replicate, Option, None, Some, refl, sym, ◌∙◌, ap, subst, arith, length-set}
+use Rattle.std.proofs.Common.{◌≡◌, ◌≢◌, inl, inr, ℕ, zero, suc, ◌+◌, ◌<◌, ◌==◌, Bool, true, false, List, [], ◌∷◌, ◌++◌, length, set, get_or, filter, replicate, Option, None, Some, refl, sym, ◌∙◌, ap, subst, arith, length-set}
 use Rattle.std.proofs.lemmas.Bool.{cases_Bool, cases_lt, cases_eq, eqb-true, eq-eqb, ne_eqb, and_parts}
-use Rattle.std.proofs.lemmas.List.{length-append, length-replicate, get_or-replicate, get_or_past}
+use Rattle.std.proofs.lemmas.List.{length-replicate, get_or-replicate, get_or_past}
 use Rattle.journal_overlay.specs.Index.{IsIndex, TellsLatest, TellsOthers}
-use Rattle.journal_overlay.specs.Nodes.{no_node, node_at, dropped, kept_places, kept_of, kept_in, behind, IsHere, IsLast, IsBack, AreLinked}
+use Rattle.journal_overlay.specs.Nodes.{no_node, node_at, dropped, kept_of, kept_in, IsHere, IsLast, IsBack}
 use Rattle.journal_overlay.specs.Slots.{IsTable, is_used, last_in, slot_of, last_at}
 use Rattle.journal_overlay.specs.declared.node.Node.{Node}
 use Rattle.journal_overlay.specs.declared.place.Added.{Added}

@@ -1,10 +1,10 @@
 -- The places that are kept of some nodes.
-use Rattle.std.proofs.Common.{◌≡◌, ℕ, zero, suc, ◌+◌, ◌<◌, ◌≤◌, ◌==◌, inl, inr, Bool, true, false, ◌&&◌, not, List, [], ◌∷◌, ◌++◌, length, map, set, get_or, take, filter, if◌then◌else◌, Option, None, Some, option_map, refl, sym, ◌∙◌, ap, arith}
+use Rattle.std.proofs.Common.{◌≡◌, ℕ, zero, suc, ◌<◌, ◌≤◌, ◌==◌, inl, inr, Bool, true, false, ◌&&◌, not, List, [], ◌∷◌, ◌++◌, length, set, take, filter, if◌then◌else◌, Option, None, Some, option_map, refl, sym, ◌∙◌, ap, arith}
 use Rattle.std.specs.Option.{option_or}
 use Rattle.std.proofs.lemmas.Bool.{cases_Bool}
 use Rattle.std.proofs.lemmas.List.{length-map}
-use Rattle.journal_overlay.specs.Kept.{newest_of, place_for, is_in}
-use Rattle.journal_overlay.specs.Nodes.{no_node, node_at, dropped, kept_places, kept_of, behind, IsLast}
+use Rattle.journal_overlay.specs.Kept.{newest_of, is_in}
+use Rattle.journal_overlay.specs.Nodes.{node_at, dropped, kept_places, kept_of, IsLast}
 use Rattle.journal_overlay.specs.declared.node.Node.{Node}
 use Rattle.journal_overlay.specs.declared.place.Added.{Added}
 use Rattle.journal_overlay.specs.declared.place.Place.{Place}

@@ -1,13 +1,10 @@
 -- How nodes lead to older ones, and what stays of that where a node is dropped.
-use Rattle.std.proofs.Common.{◌≡◌, ◌≢◌, ◌⊎◌, inl, inr, ℕ, zero, suc, ◌+◌, ◌<◌, ◌≤◌, ◌==◌, Bool, true, false, ◌&&◌, not, List, [], ◌∷◌, ◌++◌, length, map, set, get_or, filter, if◌then◌else◌, Option, None, Some, refl, sym, ◌∙◌, ap, subst, arith, length-set, get_or-set_same, get_or-set_other}
-use Rattle.std.specs.Option.{option_or}
-use Rattle.std.proofs.lemmas.Bool.{cases_Bool, cases_lt, cases_eq, cases_order, eqb-true, eq-eqb, ne_eqb, and_parts}
-use Rattle.std.proofs.lemmas.List.{get_or_past, get_or_at, get_or_append_left, length-append, map-append}
-use Rattle.journal_overlay.specs.Kept.{newest_of, place_for, is_in}
-use Rattle.journal_overlay.specs.Nodes.{no_node, node_at, dropped, kept_places, kept_of, kept_in, behind, NoneBetween, IsHere, IsLast, IsBack, IsFellow, AreLinked}
+use Rattle.std.proofs.Common.{◌≡◌, ◌≢◌, inl, inr, ℕ, suc, ◌<◌, ◌≤◌, ◌==◌, Bool, true, false, ◌&&◌, List, [], ◌∷◌, ◌++◌, length, set, Option, None, Some, refl, sym, ◌∙◌, ap, subst, arith, length-set, get_or-set_same, get_or-set_other}
+use Rattle.std.proofs.lemmas.Bool.{cases_lt, cases_eq, cases_order, eqb-true, eq-eqb, and_parts}
+use Rattle.std.proofs.lemmas.List.{get_or_past, get_or_at, get_or_append_left, length-append}
+use Rattle.journal_overlay.specs.Nodes.{no_node, node_at, dropped, kept_of, kept_in, behind, NoneBetween, IsHere, IsLast, IsBack, IsFellow, AreLinked}
 use Rattle.journal_overlay.specs.declared.node.Node.{Node}
 use Rattle.journal_overlay.specs.declared.place.Added.{Added}
-use Rattle.journal_overlay.specs.declared.place.Place.{Place}
 
 true-false : true ≡ false → ⊥
 true-false e = cc
@@ -235,28 +232,28 @@ module _ (nodes : List Node) (m : ℕ) (there : m < length nodes) where
   IsFellow-drop : (k : ℕ) → IsLast (kept_in (node_at nodes m).added.place.section) (Some m) nodes → IsFellow k (node_at nodes k) nodes → IsFellow k (node_at less_one k) less_one
   IsFellow-drop k was fellow = elim (cases_eq k m) [
     | inl e ↦ subst (λ (x : Node). IsFellow k x less_one) (sym (ap (λ (x : ℕ). node_at less_one x) e ∙ at_same)) (record {
-        before = subst (λ (x : Node). behind x.fellow ≤ k) (ap (node_at nodes) e) fellow.before;
-        here = λ kept. absurd (true-false (sym kept));
-        none_between = λ kept. absurd (true-false (sym kept));
-      })
+      before = subst (λ (x : Node). behind x.fellow ≤ k) (ap (node_at nodes) e) fellow.before;
+      here = λ kept. absurd (true-false (sym kept));
+      none_between = λ kept. absurd (true-false (sym kept));
+    })
     | inr other ↦ subst (λ (x : Node). IsFellow k x less_one) (sym (at_others k other)) (record {
-        before = fellow.before;
-        here = λ kept. IsHere-other (kept_in (node_at nodes k).added.place.section) (node_at nodes k).fellow (λ e. apart other kept e) (fellow.here kept);
-        none_between = λ kept j from less. fails (kept_in (node_at nodes k).added.place.section) (kept_in-needs (node_at nodes k).added.place.section) j (fellow.none_between kept j from less);
-      })
+      before = fellow.before;
+      here = λ kept. IsHere-other (kept_in (node_at nodes k).added.place.section) (node_at nodes k).fellow (λ e. apart other kept e) (fellow.here kept);
+      none_between = λ kept j from less. fails (kept_in (node_at nodes k).added.place.section) (kept_in-needs (node_at nodes k).added.place.section) j (fellow.none_between kept j from less);
+    })
   ]
     where
       apart : k ≢ m → (node_at nodes k).is_kept ≡ true → (node_at nodes k).fellow ≡ Some m → ⊥
       apart other kept e =
           let low : suc m ≤ k = subst (λ (o : Option ℕ). behind o ≤ k) e fellow.before in
           let here : kept_in (node_at nodes k).added.place.section (node_at nodes m) ≡ true =
-              subst (λ (o : Option ℕ). IsHere (kept_in (node_at nodes k).added.place.section) o nodes) e (fellow.here kept) in
+          subst (λ (o : Option ℕ). IsHere (kept_in (node_at nodes k).added.place.section) o nodes) e (fellow.here kept) in
           let same : (node_at nodes m).added.place.section ≡ (node_at nodes k).added.place.section =
-              eqb-true (node_at nodes m).added.place.section (node_at nodes k).added.place.section
-              (and_parts (node_at nodes m).is_kept ((node_at nodes m).added.place.section == (node_at nodes k).added.place.section) here).1 in
+          eqb-true (node_at nodes m).added.place.section (node_at nodes k).added.place.section
+          (and_parts (node_at nodes m).is_kept ((node_at nodes m).added.place.section == (node_at nodes k).added.place.section) here).1 in
           let passes : kept_in (node_at nodes m).added.place.section (node_at nodes k) ≡ true =
-              ap (λ (b : Bool). b && ((node_at nodes k).added.place.section == (node_at nodes m).added.place.section)) kept
-              ∙ eq-eqb (node_at nodes k).added.place.section (node_at nodes m).added.place.section (sym same) in
+          ap (λ (b : Bool). b && ((node_at nodes k).added.place.section == (node_at nodes m).added.place.section)) kept
+          ∙ eq-eqb (node_at nodes k).added.place.section (node_at nodes m).added.place.section (sym same) in
           true-false (sym passes ∙ was.none_behind k low)
 
   pub AreLinked-drop : AreLinked nodes → IsLast (kept_in (node_at nodes m).added.place.section) (Some m) nodes → AreLinked less_one

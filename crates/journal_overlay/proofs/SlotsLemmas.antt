@@ -1,8 +1,8 @@
 -- What a table of slots tells of each key, once a key came.
-use Rattle.std.proofs.Common.{◌≡◌, ◌≢◌, ◌⊎◌, inl, inr, ℕ, zero, suc, ◌+◌, ◌-◌, ◌<◌, ◌≤◌, ◌==◌, Bool, true, false, List, [], ◌∷◌, length, map, drop, set, get_or, replicate, filter, Option, None, Some, refl, sym, ◌∙◌, ap, subst, arith, length-set, get_or-set_same, get_or-set_other}
+use Rattle.std.proofs.Common.{◌≡◌, ◌≢◌, ◌⊎◌, inl, inr, ℕ, zero, suc, ◌+◌, ◌-◌, ◌<◌, ◌≤◌, ◌==◌, true, false, List, [], ◌∷◌, length, map, drop, set, get_or, replicate, filter, Option, None, Some, refl, sym, ◌∙◌, ap, subst, arith, get_or-set_same, get_or-set_other}
 use Rattle.std.specs.List.{position_or_len}
-use Rattle.std.proofs.lemmas.Bool.{cases_Bool, cases_lt, cases_eq, eqb-true, eqb-false, eq-eqb, ne_eqb}
-use Rattle.std.proofs.lemmas.List.{get_or-drop, get_or_past, get_or-replicate, length-drop, length-replicate}
+use Rattle.std.proofs.lemmas.Bool.{cases_lt, cases_eq, eqb-true, eqb-false, eq-eqb, ne_eqb}
+use Rattle.std.proofs.lemmas.List.{get_or-drop, get_or_past}
 use Rattle.std.proofs.lemmas.List.Sums.{fails_before_first, passes_at_first}
 use Rattle.journal_overlay.specs.Slots.{stops, is_used, last_in, mark_in, mark_of, home_of, slot_of, last_at, EndsAt, IsTable}
 use Rattle.journal_overlay.specs.declared.table.Mark.{Mark}
@@ -102,7 +102,6 @@ marks-free (suc n) = ap (λ (marks : List Mark). Blank ∷ marks) (marks-free n)
 
 -- ---- how many slots are used
 
-
 -- One slot more is used at most.
 pub used-set : (slots : List Slot) (s : ℕ) (slot : Slot) → length (filter is_used (set slots s slot)) ≤ suc (length (filter is_used slots))
 used-set [] s slot = omega arith
@@ -163,10 +162,13 @@ slot_of-room keys came homes slots key table few = elim (cases_lt (slot_of homes
 -- A key of which a place is told has a slot.
 pub slot_of-last : (homes : ℕ) (slots : List Slot) (key k : ℕ) → last_at homes slots key ≡ Some k
     → (slot_of homes slots key < length slots) × (is_used (slot_at slots (slot_of homes slots key)) ≡ true)
-slot_of-last homes slots key k told = (elim (cases_lt (slot_of homes slots key) (length slots)) [
-  | inl less ↦ less
-  | inr past ↦ absurd (none_some (sym (ap last_in (get_or_past slots (slot_of homes slots key) Free past)) ∙ told))
-], used (slot_at slots (slot_of homes slots key)) told)
+slot_of-last homes slots key k told = (
+  elim (cases_lt (slot_of homes slots key) (length slots)) [
+    | inl less ↦ less
+    | inr past ↦ absurd (none_some (sym (ap last_in (get_or_past slots (slot_of homes slots key) Free past)) ∙ told))
+  ],
+  used (slot_at slots (slot_of homes slots key)) told,
+)
   where
     none_some : None ≡ Some k → ⊥
     none_some e = cc

@@ -1,5 +1,5 @@
-use Rattle.std.proofs.Common.{◌≡◌, ◌≤◌, ◌<◌, ℕ, suc, length, Option, Some, sym, subst, rules, arith}
-use Rattle.journal_overlay.specs.Nodes.{node_at, behind, IsBack, IsHere, kept_of}
+use Rattle.std.proofs.Common.{◌≤◌, ◌<◌, ℕ, length, Option, sym, subst, arith}
+use Rattle.journal_overlay.specs.Nodes.{behind, IsBack, IsHere, kept_of}
 use Rattle.journal_overlay.proofs.NodesLemmas.{IsBack-older, IsHere-kept}
 use Rattle.journal_overlay.proofs.node.newest_kept.Goals as goal
 

@@ -1,16 +1,15 @@
-use Rattle.std.proofs.Common.{◌≡◌, ◌≢◌, ℕ, ◌+◌, ◌-◌, ◌<◌, ◌≤◌, ◌==◌, Bool, true, false, ◌&&◌, not, List, length, filter, set, eqb, vec_capacity, Option, None, Some, suc, refl, sym, ◌∙◌, ap, subst, arith, length-set}
+use Rattle.std.proofs.Common.{◌≡◌, ℕ, ◌<◌, ◌≤◌, ◌==◌, true, false, not, List, length, filter, set, eqb, vec_capacity, Option, None, Some, suc, refl, sym, ◌∙◌, ap, arith, length-set}
 use Rattle.std.specs.Option.{option_eq}
 use Rattle.std.proofs.lemmas.Bool.{and_parts, eqb-true, eq-eqb}
-use Rattle.journal_overlay.specs.Index.{IsIndex, IsLog, IsWholeBut, OthersStay, TellsOthers, section_at}
+use Rattle.journal_overlay.specs.Index.{IsIndex, IsWholeBut, OthersStay, section_at}
 use Rattle.journal_overlay.specs.Kept.{is_in}
-use Rattle.journal_overlay.specs.Nodes.{node_at, dropped, kept_of, kept_in, behind, AreLinked, IsBack, IsHere, IsLast}
-use Rattle.journal_overlay.specs.Slots.{last_at, slot_of}
+use Rattle.journal_overlay.specs.Nodes.{node_at, dropped, kept_of, kept_in, behind, IsBack, IsHere}
+use Rattle.journal_overlay.specs.Slots.{last_at}
 use Rattle.journal_overlay.specs.declared.node.Node.{Node}
 use Rattle.journal_overlay.specs.declared.place_log.PlaceLog.{PlaceLog}
 use Rattle.journal_overlay.proofs.IndexLemmas.{with_last, IsIndex-drop, IsIndex-moved, IsIndex-same}
 use Rattle.journal_overlay.proofs.KeptLemmas.{length-kept-drop, kept_places-drop}
 use Rattle.journal_overlay.proofs.NodesLemmas.{AreLinked-drop, IsLast-there, IsLast-fellow, IsLast-other_section, IsBack-drop}
-use Rattle.journal_overlay.proofs.SlotsLemmas.{slot_of-last}
 use Rattle.journal_overlay.proofs.place_log.drop_node.Goals as goal
 
 true-false : true ≡ false → ⊥
@@ -60,7 +59,7 @@ whole_after log new at fellow whole items capacity room kept homes slots fellow_
         small = omega (arith, room, whole.is_log.small);
         counted =
             let left : length (filter {X = Node} (λ n. n.is_kept) new.nodes.items) ≡ length (filter {X = Node} (λ n. n.is_kept) (without log at)) =
-                ap (λ (nodes : List Node). length (filter {X = Node} (λ n. n.is_kept) nodes)) items in
+            ap (λ (nodes : List Node). length (filter {X = Node} (λ n. n.is_kept) nodes)) items in
             omega (arith, left, counted log at whole, kept);
         index = rw (room, items, homes, slots) index;
       };
@@ -87,9 +86,9 @@ newest_kept-newest-requires-clause-there c =
     let log = c.args.log.now in let at = c.args.at in
     let there = within log at c.requires in
     let older : behind c.mark_dropped-node.result.older ≤ at =
-        rw c.mark_dropped-node.ensures.node (c.requires.is_log.index.linked.older at there).before in
+    rw c.mark_dropped-node.ensures.node (c.requires.is_log.index.linked.older at there).before in
     let long : length c.deref.result.now ≡ length log.nodes.items =
-        ap length c.deref.ensures.value ∙ ap length c.mark_dropped-node.ensures.dropped ∙ length-set log.nodes.items at (dropped (node_at log.nodes.items at)) in
+    ap length c.deref.ensures.value ∙ ap length c.mark_dropped-node.ensures.dropped ∙ length-set log.nodes.items at (dropped (node_at log.nodes.items at)) in
     omega (arith, older, long, there)
 
 pub returns-then-eq-clause-whole : goal.returns-then-eq-clause-whole
@@ -99,13 +98,13 @@ returns-then-eq-clause-whole c =
     let there = within log at whole in let n = node_at nodes at in
     let node_is : c.mark_dropped-node.result ≡ n = c.mark_dropped-node.ensures.node in
     let told : last_at bh bs n.added.block ≡ Some at =
-        sym (c.last.ensures ∙ ap (λ (x : Node). last_at bh bs x.added.block) node_is) ∙ same_last c.last.result at (sym c.eq.ensures ∙ c.if-eq.true) in
+    sym (c.last.ensures ∙ ap (λ (x : Node). last_at bh bs x.added.block) node_is) ∙ same_last c.last.result at (sym c.eq.ensures ∙ c.if-eq.true) in
     let nodes_are : c.deref.result.now ≡ without log at = c.deref.ensures.value ∙ c.mark_dropped-node.ensures.dropped in
     let back : IsBack n.added.block n.older at (without log at) = IsBack-drop nodes at there n.added.block at n.older (whole.is_log.index.linked.older at there) in
     let led : IsBack n.added.block c.newest_kept-newest.result at (without log at) × IsHere (kept_of n.added.block) c.newest_kept-newest.result (without log at) =
-        rw nodes_are at (c.newest_kept-newest.ensures n.added.block at (rw (nodes_are, node_is) back)) in
+    rw nodes_are at (c.newest_kept-newest.ensures n.added.block at (rw (nodes_are, node_is) back)) in
     let slots : c.set_last.new.self.slots.items ≡ with_last bh bs n.added.block c.newest_kept-newest.result =
-        c.set_last.ensures.slots ∙ ap (λ (x : Node). with_last bh bs x.added.block c.newest_kept-newest.result) node_is in
+    c.set_last.ensures.slots ∙ ap (λ (x : Node). with_last bh bs x.added.block c.newest_kept-newest.result) node_is in
     whole_after log _ at _ whole c.mark_dropped-node.ensures.dropped c.mark_dropped-node.ensures.capacity refl (omega (arith, counted log at whole)) refl refl
     (ap (λ (x : Node). x.fellow) node_is)
     (IsIndex-same log.room bh _ _ _ log.sections.homes _ log.sections.slots.items _ (without log at) _ c.set_last.ensures.homes slots refl refl refl
@@ -123,8 +122,8 @@ returns-else-eq-clause-whole c =
     let there = within log at whole in let n = node_at nodes at in
     let node_is : c.mark_dropped-node.result ≡ n = c.mark_dropped-node.ensures.node in
     let other : last_at log.blocks.homes log.blocks.slots.items n.added.block ≡ Some at → ⊥ =
-        λ is. other_last c.last.result at (sym c.eq.ensures ∙ c.if-eq.false)
-            (c.last.ensures ∙ ap (λ (x : Node). last_at log.blocks.homes log.blocks.slots.items x.added.block) node_is ∙ is) in
+    λ is. other_last c.last.result at (sym c.eq.ensures ∙ c.if-eq.false)
+    (c.last.ensures ∙ ap (λ (x : Node). last_at log.blocks.homes log.blocks.slots.items x.added.block) node_is ∙ is) in
     whole_after log _ at _ whole c.mark_dropped-node.ensures.dropped c.mark_dropped-node.ensures.capacity refl (omega (arith, counted log at whole)) refl refl
     (ap (λ (x : Node). x.fellow) node_is) (IsIndex-drop log.room log.blocks.homes log.blocks.slots.items log.sections.homes log.sections.slots.items nodes at there whole.is_log.index whole.last_is other)
 

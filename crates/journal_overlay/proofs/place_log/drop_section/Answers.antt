@@ -1,11 +1,7 @@
-use Rattle.std.proofs.Common.{◌≡◌, ℕ, Bool, true, false, not, List, filter, is_none, IsSome, Option, None, Some, refl, sym, ◌∙◌, ap, subst, arith, rules}
-use Rattle.journal_overlay.specs.Index.{IsIndex, TellsLatest}
-use Rattle.journal_overlay.specs.Kept.{is_in}
-use Rattle.journal_overlay.specs.Nodes.{kept_in, kept_places, IsLast}
+use Rattle.std.proofs.Common.{◌≡◌, ℕ, true, is_none, IsSome, Option, None, Some, refl, sym, ◌∙◌, subst, arith, rules}
+use Rattle.journal_overlay.specs.Nodes.{kept_in, IsLast}
 use Rattle.journal_overlay.specs.Slots.{last_at}
-use Rattle.journal_overlay.specs.declared.node.Node.{Node}
 use Rattle.journal_overlay.specs.declared.table.Table.{Table}
-use Rattle.journal_overlay.proofs.IndexLemmas.{with_last, IsTable-moved, IsIndex-same, TellsLatest-none, TellsLatest-same}
 use Rattle.journal_overlay.proofs.KeptLemmas.{none_in}
 use Rattle.journal_overlay.proofs.place_log.drop_section.Goals as goal
 
@@ -17,7 +13,7 @@ pub returns-then-is_none-clause-kept : goal.returns-then-is_none-clause-kept
 returns-then-is_none-clause-kept c =
     let log = c.args.log.now in let section = c.args.section in
     let told : last_at log.sections.homes log.sections.slots.items section ≡ None =
-        sym c.last-last.ensures ∙ none_of c.last-last.result (search rules) in
+    sym c.last-last.ensures ∙ none_of c.last-last.result (search rules) in
     let none : IsLast (kept_in section) None log.nodes.items = subst (λ (o : Option ℕ). IsLast (kept_in section) o log.nodes.items) told (c.requires.latest section) in
     sym (none_in section log.nodes.items (λ j. none.none_behind j (omega arith)))
 

@@ -1,4 +1,4 @@
-use Rattle.std.proofs.Common.{◌≡◌, ℕ, ◌+◌, ◌<◌, ◌≤◌, true, List, length, filter, take, vec_capacity, vec_len, refl, sym, ◌∙◌, ap, subst, arith}
+use Rattle.std.proofs.Common.{◌≡◌, ◌<◌, ◌≤◌, true, List, length, take, ◌∙◌, ap, subst, arith}
 use Rattle.journal_overlay.specs.Nodes.{kept_places, node_at}
 use Rattle.journal_overlay.specs.declared.node.Node.{Node}
 use Rattle.journal_overlay.proofs.KeptLemmas.{kept_below, kept_le, length-kept_places}

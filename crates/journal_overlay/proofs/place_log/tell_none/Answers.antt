@@ -1,4 +1,4 @@
-use Rattle.std.proofs.Common.{◌≡◌, ℕ, IsSome, is_some, true, Option, None, Some, refl}
+use Rattle.std.proofs.Common.{◌≡◌, ℕ, IsSome, Option, None, Some, refl}
 use Rattle.journal_overlay.specs.Slots.{last_at}
 use Rattle.journal_overlay.proofs.IndexLemmas.{IsTable-moved, IsIndex-same, TellsLatest-none, TellsLatest-same}
 use Rattle.journal_overlay.proofs.SlotsLemmas.{slot_of-last}

@@ -4,7 +4,6 @@ use Rattle.journal_overlay.specs.Kept.{newest_of}
 use Rattle.journal_overlay.specs.Nodes.{no_node, node_at, kept_of, kept_places, IsLast}
 use Rattle.journal_overlay.specs.Slots.{last_at}
 use Rattle.journal_overlay.specs.declared.node.Node.{Node}
-use Rattle.journal_overlay.specs.declared.place.Place.{Place}
 use Rattle.journal_overlay.specs.declared.place_log.PlaceLog.{PlaceLog}
 use Rattle.journal_overlay.specs.Index.{IsWhole}
 use Rattle.journal_overlay.proofs.KeptLemmas.{newest_of-last}
@@ -27,7 +26,7 @@ returns c =
     let log = c.args.self.now in let at = c.in_ok-at.at in let nodes = log.nodes.items in
     let told : Some at ≡ last_at log.blocks.homes log.blocks.slots.items c.args.block = sym c.in_ok-at.was ∙ c.last.ensures in
     let last : IsLast (kept_of c.args.block) (Some at) nodes =
-        subst (λ (o : Option ℕ). IsLast (kept_of c.args.block) o nodes) (sym told) (c.requires.is_log.index.newest c.args.block) in
+    subst (λ (o : Option ℕ). IsLast (kept_of c.args.block) o nodes) (sym told) (c.requires.is_log.index.newest c.args.block) in
     let there : at < length nodes = omega (arith, IsLast-there (kept_of c.args.block) nodes (Some at) refl last) in
     let node : c.index.result.now ≡ node_at nodes at = c.index.ensures ∙ get_or_default nodes at c.index.result.now no_node there in
     ap (λ (n : Node). Some n.added.place) node ∙ newest_is log c.args.block (Some at) c.requires told

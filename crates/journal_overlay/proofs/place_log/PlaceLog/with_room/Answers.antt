@@ -1,4 +1,4 @@
-use Rattle.std.proofs.Common.{◌≡◌, ℕ, ◌+◌, ◌<◌, List, [], length, replicate, refl, sym, ◌∙◌, ap, subst, arith}
+use Rattle.std.proofs.Common.{[], length, refl, ap, arith}
 use Rattle.journal_overlay.proofs.IndexLemmas.{IsIndex-free, IsIndex-same, TellsLatest-free, TellsLatest-same}
 use Rattle.journal_overlay.proofs.place_log.PlaceLog.with_room.Goals as goal
 

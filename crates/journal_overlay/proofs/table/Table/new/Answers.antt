@@ -1,7 +1,5 @@
-use Rattle.std.proofs.Common.{◌≡◌, ℕ, ◌+◌, map, replicate, sym, ◌∙◌, ap}
+use Rattle.std.proofs.Common.{◌+◌, map, sym, ◌∙◌, ap}
 use Rattle.journal_overlay.specs.Slots.{mark_in}
-use Rattle.journal_overlay.specs.declared.table.Slot.{Slot}
-use Rattle.journal_overlay.specs.declared.table.Slot.TheVariants.{Free}
 use Rattle.journal_overlay.proofs.SlotsLemmas.{marks-free}
 use Rattle.journal_overlay.proofs.table.Table.new.Goals as goal
 

@@ -1,4 +1,4 @@
-use Rattle.std.proofs.Common.{◌≡◌, ℕ, ◌-◌, length, map, drop, take, sym, ◌∙◌, ap}
+use Rattle.std.proofs.Common.{map, drop, sym, ◌∙◌, ap}
 use Rattle.std.proofs.lemmas.List.{drop-map, take_rest}
 use Rattle.journal_overlay.specs.Slots.{mark_in}
 use Rattle.journal_overlay.proofs.table.Table.slot_of.Goals as goal
