@@ -1,6 +1,7 @@
 -- What a table of slots tells of each key, once a key came.
-use Rattle.std.proofs.Common.{◌≡◌, ◌≢◌, ◌⊎◌, inl, inr, ℕ, zero, suc, ◌+◌, ◌-◌, ◌<◌, ◌≤◌, ◌==◌, true, false, List, [], ◌∷◌, length, map, drop, set, get_or, replicate, filter, Option, None, Some, refl, sym, ◌∙◌, ap, subst, arith, get_or-set_same, get_or-set_other}
+use Rattle.std.proofs.Common.{◌≡◌, ◌≢◌, ◌⊎◌, inl, inr, ℕ, zero, suc, ◌+◌, ◌-◌, ◌*◌, ◌/◌, ◌%◌, ◌^◌, ◌<◌, ◌≤◌, ◌==◌, true, false, List, [], ◌∷◌, length, map, drop, set, get_or, replicate, filter, Option, None, Some, refl, sym, ◌∙◌, ap, subst, arith, get_or-set_same, get_or-set_other}
 use Rattle.std.specs.List.{position_or_len}
+use Rattle.std.proofs.Math.Nat.{mul-le-mul_left}
 use Rattle.std.proofs.lemmas.Bool.{cases_lt, cases_eq, eqb-true, eqb-false, eq-eqb, ne_eqb}
 use Rattle.std.proofs.lemmas.List.{get_or-drop, get_or_past}
 use Rattle.std.proofs.lemmas.List.Sums.{fails_before_first, passes_at_first}
@@ -139,9 +140,19 @@ stops-free : (key : ℕ) (slot : Slot) → stops key slot ≡ false → is_used 
 stops-free key Free passes = absurd (true-false passes)
 stops-free key (Used own last) passes = refl
 
-home_of-below : (homes key : ℕ) → 0 < homes → home_of homes key < homes
+-- A part of so many homes is less than all of them.
+pub part-below : (x homes : ℕ) → x < 2 ^ 32 → 0 < homes → x * homes % 2 ^ 64 / 2 ^ 32 < homes
+part-below x homes small some = elim (cases_lt homes (2 ^ 32)) [
+  | inl few ↦
+      let most : homes * x ≤ homes * 4294967295 = mul-le-mul_left homes (omega arith) in
+      let whole : x * homes % 2 ^ 64 ≤ x * homes = omega arith in
+      omega (arith, most, whole)
+  | inr many ↦ omega (arith, many)
+]
+
+pub home_of-below : (homes key : ℕ) → 0 < homes → home_of homes key < homes
 unfolding home_of
-home_of-below homes key some = omega arith
+home_of-below homes key some = part-below (key * 0x9e37_79b9_7f4a_7c15 % 2 ^ 64 / 2 ^ 32) homes (omega arith) some
 
 -- ---- for callers
 

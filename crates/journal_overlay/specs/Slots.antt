@@ -21,7 +21,7 @@ last_in (Used own last) = last
 
 -- The home of a key, among so many.
 unfoldable pub home_of : (homes key : ℕ) → ℕ
-home_of homes key = (key * 0x9e37_79b9_7f4a_7c15 % 2 ^ 64 / 2 ^ 32) % homes
+home_of homes key = (key * 0x9e37_79b9_7f4a_7c15 % 2 ^ 64 / 2 ^ 32) * homes % 2 ^ 64 / 2 ^ 32
 
 -- A byte of a key that differs between most keys.
 unfoldable pub mark_of : (key : ℕ) → ℕ

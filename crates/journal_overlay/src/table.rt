@@ -127,7 +127,7 @@ fn home_of(key: u64, homes: usize) -> usize
     ensures home { result ≡ home_of homes key }
     ensures below { result < homes }
 {
-    (key.wrapping_mul(SPREAD) >> 32) as usize % homes
+    ((key.wrapping_mul(SPREAD) >> 32).wrapping_mul(homes as u64) >> 32) as usize
 }
 
 /// A byte of a key that differs between most keys.
