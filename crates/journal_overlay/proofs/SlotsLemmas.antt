@@ -6,8 +6,6 @@ use Rattle.std.proofs.lemmas.Bool.{cases_lt, cases_eq, eqb-true, eqb-false, eq-e
 use Rattle.std.proofs.lemmas.List.{get_or-drop, get_or_past}
 use Rattle.std.proofs.lemmas.List.Sums.{fails_before_first, passes_at_first}
 use Rattle.journal_overlay.specs.Slots.{stops, is_used, last_in, mark_in, mark_of, home_of, slot_of, last_at, EndsAt, IsTable}
-use Rattle.journal_overlay.specs.declared.table.Mark.{Mark}
-use Rattle.journal_overlay.specs.declared.table.Mark.TheVariants.{Blank, Of}
 use Rattle.journal_overlay.specs.declared.table.Slot.{Slot}
 use Rattle.journal_overlay.specs.declared.table.Slot.TheVariants.{Free, Used}
 
@@ -77,29 +75,19 @@ same_key k l a b e = cc
 
 -- ---- marks
 
--- A search ends at a slot without a mark,
-pub stops-free_mark : (key : ℕ) (slot : Slot) → mark_in slot ≡ Blank → stops key slot ≡ true
-stops-free_mark key Free is = refl
-stops-free_mark key (Used own last) is = absurd (some_none (mark_of own) is)
-  where
-    some_none : (m : ℕ) → Of m ≡ Blank → ⊥
-    some_none m e = cc
+mark_of-some : (key : ℕ) → 0 < mark_of key
+unfolding mark_of
+mark_of-some key = omega arith
 
--- and at none of another mark.
-pub stops-other_mark : (key m : ℕ) (slot : Slot) → mark_in slot ≡ Of m → (m == mark_of key) ≡ false → stops key slot ≡ false
-stops-other_mark key m Free is other = absurd (none_some is)
-  where
-    none_some : Blank ≡ Of m → ⊥
-    none_some e = cc
-stops-other_mark key m (Used own last) is other = ne_eqb own key (λ (e : own ≡ key). eqb-false m (mark_of key) other (same_mark (sym is) ∙ ap mark_of e))
-  where
-    same_mark : Of m ≡ Of (mark_of own) → m ≡ mark_of own
-    same_mark e = cc
+-- A search ends at a slot without a mark.
+pub stops-free_mark : (key : ℕ) (slot : Slot) → mark_in slot ≡ 0 → stops key slot ≡ true
+stops-free_mark key Free is = refl
+stops-free_mark key (Used own last) is = absurd (omega (arith, is, mark_of-some own))
 
 -- The marks of free slots.
-pub marks-free : (n : ℕ) → map mark_in (replicate n Free) ≡ replicate n Blank
+pub marks-free : (n : ℕ) → map mark_in (replicate n Free) ≡ replicate n 0
 marks-free zero = refl
-marks-free (suc n) = ap (λ (marks : List Mark). Blank ∷ marks) (marks-free n)
+marks-free (suc n) = ap (λ (marks : List ℕ). 0 ∷ marks) (marks-free n)
 
 -- ---- how many slots are used
 

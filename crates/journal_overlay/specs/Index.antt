@@ -7,9 +7,10 @@ use Rattle.journal_overlay.specs.Nodes.{AreLinked, IsLast, kept_of, kept_in, kep
 use Rattle.journal_overlay.specs.Kept.{is_in}
 use Rattle.journal_overlay.specs.Slots.{IsTable, last_at}
 
--- The nodes lead to each other, two tables have room for as many keys as there may be nodes, and the first tells of each
--- block its last kept node.
-pub record IsIndex (room blocks : ℕ) (block_slots : List Slot) (sections : ℕ) (section_slots : List Slot) (nodes : List Node) : Type 0 where
+-- The nodes lead to each other, two tables have room for as many keys as there may be nodes, and the first tells of
+-- each block its last kept node.
+pub record IsIndex (room blocks : ℕ) (block_slots : List Slot) (sections : ℕ) (section_slots : List Slot)
+    (nodes : List Node) : Type 0 where
   pub block_table : IsTable room (length nodes) blocks block_slots
   pub section_table : IsTable room (length nodes) sections section_slots
   pub linked : AreLinked nodes
@@ -29,7 +30,8 @@ pub record IsLog (log : PlaceLog) : Type 0 where
   pub reserved : log.room ≤ vec_capacity log.nodes
   pub small : log.room < 2 ^ 32
   pub counted : log.kept ≡ length (filter (λ n. n.is_kept) log.nodes.items)
-  pub index : IsIndex log.room log.blocks.homes log.blocks.slots.items log.sections.homes log.sections.slots.items log.nodes.items
+  pub index : IsIndex log.room log.blocks.homes log.blocks.slots.items log.sections.homes log.sections.slots.items
+      log.nodes.items
 
 -- And of each section.
 pub record IsWhole (log : PlaceLog) : Type 0 where
@@ -48,7 +50,8 @@ section_at k log = (node_at log.nodes.items k).added.place.section
 
 -- The kept places of other sections stay, and so do the room, the number of nodes and the table of sections.
 pub record OthersStay (section : ℕ) (old new : PlaceLog) : Type 0 where
-  pub places : filter (λ a. not (is_in section a)) (kept_places new.nodes.items) ≡ filter (λ a. not (is_in section a)) (kept_places old.nodes.items)
+  pub places : filter (λ a. not (is_in section a)) (kept_places new.nodes.items)
+      ≡ filter (λ a. not (is_in section a)) (kept_places old.nodes.items)
   pub room : new.room ≡ old.room
   pub nodes : length new.nodes.items ≡ length old.nodes.items
   pub table : new.sections ≡ old.sections

@@ -2,8 +2,6 @@
 -- Own: a key has a home, and stands in the first slot from there on that was free when it came.
 use Rattle.std.specs.Prelude.{◌≡◌, ℕ, ◌+◌, ◌*◌, ◌/◌, ◌%◌, ◌^◌, ◌<◌, ◌≤◌, ◌==◌, Bool, true, false, List, length, drop, get_or, filter, Option, None}
 use Rattle.std.specs.List.{position_or_len}
-use Rattle.journal_overlay.specs.declared.table.Mark.{Mark}
-use Rattle.journal_overlay.specs.declared.table.Mark.TheVariants.{Blank, Of}
 use Rattle.journal_overlay.specs.declared.table.Slot.{Slot}
 use Rattle.journal_overlay.specs.declared.table.Slot.TheVariants.{Free, Used}
 
@@ -23,14 +21,14 @@ last_in (Used own last) = last
 unfoldable pub home_of : (homes key : ℕ) → ℕ
 home_of homes key = (key * 0x9e37_79b9_7f4a_7c15 % 2 ^ 64 / 2 ^ 32) * homes % 2 ^ 64 / 2 ^ 32
 
--- A byte of a key that differs between most keys.
+-- The mark of a key, which differs between most keys.
 unfoldable pub mark_of : (key : ℕ) → ℕ
-mark_of key = key * 0x9e37_79b9_7f4a_7c15 % 2 ^ 64 / 2 ^ 56
+mark_of key = 1 + key * 0x9e37_79b9_7f4a_7c15 % 2 ^ 64 / 2 ^ 57
 
--- The mark of a slot.
-abbrev pub mark_in : Slot → Mark
-mark_in Free = Blank
-mark_in (Used own last) = Of (mark_of own)
+-- The mark of a slot: that of its key, and 0 where it is free.
+abbrev pub mark_in : Slot → ℕ
+mark_in Free = 0
+mark_in (Used own last) = mark_of own
 
 -- Where the search for a key ends: the first slot from its home on that is free or its own.
 abbrev pub slot_of : (homes : ℕ) → List Slot → (key : ℕ) → ℕ

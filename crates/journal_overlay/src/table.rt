@@ -1,8 +1,8 @@
 //! An open-addressed table: of each key the last place in a list where it stands.
 //!
-//! A key has a home, and stands in the first slot from there on that was free when it came. No key ever leaves, so a slot
-//! whose key stands nowhere any more is passed over and not taken for free. There are more slots than homes, so a search
-//! never turns round.
+//! A key has a home, and stands in the first slot from there on that was free when it came. No key ever leaves, so a
+//! slot whose key stands nowhere any more is passed over and not taken for free. There are more slots than homes, so a
+//! search never turns round.
 ghost use Rattle.std.specs.Prelude.{◌≡◌, ◌+◌, ◌^◌, ◌<◌, ◌≤◌, length, map, replicate, set, IfOk};
 ghost use Rattle.std.specs.List.{position_or_len};
 ghost use Rattle.journal_overlay.specs.Slots.{home_of, slot_of, last_at, stops, mark_in, mark_of};
@@ -35,21 +35,17 @@ impl Slot {
     }
 }
 
-/// What is looked at before a slot.
-#[derive(Clone, Copy)]
-pub(crate) enum Mark {
-    /// The slot is free.
-    Blank,
-    /// A byte of its key, which differs between most keys.
-    Of(u8),
-}
+/// The mark of a free slot. No key has it.
+///
+/// Own: a mark is one byte, so that the marks stay in the processor's cache where the slots do not.
+const FREE_MARK: u8 = 0;
 
 /// The slots, and how many of them are homes.
 #[derive(Drop)]
 pub(crate) struct Table {
     pub(crate) slots: Vec<Slot>,
     /// The mark of each slot's key, so that few other slots are looked at.
-    pub(crate) marks: Vec<Mark>,
+    pub(crate) marks: Vec<u8>,
     pub(crate) homes: usize,
     ghost marked: { marks.items ≡ map mark_in slots.items },
 }
@@ -63,7 +59,7 @@ impl Table {
         ensures homes { IfOk result (λ table. table.homes ≡ homes) }
     {
         let slots = Vec::from_elem(alloc, Slot::Free, homes + keys)?;
-        let marks = Vec::from_elem(alloc, Mark::Blank, homes + keys)?;
+        let marks = Vec::from_elem(alloc, FREE_MARK, homes + keys)?;
         Ok(Table {
             slots,
             marks,
@@ -107,7 +103,7 @@ impl Table {
     {
         let slot = self.slot_of(key);
         self.slots[slot] = Slot::Used { key, last };
-        self.marks[slot] = Mark::Of(mark_of(key));
+        self.marks[slot] = mark_of(key);
     }
 
     /// Frees all slots.
@@ -116,7 +112,7 @@ impl Table {
         ensures homes { self.new.homes ≡ self.old.homes }
     {
         self.slots.fill(Slot::Free);
-        self.marks.fill(Mark::Blank);
+        self.marks.fill(FREE_MARK);
     }
 }
 
@@ -130,15 +126,15 @@ fn home_of(key: u64, homes: usize) -> usize
     ((key.wrapping_mul(SPREAD) >> 32).wrapping_mul(homes as u64) >> 32) as usize
 }
 
-/// A byte of a key that differs between most keys.
+/// The mark of a key, 1 to 128, which differs between most keys.
 fn mark_of(key: u64) -> u8
     ensures { result ≡ mark_of key }
 {
-    (key.wrapping_mul(SPREAD) >> 56) as u8
+    1 + (key.wrapping_mul(SPREAD) >> 57) as u8
 }
 
 /// The first of the slots, which have these marks, that ends a search for the key, or how many slots there are.
-fn first_stop(slots: &[Slot], marks: &[Mark], key: u64) -> usize
+fn first_stop(slots: &[Slot], marks: &[u8], key: u64) -> usize
     requires { marks.now ≡ map mark_in slots.now }
 
     ensures first { result ≡ position_or_len (λ slot. stops key slot) slots.now }
@@ -146,7 +142,7 @@ fn first_stop(slots: &[Slot], marks: &[Mark], key: u64) -> usize
 {
     let own = mark_of(key);
     for (n, mark) in marks.iter().enumerate() {
-        if ends_at(&slots[n], mark, own, key) {
+        if ends_at(&slots[n], *mark, own, key) {
             return n;
         }
     }
@@ -154,14 +150,11 @@ fn first_stop(slots: &[Slot], marks: &[Mark], key: u64) -> usize
 }
 
 /// Whether the search for the key of mark `own` ends at a slot. It looks at no slot of another mark.
-fn ends_at(slot: &Slot, mark: &Mark, own: u8, key: u64) -> bool
-    requires mark { mark.now ≡ mark_in slot.now }
+fn ends_at(slot: &Slot, mark: u8, own: u8, key: u64) -> bool
+    requires mark { mark ≡ mark_in slot.now }
     requires own { own ≡ mark_of key }
 
     ensures { result ≡ stops key slot.now }
 {
-    match mark {
-        Mark::Blank => true,
-        Mark::Of(mark) => *mark == own && slot.stops(key),
-    }
+    mark == FREE_MARK || mark == own && slot.stops(key)
 }

@@ -51,8 +51,8 @@ fn tell_the_same(overlay: &Overlay, list: &PlainList, blocks: u64) -> bool {
     true
 }
 
-/// Whether an overlay of this many places and a plain list tell the same after each of 5000 adds and drops. A section is
-/// dropped whenever no more place can be kept.
+/// Whether an overlay of this many places and a plain list tell the same after each of 5000 adds and drops. A section
+/// is dropped whenever no more place can be kept.
 fn runs_agree(alloc: Global, capacity: u64, blocks: u64, sections: u64) -> Result<bool, Fail>
     requires blocks { 0 < blocks }
     requires sections { 0 < sections }

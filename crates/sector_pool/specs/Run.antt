@@ -42,7 +42,11 @@ with_bytes piece bytes = record { region = piece.region; place = piece.place; by
 
 -- A slice, as the sectors of its region from a place on.
 abbrev pub piece_at : ℕ → MutBor (List ℕ) → Piece
-piece_at place slice = record { region = (slice.ref_ptr.0, slice.ref_ptr.1 - place * 512); place = place; bytes = slice.now }
+piece_at place slice = record {
+  region = (slice.ref_ptr.0, slice.ref_ptr.1 - place * 512);
+  place = place;
+  bytes = slice.now;
+}
 
 -- The slice has whole sectors, and stands behind the sectors before it.
 pub record IsPiece (place : ℕ) (slice : MutBor (List ℕ)) : Type 0 where
