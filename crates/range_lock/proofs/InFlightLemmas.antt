@@ -1,5 +1,5 @@
 -- What holds an ask is what holds the request in flight that it is for.
-use Rattle.std.proofs.Common.{◌≡◌, ◌⊎◌, inl, inr, ℕ, zero, suc, ◌+◌, ◌<◌, ◌≤◌, ◌==◌, not, Bool, true, false, List, [], ◌∷◌, ◌++◌, length, take, set, get_or, filter, position, slice_get, if◌then◌else◌, Option, None, Some, option_map, find, refl, sym, ◌∙◌, ap, arith}
+use Rattle.std.proofs.Common.{◌≡◌, inl, inr, ℕ, zero, suc, ◌+◌, ◌<◌, ◌≤◌, not, Bool, true, false, List, [], ◌∷◌, ◌++◌, length, take, set, get_or, filter, position, slice_get, if◌then◌else◌, None, Some, refl, ◌∙◌, ap, arith}
 use Rattle.std.specs.List.{position_or_len}
 use Rattle.std.proofs.lemmas.Bool.{cases_Bool, eq-eqb, ne_eqb, lt-ltb}
 use Rattle.std.proofs.lemmas.List.{length-append, length-take, get_or_append_left, get_or_at, take_at}
@@ -78,7 +78,7 @@ around t (x ∷ requests) zero a there unfinished =
 around t (x ∷ requests) (suc k) a there unfinished =
     let rest = around (suc t) requests k a there unfinished in
     let moved : asks_of (suc t) requests ≡ asks_of (suc t) (take k requests) ++ own (t + suc k) a ∷ rest.0 =
-        rest.1 ∙ ap (λ (n : ℕ). asks_of (suc t) (take k requests) ++ own n a ∷ rest.0) (omega arith) in
+    rest.1 ∙ ap (λ (n : ℕ). asks_of (suc t) (take k requests) ++ own n a ∷ rest.0) (omega arith) in
     elim (cases_Bool (is_unfinished x.state)) [
       | inl is ↦ (rest.0, simp is (ap (λ (asks : List Ask). own t x ∷ asks) moved))
       | inr done ↦ (rest.0, simp done moved)
@@ -115,12 +115,12 @@ holder_of-asks_of requests k a there unfinished =
     let me : Ask = own (1 + k) a in
     let all : List Ask = before ++ me ∷ split.0 in
     let first : position_or_len (has_ticket (suc k)) all ≡ length before =
-        position_or_len_is (has_ticket (suc k)) all (length before) no_ask (omega (arith, length-append before (me ∷ split.0)))
-        (λ j less. ap (has_ticket (suc k)) (get_or_append_left before (me ∷ split.0) no_ask j less) ∙ other_ticket k requests j less)
-        (λ less. ap (has_ticket (suc k)) (get_or_at before me split.0 no_ask (length before) refl) ∙ eq-eqb (1 + k) (suc k) (omega arith)) in
+    position_or_len_is (has_ticket (suc k)) all (length before) no_ask (omega (arith, length-append before (me ∷ split.0)))
+    (λ j less. ap (has_ticket (suc k)) (get_or_append_left before (me ∷ split.0) no_ask j less) ∙ other_ticket k requests j less)
+    (λ less. ap (has_ticket (suc k)) (get_or_at before me split.0 no_ask (length before) refl) ∙ eq-eqb (1 + k) (suc k) (omega arith)) in
     let short : length before < length all = omega (arith, length-append before (me ∷ split.0)) in
     let place : position (has_ticket (suc k)) all ≡ Some (length before) =
-        rw first (ap (λ (b : Bool). if b then Some (length before) else None) (lt-ltb (length before) (length all) short)) in
+    rw first (ap (λ (b : Bool). if b then Some (length before) else None) (lt-ltb (length before) (length all) short)) in
     ap (holder_of (suc k)) split.1
     ∙ ap (holder_at all) place
     ∙ ap (λ (asks : List Ask). holder_among asks (blocks_of (get_or all (length before) no_ask))) (take_at before (me ∷ split.0) (length before) refl)
@@ -133,14 +133,14 @@ pub asks_of-finished : (t : ℕ) (requests : List Asked) (k : ℕ) (b : Asked) �
 asks_of-finished t [] k b finished = refl
 asks_of-finished t (x ∷ requests) zero b finished =
     let rest : filter (λ ask. not (has_ticket (t + 0) ask)) (asks_of (suc t) requests) ≡ asks_of (suc t) requests =
-        later_stay (t + 0) (suc t) requests (omega arith) in
+    later_stay (t + 0) (suc t) requests (omega arith) in
     elim (cases_Bool (is_unfinished x.state)) [
       | inl is ↦ simp (is, finished, eq-eqb t (t + 0) (omega arith)) rest
       | inr done ↦ simp (done, finished) rest
     ]
 asks_of-finished t (x ∷ requests) (suc k) b finished =
     let rest : filter (λ ask. not (has_ticket (t + suc k) ask)) (asks_of (suc t) requests) ≡ asks_of (suc t) (set requests k b) =
-        ap (λ (n : ℕ). filter (λ ask. not (has_ticket n ask)) (asks_of (suc t) requests)) (omega arith) ∙ asks_of-finished (suc t) requests k b finished in
+    ap (λ (n : ℕ). filter (λ ask. not (has_ticket n ask)) (asks_of (suc t) requests)) (omega arith) ∙ asks_of-finished (suc t) requests k b finished in
     elim (cases_Bool (is_unfinished x.state)) [
       | inl is ↦ simp (is, ne_eqb t (t + suc k) (λ same. omega (arith, same))) (ap (λ (asks : List Ask). own t x ∷ asks) rest)
       | inr done ↦ simp done rest

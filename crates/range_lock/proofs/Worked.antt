@@ -1,5 +1,5 @@
 -- Three asks: blocks 0 to 7, 8 to 9, and 4 to 11.
-use Rattle.std.proofs.Common.{◌≡◌, ℕ, List, [], ◌∷◌, None, Some, refl}
+use Rattle.std.proofs.Common.{◌≡◌, List, [], ◌∷◌, None, Some, refl}
 use Rattle.range_lock.specs.Asks.{ask_for, holder_of}
 use Rattle.range_lock.specs.declared.ask.Ask.{Ask}
 

@@ -1,4 +1,4 @@
-use Rattle.std.proofs.Common.{◌≡◌, Bool, filter, not, refl, rules}
+use Rattle.std.proofs.Common.{◌≡◌, filter, not, refl, rules}
 use Rattle.std.proofs.lemmas.Fn.{filter_same}
 use Rattle.range_lock.specs.Asks.{has_ticket}
 use Rattle.range_lock.specs.declared.ask.Ask.{Ask}
