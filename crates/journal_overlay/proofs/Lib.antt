@@ -2,3 +2,4 @@ mod SlotsLemmas
 mod NodesLemmas
 mod KeptLemmas
 mod IndexLemmas
+mod Worked
