@@ -1,0 +1,5 @@
+mod SlotsLemmas
+mod NodesLemmas
+mod KeptLemmas
+mod IndexLemmas
+mod Worked

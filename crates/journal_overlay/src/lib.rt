@@ -1,0 +1,16 @@
+//! Which place of the journal has the newest data of a block.
+//!
+//! A contract sees an `Overlay` as how many places it can keep and the list of those that it keeps, in order of adding
+//! (`specs/Kept.antt`, the file to read first).
+#![tactic(auto)]
+
+mod node;
+mod overlay;
+mod place;
+mod place_log;
+mod table;
+#[cfg(test)]
+mod tests;
+
+pub use overlay::{Memory, Overlay};
+pub use place::Place;
