@@ -1,0 +1,6 @@
+pub mod ValueLemmas
+pub mod WordsLemmas
+pub mod FaultLemmas
+pub mod RunLemmas
+pub mod RunsLemmas
+pub mod ReadLemmas

@@ -1,0 +1,41 @@
+//! Numbers and bytes, as a script writes them.
+ghost use Rattle.std.specs.Prelude.{◌≡◌, ◌≢◌, ◌^◌, ◌<◌, ℕ, [], ◌∷◌, IfSome, IfNone};
+ghost use Rattle.std.specs.Fmt.{decimal};
+ghost use Rattle.hex.specs.Hex.{encode_lower};
+ghost use Rattle.device_model.specs.Grammar.{Fits, NumberPlace, BytePlace};
+
+use itoa::Buffer;
+
+/// The number that these bytes are, in decimal digits without a leading zero.
+pub fn read_number(text: &[u8]) -> Option<u64>
+    ensures some { IfSome result (λ number. text.now ≡ decimal number) }
+    ensures none { IfNone result (¬ Fits NumberPlace text.now) }
+{
+    let Ok(word) = str::from_utf8(text) else {
+        return None;
+    };
+    let Ok(number) = word.parse::<u64>() else {
+        return None;
+    };
+    if Buffer::new().format(number) != word {
+        return None;
+    }
+    Some(number)
+}
+
+/// The byte that these bytes are, in two hexadecimal digits of lower case.
+pub fn read_byte(text: &[u8]) -> Option<u8>
+    ensures some { IfSome result (λ byte. text.now ≡ encode_lower (byte ∷ [])) }
+    ensures none { IfNone result (¬ Fits BytePlace text.now) }
+{
+    let mut byte = [0];
+    if hex::decode_to_slice(text, &mut byte).is_err() {
+        return None;
+    }
+    let mut digits = [0; 2];
+    hex::encode_to_slice(&byte, &mut digits).unwrap();
+    if digits.as_slice() != text {
+        return None;
+    }
+    Some(byte[0])
+}
