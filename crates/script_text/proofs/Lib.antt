@@ -4,3 +4,4 @@ pub mod FaultLemmas
 pub mod RunLemmas
 pub mod RunsLemmas
 pub mod ReadLemmas
+pub mod TextLemmas

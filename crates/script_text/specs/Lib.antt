@@ -1,3 +1,4 @@
 pub mod Runs
 pub mod Line
 pub mod Verb
+pub mod Told

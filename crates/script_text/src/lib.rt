@@ -6,12 +6,18 @@
 
 mod grammar;
 mod line;
+mod pieces;
 mod places;
+mod reply;
 mod runs;
+mod stretches;
+mod told;
 mod values;
 mod verb;
 mod words;
 
 pub use grammar::{MOST_LINE, read_line};
 pub use line::{Actor, Ask, Line, LineFault};
+pub use reply::reply_text;
 pub use runs::{Run, Runs};
+pub use told::Told;
