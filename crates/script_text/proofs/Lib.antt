@@ -5,3 +5,5 @@ pub mod RunLemmas
 pub mod RunsLemmas
 pub mod ReadLemmas
 pub mod TextLemmas
+pub mod WorkloadLemmas
+mod Worked

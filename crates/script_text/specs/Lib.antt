@@ -2,3 +2,4 @@ pub mod Runs
 pub mod Line
 pub mod Verb
 pub mod Told
+pub mod Workload

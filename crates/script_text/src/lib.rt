@@ -4,6 +4,7 @@
 //! as its text (`specs/Told.antt`). The grammar itself stands in `device_model`, `specs/Grammar.antt`.
 #![tactic(auto)]
 
+mod generator;
 mod grammar;
 mod line;
 mod pieces;
@@ -16,6 +17,7 @@ mod values;
 mod verb;
 mod words;
 
+pub use generator::workload;
 pub use grammar::{MOST_LINE, read_line};
 pub use line::{Actor, Ask, Line, LineFault};
 pub use reply::reply_text;
