@@ -3,3 +3,4 @@ pub mod Line
 pub mod Verb
 pub mod Told
 pub mod Workload
+pub mod Plain

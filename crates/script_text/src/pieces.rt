@@ -28,6 +28,15 @@ pub fn put_number(text: &mut Vec<u8>, n: u64)
     put_bytes(text, buffer.format(n).as_bytes());
 }
 
+const DIGITS: [u8; 16] = *b"0123456789abcdef";
+
+/// The two hexadecimal digits of a byte. They are looked up, since a text may have millions.
+pub fn digits_of(byte: u8) -> [u8; 2]
+    ensures { result ≡ encode_lower (byte ∷ []) }
+{
+    [DIGITS[(byte / 16) as usize], DIGITS[(byte % 16) as usize]]
+}
+
 /// Appends a byte, in two hexadecimal digits.
 pub fn put_byte(text: &mut Vec<u8>, byte: u8)
     requires room { vec_len text.old + 2 ≤ vec_capacity text.old }
@@ -36,9 +45,7 @@ pub fn put_byte(text: &mut Vec<u8>, byte: u8)
     ensures len { vec_len text.new ≡ vec_len text.old + 2 }
     ensures capacity { vec_capacity text.old ≤ vec_capacity text.new }
 {
-    let mut digits = [0; 2];
-    hex::encode_to_slice([byte], &mut digits).unwrap();
-    put_bytes(text, &digits);
+    put_bytes(text, &digits_of(byte));
 }
 
 /// Appends bytes, each in two hexadecimal digits.

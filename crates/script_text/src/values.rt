@@ -1,26 +1,33 @@
 //! Numbers and bytes, as a script writes them.
-ghost use Rattle.std.specs.Prelude.{◌≡◌, ◌≢◌, ◌^◌, ◌<◌, ℕ, [], ◌∷◌, IfSome, IfNone};
+ghost use Rattle.std.specs.Prelude.{◌≡◌, ◌≢◌, ◌^◌, ◌<◌, ℕ, [], ◌∷◌, IfSome, IfNone, IsTrue, ◌↔◌};
 ghost use Rattle.std.specs.Fmt.{decimal};
 ghost use Rattle.hex.specs.Hex.{encode_lower};
 ghost use Rattle.device_model.specs.Grammar.{Fits, NumberPlace, BytePlace};
-
-use itoa::Buffer;
+ghost use Rattle.script_text.specs.Plain.{IsPlain};
 
 /// The number that these bytes are, in decimal digits without a leading zero.
 pub fn read_number(text: &[u8]) -> Option<u64>
     ensures some { IfSome result (λ number. text.now ≡ decimal number) }
     ensures none { IfNone result (¬ Fits NumberPlace text.now) }
 {
+    if !is_plain(text) {
+        return None;
+    }
     let Ok(word) = str::from_utf8(text) else {
         return None;
     };
-    let Ok(number) = word.parse::<u64>() else {
-        return None;
-    };
-    if Buffer::new().format(number) != word {
-        return None;
+    word.parse().ok()
+}
+
+/// Whether these bytes begin neither with a sign nor with a leading zero.
+fn is_plain(text: &[u8]) -> bool
+    ensures { IsTrue result ↔ IsPlain text.now }
+{
+    match text.first() {
+        Some(b'+') => false,
+        Some(b'0') => text.len() == 1,
+        _ => true,
     }
-    Some(number)
 }
 
 /// The byte that these bytes are, in two hexadecimal digits of lower case.
