@@ -12,6 +12,8 @@ mod places;
 mod reply;
 mod runs;
 mod stretches;
+#[cfg(test)]
+mod tests;
 mod told;
 mod values;
 mod verb;

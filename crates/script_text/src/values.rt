@@ -5,6 +5,8 @@ ghost use Rattle.hex.specs.Hex.{encode_lower};
 ghost use Rattle.device_model.specs.Grammar.{Fits, NumberPlace, BytePlace};
 ghost use Rattle.script_text.specs.Plain.{IsPlain};
 
+use crate::pieces::digits_of;
+
 /// The number that these bytes are, in decimal digits without a leading zero.
 pub fn read_number(text: &[u8]) -> Option<u64>
     ensures some { IfSome result (λ number. text.now ≡ decimal number) }
@@ -39,9 +41,7 @@ pub fn read_byte(text: &[u8]) -> Option<u8>
     if hex::decode_to_slice(text, &mut byte).is_err() {
         return None;
     }
-    let mut digits = [0; 2];
-    hex::encode_to_slice(&byte, &mut digits).unwrap();
-    if digits.as_slice() != text {
+    if digits_of(byte[0]).as_slice() != text {
         return None;
     }
     Some(byte[0])

@@ -18,13 +18,12 @@ returns-then-is_err-clause-none c (byte, fits, is) =
 pub returns-then-ne-clause-none : goal.returns-then-ne-clause-none
 returns-then-ne-clause-none c (byte, fits, is) =
     let read = rw (decode_byte c.args.text.now byte fits is) at c.decode_to_slice.ensures.value in
-    let digits : c.encode_to_slice.new.output ≡ encode_lower c.decode_to_slice.new.out = rw c.unwrap.ensures at c.encode_to_slice.ensures.written in
-    let same = c.as_slice.ensures ∙ digits ∙ ap encode_lower read.1 ∙ sym is in
+    let whole = sym (one_byte c.decode_to_slice.new.out (omega arith)) ∙ read.1 in
+    let same = c.as_slice.ensures ∙ c.digits_of.ensures ∙ ap encode_lower whole ∙ sym is in
     let equal = (bytes_eq-Decides c.as_slice.result.now c.args.text.now).1 same in
     false≢true (sym (not-true _ (sym c.if-ne.ensures)) ∙ equal)
 
 pub returns-clause-some : goal.returns-clause-some
 returns-clause-some c =
-    let digits : c.encode_to_slice.new.output ≡ encode_lower c.decode_to_slice.new.out = rw c.unwrap.ensures at c.encode_to_slice.ensures.written in
     let same = (bytes_eq-Decides c.as_slice.result.now c.args.text.now).0 (not-false _ (sym c.if-ne.ensures)) in
-    sym same ∙ c.as_slice.ensures ∙ digits ∙ ap encode_lower (one_byte c.decode_to_slice.new.out (omega arith))
+    sym same ∙ c.as_slice.ensures ∙ c.digits_of.ensures
