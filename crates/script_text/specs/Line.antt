@@ -1,12 +1,14 @@
 -- The lines that are read, and why bytes are none, as in the grammar.
-use Rattle.std.specs.Prelude.{Result, Ok, Err}
+use Rattle.std.specs.Prelude.{List, Result, Ok, Err}
 use Rattle.device_model.specs.Grammar.{ReadLine, Means, Refused}
 use Rattle.device_model.specs.LineFault as faults
 use Rattle.device_model.specs.LineFault.{WordsFault}
 use Rattle.device_model.specs.Progress as progress
 use Rattle.device_model.specs.Script as script
 use Rattle.device_model.specs.Script.{ScriptLine}
+use Rattle.device_model.specs.Stretches.{Stretch}
 use Rattle.script_text.specs.Runs.{stretches_in}
+use Rattle.script_text.specs.declared.runs.Runs.{Runs}
 use Rattle.script_text.specs.declared.line.Actor.{Actor}
 use Rattle.script_text.specs.declared.line.Actor.TheVariants.{Commit, Place, Settle, Clean, Recalc}
 use Rattle.script_text.specs.declared.line.Ask.{Ask}
@@ -23,9 +25,13 @@ actor_of Settle = progress.Settle
 actor_of Clean = progress.Clean
 actor_of Recalc = progress.Recalc
 
+-- The stretches of bytes that runs are.
+abbrev pub stretches_of : Runs → List Stretch
+stretches_of runs = stretches_in runs.word.now
+
 abbrev pub ask_of : Ask → script.Ask
 ask_of (Fill first count byte fua) = script.Fill first count byte fua
-ask_of (Write first runs fua) = script.Write first (stretches_in runs.word.now) fua
+ask_of (Write first runs fua) = script.Write first (stretches_of runs) fua
 ask_of (Read first count) = script.Read first count
 ask_of Flush = script.Flush
 

@@ -28,8 +28,10 @@ pub struct Runs<'a> {
 }
 
 impl<'a> Runs<'a> {
+    ghost use Rattle.script_text.specs.Line.{stretches_of};
+
     /// The runs of a word. None where it is not one run or more.
-    pub fn read(word: &'a [u8]) -> Option<Runs<'a>>
+    pub(crate) fn read(word: &'a [u8]) -> Option<Runs<'a>>
         ensures some { IfSome result (λ runs. (runs.word.now ≡ word.now)
             × AreStretches (stretches_in word.now) × (word.now ≡ stretches_word (stretches_in word.now))) }
         ensures none { IfNone result (¬ Fits StretchesPlace word.now) }
@@ -42,10 +44,9 @@ impl<'a> Runs<'a> {
 
     /// Takes the next run. None where no run is left.
     pub fn take_run(&mut self) -> Option<Run>
-        ensures some { IfSome result (λ run. stretches_in self.old.word.now
-            ≡ stretch_of run ∷ stretches_in self.new.word.now) }
-        ensures shorter { IfSome result (λ run. length self.new.word.now < length self.old.word.now) }
-        ensures none { IfNone result (stretches_in self.old.word.now ≡ []) }
+        ensures some { IfSome result (λ run. stretches_of self.old
+            ≡ stretch_of run ∷ stretches_of self.new) }
+        ensures none { IfNone result (stretches_of self.old ≡ []) }
     {
         let (part, rest) = first_part(self.word);
         let run = read_run(part)?;
@@ -55,7 +56,7 @@ impl<'a> Runs<'a> {
 
     /// How many bytes they are. Each run has fewer than 2^64, and a line has few runs, so the number does not overflow.
     pub fn total(&self) -> u128
-        ensures { result ≡ stretches_length (stretches_in self.now.word.now) }
+        ensures { result ≡ stretches_length (stretches_of self.now) }
     {
         let mut rest = *self;
         let mut total = 0;
@@ -67,9 +68,9 @@ impl<'a> Runs<'a> {
 
     /// Writes their bytes to `out`, which is as long as they are.
     pub fn fill(&self, out: &mut [u8])
-        requires length { length out.old ≡ stretches_length (stretches_in self.now.word.now) }
+        requires length { length out.old ≡ stretches_length (stretches_of self.now) }
 
-        ensures bytes { out.new ≡ bytes_of_stretches (stretches_in self.now.word.now) }
+        ensures bytes { out.new ≡ bytes_of_stretches (stretches_of self.now) }
     {
         let mut rest = *self;
         let mut from = 0;

@@ -40,3 +40,6 @@ loop-run-preserved c =
           ∙ ap (λ (xs : List ℕ). take from out ++ xs) (sym bytes)
           ∙ c.loop-run.invariant.written;
     }
+
+pub loop-run-smaller : goal.loop-run-smaller
+loop-run-smaller c = let first = ap length c.in-Some.ensures.some in omega (arith, first)

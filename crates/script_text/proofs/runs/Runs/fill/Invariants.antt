@@ -10,4 +10,4 @@ invariant-loop-run l = record {
 }
 
 abbrev pub decreases-loop-run : goal.decreases-loop-run
-decreases-loop-run l = length l.rest.word.now
+decreases-loop-run l = length (stretches_in l.rest.word.now)

@@ -7,4 +7,4 @@ abbrev pub invariant-loop-run : goal.invariant-loop-run
 invariant-loop-run l = l.total + stretches_length (stretches_in l.rest.word.now) ≡ stretches_length (stretches_in l.fn.self.word.now)
 
 abbrev pub decreases-loop-run : goal.decreases-loop-run
-decreases-loop-run l = length l.rest.word.now
+decreases-loop-run l = length (stretches_in l.rest.word.now)
