@@ -12,6 +12,9 @@ pub fn read_number(text: &[u8]) -> Option<u64>
     ensures some { IfSome result (λ number. text.now ≡ decimal number) }
     ensures none { IfNone result (¬ Fits NumberPlace text.now) }
 {
+    if let Some(number) = read_digit(text) {
+        return Some(number);
+    }
     if !is_plain(text) {
         return None;
     }
@@ -19,6 +22,16 @@ pub fn read_number(text: &[u8]) -> Option<u64>
         return None;
     };
     word.parse().ok()
+}
+
+/// The number below 10 that these bytes are. In runs of single bytes each number is one.
+fn read_digit(text: &[u8]) -> Option<u64>
+    ensures { IfSome result (λ number. text.now ≡ decimal number) }
+{
+    if text.len() != 1 || !text[0].is_ascii_digit() {
+        return None;
+    }
+    Some(u64::from(text[0] - b'0'))
 }
 
 /// Whether these bytes begin neither with a sign nor with a leading zero.

@@ -49,6 +49,6 @@ pub returns-then-not-is_plain-clause-none : goal.returns-then-not-is_plain-claus
 returns-then-not-is_plain-clause-none c (n, fits, is) =
     true≢false (sym (c.is_plain.ensures.1 (subst IsPlain (sym is) (IsPlain-decimal n fits))) ∙ c.if-not-is_plain.true)
 
-pub returns-in_default-clause-none : goal.returns-in_default-clause-none
-returns-in_default-clause-none c (n, fits, is) =
-    c.in_default.ensures.cases.0 (IsUtf8-from_ascii c.args.text.now (subst IsAscii (sym is) (IsAscii-decimal n fits)))
+pub returns-in_default-from_utf8-clause-none : goal.returns-in_default-from_utf8-clause-none
+returns-in_default-from_utf8-clause-none c (n, fits, is) =
+    c.in_default-from_utf8.ensures.cases.0 (IsUtf8-from_ascii c.args.text.now (subst IsAscii (sym is) (IsAscii-decimal n fits)))
