@@ -1,0 +1,84 @@
+//! The text of some bytes: runs of one byte, joined by commas.
+ghost use Rattle.std.specs.Prelude.{◌≡◌, ◌+◌, ◌<◌, ◌≤◌, ◌==◌, ◌++◌, codes, length, slice_index, vec_len, vec_capacity, IsTrue};
+ghost use Rattle.std.specs.List.{prefix_len};
+ghost use Rattle.device_model.specs.Stretches.{stretch_text, stretches_text};
+
+use crate::pieces::{digits_of, put_byte, put_bytes, put_number};
+
+/// How many bytes from the front on are this byte.
+fn count_at_front(bytes: &[u8], byte: u8) -> usize
+    ensures count { result ≡ prefix_len (λ x. x == byte) bytes.now }
+    ensures within { result ≤ length bytes.now }
+{
+    bytes.iter().take_while(|x| **x == byte).count()
+}
+
+/// Appends a run of `count` times this byte.
+fn put_stretch(text: &mut Vec<u8>, byte: u8, count: usize)
+    requires room { vec_len text.old + length (stretch_text (record { byte = byte; count = count }))
+        ≤ vec_capacity text.old }
+
+    ensures written { text.new.items
+        ≡ text.old.items ++ stretch_text (record { byte = byte; count = count }) }
+    ensures capacity { vec_capacity text.old ≤ vec_capacity text.new }
+{
+    put_byte(text, byte);
+    put_bytes(text, b"*");
+    put_number(text, count as u64);
+}
+
+/// Whether the first byte is a run by itself, and others follow.
+fn begins_single(bytes: &[u8]) -> bool
+    ensures more { IsTrue result → 1 < length bytes.now }
+    ensures single { IsTrue result → 1 ≡ prefix_len (λ x. x == slice_index bytes.now 0) bytes.now }
+{
+    bytes.len() > 1 && bytes[0] != bytes[1]
+}
+
+/// Appends a run of one byte and a comma, all at once, since bytes that differ one from the next make many.
+fn put_single(text: &mut Vec<u8>, byte: u8)
+    requires room { vec_len text.old + 5 ≤ vec_capacity text.old }
+
+    ensures written { text.new.items
+        ≡ text.old.items ++ (stretch_text (record { byte = byte; count = 1 }) ++ codes ",") }
+    ensures capacity { vec_capacity text.old ≤ vec_capacity text.new }
+{
+    let [high, low] = digits_of(byte);
+    put_bytes(text, &[high, low, b'*', b'1', b',']);
+}
+
+/// Appends the first run of some bytes, with a comma where more follow, and gives back those.
+fn put_first_stretch<'b>(text: &mut Vec<u8>, bytes: &'b [u8]) -> &'b [u8]
+    requires bytes { 0 < length bytes.now }
+    requires room { vec_len text.old + length (stretches_text bytes.now) ≤ vec_capacity text.old }
+
+    ensures rest { length result.now < length bytes.now }
+    ensures written { text.new.items ++ stretches_text result.now ≡ text.old.items ++ stretches_text bytes.now }
+    ensures capacity { vec_capacity text.old ≤ vec_capacity text.new }
+{
+    let byte = bytes[0];
+    if begins_single(bytes) {
+        put_single(text, byte);
+        return &bytes[1..];
+    }
+    let count = count_at_front(bytes, byte);
+    put_stretch(text, byte, count);
+    if count < bytes.len() {
+        put_bytes(text, b",");
+    }
+    &bytes[count..]
+}
+
+/// Appends the text of some bytes. Each byte is compared once.
+pub fn put_stretches(text: &mut Vec<u8>, bytes: &[u8])
+    requires room { vec_len text.old + length (stretches_text bytes.now) ≤ vec_capacity text.old }
+
+    ensures written { text.new.items ≡ text.old.items ++ stretches_text bytes.now }
+    ensures len { vec_len text.new ≡ vec_len text.old + length (stretches_text bytes.now) }
+    ensures capacity { vec_capacity text.old ≤ vec_capacity text.new }
+{
+    let mut rest = bytes;
+    while !rest.is_empty() {
+        rest = put_first_stretch(text, rest);
+    }
+}
