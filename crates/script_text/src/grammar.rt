@@ -48,7 +48,8 @@ fn is_text(bytes: &[u8]) -> bool
 
 /// The line of these words.
 fn read_words<'a>(mut words: Words<'a>) -> Result<Line<'a>, LineFault<'a>>
-    ensures line { IfOk result (λ line. (words_in words.entry.rest.now ≡ line_words (line_of line)) × IsWritable (line_of line)) }
+    ensures line { IfOk result (λ line.
+        (words_in words.entry.rest.now ≡ line_words (line_of line)) × IsWritable (line_of line)) }
     ensures fault { IfErr result (λ fault. IsFaultOfWords (words_in words.entry.rest.now) (fault_of fault)) }
 {
     let Some(word) = words.take_word() else {
@@ -66,7 +67,8 @@ fn read_words<'a>(mut words: Words<'a>) -> Result<Line<'a>, LineFault<'a>>
 
 /// The request behind `start`.
 fn read_started<'a>(words: &mut Words<'a>) -> Result<Ask<'a>, LineFault<'a>>
-    ensures ask { IfOk result (λ ask. (words_in words.old.rest.now ≡ ask_words (ask_of ask)) × HasValues (ask_of ask)) }
+    ensures ask { IfOk result (λ ask.
+        (words_in words.old.rest.now ≡ ask_words (ask_of ask)) × HasValues (ask_of ask)) }
     ensures fault { IfErr result (λ fault. IsFaultOfStart (words_in words.old.rest.now) (fault_of fault)) }
 {
     let Some(word) = words.take_word() else {
@@ -80,9 +82,11 @@ fn read_started<'a>(words: &mut Words<'a>) -> Result<Ask<'a>, LineFault<'a>>
 
 /// The line that goes on behind this.
 fn read_behind<'a>(verb: Verb, words: &mut Words<'a>) -> Result<Line<'a>, LineFault<'a>>
-    ensures line { IfOk result (λ line. (verb_word (verb_of verb) ∷ words_in words.old.rest.now ≡ line_words (line_of line))
+    ensures line { IfOk result (λ line.
+        (verb_word (verb_of verb) ∷ words_in words.old.rest.now ≡ line_words (line_of line))
         × IsWritable (line_of line)) }
-    ensures fault { IfErr result (λ fault. IsFaultAt (places_of (verb_of verb)) (words_in words.old.rest.now) (fault_of fault)) }
+    ensures fault { IfErr result (λ fault.
+        IsFaultAt (places_of (verb_of verb)) (words_in words.old.rest.now) (fault_of fault)) }
 {
     match verb {
         Verb::Ask(verb) => {
@@ -107,8 +111,10 @@ fn read_behind<'a>(verb: Verb, words: &mut Words<'a>) -> Result<Line<'a>, LineFa
 
 /// The last word, as a ticket.
 fn read_ticket<'a>(words: &mut Words<'a>) -> Result<u64, LineFault<'a>>
-    ensures ticket { IfOk result (λ ticket. (ticket < 2 ^ 64) × (words_in words.old.rest.now ≡ decimal ticket ∷ [])) }
-    ensures fault { IfErr result (λ fault. IsFaultAt (NumberPlace ∷ []) (words_in words.old.rest.now) (fault_of fault)) }
+    ensures ticket { IfOk result (λ ticket.
+        (ticket < 2 ^ 64) × (words_in words.old.rest.now ≡ decimal ticket ∷ [])) }
+    ensures fault { IfErr result (λ fault.
+        IsFaultAt (NumberPlace ∷ []) (words_in words.old.rest.now) (fault_of fault)) }
 {
     let ticket = take_number(words)?;
     take_end(words)?;
@@ -117,9 +123,11 @@ fn read_ticket<'a>(words: &mut Words<'a>) -> Result<u64, LineFault<'a>>
 
 /// The request that goes on behind this.
 fn read_ask<'a>(verb: AskVerb, words: &mut Words<'a>) -> Result<Ask<'a>, LineFault<'a>>
-    ensures ask { IfOk result (λ ask. (verb_word (ask_verb_of verb) ∷ words_in words.old.rest.now ≡ ask_words (ask_of ask))
+    ensures ask { IfOk result (λ ask.
+        (verb_word (ask_verb_of verb) ∷ words_in words.old.rest.now ≡ ask_words (ask_of ask))
         × HasValues (ask_of ask)) }
-    ensures fault { IfErr result (λ fault. IsFaultAt (places_of (ask_verb_of verb)) (words_in words.old.rest.now) (fault_of fault)) }
+    ensures fault { IfErr result (λ fault.
+        IsFaultAt (places_of (ask_verb_of verb)) (words_in words.old.rest.now) (fault_of fault)) }
 {
     match verb {
         AskVerb::Fill => read_fill(words),
@@ -134,8 +142,10 @@ fn read_ask<'a>(verb: AskVerb, words: &mut Words<'a>) -> Result<Ask<'a>, LineFau
 
 /// What stands behind `fill`.
 fn read_fill<'a>(words: &mut Words<'a>) -> Result<Ask<'a>, LineFault<'a>>
-    ensures ask { IfOk result (λ ask. (codes "fill" ∷ words_in words.old.rest.now ≡ ask_words (ask_of ask)) × HasValues (ask_of ask)) }
-    ensures fault { IfErr result (λ fault. IsFaultAt (places_of FillVerb) (words_in words.old.rest.now) (fault_of fault)) }
+    ensures ask { IfOk result (λ ask.
+        (codes "fill" ∷ words_in words.old.rest.now ≡ ask_words (ask_of ask)) × HasValues (ask_of ask)) }
+    ensures fault { IfErr result (λ fault.
+        IsFaultAt (places_of FillVerb) (words_in words.old.rest.now) (fault_of fault)) }
 {
     let first = take_number(words)?;
     let count = take_number(words)?;
@@ -151,8 +161,10 @@ fn read_fill<'a>(words: &mut Words<'a>) -> Result<Ask<'a>, LineFault<'a>>
 
 /// What stands behind `write`.
 fn read_write<'a>(words: &mut Words<'a>) -> Result<Ask<'a>, LineFault<'a>>
-    ensures ask { IfOk result (λ ask. (codes "write" ∷ words_in words.old.rest.now ≡ ask_words (ask_of ask)) × HasValues (ask_of ask)) }
-    ensures fault { IfErr result (λ fault. IsFaultAt (places_of WriteVerb) (words_in words.old.rest.now) (fault_of fault)) }
+    ensures ask { IfOk result (λ ask.
+        (codes "write" ∷ words_in words.old.rest.now ≡ ask_words (ask_of ask)) × HasValues (ask_of ask)) }
+    ensures fault { IfErr result (λ fault.
+        IsFaultAt (places_of WriteVerb) (words_in words.old.rest.now) (fault_of fault)) }
 {
     let first = take_number(words)?;
     let runs = take_runs(words)?;
@@ -162,8 +174,10 @@ fn read_write<'a>(words: &mut Words<'a>) -> Result<Ask<'a>, LineFault<'a>>
 
 /// What stands behind `read`.
 fn read_read<'a>(words: &mut Words<'a>) -> Result<Ask<'a>, LineFault<'a>>
-    ensures ask { IfOk result (λ ask. (codes "read" ∷ words_in words.old.rest.now ≡ ask_words (ask_of ask)) × HasValues (ask_of ask)) }
-    ensures fault { IfErr result (λ fault. IsFaultAt (places_of ReadVerb) (words_in words.old.rest.now) (fault_of fault)) }
+    ensures ask { IfOk result (λ ask.
+        (codes "read" ∷ words_in words.old.rest.now ≡ ask_words (ask_of ask)) × HasValues (ask_of ask)) }
+    ensures fault { IfErr result (λ fault.
+        IsFaultAt (places_of ReadVerb) (words_in words.old.rest.now) (fault_of fault)) }
 {
     let first = take_number(words)?;
     let count = take_number(words)?;

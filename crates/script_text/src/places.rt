@@ -42,7 +42,8 @@ pub fn take_byte<'a>(words: &mut Words<'a>) -> Result<u8, LineFault<'a>>
 
 /// The next word, as runs.
 pub fn take_runs<'a>(words: &mut Words<'a>) -> Result<Runs<'a>, LineFault<'a>>
-    ensures runs { IfOk result (λ runs. AreStretches (stretches_in runs.word.now) × (words_in words.old.rest.now
+    ensures runs { IfOk result (λ runs.
+        AreStretches (stretches_in runs.word.now) × (words_in words.old.rest.now
         ≡ stretches_word (stretches_in runs.word.now) ∷ words_in words.new.rest.now)) }
     ensures fault { IfErr result (λ fault. (places : List WordPlace)
         → IsFaultAt (StretchesPlace ∷ places) (words_in words.old.rest.now) (fault_of fault)) }
@@ -69,7 +70,8 @@ pub fn take_actor<'a>(words: &mut Words<'a>) -> Result<Actor, LineFault<'a>>
 /// Whether `fua` is the last word. It may be left out.
 pub fn take_last_fua<'a>(words: &mut Words<'a>) -> Result<bool, LineFault<'a>>
     ensures fua { IfOk result (λ fua. words_in words.old.rest.now ≡ fua_words fua) }
-    ensures fault { IfErr result (λ fault. IsFaultAt (FuaPlace ∷ []) (words_in words.old.rest.now) (fault_of fault)) }
+    ensures fault { IfErr result (λ fault.
+        IsFaultAt (FuaPlace ∷ []) (words_in words.old.rest.now) (fault_of fault)) }
 {
     let Some(word) = words.take_word() else {
         return Ok(false);

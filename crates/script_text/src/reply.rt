@@ -129,7 +129,8 @@ fn put_write(text: &mut Vec<u8>, first: u64, count: u64)
 
 /// Appends the text of a read in which each block's stored tag was that of its bytes.
 fn put_read(text: &mut Vec<u8>, first: u64, count: u64, bytes: &[u8])
-    requires room { vec_len text.old + length (read_text first count (Bytes bytes.now)) ≤ vec_capacity text.old }
+    requires room { vec_len text.old + length (read_text first count (Bytes bytes.now))
+        ≤ vec_capacity text.old }
 
     ensures written { text.new.items ≡ text.old.items ++ read_text first count (Bytes bytes.now) }
 {
@@ -148,7 +149,8 @@ fn put_fault(text: &mut Vec<u8>, block: u64, stored: &[u8], computed: &[u8])
         ≤ vec_capacity text.old }
 
     // Which blocks were to be read does not show in it, so 0 and 0 stand for any.
-    ensures written { text.new.items ≡ text.old.items ++ read_text 0 0 (TagFault block stored.now computed.now) }
+    ensures written { text.new.items
+        ≡ text.old.items ++ read_text 0 0 (TagFault block stored.now computed.now) }
 {
     put_bytes(text, b"fault block ");
     put_number(text, block);
@@ -161,7 +163,8 @@ fn put_fault(text: &mut Vec<u8>, block: u64, stored: &[u8], computed: &[u8])
 
 /// Appends a line of these words and a number.
 fn put_numbered(text: &mut Vec<u8>, words: &[u8], number: u64)
-    requires room { vec_len text.old + length (words.now ++ decimal number ++ 10 ∷ []) ≤ vec_capacity text.old }
+    requires room { vec_len text.old + length (words.now ++ decimal number ++ 10 ∷ [])
+        ≤ vec_capacity text.old }
 
     ensures written { text.new.items ≡ text.old.items ++ (words.now ++ decimal number ++ 10 ∷ []) }
 {

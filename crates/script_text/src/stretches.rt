@@ -53,7 +53,8 @@ fn put_first_stretch<'b>(text: &mut Vec<u8>, bytes: &'b [u8]) -> &'b [u8]
     requires room { vec_len text.old + length (stretches_text bytes.now) ≤ vec_capacity text.old }
 
     ensures rest { length result.now < length bytes.now }
-    ensures written { text.new.items ++ stretches_text result.now ≡ text.old.items ++ stretches_text bytes.now }
+    ensures written { text.new.items ++ stretches_text result.now
+        ≡ text.old.items ++ stretches_text bytes.now }
     ensures capacity { vec_capacity text.old ≤ vec_capacity text.new }
 {
     let byte = bytes[0];

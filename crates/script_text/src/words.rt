@@ -21,7 +21,8 @@ impl<'a> Words<'a> {
 
     /// Takes the next word. None where no word is left.
     pub fn take_word(&mut self) -> Option<&'a [u8]>
-        ensures word { IfSome result (λ word. words_in self.old.rest.now ≡ word.now ∷ words_in self.new.rest.now) }
+        ensures word { IfSome result (λ word.
+            words_in self.old.rest.now ≡ word.now ∷ words_in self.new.rest.now) }
         ensures none { IfNone result (words_in self.old.rest.now ≡ []) }
     {
         let text = &self.rest[count_spaces(self.rest)..];
