@@ -8,8 +8,7 @@ use Rattle.device_model.specs.Journal.{SectionCounts, Committed}
 use Rattle.journal_model.specs.JournaledDisk.{JournaledDisk}
 use Rattle.journal_model.specs.View.{RingView, takes_more, put_last}
 
--- The entries of each section that is committed and not free, and of each that is opened and not committed, in order. The
--- last of these is closed where no entry goes into it any more.
+-- What the ring's view tells, with the entries of each section that is committed and not free.
 pub record JournalRing : Type 0 where
   pub committed : List (List Entry)
   pub opened : List (List Entry)
@@ -40,7 +39,7 @@ view_of d ring = record {
 
 -- ---- an entry is put
 
--- A ring of so many sections of so many entries has room for one more: in the last section, or in the next, which is free.
+-- A ring of so many sections of so many entries has room for one more, as in the view.
 abbrev pub has_room : (sections entries : ℕ) → JournalRing → Bool
 has_room sections entries ring =
     takes_more entries ring.closed ring.opened || ltb (length ring.opened + length ring.committed) sections
@@ -58,7 +57,7 @@ with_put entries entry ring = record {
 
 -- ---- commit
 
--- How many sections the next batch has: those that are opened, up to the journal's end.
+-- How many sections the next batch has.
 abbrev pub batch_of : JournaledDisk → JournalRing → ℕ
 batch_of d ring = min (length ring.opened) (d.geometry.sections - d.next)
 

@@ -4,7 +4,7 @@ use Rattle.image_model.specs.Cells.{Cell}
 use Rattle.device_model.specs.Mode.{DeviceFormat}
 use Rattle.device_model.specs.Progress.{DeviceState, opened_device, Event, after_event, after_events}
 use Rattle.device_model.specs.RequestLaws.{IsReached}
-use Rattle.device_model.proofs.RoomLemmas.{after_events-append}
+use Rattle.device_model.proofs.IdleLemmas.{after_events-append}
 
 module _ (f : DeviceFormat) where
   pub IsReached-opened : (base : ℕ → Cell) (next : ℕ) (set_bits awaiting : ℕ → Bool) → IsReached f (opened_device base next set_bits awaiting)

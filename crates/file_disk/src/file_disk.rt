@@ -36,15 +36,15 @@ impl<O: Folder + Drop> FileDisk<O> {
 
 impl<O: Folder + Drop> Counted for FileDisk<O> {
     ghost faults = { λ disk. disk.faults + (O.faults disk.folder + of_file 0 O.File.faults disk.file) };
+}
 
+impl<O: Folder + Drop> Named for FileDisk<O> {
     ghost binding = { λ disk. (of_file no_disk O.File.identity disk.file).name };
 
     ghost tells_same = { λ name a b. TellsSame
         (named_as O.File.identity O.File.moments (O.named a.folder name) a.file)
         (named_as O.File.identity O.File.moments (O.named b.folder name) b.file) };
-}
 
-impl<O: Folder + Drop> Named for FileDisk<O> {
     fn bind(&mut self, name: &str) -> Result<(), Failed>
         ensures bound { OnOk result
             (IsBoundTo name.now (of_file no_disk O.File.identity self.new.file).name) }
@@ -117,7 +117,8 @@ impl<O: Folder + Drop> Disk for FileDisk<O> {
         ] told };
 
     ghost whole_sectors = { λ disk c sector x told low has. elim disk.file as (λ o.
-        content_now (of_file [] O.File.moments o) ≡ Some c → sector < (of_file no_disk O.File.identity o).sectors → length x ≡ 512) [
+        content_now (of_file [] O.File.moments o) ≡ Some c
+        → sector < (of_file no_disk O.File.identity o).sectors → length x ≡ 512) [
           | None ↦ λ told low. absurd (none-some c told)
           | Some file ↦ λ told low. O.File.whole_sectors file c sector x told low has
         ] told low };
@@ -125,7 +126,8 @@ impl<O: Folder + Drop> Disk for FileDisk<O> {
     ghost identity_name = { λ disk. refl };
 
     ghost named_if_bound = { λ disk name bound. elim disk.file as (λ o.
-        IsBoundTo name (of_file no_disk O.File.identity o).name → named_as O.File.identity O.File.moments (O.named disk.folder name) o
+        IsBoundTo name (of_file no_disk O.File.identity o).name
+        → named_as O.File.identity O.File.moments (O.named disk.folder name) o
         ≡ record {
           sectors = (of_file no_disk O.File.identity o).sectors;
           moments = of_file [] O.File.moments o;

@@ -1,10 +1,11 @@
 //! A disk over any file whose calls may do a part of what they are asked, or be interrupted.
 //!
 //! `FileDisk` is proved to be a `Disk` over every such file, and tells its content where the file does. What a
-//! program trusts of its system is one `impl` of `Folder` and `SectorFile`, that of `std_file.rt`. `specs/Files.antt` is the file to read
-//! first.
+//! program trusts of its system is one `impl` of `Folder` and `SectorFile`, that of `std_file.rt`.
+//! `specs/Files.antt` is the file to read first.
 #![tactic(auto)]
 
+mod calls;
 mod file_disk;
 mod opening;
 mod sector_file;
@@ -13,6 +14,7 @@ mod std_file;
 mod tests;
 mod transfer;
 
+pub use calls::Calls;
 pub use file_disk::FileDisk;
 pub use opening::open_apart;
 pub use sector_file::{FileFault, Folder, SectorFile};

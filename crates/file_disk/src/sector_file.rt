@@ -3,10 +3,9 @@
 //! Each call is one call of the system, which may be interrupted by a signal, or do a part of what it is asked.
 ghost use Rattle.std.specs.Prelude.{◌≡◌, ◌≤◌, ◌*◌, ◌/◌, ◌^◌, ◌<◌, List, ℕ, length, take, IsTrue, IfOk, OnOk, OnErr, Some};
 ghost use Rattle.std.specs.List.{Contains};
-ghost use Rattle.std.specs.Option.{ForSome, option_map};
 ghost use Rattle.disk_model.specs.Disk.{Content, IsImage, Reads, AddsSome, with_run, newest_only, last_image};
 ghost use Rattle.disk_model.specs.Identity.{DiskIdentity, IsBoundTo, IsThere, NamedDisk};
-ghost use Rattle.disk_model.specs.Moments.{content_now, EachMoment, FromStart};
+ghost use Rattle.disk_model.specs.Moments.{EachSince, HasNow, IsChangedBy, content_now};
 ghost use Rattle.file_disk.specs.Files.{HasFileCause, IsFileRun, IsPart};
 
 /// Why a call of a file did not do its work.
@@ -51,8 +50,7 @@ pub trait SectorFile {
         requires { IsFileRun from (length buffer.old) (identity self.old).sectors }
 
         ensures count { IfOk result (λ n. IsPart n (length buffer.new)) }
-        ensures read { IfOk result (λ n. ForSome (content_now (moments self.old))
-            (Reads (from / 512) (take n buffer.new))) }
+        ensures read { IfOk result (λ n. HasNow (Reads (from / 512) (take n buffer.new)) (moments self.old)) }
 
         ensures cause { HasFileCause (faults self.old) (faults self.new)
             (interruptions self.old) (interruptions self.new) result }
@@ -71,8 +69,8 @@ pub trait SectorFile {
         requires { IsFileRun from (length bytes.now) (identity self.old).sectors }
 
         ensures count { IfOk result (λ n. IsPart n (length bytes.now)) }
-        ensures written { IfOk result (λ n. content_now (moments self.new)
-            ≡ option_map (with_run (from / 512) (take n bytes.now)) (content_now (moments self.old))) }
+        ensures written { IfOk result (λ n. IsChangedBy (with_run (from / 512) (take n bytes.now))
+            (moments self.old) (moments self.new)) }
 
         ensures cause { HasFileCause (faults self.old) (faults self.new)
             (interruptions self.old) (interruptions self.new) result }
@@ -80,8 +78,7 @@ pub trait SectorFile {
 
         ensures identity { identity self.new ≡ identity self.old }
 
-        ensures moments { EachMoment (moments self.old) (moments self.new)
-            (FromStart (moments self.old) (AddsSome (from / 512) bytes.now)) };
+        ensures moments { EachSince (AddsSome (from / 512) bytes.now) (moments self.old) (moments self.new) };
 
     /// Settles what was written: of each sector the last candidate alone is left.
     ///
@@ -90,8 +87,7 @@ pub trait SectorFile {
     /// - `Interrupted`: nothing was done.
     /// - `Failed`: the file failed. Nothing has changed.
     fn sync(&mut self) -> Result<(), FileFault>
-        ensures synced { OnOk result (content_now (moments self.new)
-            ≡ option_map newest_only (content_now (moments self.old))) }
+        ensures synced { OnOk result (IsChangedBy newest_only (moments self.old) (moments self.new)) }
 
         ensures cause { HasFileCause (faults self.old) (faults self.new)
             (interruptions self.old) (interruptions self.new) result }
@@ -99,8 +95,8 @@ pub trait SectorFile {
 
         ensures identity { identity self.new ≡ identity self.old }
 
-        ensures moments { EachMoment (moments self.old) (moments self.new)
-            (FromStart (moments self.old) (λ start c. c ≡ newest_only start)) };
+        ensures moments { EachSince (λ start c. c ≡ newest_only start)
+            (moments self.old) (moments self.new) };
 
     /// A byte of it has a number of 64 bits.
     ghost fits: { (file : Self) → 512 * (identity file).sectors < 2 ^ 64 };
@@ -111,7 +107,8 @@ pub trait SectorFile {
 
     /// Each candidate of its sectors has 512 bytes.
     ghost whole_sectors: { (file : Self) (c : Content) (sector : ℕ) (x : List ℕ)
-        → content_now (moments file) ≡ Some c → sector < (identity file).sectors → Contains (c sector) x → length x ≡ 512 };
+        → content_now (moments file) ≡ Some c → sector < (identity file).sectors
+        → Contains (c sector) x → length x ≡ 512 };
 }
 
 /// What opens files by their names.

@@ -4,10 +4,9 @@
 ghost use Rattle.std.specs.Prelude.{◌≡◌, ◌≤◌, ◌*◌, ◌^◌, ◌<◌, [], length, IfOk};
 ghost use Rattle.std.proofs.lemmas.Option.{none-some};
 ghost use Rattle.disk_model.specs.Identity.{AnyName};
-ghost use Rattle.file_disk.specs.Files.{HasFileCause};
 
 use crate::opening::open_apart;
-use crate::{FileFault, Folder, SectorFile};
+use crate::{Calls, FileFault, Folder, SectorFile};
 use std::fs::{File, OpenOptions};
 use std::io;
 use std::io::{ErrorKind, Seek, SeekFrom};
@@ -21,50 +20,6 @@ const LONGEST_NAME: usize = 4096;
 
 /// The size of a sector in bytes.
 const SECTOR_SIZE: usize = 512;
-
-/// What has failed, and how often a call can still be interrupted.
-#[derive(Drop)]
-struct Calls {
-    faults: u64,
-    interruptions: u64,
-}
-
-impl Calls {
-    /// Nothing has failed, and calls can be interrupted 2^64 - 1 times.
-    fn new() -> Calls
-        ensures { result.faults ≡ 0 }
-    {
-        Calls {
-            faults: 0,
-            interruptions: u64::MAX,
-        }
-    }
-
-    /// Hands on what std has answered. An error is counted, and its kind is lost.
-    ///
-    /// # Errors
-    ///
-    /// - `Interrupted`: a signal came first.
-    /// - `Failed`: std has answered another error, or signals came too often.
-    fn judge<T>(&mut self, answer: io::Result<T>) -> Result<T, FileFault>
-        ensures value { IfOk result (λ value. answer ≡ Ok value) }
-
-        ensures cause { HasFileCause self.old.faults self.new.faults
-            self.old.interruptions self.new.interruptions result }
-    {
-        match answer {
-            Ok(value) => Ok(value),
-            Err(e) if e.kind() == ErrorKind::Interrupted && self.interruptions > 0 => {
-                self.interruptions -= 1;
-                Err(FileFault::Interrupted)
-            }
-            Err(_) => {
-                self.faults = self.faults.saturating_add(1);
-                Err(FileFault::Failed)
-            }
-        }
-    }
-}
 
 /// How many whole sectors a file has.
 #[derive(Drop)]

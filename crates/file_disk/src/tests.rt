@@ -85,7 +85,7 @@ fn a_disk_is_bound_to_one_name(rt: HostRuntime) -> Result<(), Fail> {
 }
 
 /// Writes sectors 1 and 2 of three, and reads the first two back.
-fn write_two_of_three<D: Disk + Named>(disk: &mut D, back: &mut [u8; 1024]) -> Result<(), Failed> {
+fn write_two_of_three<D: Disk>(disk: &mut D, back: &mut [u8; 1024]) -> Result<(), Failed> {
     disk.bind("image")?;
     if disk.sectors() != 3 {
         return Err(Failed);

@@ -2,11 +2,10 @@
 //!
 //! What was done is not done again, and a call that was interrupted is made again.
 ghost use Rattle.std.specs.Prelude.{◌≡◌, ◌≤◌, ◌+◌, ◌*◌, ◌/◌, ◌^◌, ◌<◌, List, ℕ, length, take, IfOk, OnOk, OnErr, Some};
-ghost use Rattle.std.specs.Option.{ForSome, option_map};
 ghost use Rattle.disk_model.specs.Causes.{HasCause};
 ghost use Rattle.disk_model.specs.Disk.{Content, Reads, AddsSome, with_run, newest_only};
 ghost use Rattle.disk_model.specs.Identity.{IsBoundTo, IsThere};
-ghost use Rattle.disk_model.specs.Moments.{content_now, EachMoment, FromStart};
+ghost use Rattle.disk_model.specs.Moments.{EachSince, HasNow, IsChangedBy};
 ghost use Rattle.file_disk.specs.Files.{IsFileRun};
 
 use crate::{FileFault, Folder, SectorFile};
@@ -20,7 +19,7 @@ use sector_disk::Failed;
 pub fn read_all<F: SectorFile>(file: &mut F, from: u64, buffer: &mut [u8]) -> Result<(), Failed>
     requires { IsFileRun from (length buffer.old) (F.identity file.old).sectors }
 
-    ensures read { OnOk result (ForSome (content_now (F.moments file.old)) (Reads (from / 512) buffer.new)) }
+    ensures read { OnOk result (HasNow (Reads (from / 512) buffer.new) (F.moments file.old)) }
 
     ensures cause { HasCause (F.faults file.old) (F.faults file.new) result }
 
@@ -41,8 +40,7 @@ fn read_some<F: SectorFile>(file: &mut F, from: u64, buffer: &mut [u8]) -> Resul
     ensures whole { IfOk result (λ n. n ≡ 512 * (n / 512)) }
     ensures within { IfOk result (λ n. n ≤ length buffer.new) }
     ensures goes_on { IfOk result (λ n. F.interruptions file.new < F.interruptions file.old + n) }
-    ensures read { IfOk result (λ n. ForSome (content_now (F.moments file.old))
-        (Reads (from / 512) (take n buffer.new))) }
+    ensures read { IfOk result (λ n. HasNow (Reads (from / 512) (take n buffer.new)) (F.moments file.old)) }
 
     ensures cause { HasCause (F.faults file.old) (F.faults file.new) result }
 
@@ -64,15 +62,14 @@ fn read_some<F: SectorFile>(file: &mut F, from: u64, buffer: &mut [u8]) -> Resul
 pub fn write_all<F: SectorFile>(file: &mut F, from: u64, bytes: &[u8]) -> Result<(), Failed>
     requires { IsFileRun from (length bytes.now) (F.identity file.old).sectors }
 
-    ensures written { OnOk result (content_now (F.moments file.new)
-        ≡ option_map (with_run (from / 512) bytes.now) (content_now (F.moments file.old))) }
+    ensures written { OnOk result (IsChangedBy (with_run (from / 512) bytes.now)
+        (F.moments file.old) (F.moments file.new)) }
 
     ensures cause { HasCause (F.faults file.old) (F.faults file.new) result }
 
     ensures identity { F.identity file.new ≡ F.identity file.old }
 
-    ensures moments { EachMoment (F.moments file.old) (F.moments file.new)
-        (FromStart (F.moments file.old) (AddsSome (from / 512) bytes.now)) }
+    ensures moments { EachSince (AddsSome (from / 512) bytes.now) (F.moments file.old) (F.moments file.new) }
 {
     let mut done = 0;
     while done < bytes.len() {
@@ -88,15 +85,14 @@ fn write_some<F: SectorFile>(file: &mut F, from: u64, bytes: &[u8]) -> Result<us
     ensures whole { IfOk result (λ n. n ≡ 512 * (n / 512)) }
     ensures within { IfOk result (λ n. n ≤ length bytes.now) }
     ensures goes_on { IfOk result (λ n. F.interruptions file.new < F.interruptions file.old + n) }
-    ensures written { IfOk result (λ n. content_now (F.moments file.new)
-        ≡ option_map (with_run (from / 512) (take n bytes.now)) (content_now (F.moments file.old))) }
+    ensures written { IfOk result (λ n. IsChangedBy (with_run (from / 512) (take n bytes.now))
+        (F.moments file.old) (F.moments file.new)) }
 
     ensures cause { HasCause (F.faults file.old) (F.faults file.new) result }
 
     ensures identity { F.identity file.new ≡ F.identity file.old }
 
-    ensures moments { EachMoment (F.moments file.old) (F.moments file.new)
-        (FromStart (F.moments file.old) (AddsSome (from / 512) bytes.now)) }
+    ensures moments { EachSince (AddsSome (from / 512) bytes.now) (F.moments file.old) (F.moments file.new) }
 {
     match file.write_at(from, bytes) {
         Ok(count) => Ok(count),
@@ -111,16 +107,14 @@ fn write_some<F: SectorFile>(file: &mut F, from: u64, bytes: &[u8]) -> Result<us
 ///
 /// - `Failed`: the file failed. Nothing has changed.
 pub fn sync_all<F: SectorFile>(file: &mut F) -> Result<(), Failed>
-    ensures synced { OnOk result (content_now (F.moments file.new)
-        ≡ option_map newest_only (content_now (F.moments file.old))) }
+    ensures synced { OnOk result (IsChangedBy newest_only (F.moments file.old) (F.moments file.new)) }
 
     ensures cause { HasCause (F.faults file.old) (F.faults file.new) result }
     ensures err { OnErr result (F.moments file.new ≡ F.moments file.old) }
 
     ensures identity { F.identity file.new ≡ F.identity file.old }
 
-    ensures moments { EachMoment (F.moments file.old) (F.moments file.new)
-        (FromStart (F.moments file.old) (λ start c. c ≡ newest_only start)) }
+    ensures moments { EachSince (λ start c. c ≡ newest_only start) (F.moments file.old) (F.moments file.new) }
 {
     loop {
         match file.sync() {

@@ -1,26 +1,9 @@
-//! Cases and tables of a text, and their lines.
-use crate::case::Case;
-use crate::reading::{apply, cut};
+//! Runs the cases of a text.
 use crate::session::Session;
 use crate::telling::{Repeated, add, put_rows};
 use anyhow::{Context, Result, bail};
-use std::alloc::{AllocError, Global};
-
-/// A line of a case or a table, without the spaces before it.
-#[derive(Drop)]
-struct Line {
-    number: usize,
-    text: String,
-}
-
-/// A case or a table: the word and the name that begin it, and the lines below.
-#[derive(Drop)]
-struct Block {
-    is_case: bool,
-    number: usize,
-    name: String,
-    lines: Vec<Line>,
-}
+use case_text::{Block, blocks_of, case_of, cut, table_of};
+use std::alloc::Global;
 
 /// Runs the cases of a text, and tells what each shows.
 pub fn run_text(alloc: Global, session: &mut Session, text: &str) -> Result<String> {
@@ -33,44 +16,6 @@ pub fn run_text(alloc: Global, session: &mut Session, text: &str) -> Result<Stri
         }
     }
     Ok(told)
-}
-
-/// Parts a text into its blocks.
-fn blocks_of(alloc: Global, text: &str) -> Result<Vec<Block>> {
-    let mut blocks: Vec<Block> = Vec::new(alloc);
-    for (k, line) in text.split('\n').enumerate() {
-        let number = k.saturating_add(1);
-        add_line(alloc, &mut blocks, number, line.trim_start()).context(format_args!(
-            "line {number}"
-        ))?;
-    }
-    Ok(blocks)
-}
-
-/// Adds a line, which may begin a block. An empty line, and one that begins with `#`, says nothing.
-fn add_line(alloc: Global, blocks: &mut Vec<Block>, number: usize, line: &str) -> Result<()> {
-    if line.is_empty() || line.starts_with('#') {
-        return Ok(());
-    }
-    if line.ends_with(' ') {
-        bail!("it ends with a space");
-    }
-    let (word, name) = cut(line);
-    if word == "case" || word == "table" {
-        blocks.push(Block {
-            is_case: word == "case",
-            number,
-            name: name.to_string(alloc)?,
-            lines: Vec::new(alloc),
-        })?;
-        return Ok(());
-    }
-    let text = line.to_string(alloc)?;
-    match blocks.last_mut() {
-        Some(block) => block.lines.push(Line { number, text })?,
-        None => bail!("it stands before any case"),
-    }
-    Ok(())
 }
 
 /// Runs a case, for each row of the table that it names, and tells what it shows.
@@ -102,21 +47,6 @@ fn run_block(
     Ok(told)
 }
 
-/// The table that a case names.
-fn table_of<'b>(blocks: &'b [Block], block: &Block) -> Result<Option<&'b Block>> {
-    for line in &block.lines {
-        if let Some(name) = line.text.as_str().strip_prefix("for ") {
-            for table in blocks {
-                if !table.is_case && table.name.as_str() == name {
-                    return Ok(Some(table));
-                }
-            }
-            bail!("line {}: there is no such table", line.number);
-        }
-    }
-    Ok(None)
-}
-
 /// Runs a case with a row's columns in their places.
 fn run_row(
     alloc: Global,
@@ -142,37 +72,4 @@ fn run_row(
         }
     }
     Ok(())
-}
-
-/// The case that a block says, with these columns.
-fn case_of(alloc: Global, block: &Block, row: &str) -> Result<Case> {
-    let mut case = Case::new(alloc, Vec::new(alloc))?;
-    for line in &block.lines {
-        let number = line.number;
-        apply_line(alloc, &mut case, line, row).context(format_args!("line {number}"))?;
-    }
-    Ok(case)
-}
-
-/// Adds to a case what a line says, with these columns.
-fn apply_line(alloc: Global, case: &mut Case, line: &Line, row: &str) -> Result<()> {
-    let text = filled(alloc, line.text.as_str(), row)?;
-    if text.as_str().starts_with("for ") {
-        return Ok(());
-    }
-    apply(alloc, case, text.as_str())
-}
-
-/// A line with the columns of a row in the places of `{1}`, `{2}` and so on.
-fn filled(alloc: Global, line: &str, row: &str) -> Result<String, AllocError> {
-    let mut text = line.to_string(alloc)?;
-    if !line.contains('{') {
-        return Ok(text);
-    }
-    for (k, column) in row.split(" | ").enumerate() {
-        let number = k.saturating_add(1);
-        let place = format!(in alloc; "{{{number}}}")?;
-        text = text.as_str().replace(alloc, place.as_str(), column)?;
-    }
-    Ok(text)
 }

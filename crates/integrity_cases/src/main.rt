@@ -6,17 +6,11 @@
 //! number, and a case or a run that is not as it should be with status 1.
 #![tactic(auto)]
 
-mod case;
-mod disks;
 mod input;
-mod judging;
-mod reading;
 mod running;
 mod session;
-mod small_image;
 mod telling;
 mod trying;
-mod watched;
 
 use anyhow::{Result, bail};
 use input::run_text;

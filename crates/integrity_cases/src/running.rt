@@ -1,7 +1,7 @@
 //! Makes the program's call on objects in memory, where calls fail as a case wants it.
-use crate::case::Case;
-use crate::watched::{Fails, WatchedDisk, WatchedSink, WatchedSource};
 use anyhow::{Result, bail};
+use case_disks::{WatchedDisk, WatchedFile, WatchedSink, WatchedSource};
+use case_text::{Case, Fails};
 use integrity_tool::integrity;
 use sector_disk::MemDisk;
 use std::alloc::Global;
@@ -23,23 +23,46 @@ pub struct Ended {
 /// Runs the program's call on a disk, with what a case gives, where this fails.
 pub fn run(alloc: Global, case: &Case, fails: Fails, disk: MemDisk) -> Result<Ended> {
     let mut disk = WatchedDisk::new(alloc, disk, fails)?;
-    let mut key = WatchedSource::new(&case.key, fails.key);
+    let mut key = WatchedFile::new(&case.key, fails.key);
     let mut script = WatchedSource::new(&case.script, fails.source);
     let Ok(mut out) = WatchedSink::new(alloc, fails) else {
         bail!("there is no memory for a sink");
     };
-    let words = &case.words;
-    let status = integrity(alloc, words, &mut disk, &mut key, &mut script, &mut out);
-    let Ok(text) = str::from_utf8(out.sink.bytes()) else {
-        bail!("the text is no UTF-8");
-    };
+    let status = call(
+        alloc,
+        &case.words,
+        &mut disk,
+        &mut key,
+        &mut script,
+        &mut out,
+    );
     Ok(Ended {
         status,
-        text: text.to_string(alloc)?,
+        text: text_of(alloc, &out)?,
         disk,
         source_failed: script.failed,
         sink_failed: out.failed,
         key_failed: key.failed,
         key_calls: key.calls,
     })
+}
+
+/// Makes the program's call. It stands alone, so that no proof but its own sees its contract.
+fn call(
+    alloc: Global,
+    words: &[String],
+    disk: &mut WatchedDisk,
+    key: &mut WatchedFile<'_>,
+    script: &mut WatchedSource<'_>,
+    out: &mut WatchedSink,
+) -> u8 {
+    integrity(alloc, words, disk, key, script, out)
+}
+
+/// What was printed.
+fn text_of(alloc: Global, out: &WatchedSink) -> Result<String> {
+    let Ok(text) = str::from_utf8(out.sink.bytes()) else {
+        bail!("the text is no UTF-8");
+    };
+    Ok(text.to_string(alloc)?)
 }

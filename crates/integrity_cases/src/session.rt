@@ -1,12 +1,11 @@
 //! Runs cases one after the other, and tells what each shows.
-use crate::case::{Case, Edit, Piece, Start};
-use crate::disks::{bytes_of, disk_of, image_left};
 use crate::running::{Ended, run};
-use crate::small_image::small_image;
 use crate::telling::{add, outcome_of, put_rows, told_of};
 use crate::trying::{Counts, Trial, try_each};
-use crate::watched::WatchedDisk;
 use anyhow::{Result, bail};
+use case_disks::{WatchedDisk, bytes_of, disk_of, image_left};
+use case_judging::small_image;
+use case_text::{Case, Edit, Piece, Start};
 use std::alloc::Global;
 
 /// What cases share.

@@ -1,10 +1,9 @@
 //! What a run and a case show, as text.
-use crate::case::{Candidates, Case, Show};
-use crate::disks::{bytes_of, image_left};
 use crate::running::{Ended, run};
-use crate::small_image::run_at;
-use crate::watched::Fails;
 use anyhow::Result;
+use case_disks::{bytes_of, image_left};
+use case_judging::run_at;
+use case_text::{Candidates, Case, Fails, Show};
 use sha2::{Digest, Sha256};
 use std::alloc::{AllocError, Global};
 

@@ -1,13 +1,12 @@
 //! Tries a case with each failure of a kind, until a run meets none.
-use crate::case::{CHOICES, Case, Kind, name_of, with_failure};
-use crate::disks::{bytes_of, choice_of, copy_of, disk_of, image_of};
-use crate::judging::{
-    Met, Told, digests_of, images_after, judge_left, judge_reads, judge_text, reads,
-};
 use crate::running::{Ended, run};
 use crate::telling::outcome_of;
-use crate::watched::Fails;
 use anyhow::{Result, bail};
+use case_disks::{bytes_of, choice_of, copy_of, disk_of, image_of};
+use case_judging::{
+    Met, Told, digests_of, images_after, judge_left, judge_reads, judge_text, reads,
+};
+use case_text::{CHOICES, Case, Fails, Kind, name_of, with_failure};
 use sector_disk::MemDisk;
 use std::alloc::Global;
 
@@ -155,7 +154,8 @@ fn judge_choice(
     counts.images = counts.images.saturating_add(1);
     counts.runs = counts.runs.saturating_add(1);
     let again = run(alloc, &trial.reads, Fails::NONE, image)?;
-    judge_reads(alloc, &trial.base, &trial.digests, &left, told_by(&again))
+    judge_reads(alloc, &trial.base, &trial.digests, &left, told_by(&again))?;
+    Ok(())
 }
 
 /// What a run printed, and its status.

@@ -1,31 +1,16 @@
 //! The program: its files, its standard input and output, and its status.
 //!
-//! What it does is `integrity` of `integrity_tool`, which is proved over any disk, source and sink. The disk is that of
-//! `file_disk`, over the files of the system. These here stand for what the system has: each makes calls of std, counts
-//! what fails, and tells nothing of content.
+//! What it does is `integrity` of `integrity_tool`, which is proved over any disk, key, script and sink. These are those
+//! of `file_disk` and `file_stream`, over the files of the system.
 #![tactic(auto)]
 
-mod faults;
-mod file_source;
-mod reading;
-mod std_sink;
-mod std_source;
-#[cfg(test)]
-mod tests;
-
 use file_disk::{FileDisk, StdFolder};
-use file_source::FileSource;
-use integrity_tool::integrity;
+use file_stream::{FileSource, LineSink, OpenSource, StdInput, StdInputs, StdOutput};
+use integrity_tool::{end_without_memory, integrity};
 use std::io::ErrorKind;
 use std::process::ExitCode;
 use std::rt::Env;
 use std::{env, io};
-use std_sink::StdSink;
-use std_source::StdSource;
-use stream_io::put_all;
-
-/// The status of a program that has no memory for its words.
-const NO_MEMORY: u8 = 7;
 
 /// The words that the program is given, the first its name.
 fn words_of<R: Env + AllocGlobal>(rt: &R) -> io::Result<Vec<String>> {
@@ -34,14 +19,13 @@ fn words_of<R: Env + AllocGlobal>(rt: &R) -> io::Result<Vec<String>> {
 
 fn main(rt: HostRuntime) -> ExitCode {
     let mut disk = FileDisk::new(StdFolder::new(&rt));
-    let mut key = FileSource::new(&rt);
-    let mut script = StdSource::new(&rt);
-    let mut out = StdSink::new(&rt);
+    let mut key = FileSource::new(StdInputs::new(&rt));
+    let mut script = OpenSource::new(StdInput::new(rt.reader()));
+    let mut out = LineSink::new(StdOutput::new(&rt));
     let words = match words_of(&rt) {
         Ok(words) => words,
         Err(e) if e.kind() == ErrorKind::OutOfMemory => {
-            let _ = put_all(&mut out, b"fault memory\n");
-            return ExitCode::from(NO_MEMORY);
+            return ExitCode::from(end_without_memory(&mut out));
         }
         // One of them is no text. So they are no command, as no words are none.
         Err(_) => Vec::new(rt.alloc()),

@@ -1,10 +1,10 @@
 mod SmallImage
-mod ReadingLemmas
+mod CellsLemmas
 mod ScriptLemmas
 mod LinesLemmas
 mod GrammarLemmas
 pub mod TextRoom
-mod RunningLemmas
+mod ScriptStepsLemmas
 mod TopLemmas
-mod StandingLemmas
+mod SmallDiskLemmas
 mod StandsForLemmas

@@ -14,8 +14,8 @@ use Rattle.device_model.specs.Transcript.{filled}
 use Rattle.device_model.proofs.CutLemmas.{MayBeLeftDirect-begun, IsUnflushed-pending, IsUnflushed-written, IsUnflushed-begun, flushed_cells-written, flushed_cells-flushed}
 use Rattle.device_model.proofs.HistoryLemmas.{cells_now-written_same, cells_now-written_other, cells_now-flushed, flushed-le-with_change, fill_of, filled-more, with_changes-filled_more}
 use Rattle.integrity_tool.specs.Form.{small_blocks, small_cells, small_geometry}
-use Rattle.integrity_tool.specs.Standing.{StandsFor, KeepsOthers, WritesBlock, MayBeCut, begun, tagged_cell}
-use Rattle.integrity_tool.proofs.StandingLemmas.{small_cells-same}
+use Rattle.integrity_tool.specs.SmallDisk.{StandsFor, KeepsOthers, WritesBlock, MayBeCut, begun, tagged_cell}
+use Rattle.integrity_tool.proofs.SmallDiskLemmas.{small_cells-same}
 
 -- ---- one block
 

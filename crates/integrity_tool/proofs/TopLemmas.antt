@@ -11,7 +11,7 @@ use Rattle.disk_model.proofs.MomentsLemmas.{EachMoment-weaker}
 use Rattle.stream_io.specs.Stream.{with_bytes, AddsPrefix}
 use Rattle.device_model.specs.Ending.{Ending, Complete, fault_text, status_of}
 use Rattle.integrity_tool.specs.Ended.{ending_of}
-use Rattle.integrity_tool.specs.Leaving.{RunsAndLeaves}
+use Rattle.integrity_tool.specs.Cuts.{RunsAndLeaves}
 use Rattle.integrity_tool.specs.Top.{Start, HasForm, EndsBeforeScript, Leaves, Tells, NarrowsImages}
 use Rattle.integrity_tool.specs.Words.{IsRunWords}
 use Rattle.integrity_tool.specs.declared.ended.Ended.{Ended}

@@ -7,8 +7,8 @@ pub mod Lines
 pub mod Ended
 pub mod Text
 pub mod Outcome
-pub mod Reading
-pub mod Running
+pub mod Found
+pub mod ScriptSteps
 pub mod Top
-pub mod Standing
-pub mod Leaving
+pub mod SmallDisk
+pub mod Cuts

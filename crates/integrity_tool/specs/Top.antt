@@ -4,7 +4,7 @@ use Rattle.disk_model.specs.Disk.{Content, Image, IsImage, last_image}
 use Rattle.device_model.specs.Ending.{Ending, RefusedWords, RefusedImage, DiskFailed, NoMemory, status_of, fault_text}
 use Rattle.device_model.specs.Transcript.{Line}
 use Rattle.integrity_tool.specs.Form.{IsOfForm, small_blocks}
-use Rattle.integrity_tool.specs.Leaving.{IsLeftBy, RunsAndLeaves}
+use Rattle.integrity_tool.specs.Cuts.{IsLeftBy, RunsAndLeaves}
 use Rattle.integrity_tool.specs.Script.{BeginsWith, BeginsWithNone}
 use Rattle.integrity_tool.specs.Words.{IsRunWords}
 use Rattle.device_model.specs.ScriptBytes.{most_script}

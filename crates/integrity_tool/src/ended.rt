@@ -1,9 +1,9 @@
 //! What ends a run early: its status, and the last line that is printed.
-ghost use Rattle.std.specs.Prelude.{◌≡◌, OnOk, OnErr};
+ghost use Rattle.std.specs.Prelude.{◌≡◌, ◌⊎◌, ◌≤◌, OnOk, OnErr};
 ghost use Rattle.std.specs.Option.{option_map};
-ghost use Rattle.disk_model.specs.Causes.{HasCause};
+ghost use Rattle.disk_model.specs.Causes.{HasCause, Rose};
 ghost use Rattle.stream_io.specs.Stream.{with_bytes, AddsPrefix};
-ghost use Rattle.device_model.specs.Ending.{RefusedLine, LineForm, status_of, fault_text};
+ghost use Rattle.device_model.specs.Ending.{NoMemory, RefusedLine, LineForm, status_of, fault_text};
 ghost use Rattle.integrity_tool.specs.Ended.{ending_of};
 
 use itoa::Buffer;
@@ -70,6 +70,18 @@ impl Ended {
             Ended::Memory => put_all(out, b"fault memory\n"),
         }
     }
+}
+
+/// Ends a run whose words found no memory: writes its last line, and answers its status, 7. It takes no memory.
+pub fn end_without_memory<O: Sink>(out: &mut O) -> u8
+    ensures status { result ≡ status_of NoMemory }
+    ensures told { (O.held out.new ≡ option_map (with_bytes (fault_text NoMemory)) (O.held out.old))
+        ⊎ (Rose (O.faults out.old) (O.faults out.new)
+        × AddsPrefix (fault_text NoMemory) (O.held out.old) (O.held out.new)) }
+    ensures later { O.faults out.old ≤ O.faults out.new }
+{
+    let _ = Ended::Memory.put_last_line(out);
+    Ended::Memory.status()
 }
 
 /// Writes the last line of a run that was ended by the line of this number.

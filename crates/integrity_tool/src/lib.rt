@@ -18,5 +18,6 @@ mod top_call;
 mod words;
 mod writing;
 
+pub use ended::end_without_memory;
 pub use line_reader::{MOST_LINE, MOST_SCRIPT};
 pub use top_call::integrity;

@@ -11,7 +11,7 @@ ghost use Rattle.image_model.specs.Cells.{Cell};
 ghost use Rattle.image_model.specs.Sectors.{piece};
 ghost use Rattle.device_model.specs.Reply.{read_reply};
 ghost use Rattle.integrity_tool.specs.Form.{small_blocks, small_cells};
-ghost use Rattle.integrity_tool.specs.Reading.{reply_of, IsSmallRule};
+ghost use Rattle.integrity_tool.specs.Found.{reply_of, IsSmallRule};
 
 use crate::small_image::{SMALL_BLOCKS, TAG_SIZE, data_at, left_in_area, tag_byte, tag_sector};
 use hmac_tag::{Tag, TagMaker};

@@ -1,5 +1,5 @@
 //! Each way to end a run early, by its status and its last line.
-use crate::ended::Ended;
+use crate::ended::{Ended, end_without_memory};
 use std::test::Fail;
 use stream_io::MemSink;
 
@@ -20,5 +20,8 @@ fn each_ending_has_its_status_and_its_last_line(rt: HostRuntime) -> Result<(), F
         ended.put_last_line(&mut out)?;
         assert_eq!(rt; out.bytes(), text.as_bytes(), "{ended:?}");
     }
+    let mut out = MemSink::new(rt.alloc(), 100)?;
+    assert_eq!(rt; end_without_memory(&mut out), 7);
+    assert_eq!(rt; out.bytes(), b"fault memory\n".as_slice());
     Ok(())
 }

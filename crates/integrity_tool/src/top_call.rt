@@ -7,9 +7,9 @@ ghost use Rattle.disk_model.specs.Disk.{HasNothingPending, OnlyAdds, last_image,
 ghost use Rattle.disk_model.specs.Identity.{IsBound, IsBoundTo, IsThere};
 ghost use Rattle.disk_model.specs.Moments.{content_now, EachMoment, FromStart};
 ghost use Rattle.integrity_tool.specs.Form.{IsOfForm};
-ghost use Rattle.integrity_tool.specs.Leaving.{IsOfScript};
-ghost use Rattle.integrity_tool.specs.Running.{RefusesScript, ending_by};
-ghost use Rattle.integrity_tool.specs.Standing.{IsOfBlock};
+ghost use Rattle.integrity_tool.specs.Cuts.{IsOfScript};
+ghost use Rattle.integrity_tool.specs.ScriptSteps.{RefusesScript, ending_by};
+ghost use Rattle.integrity_tool.specs.SmallDisk.{IsOfBlock};
 ghost use Rattle.integrity_tool.specs.Top.{start_of, IsRefusedScript, Leaves, MayBeLeft, Tells};
 ghost use Rattle.device_model.specs.Ending.{Complete, status_of};
 ghost use Rattle.integrity_tool.specs.Words.{IsRunWords, image_word};
@@ -19,9 +19,9 @@ use crate::running::{Room, run_script};
 use crate::small_image::{SMALL_SECTORS, TAG_SIZE, is_small_superblock};
 use crate::words::image_to_run;
 use hmac_tag::{Hash, TagMaker};
-use sector_disk::{Disk, Named};
+use sector_disk::Disk;
 use std::alloc::Global;
-use stream_io::{Sink, Source};
+use stream_io::{NamedSource, Sink, Source};
 
 /// Does what the words say, and answers the status. The words are the program's name and then those of a command.
 ///
@@ -37,7 +37,7 @@ use stream_io::{Sink, Source};
 /// - 3: the image is refused.
 /// - 4, 5, 6: the disk, the source of the script, or the sink failed.
 /// - 7: there was no memory.
-pub fn integrity<D: Disk + Named, K: Source + Named, S: Source, O: Sink>(
+pub fn integrity<D: Disk, K: NamedSource, S: Source, O: Sink>(
     alloc: Global,
     words: &[String],
     disk: &mut D,
@@ -119,7 +119,7 @@ fn complete_status(found_fault: bool) -> u8
 
 /// Does what the words say, up to the end or to what ends it. It tells whether a read found a block whose stored tag
 /// differs.
-fn run<D: Disk + Named, S: Source, O: Sink>(
+fn run<D: Disk, S: Source, O: Sink>(
     alloc: Global,
     words: &[String],
     disk: &mut D,
@@ -172,7 +172,7 @@ fn run<D: Disk + Named, S: Source, O: Sink>(
 }
 
 /// Binds the disk to the name of an image.
-fn bind_image<D: Disk + Named>(disk: &mut D, image: &str) -> Result<(), Ended>
+fn bind_image<D: Disk>(disk: &mut D, image: &str) -> Result<(), Ended>
     ensures bound { OnOk result (IsBoundTo image.now (D.identity disk.new).name) }
     ensures found { OnOk result (IsThere (D.named disk.old image.now) (D.identity disk.new).sectors (D.moments disk.new)) }
 

@@ -8,8 +8,8 @@ ghost use Rattle.disk_model.specs.Moments.{content_now, EachMoment, FromStart};
 ghost use Rattle.device_model.specs.History.{History, with_changes};
 ghost use Rattle.device_model.specs.Transcript.{filled};
 ghost use Rattle.integrity_tool.specs.Form.{small_blocks};
-ghost use Rattle.integrity_tool.specs.Reading.{IsSmallRule};
-ghost use Rattle.integrity_tool.specs.Standing.{IsOfBlocks, KeepsOthers, MayBeCut, StandsFor, WritesBlock, WritesTag, tagged_cell, with_tag};
+ghost use Rattle.integrity_tool.specs.Found.{IsSmallRule};
+ghost use Rattle.integrity_tool.specs.SmallDisk.{IsOfBlocks, KeepsOthers, MayBeCut, StandsFor, WritesBlock, WritesTag, tagged_cell, with_tag};
 
 use crate::small_image::{SMALL_BLOCKS, SMALL_SECTORS, TAG_SIZE, data_at, tag_byte, tag_sector};
 use hmac_tag::{Tag, TagMaker};

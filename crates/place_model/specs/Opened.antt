@@ -1,5 +1,5 @@
--- The device of an image that has just been opened: its format, its history and its counts, by what the image says.
--- Own: the mode is the image's own one, which a device may change before it takes its first request.
+-- The device of an image that has just been opened: its format, history and counts.
+-- Own: the mode is the image's own, which a device may change before its first request.
 use Rattle.std.specs.Prelude.{◌≡◌, ℕ, ◌*◌, Bool, true, false, not, ◌&&◌, Result, Ok, Err}
 use Rattle.disk_model.specs.Disk.{Image}
 use Rattle.image_model.specs.declared.flags.TheConstants.{DIRTY_BITMAP}
@@ -44,8 +44,7 @@ device_format mode d = record {
   region_of = region_of d.geometry;
 }
 
--- The mode is one that the flags tell: without a bitmap the journal's or the direct one, with a bitmap that one; and any disk
--- may be opened in recovery mode.
+-- The mode is one that the flags tell: journal or direct without a bitmap, bitmap with one, and recovery in any case.
 -- Source: Linux, drivers/md/dm-integrity.c, dm_integrity_ctr and SB_FLAG_DIRTY_BITMAP.
 abbrev pub IsModeOf : Mode → Superblock → Type 0
 IsModeOf Journal s = has_flag DIRTY_BITMAP s.flags ≡ false

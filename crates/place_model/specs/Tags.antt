@@ -13,9 +13,9 @@ tag_byte_at g b i = ((tag_at g b).0 + ((tag_at g b).1 + i) / 512, ((tag_at g b).
 abbrev pub with_block_tag : ℕ → List ℕ → (ℕ → List ℕ) → ℕ → List ℕ
 with_block_tag block tag tags b = if block == b then tag else tags b
 
--- The bytes may be written to a sector of tags while the tags change from the old ones to the new: each byte of a tag is an
--- old or a new one. Such a sector holds a byte of the tag of some block.
--- Own: a sector of tags may be written at any time, also in the middle of a change.
+-- The bytes may be written to a sector of tags while tags change: each byte of a tag in it is an old or a new one, and
+-- there is one.
+-- Own: a sector of tags may be written at any time.
 pub record IsOfTags (g : Geometry) (old new : ℕ → List ℕ) (sector : ℕ) (x : List ℕ) : Type 0 where
   pub whole : length x ≡ 512
   pub block : ℕ

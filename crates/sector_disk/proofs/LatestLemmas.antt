@@ -1,11 +1,11 @@
 -- Runs of sectors that are copied in a buffer, and what the bytes beside a record have in each sector.
-use Rattle.std.proofs.Common.{◌≡◌, inl, inr, ℕ, ◌+◌, ◌-◌, ◌*◌, ◌/◌, ◌<◌, ◌≤◌, List, [], ◌∷◌, ◌++◌, length, take, drop, sym, ◌∙◌, ap, subst, arith, drop_at, below_more, length-take, length-drop}
+use Rattle.std.proofs.Common.{◌≡◌, inl, inr, ℕ, ◌+◌, ◌-◌, ◌*◌, ◌/◌, ◌<◌, ◌≤◌, List, [], ◌∷◌, ◌++◌, length, take, drop, sym, ◌∙◌, ap, subst, arith, drop_at, below_more, length-take}
 use Rattle.std.proofs.lemmas.Bool.{cases_lt}
-use Rattle.std.proofs.lemmas.List.{drop-take, take-take, drop-drop, drop-append-le, take-append-le, length-take-le, take_all}
-use Rattle.std.proofs.lemmas.Slice.{take-put_mid, take-put_mid_below, drop-put_mid}
-use borrow.Rule.Slice.PartMut.{put_mid, post_of}
-use Rattle.disk_model.specs.Disk.{Content, Image, Reads, last_candidate, last_image, sector_in, with_sectors, with_run}
-use Rattle.disk_model.proofs.DiskLemmas.{last_image-with_run, last_image-with_run_out, with_sectors-in, with_sectors-out}
+use Rattle.std.proofs.lemmas.List.{drop-take, take-append-le, take_all}
+use Rattle.std.proofs.lemmas.Slice.{take-put_mid, drop-put_mid}
+use borrow.Rule.Slice.PartMut.{put_mid}
+use Rattle.disk_model.specs.Disk.{Content, Image, Reads, last_candidate, last_image, sector_in, with_run}
+use Rattle.disk_model.proofs.DiskLemmas.{last_image-with_run, last_image-with_run_out}
 use Rattle.disk_model.proofs.SectorLemmas.{sector_in-take, sector_in-drop, sector_in-put_below, sector_in-put_within, with_run-take}
 use Rattle.sector_disk.specs.declared.record.Event.{Event}
 use Rattle.sector_disk.specs.declared.record.Event.TheVariants.{Sync}

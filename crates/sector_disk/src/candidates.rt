@@ -5,36 +5,39 @@ ghost use Rattle.sector_disk.specs.Record.{after_event, content_after, content_o
 
 use crate::record::{Event, SECTOR_SIZE};
 
-/// Takes note of an event: of a sector's last candidate, of how many it has, and of the one at `index`.
-fn note(
-    event: &Event,
-    at: u64,
-    index: usize,
-    last: &mut [u8; 512],
-    count: &mut usize,
-    out: &mut [u8],
-)
-    requires sector { length out.old ≡ 512 }
-    requires count { count.old + 1 < 2 ^ 64 }
+/// What a walk over the record has found of a sector so far.
+#[derive(Drop)]
+struct Found {
+    /// Its last candidate.
+    last: [u8; SECTOR_SIZE],
+    /// How many it has.
+    count: usize,
+    /// The one that is looked for, where it has come.
+    chosen: [u8; SECTOR_SIZE],
+}
 
-    ensures noted { (c : Content) → IsNoted c at index last.old count.old out.old
-        → IsNoted (after_event event.now c) at index last.new count.new out.new }
-    ensures count { count.new ≤ count.old + 1 ⊎ count.new ≡ 1 }
+/// Takes note of an event: of the candidates of sector `at`, where that of this index is looked for.
+fn note(event: &Event, at: u64, index: usize, found: &mut Found)
+    requires { found.old.count + 1 < 2 ^ 64 }
+
+    ensures noted { (c : Content) → IsNoted c at index found.old.last found.old.count found.old.chosen
+        → IsNoted (after_event event.now c) at index found.new.last found.new.count found.new.chosen }
+    ensures count { found.new.count ≤ found.old.count + 1 ⊎ found.new.count ≡ 1 }
 {
     match event {
         Event::Write { at: place, bytes } => {
             if *place == at {
-                *last = *bytes;
-                if *count == index {
-                    out.copy_from_slice(bytes);
+                found.last = *bytes;
+                if found.count == index {
+                    found.chosen = *bytes;
                 }
-                *count += 1;
+                found.count += 1;
             }
         }
         Event::Sync => {
-            *count = 1;
+            found.count = 1;
             if index == 0 {
-                out.copy_from_slice(last);
+                found.chosen = found.last;
             }
         }
     }
@@ -49,20 +52,25 @@ fn copy_candidate(base: &[u8], events: &[Event], at: u64, index: usize, out: &mu
     ensures { out.new ≡ slice_index_or (content_after (content_of_bytes base.now) events.now at) index [] }
 {
     let from = 512 * at as usize;
-    let mut last = [0; SECTOR_SIZE];
-    last.copy_from_slice(&base[from..from + 512]);
-    out.copy_from_slice(&last);
-    let mut count = 1;
+    let mut first = [0; SECTOR_SIZE];
+    first.copy_from_slice(&base[from..from + 512]);
+    let mut found = Found {
+        last: first,
+        count: 1,
+        chosen: first,
+    };
     for event in events {
-        note(event, at, index, &mut last, &mut count, out);
+        note(event, at, index, &mut found);
     }
+    out.copy_from_slice(&found.chosen);
 }
 
 /// How many candidates a sector has after an event, where it had `count` before.
 fn count_after(event: &Event, at: u64, count: usize) -> usize
     requires { count + 1 < 2 ^ 64 }
 
-    ensures count { (c : Content) → count ≡ length (c at) → result ≡ length (after_event event.now c at) }
+    ensures count { (c : Content) → count ≡ length (c at)
+        → result ≡ length (after_event event.now c at) }
     ensures bound { result ≤ count + 1 }
 {
     match event {

@@ -3,49 +3,52 @@
 //! Each sector has a list of candidates. A read gives the last of them, and a cut may leave any one.
 ghost use Rattle.std.specs.Prelude.{◌≡◌, ◌≤◌, ◌+◌, ◌*◌, ◌/◌, ◌^◌, ◌<◌, List, ℕ, length, OnOk, OnErr, Some};
 ghost use Rattle.std.specs.List.{Contains};
-ghost use Rattle.std.specs.Option.{ForSome, option_map};
 ghost use Rattle.disk_model.specs.Causes.{HasCause};
 ghost use Rattle.disk_model.specs.Disk.{Content, IsImage, IsRun, Reads, AddsSome, with_run, newest_only, last_image};
 ghost use Rattle.disk_model.specs.Identity.{Binding, DiskIdentity, IsBound, IsBoundTo, NamedDisk};
-ghost use Rattle.disk_model.specs.Moments.{content_now, EachMoment, FromStart};
+ghost use Rattle.disk_model.specs.Moments.{EachSince, HasNow, IsChangedBy, content_now};
+
+use thiserror::Error;
 
 /// Something outside has failed: a disk, a source or a sink.
-#[derive(Clone, Copy, Debug, PartialEq, Eq)]
+#[derive(Clone, Copy, Debug, PartialEq, Eq, Error)]
+#[error("a disk, a source or a sink has failed")]
 pub struct Failed;
 
 /// There was no memory for what a call was to make.
-#[derive(Clone, Copy, Debug, PartialEq, Eq)]
+#[derive(Clone, Copy, Debug, PartialEq, Eq, Error)]
+#[error("there is no memory")]
 pub struct Memory;
 
 /// An object that counts the faults of what it stands for.
 pub trait Counted {
     /// How often it has failed. The count never falls, and stays at 2^64 - 1 once it is there.
     ghost faults: { Self → ℕ };
-
-    /// The name that it is bound to. One that is never bound, as an output, stands for any.
-    ghost binding: { Self → Binding };
-
-    /// Two states tell the same of what has this name: what differs is the count, and what is bound.
-    ghost tells_same: { List ℕ → Self → Self → Type 0 };
 }
 
 /// An object that stands for nothing until it is bound to a name, as that of a file.
 pub trait Named: Counted {
+    /// The name that it is bound to. One in memory stands for any.
+    ghost binding: { Self → Binding };
+
+    /// Two states tell the same of what has this name: what differs is the count, and what is bound.
+    ghost tells_same: { List ℕ → Self → Self → Type 0 };
+
     /// Binds it to a name. What has this name stays as it is, and over memory nothing changes.
     ///
     /// # Errors
     ///
     /// - `Failed`: what has the name could not be reached.
     fn bind(&mut self, name: &str) -> Result<(), Failed>
-        ensures bound { OnOk result (IsBoundTo name.now (Self.binding self.new)) }
+        ensures bound { OnOk result (IsBoundTo name.now (binding self.new)) }
 
         ensures cause { HasCause (Self.faults self.old) (Self.faults self.new) result }
 
-        ensures same { Self.tells_same name.now self.old self.new };
+        ensures same { tells_same name.now self.old self.new };
 }
 
 /// A disk of sectors of 512 bytes.
-pub trait Disk: Counted {
+pub trait Disk: Named {
     /// What it is: the name that it is bound to, and how many sectors it has.
     ghost identity: { Self → DiskIdentity };
 
@@ -71,7 +74,7 @@ pub trait Disk: Counted {
         requires bound { IsBound (identity self.old).name }
         requires run { IsRun at (length buffer.old) (identity self.old).sectors }
 
-        ensures read { OnOk result (ForSome (content_now (moments self.old)) (Reads at buffer.new)) }
+        ensures read { OnOk result (HasNow (Reads at buffer.new) (moments self.old)) }
 
         ensures cause { HasCause (Self.faults self.old) (Self.faults self.new) result }
 
@@ -87,15 +90,14 @@ pub trait Disk: Counted {
         requires bound { IsBound (identity self.old).name }
         requires run { IsRun at (length bytes.now) (identity self.old).sectors }
 
-        ensures written { OnOk result (content_now (moments self.new)
-            ≡ option_map (with_run at bytes.now) (content_now (moments self.old))) }
+        ensures written { OnOk result (IsChangedBy (with_run at bytes.now)
+            (moments self.old) (moments self.new)) }
 
         ensures cause { HasCause (Self.faults self.old) (Self.faults self.new) result }
 
         ensures identity { identity self.new ≡ identity self.old }
 
-        ensures moments { EachMoment (moments self.old) (moments self.new)
-            (FromStart (moments self.old) (AddsSome at bytes.now)) };
+        ensures moments { EachSince (AddsSome at bytes.now) (moments self.old) (moments self.new) };
 
     /// Settles what was written: of each sector the last candidate alone is left.
     ///
@@ -105,16 +107,15 @@ pub trait Disk: Counted {
     fn sync(&mut self) -> Result<(), Failed>
         requires { IsBound (identity self.old).name }
 
-        ensures synced { OnOk result (content_now (moments self.new)
-            ≡ option_map newest_only (content_now (moments self.old))) }
+        ensures synced { OnOk result (IsChangedBy newest_only (moments self.old) (moments self.new)) }
 
         ensures cause { HasCause (Self.faults self.old) (Self.faults self.new) result }
         ensures err { OnErr result (moments self.new ≡ moments self.old) }
 
         ensures identity { identity self.new ≡ identity self.old }
 
-        ensures moments { EachMoment (moments self.old) (moments self.new)
-            (FromStart (moments self.old) (λ start c. c ≡ newest_only start)) };
+        ensures moments { EachSince (λ start c. c ≡ newest_only start)
+            (moments self.old) (moments self.new) };
 
     /// What reads give is one of the images.
     ghost reads_an_image: { (disk : Self) (c : Content) → content_now (moments disk) ≡ Some c
@@ -122,7 +123,8 @@ pub trait Disk: Counted {
 
     /// Each candidate of its sectors has 512 bytes.
     ghost whole_sectors: { (disk : Self) (c : Content) (sector : ℕ) (x : List ℕ)
-        → content_now (moments disk) ≡ Some c → sector < (identity disk).sectors → Contains (c sector) x → length x ≡ 512 };
+        → content_now (moments disk) ≡ Some c → sector < (identity disk).sectors
+        → Contains (c sector) x → length x ≡ 512 };
 
     /// The name of what it is, is the one that it was bound to.
     ghost identity_name: { (disk : Self) → (identity disk).name ≡ Self.binding disk };

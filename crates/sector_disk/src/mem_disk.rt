@@ -3,10 +3,9 @@
 //! The bytes that reads give stand beside the record, so a read is a look-up and a copy. All memory is taken
 //! when the disk is made.
 ghost use Rattle.std.specs.Prelude.{◌≡◌, ◌⊎◌, ◌+◌, ◌-◌, ◌*◌, ◌/◌, ◌^◌, ◌<◌, ◌≤◌, ◌↔◌, ℕ, List, [], length, replicate, IfOk, IsOk, OnOk, OnErr, IsErr, IsTrue, min, vec_capacity, Some, None};
-ghost use Rattle.std.specs.Option.{ForSome, option_map};
 ghost use Rattle.disk_model.specs.Causes.{HasCause};
 ghost use Rattle.disk_model.specs.Disk.{Content, IsRun, Reads, AddsSome, with_run, newest_only};
-ghost use Rattle.disk_model.specs.Moments.{content_now, EachMoment, FromStart};
+ghost use Rattle.disk_model.specs.Moments.{EachSince, HasNow, IsChangedBy};
 ghost use Rattle.sector_disk.specs.Faults.{FailsNext, with_call, with_fault};
 ghost use Rattle.sector_disk.specs.Record.{AreWholeEvents, IsLatest};
 
@@ -133,18 +132,18 @@ impl MemDisk {
 }
 
 impl Counted for MemDisk {
-    ghost use Rattle.disk_model.specs.Identity.{AnyName};
-    ghost use Rattle.sector_disk.specs.MemDisk.{record_of, DiffersInFaults};
+    ghost use Rattle.sector_disk.specs.MemDisk.{record_of};
 
     ghost faults = { λ d. (record_of d).plan.faults };
+}
+
+impl Named for MemDisk {
+    ghost use Rattle.disk_model.specs.Identity.{AnyName};
+    ghost use Rattle.sector_disk.specs.MemDisk.{record_of, DiffersInFaults};
 
     ghost binding = { λ d. AnyName };
 
     ghost tells_same = { λ name a b. DiffersInFaults (record_of a) (record_of b) };
-}
-
-impl Named for MemDisk {
-    ghost use Rattle.sector_disk.specs.MemDisk.{record_of, DiffersInFaults};
 
     fn bind(&mut self, _name: &str) -> Result<(), Failed>
         ensures ok { IsOk result }
@@ -189,8 +188,7 @@ impl Disk for MemDisk {
     fn read_run(&mut self, at: u64, buffer: &mut [u8]) -> Result<(), Failed>
         requires { IsRun at (length buffer.old) (record_of self.old).sectors }
 
-        ensures read { OnOk result (ForSome (content_now (moments_told (record_of self.old)))
-            (Reads at buffer.new)) }
+        ensures read { OnOk result (HasNow (Reads at buffer.new) (moments_told (record_of self.old))) }
 
         ensures fails { IsErr result ↔ IsRefused (record_of self.old) }
         ensures cause { HasCause (record_of self.old).plan.faults (record_of self.new).plan.faults result }
@@ -207,8 +205,8 @@ impl Disk for MemDisk {
     fn write_run(&mut self, at: u64, bytes: &[u8]) -> Result<(), Failed>
         requires { IsRun at (length bytes.now) (record_of self.old).sectors }
 
-        ensures written { OnOk result (content_now (moments_told (record_of self.new))
-            ≡ option_map (with_run at bytes.now) (content_now (moments_told (record_of self.old)))) }
+        ensures written { OnOk result (IsChangedBy (with_run at bytes.now)
+            (moments_told (record_of self.old)) (moments_told (record_of self.new))) }
 
         ensures fails { IsErr result ↔ (IsRefused (record_of self.old)
             ⊎ (sectors_left (record_of self.old) < length bytes.now / 512)) }
@@ -222,8 +220,8 @@ impl Disk for MemDisk {
 
         ensures identity { (record_of self.new).sectors ≡ (record_of self.old).sectors }
 
-        ensures moments { EachMoment (moments_told (record_of self.old)) (moments_told (record_of self.new))
-            (FromStart (moments_told (record_of self.old)) (AddsSome at bytes.now)) }
+        ensures moments { EachSince (AddsSome at bytes.now)
+            (moments_told (record_of self.old)) (moments_told (record_of self.new)) }
     {
         begin(&mut self.plan, self.stop)?;
         let left = count_writes_left(self.room.saturating_sub(self.events.len()), self.stop);
@@ -239,8 +237,8 @@ impl Disk for MemDisk {
     }
 
     fn sync(&mut self) -> Result<(), Failed>
-        ensures synced { OnOk result (content_now (moments_told (record_of self.new))
-            ≡ option_map newest_only (content_now (moments_told (record_of self.old)))) }
+        ensures synced { OnOk result (IsChangedBy newest_only
+            (moments_told (record_of self.old)) (moments_told (record_of self.new))) }
         ensures ok { OnOk result (record_of self.new ≡ with_sync (after_call result (record_of self.old))) }
 
         ensures fails { IsErr result ↔ (IsRefused (record_of self.old)
@@ -251,8 +249,8 @@ impl Disk for MemDisk {
 
         ensures identity { (record_of self.new).sectors ≡ (record_of self.old).sectors }
 
-        ensures moments { EachMoment (moments_told (record_of self.old)) (moments_told (record_of self.new))
-            (FromStart (moments_told (record_of self.old)) (λ start c. c ≡ newest_only start)) }
+        ensures moments { EachSince (λ start c. c ≡ newest_only start)
+            (moments_told (record_of self.old)) (moments_told (record_of self.new)) }
     {
         begin(&mut self.plan, self.stop)?;
         if self.events.len() >= self.room {

@@ -1,6 +1,6 @@
 //! A disk in memory: which calls fail, what they append, and which images a cut may leave.
 use crate::record::SECTOR_SIZE;
-use crate::{Disk, Failed, MemDisk, Named};
+use crate::{Disk, Failed, MemDisk, Memory, Named};
 use std::alloc::{AllocError, Global};
 use std::process::Abort;
 use std::test::Fail;
@@ -246,4 +246,13 @@ fn an_image_has_a_candidate_of_each_sector(rt: HostRuntime) -> Result<(), Fail> 
         "a sync leaves one candidate"
     );
     expect_image(&rt, alloc, &disk, &[0, 0], &[2, 9])
+}
+
+#[test]
+fn each_fault_has_its_text(rt: HostRuntime) -> Result<(), Fail> {
+    let failed = format!(in rt.alloc(); "{}", Failed)?;
+    assert_eq!(rt; failed.as_str(), "a disk, a source or a sink has failed");
+    let memory = format!(in rt.alloc(); "{}", Memory)?;
+    assert_eq!(rt; memory.as_str(), "there is no memory");
+    Ok(())
 }

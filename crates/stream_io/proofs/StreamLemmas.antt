@@ -2,7 +2,7 @@
 use Rattle.std.proofs.Common.{◌≡◌, ℕ, ◌+◌, List, ◌++◌, length, take, drop, refl, sym, ◌∙◌, ap, arith, append_assoc, length-append, Option, Some, None}
 use Rattle.std.specs.Option.{option_map}
 use Rattle.std.proofs.Math.Seq.{take-add, take-append-add}
-use Rattle.std.proofs.lemmas.List.{take-append-drop, take-append-le}
+use Rattle.std.proofs.lemmas.List.{drop-drop, take-append-drop, take-append-le}
 use Rattle.stream_io.specs.Stream.{Gives, with_bytes, AddsPrefix}
 
 -- ---- a sink that takes one piece after the other
@@ -40,3 +40,8 @@ AddsPrefix-then a b old middle new first part = record {
 -- What was read, and then what is left, is what was left before.
 pub Gives-left : (n : ℕ) (buffer left : List ℕ) → Gives n buffer left → take n buffer ++ drop n left ≡ left
 Gives-left n buffer left gives = ap (λ (x : List ℕ). x ++ drop n left) gives.next ∙ take-append-drop n left
+
+-- What is left of a source that gives n bytes more.
+pub left_more : (done n : ℕ) (first before new : Option (List ℕ)) → before ≡ option_map (drop done) first → new ≡ option_map (drop n) before → new ≡ option_map (drop (done + n)) first
+left_more done n None before new was is = is ∙ ap (option_map (drop n)) was
+left_more done n (Some left) before new was is = is ∙ ap (option_map (drop n)) was ∙ ap (λ (x : List ℕ). Some x) (drop-drop n done left)

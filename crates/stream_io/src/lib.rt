@@ -4,14 +4,18 @@
 //! them (`specs/Stream.antt` first).
 #![tactic(auto)]
 
+mod mem_file;
 mod mem_sink;
 mod mem_source;
 mod putting;
+mod reading;
 mod stream;
 #[cfg(test)]
 mod tests;
 
+pub use mem_file::MemFile;
 pub use mem_sink::MemSink;
 pub use mem_source::MemSource;
 pub use putting::put_all;
-pub use stream::{Sink, Source};
+pub use reading::{ReadFault, read_named};
+pub use stream::{NamedSource, Sink, Source};

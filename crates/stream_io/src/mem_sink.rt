@@ -1,7 +1,6 @@
 //! A sink that holds bytes in memory.
 ghost use Rattle.std.specs.Prelude.{◌≡◌, ◌⊎◌, ◌≤◌, ◌<◌, ◌++◌, ◌↔◌, [], length, min, take, Some, IsErr, IfOk, OnErr};
 ghost use Rattle.disk_model.specs.Causes.{HasCause};
-ghost use Rattle.disk_model.specs.Identity.{AnyName};
 ghost use Rattle.sector_disk.specs.Faults.{FailsNext, unused_plan, with_call, with_fault};
 
 use crate::Sink;
@@ -71,10 +70,6 @@ impl MemSink {
 
 impl Counted for MemSink {
     ghost faults = { λ sink. sink.plan.faults };
-
-    ghost binding = { λ sink. AnyName };
-
-    ghost tells_same = { λ name a b. b.held ≡ a.held };
 }
 
 impl Sink for MemSink {

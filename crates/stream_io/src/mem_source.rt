@@ -1,13 +1,11 @@
 //! A source over bytes in memory.
-ghost use Rattle.std.specs.Prelude.{◌≡◌, ◌≤◌, ◌↔◌, ℕ, List, [], length, min, drop, Some, IsErr, IsOk, IfOk, OnOk, OnErr};
-ghost use Rattle.std.proofs.Common.{ap, refl};
+ghost use Rattle.std.specs.Prelude.{◌≡◌, ◌≤◌, ◌↔◌, length, min, drop, Some, IsErr, IfOk, OnErr};
 ghost use Rattle.disk_model.specs.Causes.{HasCause};
-ghost use Rattle.disk_model.specs.Identity.{AnyName, IsBoundTo};
 ghost use Rattle.sector_disk.specs.Faults.{FailsNext, unused_plan, with_call, with_fault};
 ghost use Rattle.stream_io.specs.Stream.{Gives};
 
 use crate::Source;
-use sector_disk::{Counted, Failed, FaultPlan, MOST_FAILING, Named};
+use sector_disk::{Counted, Failed, FaultPlan, MOST_FAILING};
 use std::marker::Model;
 
 /// Gives bytes that it borrows. It takes no memory.
@@ -52,30 +50,10 @@ impl<'b> MemSource<'b> {
 
 impl Counted for MemSource<'_> {
     ghost faults = { λ source. source.plan.faults };
-
-    ghost binding = { λ source. AnyName };
-
-    ghost tells_same = { λ name a b. b.left ≡ a.left };
-}
-
-impl Named for MemSource<'_> {
-    fn bind(&mut self, _name: &str) -> Result<(), Failed>
-        ensures ok { IsOk result }
-        ensures bound { OnOk result (IsBoundTo _name.now AnyName) }
-
-        ensures cause { HasCause self.old.plan.faults self.new.plan.faults result }
-
-        ensures same { self.new.left ≡ self.old.left }
-        ensures kept { self.new ≡ self.old }
-    {
-        Ok(())
-    }
 }
 
 impl Source for MemSource<'_> {
     ghost left = { λ source. Some source.left };
-
-    ghost named = { λ source name. Some source.left };
 
     fn read(&mut self, buffer: &mut [u8]) -> Result<usize, Failed>
         ensures count { IfOk result (λ n. n ≡ min (length buffer.new) (length self.old.left)) }
@@ -95,8 +73,4 @@ impl Source for MemSource<'_> {
         self.left = &self.left[n..];
         Ok(n)
     }
-
-    ghost named_if_bound = { λ source name bound. refl };
-
-    ghost same_named = { λ name a b bytes same told. ap (λ (x : List ℕ). Some x) same };
 }

@@ -2,19 +2,15 @@
 ghost use Rattle.std.specs.Prelude.{◌≡◌, ◌<◌, ◌≤◌, ℕ, List, Option, length, take, drop, Some, IfOk, OnErr};
 ghost use Rattle.std.specs.Option.{ForSome, option_map};
 ghost use Rattle.disk_model.specs.Causes.{HasCause};
-ghost use Rattle.disk_model.specs.Identity.{IsBoundTo};
+ghost use Rattle.disk_model.specs.Identity.{IsBound, IsBoundTo};
 ghost use Rattle.stream_io.specs.Stream.{Gives, with_bytes};
 
-use sector_disk::{Counted, Failed};
+use sector_disk::{Counted, Failed, Named};
 
-/// An object that gives bytes in order.
+/// An object that gives bytes in order, and is open from the start, as the standard input.
 pub trait Source: Counted {
     /// The bytes that it has left. A source that does not tell them has none to name: then no clause speaks of them.
     ghost left: { Self → Option (List ℕ) };
-
-    /// What has this name: the bytes that the source will have left once it is bound to it, and those that it has
-    /// left where it is bound to it.
-    ghost named: { Self → List ℕ → Option (List ℕ) };
 
     /// Reads the next bytes into the front of the buffer, and tells how many. It gives none to a buffer that is
     /// not empty only at its end. What stands behind them in the buffer is open, and all of it after a failure.
@@ -23,6 +19,31 @@ pub trait Source: Counted {
     ///
     /// - `Failed`: the source failed. It has the same bytes left.
     fn read(&mut self, buffer: &mut [u8]) -> Result<usize, Failed>
+        ensures count { IfOk result (λ n. n ≤ length buffer.new) }
+        ensures read { IfOk result (λ n. ForSome (left self.old) (Gives n buffer.new)) }
+        ensures left { IfOk result (λ n. left self.new ≡ option_map (drop n) (left self.old)) }
+
+        ensures cause { HasCause (Self.faults self.old) (Self.faults self.new) result }
+        ensures err { OnErr result (left self.new ≡ left self.old) };
+}
+
+/// An object that gives the bytes of what it is bound to, as a file, in order.
+pub trait NamedSource: Named {
+    /// The bytes that it has left. A source that does not tell them has none to name: then no clause speaks of them.
+    ghost left: { Self → Option (List ℕ) };
+
+    /// What has this name: the bytes that the source will have left once it is bound to it, and those that it has
+    /// left where it is bound to it.
+    ghost named: { Self → List ℕ → Option (List ℕ) };
+
+    /// Reads the next bytes into the front of the buffer, as `read` of a `Source` does.
+    ///
+    /// # Errors
+    ///
+    /// - `Failed`: the source failed. It has the same bytes left.
+    fn read(&mut self, buffer: &mut [u8]) -> Result<usize, Failed>
+        requires { IsBound (Self.binding self.old) }
+
         ensures count { IfOk result (λ n. n ≤ length buffer.new) }
         ensures read { IfOk result (λ n. ForSome (left self.old) (Gives n buffer.new)) }
         ensures left { IfOk result (λ n. left self.new ≡ option_map (drop n) (left self.old)) }

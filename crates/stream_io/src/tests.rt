@@ -1,25 +1,52 @@
 //! Tests of the public calls.
-use crate::{MemSink, MemSource, Sink, Source, put_all};
-use sector_disk::{Failed, Named};
+use crate::{MemFile, MemSink, MemSource, ReadFault, Sink, Source, put_all, read_named};
+use sector_disk::Failed;
 use std::test::Fail;
-
-// Binds a source and reads once.
-fn bound_read<S: Source + Named>(source: &mut S, buffer: &mut [u8]) -> Result<usize, Failed> {
-    source.bind("key")?;
-    source.read(buffer)
-}
 
 #[test]
 fn a_source_gives_its_bytes_in_order(rt: HostRuntime) -> Result<(), Fail> {
     let mut source = MemSource::new(b"abcde");
     let mut buffer = [b'-'; 3];
-    assert_eq!(rt; bound_read(&mut source, &mut buffer)?, 3);
+    assert_eq!(rt; source.read(&mut buffer)?, 3);
     assert_eq!(rt; &buffer, b"abc");
     assert_eq!(rt; source.read(&mut [])?, 0, "no buffer");
     assert_eq!(rt; source.read(&mut buffer)?, 2);
     assert_eq!(rt; &buffer, b"dec");
     assert_eq!(rt; source.read(&mut buffer)?, 0, "at the end");
     assert_eq!(rt; &buffer, b"dec");
+    Ok(())
+}
+
+#[test]
+fn what_has_a_name_is_read_up_to_a_bound(rt: HostRuntime) -> Result<(), Fail> {
+    for (most, failing, wanted) in [
+        (0, 9, Ok(&b""[..])),
+        (3, 9, Ok(b"abc")),
+        (5, 9, Ok(b"abcde")),
+        (9, 9, Ok(b"abcde")),
+        (9, 2, Err(ReadFault::Failed)),
+        (usize::MAX, 9, Err(ReadFault::Memory)),
+    ] {
+        let mut file = MemFile::new(b"abcde");
+        file.fail_at(&[failing]);
+        let bytes = read_named(rt.alloc(), &mut file, "key", most);
+        match (&bytes, wanted) {
+            (Ok(bytes), Ok(wanted)) => assert_eq!(rt; bytes.as_slice(), wanted, "{most}"),
+            (Err(fault), Err(wanted)) => assert_eq!(rt; *fault, wanted, "{most}"),
+            _ => assert!(rt; false, "{most}"),
+        }
+    }
+    Ok(())
+}
+
+#[test]
+fn each_fault_has_its_text(rt: HostRuntime) -> Result<(), Fail> {
+    for (fault, text) in [
+        (ReadFault::Failed, "the source has failed"),
+        (ReadFault::Memory, "there is no memory for the bytes"),
+    ] {
+        assert_eq!(rt; format!(in rt.alloc(); "{fault}")?.as_str(), text);
+    }
     Ok(())
 }
 

@@ -1,11 +1,10 @@
 //! A list of pairs, written one after the other.
 ghost use Rattle.std.specs.Prelude.{◌≡◌, OnOk};
 ghost use Rattle.std.specs.List.{All};
-ghost use Rattle.std.specs.Option.{ForSome, option_map};
 ghost use Rattle.disk_model.specs.Causes.{HasCause};
 ghost use Rattle.disk_model.specs.Disk.{EachImage, HasNothingPending};
 ghost use Rattle.disk_model.specs.Identity.{IsBound};
-ghost use Rattle.disk_model.specs.Moments.{content_now, EachMoment, FromStart};
+ghost use Rattle.disk_model.specs.Moments.{EachSince, HasNow, IsChangedBy};
 ghost use Rattle.two_writes.specs.Pair.{IsAmidPairs, IsCutAmidPairs, IsFit, with_pairs};
 
 use crate::{Pair, write_pair};
@@ -21,20 +20,19 @@ pub fn write_pairs<D: Disk>(disk: &mut D, pairs: &[Pair]) -> Result<(), Failed>
     requires bound { IsBound (D.identity disk.old).name }
     requires pairs { All (IsFit (D.identity disk.old).sectors) pairs.now }
 
-    ensures written { OnOk result (content_now (D.moments disk.new)
-        ≡ option_map (with_pairs pairs.now) (content_now (D.moments disk.old))) }
+    ensures written { OnOk result (IsChangedBy (with_pairs pairs.now)
+        (D.moments disk.old) (D.moments disk.new)) }
 
     ensures cause { HasCause (D.faults disk.old) (D.faults disk.new) result }
 
     ensures identity { D.identity disk.new ≡ D.identity disk.old }
 
-    ensures moments { EachMoment (D.moments disk.old) (D.moments disk.new)
-        (FromStart (D.moments disk.old) (IsAmidPairs pairs.now)) }
+    ensures moments { EachSince (IsAmidPairs pairs.now) (D.moments disk.old) (D.moments disk.new) }
 
     // The same, told by the images of a disk on which nothing was pending.
-    ensures cut { ForSome (content_now (D.moments disk.old)) HasNothingPending
-        → EachMoment (D.moments disk.old) (D.moments disk.new)
-        (FromStart (D.moments disk.old) (λ start. EachImage (IsCutAmidPairs pairs.now start))) }
+    ensures cut { HasNow HasNothingPending (D.moments disk.old)
+        → EachSince (λ start. EachImage (IsCutAmidPairs pairs.now start))
+        (D.moments disk.old) (D.moments disk.new) }
 {
     for pair in pairs {
         write_pair(disk, pair)?;

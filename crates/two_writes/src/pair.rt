@@ -3,11 +3,10 @@
 //! There is one sync, behind both. So a cut before it may leave each of the two old or new, and a cut after it
 //! leaves both new.
 ghost use Rattle.std.specs.Prelude.{◌≡◌, ◌<◌, ◌↔◌, length, IsTrue, OnOk};
-ghost use Rattle.std.specs.Option.{ForSome, option_map};
 ghost use Rattle.disk_model.specs.Causes.{HasCause};
 ghost use Rattle.disk_model.specs.Disk.{EachImage, HasNothingPending, OnlyAdds, newest_only, with_run};
 ghost use Rattle.disk_model.specs.Identity.{IsBound};
-ghost use Rattle.disk_model.specs.Moments.{content_now, EachMoment, FromStart};
+ghost use Rattle.disk_model.specs.Moments.{EachSince, HasNow, IsChangedBy};
 ghost use Rattle.two_writes.specs.Pair.{HasPair, IsFit, IsOfEither, IsOfPair, IsOldOrNew, changed_sector, with_pair};
 
 use sector_disk::{Disk, Failed};
@@ -50,22 +49,22 @@ pub fn write_pair<D: Disk>(disk: &mut D, pair: &Pair) -> Result<(), Failed>
     requires bound { IsBound (D.identity disk.old).name }
     requires pair { IsFit (D.identity disk.old).sectors pair.now }
 
-    ensures written { OnOk result (content_now (D.moments disk.new)
-        ≡ option_map (with_pair pair.now) (content_now (D.moments disk.old))) }
+    ensures written { OnOk result (IsChangedBy (with_pair pair.now)
+        (D.moments disk.old) (D.moments disk.new)) }
 
     ensures cause { HasCause (D.faults disk.old) (D.faults disk.new) result }
 
     ensures identity { D.identity disk.new ≡ D.identity disk.old }
 
-    ensures images { OnOk result (ForSome (content_now (D.moments disk.old)) (λ old.
-        ForSome (content_now (D.moments disk.new)) (EachImage (HasPair pair.now old)))) }
-    ensures moments { EachMoment (D.moments disk.old) (D.moments disk.new)
-        (FromStart (D.moments disk.old) (λ start. OnlyAdds (IsOfPair pair.now start) start)) }
+    ensures images { OnOk result (HasNow (λ old.
+        HasNow (EachImage (HasPair pair.now old)) (D.moments disk.new)) (D.moments disk.old)) }
+    ensures moments { EachSince (λ start. OnlyAdds (IsOfPair pair.now start) start)
+        (D.moments disk.old) (D.moments disk.new) }
 
     // The same, told by the images of a disk on which nothing was pending.
-    ensures cut { ForSome (content_now (D.moments disk.old)) HasNothingPending
-        → EachMoment (D.moments disk.old) (D.moments disk.new)
-        (FromStart (D.moments disk.old) (λ start. EachImage (IsOldOrNew pair.now start))) }
+    ensures cut { HasNow HasNothingPending (D.moments disk.old)
+        → EachSince (λ start. EachImage (IsOldOrNew pair.now start))
+        (D.moments disk.old) (D.moments disk.new) }
 {
     let mut sector = [0; 512];
     read_changed(disk, pair, &mut sector)?;
@@ -77,8 +76,7 @@ fn read_changed<D: Disk>(disk: &mut D, pair: &Pair, sector: &mut [u8; 512]) -> R
     requires bound { IsBound (D.identity disk.old).name }
     requires pair { IsFit (D.identity disk.old).sectors pair.now }
 
-    ensures sector { OnOk result (ForSome (content_now (D.moments disk.old))
-        (λ c. sector.new ≡ changed_sector pair.now c)) }
+    ensures sector { OnOk result (HasNow (λ c. sector.new ≡ changed_sector pair.now c) (D.moments disk.old)) }
 
     ensures cause { HasCause (D.faults disk.old) (D.faults disk.new) result }
 
@@ -102,16 +100,16 @@ fn write_both<D: Disk>(
     requires first_at { first_at < (D.identity disk.old).sectors }
     requires second_at { second_at < (D.identity disk.old).sectors }
 
-    ensures written { OnOk result (content_now (D.moments disk.new)
-        ≡ option_map (λ c. newest_only (with_run second_at second.now (with_run first_at first.now c)))
-        (content_now (D.moments disk.old))) }
+    ensures written { OnOk result (IsChangedBy
+        (λ c. newest_only (with_run second_at second.now (with_run first_at first.now c)))
+        (D.moments disk.old) (D.moments disk.new)) }
 
     ensures cause { HasCause (D.faults disk.old) (D.faults disk.new) result }
 
     ensures identity { D.identity disk.new ≡ D.identity disk.old }
 
-    ensures moments { EachMoment (D.moments disk.old) (D.moments disk.new)
-        (FromStart (D.moments disk.old) (OnlyAdds (IsOfEither first_at first.now second_at second.now))) }
+    ensures moments { EachSince (OnlyAdds (IsOfEither first_at first.now second_at second.now))
+        (D.moments disk.old) (D.moments disk.new) }
 {
     disk.write_run(first_at, first)?;
     disk.write_run(second_at, second)?;

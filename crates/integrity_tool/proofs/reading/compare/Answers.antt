@@ -4,7 +4,7 @@ use Rattle.device_model.specs.Reply.{TagFault}
 use Rattle.device_model.proofs.ReplyLemmas.{read_reply-more, read_reply-differing}
 use Rattle.integrity_tool.specs.Form.{small_blocks}
 use Rattle.integrity_tool.proofs.SmallImage.{tag_byte-small}
-use Rattle.integrity_tool.proofs.ReadingLemmas.{compared_cell, compared_sector, sector_joined, small_tag, matches_then}
+use Rattle.integrity_tool.proofs.CellsLemmas.{compared_cell, compared_sector, sector_joined, small_tag, matches_then}
 use Rattle.integrity_tool.proofs.reading.compare.Goals as goal
 
 pub returns-then-not-matches : goal.returns-then-not-matches

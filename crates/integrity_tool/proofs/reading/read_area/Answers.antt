@@ -3,7 +3,7 @@ use Rattle.disk_model.specs.Disk.{last_image}
 use Rattle.disk_model.specs.Moments.{content_now}
 use Rattle.integrity_tool.specs.Form.{small_cells}
 use Rattle.integrity_tool.proofs.SmallImage.{data_at-small}
-use Rattle.integrity_tool.proofs.ReadingLemmas.{read_cell}
+use Rattle.integrity_tool.proofs.CellsLemmas.{read_cell}
 use Rattle.integrity_tool.proofs.reading.read_area.Goals as goal
 
 pub read_run-requires-clause-run : goal.read_run-requires-clause-run

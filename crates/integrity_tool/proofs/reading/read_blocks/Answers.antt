@@ -5,8 +5,8 @@ use Rattle.disk_model.specs.Disk.{last_image}
 use Rattle.disk_model.specs.Moments.{content_now}
 use Rattle.integrity_tool.specs.declared.reading.Found.{Found}
 use Rattle.integrity_tool.specs.Form.{small_blocks, small_cells}
-use Rattle.integrity_tool.specs.Reading.{reply_of}
-use Rattle.integrity_tool.proofs.ReadingLemmas.{area_more, area_differs}
+use Rattle.integrity_tool.specs.Found.{reply_of}
+use Rattle.integrity_tool.proofs.CellsLemmas.{area_more, area_differs}
 use Rattle.integrity_tool.proofs.reading.read_blocks.Goals as goal
 
 pub returns-in_default-clause-reply : goal.returns-in_default-clause-reply

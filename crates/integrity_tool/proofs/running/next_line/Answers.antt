@@ -1,6 +1,6 @@
 use Rattle.std.proofs.Common.{◌++◌}
 use Rattle.integrity_tool.proofs.LinesLemmas.{told_weaker}
-use Rattle.integrity_tool.proofs.RunningLemmas.{next_is_end, next_is_line, next_is_refused, next_is_long, next_is_too_much, next_is_counted}
+use Rattle.integrity_tool.proofs.ScriptStepsLemmas.{next_is_end, next_is_line, next_is_refused, next_is_long, next_is_too_much, next_is_counted}
 use Rattle.integrity_tool.proofs.running.next_line.Goals as goal
 
 pub returns-in-Err-clause-next : goal.returns-in-Err-clause-next

@@ -3,7 +3,7 @@ use Rattle.std.specs.Option.{option_map}
 use Rattle.disk_model.specs.Disk.{newest_only}
 use Rattle.disk_model.proofs.MomentsLemmas.{sync_adds}
 use Rattle.device_model.specs.Transcript.{Flush}
-use Rattle.integrity_tool.specs.Leaving.{IsOfLine}
+use Rattle.integrity_tool.specs.Cuts.{IsOfLine}
 use Rattle.integrity_tool.proofs.StandsForLemmas.{flush_stands, flush_moments}
 use Rattle.integrity_tool.proofs.running.run_flush.Goals as goal
 

@@ -2,7 +2,7 @@ use Rattle.std.proofs.Common.{◌≡◌, ◌/◌, List, ℕ, length, rules, ap, 
 use Rattle.std.specs.Option.{option_map}
 use Rattle.stream_io.specs.Stream.{with_bytes, AddsPrefix}
 use Rattle.device_model.specs.Transcript.{is_fault}
-use Rattle.integrity_tool.proofs.RunningLemmas.{reply_in_session, shown_text}
+use Rattle.integrity_tool.proofs.ScriptStepsLemmas.{reply_in_session, shown_text}
 use Rattle.integrity_tool.proofs.running.run_read.Goals as goal
 
 pub returns-in-Ok-put_all-clause-prints : goal.returns-in-Ok-put_all-clause-prints

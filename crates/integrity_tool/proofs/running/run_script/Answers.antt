@@ -9,12 +9,12 @@ use Rattle.integrity_tool.specs.Line.{line_of}
 use Rattle.std.specs.Option.{option_map}
 use Rattle.stream_io.specs.Stream.{with_bytes}
 use Rattle.disk_model.specs.Disk.{OnlyAdds, last_image, newest_only}
-use Rattle.integrity_tool.specs.Standing.{IsOfBlock}
-use Rattle.integrity_tool.specs.Leaving.{IsLeftBy, IsOfLine, IsOfScript}
-use Rattle.integrity_tool.specs.Running.{FindsNext}
+use Rattle.integrity_tool.specs.SmallDisk.{IsOfBlock}
+use Rattle.integrity_tool.specs.Cuts.{IsLeftBy, IsOfLine, IsOfScript}
+use Rattle.integrity_tool.specs.ScriptSteps.{FindsNext}
 use Rattle.integrity_tool.specs.declared.ended.Ended.{Ended}
 use Rattle.integrity_tool.proofs.StandsForLemmas.{MayBeCut-none, flush_stands, flush_moments}
-use Rattle.integrity_tool.proofs.RunningLemmas.{both_told, both_later, within_script, line_of_block, line_of_script, told_here, holds_at_end, left_meanwhile, session, ends_at_next, ends_in_line, ends_by_close, goes_on_counted, ends_complete, followed_by, first_way, first_taken, IsTaken-line, IsTaken-refused}
+use Rattle.integrity_tool.proofs.ScriptStepsLemmas.{both_told, both_later, within_script, line_of_block, line_of_script, told_here, holds_at_end, left_meanwhile, session, ends_at_next, ends_in_line, ends_by_close, goes_on_counted, ends_complete, followed_by, first_way, first_taken, IsTaken-line, IsTaken-refused}
 use Rattle.integrity_tool.proofs.running.run_script.Goals as goal
 
 pub returns-in_err-line-clause-runs : goal.returns-in_err-line-clause-runs

@@ -2,10 +2,10 @@ use Rattle.std.proofs.Common.{◌≡◌, ◌+◌, ◌-◌, ◌≤◌, ◌++◌, 
 use Rattle.std.specs.Option.{ForSome}
 use Rattle.disk_model.specs.Disk.{Content, OnlyAdds, last_image}
 use Rattle.disk_model.specs.Moments.{content_now, EachMoment, FromStart}
-use Rattle.integrity_tool.specs.Standing.{IsOfBlock}
-use Rattle.integrity_tool.specs.Leaving.{IsLeftBy, IsOfScript}
+use Rattle.integrity_tool.specs.SmallDisk.{IsOfBlock}
+use Rattle.integrity_tool.specs.Cuts.{IsLeftBy, IsOfScript}
 use Rattle.device_model.specs.ScriptBytes.{most_script}
-use Rattle.integrity_tool.proofs.RunningLemmas.{IsUnderWay, IsFollowed, IsTaken}
+use Rattle.integrity_tool.proofs.ScriptStepsLemmas.{IsUnderWay, IsFollowed, IsTaken}
 use Rattle.integrity_tool.proofs.running.run_script.Given as goal
 
 abbrev pub invariant-loop-line : goal.invariant-loop-line

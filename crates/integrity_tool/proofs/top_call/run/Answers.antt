@@ -3,7 +3,7 @@ use Rattle.std.specs.String.{string_bytes}
 use Rattle.disk_model.specs.Disk.{Content, last_image}
 use Rattle.disk_model.specs.Identity.{DiskIdentity, IsBoundTo}
 use Rattle.integrity_tool.specs.Form.{IsOfForm}
-use Rattle.integrity_tool.specs.Running.{ending_by}
+use Rattle.integrity_tool.specs.ScriptSteps.{ending_by}
 use Rattle.integrity_tool.specs.Top.{Leaves, start_of}
 use Rattle.integrity_tool.specs.Words.{image_word}
 use Rattle.std.proofs.lemmas.Result.{on_ok_weaker}

@@ -6,11 +6,11 @@ use Rattle.disk_model.specs.Moments.{content_now}
 use Rattle.disk_model.proofs.DiskLemmas.{synced_has_nothing_pending, OnlyAdds-none, newest_only-adds}
 use Rattle.disk_model.proofs.MomentsLemmas.{sync_adds, no_moment, EachMoment-then, EachMoment-weaker}
 use Rattle.device_model.specs.Ending.{NoMemory}
-use Rattle.integrity_tool.specs.Leaving.{IsOfScript}
-use Rattle.integrity_tool.specs.Standing.{IsOfBlock}
+use Rattle.integrity_tool.specs.Cuts.{IsOfScript}
+use Rattle.integrity_tool.specs.SmallDisk.{IsOfBlock}
 use Rattle.integrity_tool.specs.declared.ended.Ended.{Ended}
 use Rattle.integrity_tool.specs.Top.{MayBeLeft, NarrowsImages, start_of}
-use Rattle.integrity_tool.proofs.RunningLemmas.{holds_at_end}
+use Rattle.integrity_tool.proofs.ScriptStepsLemmas.{holds_at_end}
 use Rattle.integrity_tool.proofs.TopLemmas.{adds_from, on_any, narrows_synced, NarrowsImages-same, each_of_sync, nothing_run, refused_nothing_run, ran_leaves}
 use Rattle.integrity_tool.proofs.top_call.run_image.Goals as goal
 

@@ -7,7 +7,7 @@ use Rattle.disk_model.proofs.MomentsLemmas.{adds_then, adds_wider, no_moment, Ea
 use Rattle.device_model.specs.History.{with_changes}
 use Rattle.device_model.specs.Transcript.{filled}
 use Rattle.integrity_tool.specs.Form.{small_blocks}
-use Rattle.integrity_tool.specs.Standing.{IsOfBlocks, MayBeCut, StandsFor}
+use Rattle.integrity_tool.specs.SmallDisk.{IsOfBlocks, MayBeCut, StandsFor}
 use Rattle.integrity_tool.proofs.TopLemmas.{Rose-earlier}
 use Rattle.integrity_tool.proofs.StandsForLemmas.{fill_goes_on, fill_moments, fill_begins}
 use Rattle.integrity_tool.proofs.writing.fill_blocks.Goals as goal

@@ -4,7 +4,7 @@ use Rattle.disk_model.specs.Moments.{content_now, EachMoment, FromStart}
 use Rattle.device_model.specs.History.{History, with_changes}
 use Rattle.device_model.specs.Transcript.{filled}
 use Rattle.integrity_tool.specs.Form.{small_blocks}
-use Rattle.integrity_tool.specs.Standing.{IsOfBlocks, MayBeCut, StandsFor}
+use Rattle.integrity_tool.specs.SmallDisk.{IsOfBlocks, MayBeCut, StandsFor}
 use Rattle.integrity_tool.proofs.writing.fill_blocks.Given as goal
 
 abbrev pub invariant-loop-block : goal.invariant-loop-block

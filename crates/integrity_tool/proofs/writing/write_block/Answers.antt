@@ -1,6 +1,6 @@
-use Rattle.integrity_tool.proofs.StandingLemmas.{data_places}
+use Rattle.integrity_tool.proofs.SmallDiskLemmas.{data_places}
 use Rattle.disk_model.proofs.MomentsLemmas.{adds_then}
-use Rattle.integrity_tool.specs.Standing.{IsOfBlocks}
+use Rattle.integrity_tool.specs.SmallDisk.{IsOfBlocks}
 use Rattle.std.proofs.Common.{length, ap, ◌∙◌, arith, None}
 use Rattle.std.proofs.lemmas.Result.{on_ok_weaker}
 use Rattle.std.specs.Option.{option_map}
@@ -8,7 +8,7 @@ use Rattle.disk_model.specs.Disk.{with_run}
 use Rattle.image_model.specs.Tag.{tag_of}
 use Rattle.image_model.proofs.TagLemmas.{length-tag_of}
 use Rattle.hmac_tag.specs.TagMaker.{TagRule}
-use Rattle.integrity_tool.proofs.StandingLemmas.{data_moments, keeps_then, block_written}
+use Rattle.integrity_tool.proofs.SmallDiskLemmas.{data_moments, keeps_then, block_written}
 use Rattle.integrity_tool.proofs.writing.write_block.Goals as goal
 
 pub returns-in_err-write_run-clause-moments : goal.returns-in_err-write_run-clause-moments

@@ -1,10 +1,10 @@
-use Rattle.integrity_tool.proofs.StandingLemmas.{tag_places}
+use Rattle.integrity_tool.proofs.SmallDiskLemmas.{tag_places}
 use Rattle.std.proofs.Common.{ap, sym, ◌∙◌, arith}
 use Rattle.std.proofs.lemmas.Result.{on_ok_weaker}
 use Rattle.std.specs.Option.{option_map}
 use Rattle.disk_model.specs.Disk.{with_run}
 use Rattle.disk_model.specs.Moments.{content_now}
-use Rattle.integrity_tool.proofs.StandingLemmas.{tag_moments, tag_written}
+use Rattle.integrity_tool.proofs.SmallDiskLemmas.{tag_moments, tag_written}
 use Rattle.integrity_tool.proofs.writing.write_tag.Goals as goal
 
 pub returns-clause-written : goal.returns-clause-written

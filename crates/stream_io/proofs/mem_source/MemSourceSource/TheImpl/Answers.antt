@@ -1,5 +1,5 @@
 -- What the trait ensures follows from the exact clauses.
-use Rattle.std.proofs.Common.{◌≡◌, ◌≤◌, ℕ, arith, ap, refl, subst, length, drop, min, Some}
+use Rattle.std.proofs.Common.{◌≡◌, ◌≤◌, ℕ, arith, ap, subst, length, drop, min, Some}
 use Rattle.std.specs.Option.{ForSome}
 use Rattle.std.proofs.lemmas.Option.{same_Some}
 use Rattle.std.proofs.lemmas.Result.{IfOk-weaker, on_err_weaker}
@@ -20,6 +20,5 @@ read-tells g c =
           let as_left : ℕ → SourceState = λ n. record { left = drop n old.left; plan = with_call old.plan } in
           IfOk-weaker c.result (λ n. new ≡ as_left n) (λ n. Some new.left ≡ Some (drop n old.left)) (λ n is. ap (λ (s : SourceState). Some s.left) is) c.ensures.left;
       cause = c.ensures.cause;
-      binding = refl;
       err = on_err_weaker c.result (λ is. ap (λ (s : SourceState). Some s.left) is) c.ensures.err;
     }

@@ -1,0 +1,8 @@
+//! Disks, sources and sinks in memory that count what is asked of them, and the images of what a run left.
+#![tactic(auto)]
+
+mod disks;
+mod watched;
+
+pub use disks::{bytes_of, choice_of, copy_of, disk_of, image_left, image_of};
+pub use watched::{Seen, WatchedDisk, WatchedFile, WatchedSink, WatchedSource};

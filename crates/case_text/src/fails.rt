@@ -1,0 +1,40 @@
+//! What fails in a run.
+use crate::Kind;
+
+/// What fails in a run. Calls are numbered from 1.
+#[derive(Clone, Copy)]
+pub struct Fails {
+    pub disk: Option<u64>,
+    pub source: Option<u64>,
+    pub sink: Option<u64>,
+    pub key: Option<u64>,
+    /// After how many sector writes the disk stops.
+    pub stop: Option<u64>,
+    /// How many bytes of text the sink takes.
+    pub room: u64,
+}
+
+impl Fails {
+    /// Nothing fails.
+    pub const NONE: Fails = Fails {
+        disk: None,
+        source: None,
+        sink: None,
+        key: None,
+        stop: None,
+        room: 65_536,
+    };
+}
+
+/// These failures, and one of a kind with this number in place of another one.
+pub fn with_failure(mut fails: Fails, kind: Kind, number: u64) -> Fails {
+    match kind {
+        Kind::Disk => fails.disk = Some(number),
+        Kind::Source => fails.source = Some(number),
+        Kind::Sink => fails.sink = Some(number),
+        Kind::Key => fails.key = Some(number),
+        Kind::Stop => fails.stop = Some(number),
+        Kind::Room => fails.room = number,
+    }
+    fails
+}

@@ -1,0 +1,14 @@
+use Rattle.std.proofs.Common.{◌≡◌, ◌≤◌, ◌+◌, ◌-◌, length, take}
+use Rattle.std.specs.Option.{option_map}
+use Rattle.stream_io.specs.Stream.{with_bytes}
+use Rattle.file_stream.proofs.transfer.write_most.Given as goal
+
+abbrev pub invariant-loop-done : goal.invariant-loop-done
+invariant-loop-done g l = record {
+  within : l.done ≤ length l.bytes;
+  written : g.F.OutputFile.held l.file ≡ option_map (with_bytes (take l.done l.bytes)) (g.F.OutputFile.held l.fn.file);
+  later : g.F.OutputFile.faults l.fn.file ≤ g.F.OutputFile.faults l.file;
+}
+
+abbrev pub decreases-loop-done : goal.decreases-loop-done
+decreases-loop-done g l = length l.bytes - l.done + g.F.OutputFile.interruptions l.file
