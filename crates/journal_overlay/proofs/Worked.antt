@@ -1,5 +1,5 @@
 -- Block 5 in sections 1, 2 and 3, and block 7 in section 2.
-use Rattle.std.proofs.Common.{◌≡◌, ℕ, not, List, [], ◌∷◌, filter, Option, None, Some, refl}
+use Rattle.std.proofs.Common.{◌≡◌, ℕ, not, List, [], ◌∷◌, filter, None, Some, refl}
 use Rattle.journal_overlay.specs.Kept.{added, newest_of, is_in}
 use Rattle.journal_overlay.specs.declared.place.Added.{Added}
 use Rattle.journal_overlay.specs.declared.place.Place.{Place}

@@ -1,4 +1,4 @@
-use Rattle.std.proofs.Common.{◌≡◌, sym, ◌∙◌}
+use Rattle.std.proofs.Common.{sym, ◌∙◌}
 use Rattle.std.proofs.lemmas.Bool.{eq-eqb}
 use Rattle.journal_overlay.proofs.SlotsLemmas.{stops-free_mark}
 use Rattle.journal_overlay.proofs.table.ends_at.Goals as goal
