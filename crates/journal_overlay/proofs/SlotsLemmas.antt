@@ -79,6 +79,14 @@ mark_of-some : (key : ℕ) → 0 < mark_of key
 unfolding mark_of
 mark_of-some key = omega arith
 
+-- A slot whose mark is that of a free one tells no place.
+pub last_in-free_mark : (slot : Slot) → mark_in slot ≡ 0 → last_in slot ≡ None
+last_in-free_mark Free is = refl
+last_in-free_mark (Used own last) is = absurd (none_free own is)
+  where
+    none_free : (key : ℕ) → mark_of key ≡ 0 → ⊥
+    none_free key is = let some = mark_of-some key in omega (arith, some, is)
+
 -- A search ends at a slot without a mark.
 pub stops-free_mark : (key : ℕ) (slot : Slot) → mark_in slot ≡ 0 → stops key slot ≡ true
 stops-free_mark key Free is = refl

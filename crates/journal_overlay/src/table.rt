@@ -5,7 +5,7 @@
 //! search never turns round.
 ghost use Rattle.std.specs.Prelude.{◌≡◌, ◌+◌, ◌^◌, ◌<◌, ◌≤◌, length, map, replicate, set, IfOk};
 ghost use Rattle.std.specs.List.{position_or_len};
-ghost use Rattle.journal_overlay.specs.Slots.{home_of, slot_of, last_at, stops, mark_in, mark_of};
+ghost use Rattle.journal_overlay.specs.Slots.{home_of, slot_of, last_at, last_in, stops, mark_in, mark_of};
 
 use std::alloc::{AllocError, Global};
 
@@ -85,9 +85,10 @@ impl Table {
 
         ensures { result ≡ last_at self.now.homes self.now.slots.items key }
     {
-        match self.slots.get(self.slot_of(key)) {
-            Some(Slot::Used { last, .. }) => *last,
-            _ => None,
+        let slot = self.slot_of(key);
+        match self.marks.get(slot) {
+            Some(mark) => last_in(&self.slots[slot], *mark),
+            None => None,
         }
     }
 
@@ -157,4 +158,19 @@ fn ends_at(slot: &Slot, mark: u8, own: u8, key: u64) -> bool
     ensures { result ≡ stops key slot.now }
 {
     mark == FREE_MARK || mark == own && slot.stops(key)
+}
+
+/// Where the key of a slot stands last, if it does. It looks at no slot whose mark is that of a free one.
+fn last_in(slot: &Slot, mark: u8) -> Option<u32>
+    requires { mark ≡ mark_in slot.now }
+
+    ensures { result ≡ last_in slot.now }
+{
+    if mark == FREE_MARK {
+        return None;
+    }
+    match slot {
+        Slot::Free => None,
+        Slot::Used { last, .. } => *last,
+    }
 }
