@@ -9,9 +9,11 @@ use crate::place_log::{PlaceLog, append, drop_section, sweep};
 use crate::table::Table;
 use std::alloc::{AllocError, Global};
 use std::marker::Model;
+use thiserror::Error;
 
 /// There is no memory for so many places.
-#[derive(Clone, Copy, Debug, PartialEq, Eq)]
+#[derive(Clone, Copy, Debug, PartialEq, Eq, Error)]
+#[error("there is no memory for so many places")]
 pub struct Memory;
 
 /// How many places can be kept at most, so that a node is named by 32 bits.

@@ -5,9 +5,11 @@ ghost use Rattle.device_model.specs.Request.{Read};
 use crate::ask::{Ask, Asked, place_of};
 use std::alloc::Global;
 use std::marker::Model;
+use thiserror::Error;
 
 /// There is no memory for so many slots.
-#[derive(Clone, Copy, Debug, PartialEq, Eq)]
+#[derive(Clone, Copy, Debug, PartialEq, Eq, Error)]
+#[error("there is no memory for so many slots")]
 pub struct Memory;
 
 /// What was asked and is not released, in order of asking.

@@ -4,9 +4,11 @@ ghost use Rattle.std.specs.Prelude.{◌≡◌, ◌*◌, [], length, replicate, O
 use crate::run::{Run, SECTOR_SIZE};
 use std::alloc::Global;
 use std::marker::Model;
+use thiserror::Error;
 
 /// There is no memory for so many sectors.
-#[derive(Clone, Copy, Debug, PartialEq, Eq)]
+#[derive(Clone, Copy, Debug, PartialEq, Eq, Error)]
+#[error("there is no memory for so many sectors")]
 pub struct Memory;
 
 /// Memory for sectors, none at first. All of it is handed out as one run.
