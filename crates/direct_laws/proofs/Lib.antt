@@ -1,0 +1,5 @@
+pub mod CountLemmas
+pub mod DeviceLemmas
+pub mod EventLemmas
+pub mod ReadLemmas
+pub mod PromiseLemmas

@@ -1,0 +1,17 @@
+use Rattle.direct_laws.proofs.ReadLemmas.{keeps_opened, keeps_write, keeps_back, keeps_flushed, keeps_recalculated}
+use Rattle.direct_laws.proofs.cells_are_kept.Goals as goal
+
+pub returns-clause-opened : goal.returns-clause-opened
+returns-clause-opened c = keeps_opened
+
+pub returns-clause-write : goal.returns-clause-write
+returns-clause-write c = keeps_write
+
+pub returns-clause-back : goal.returns-clause-back
+returns-clause-back c = keeps_back
+
+pub returns-clause-flushed : goal.returns-clause-flushed
+returns-clause-flushed c = keeps_flushed
+
+pub returns-clause-recalculated : goal.returns-clause-recalculated
+returns-clause-recalculated c = keeps_recalculated

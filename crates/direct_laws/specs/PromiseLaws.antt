@@ -1,0 +1,71 @@
+-- What a cut leaves of a device in direct mode, between its calls and within them.
+use Rattle.std.specs.Prelude.{◌≡◌, ℕ, suc, Bool, List, take}
+use Rattle.disk_model.specs.Disk.{Content, Image, EachImage, OnlyAdds}
+use Rattle.device_model.specs.History.{History}
+use Rattle.device_model.specs.Mode.{DeviceFormat, Direct}
+use Rattle.device_model.specs.Progress.{DeviceState, Event, Serve, FailedServe, IsHistoryWithin, event_result, after_event}
+use Rattle.device_model.specs.Request.{Write, Asked}
+use Rattle.place_model.specs.Format.{DiskFormat, format_on}
+use Rattle.place_model.specs.Kind.{CanOpenIn, MayBeLeftIn}
+use Rattle.place_model.specs.Left.{IsLeftInDirect}
+use Rattle.place_model.specs.Opened.{blocks_of}
+use Rattle.place_model.specs.Tags.{IsOfTags}
+use Rattle.device_laws.specs.EventLaws.{IsServed, next_write}
+use Rattle.direct_model.specs.DirectDisk.{DirectDisk, StandsFor}
+use Rattle.direct_model.specs.Steps.{AreTags, IsOfWrite}
+use Rattle.direct_laws.specs.Device.{IsDirectDevice, after_changes}
+
+-- Each image may be left by one history, which is one within the event.
+pub record IsLeftWithin (f : DeviceFormat) (s : DeviceState) (event : Event) (d : DiskFormat) (c : Content) : Type 0 where
+  pub history : History
+  pub within : IsHistoryWithin f s event history
+  pub each : EachImage (IsLeftInDirect d history) c
+
+-- ---- between calls
+
+-- Each image may be left by the history,
+abbrev pub StandingLeftLaw : Type 0
+StandingLeftLaw = (f : DeviceFormat) (s : DeviceState) (d : DirectDisk) (c : Content)
+    → IsDirectDevice f s d → StandsFor d c → EachImage (IsLeftInDirect d.format s.history) c
+
+-- and a device can be opened on it.
+abbrev pub ReopensLaw : Type 0
+ReopensLaw = (d : DirectDisk) (c : Content) → StandsFor d c → EachImage (CanOpenIn Direct d.key d.sectors) c
+
+-- What may be left of the disk may be left of the device that was opened on an image with the same blocks.
+abbrev pub KindLeftLaw : Type 0
+KindLeftLaw = (d : DiskFormat) (entry : Image) (h : History) (left : Image)
+    → blocks_of d ≡ blocks_of (format_on d.key d.sectors entry) → IsLeftInDirect d h left
+    → MayBeLeftIn Direct d.key d.sectors entry h left
+
+-- ---- within a call
+
+-- A disk that stands for what some of the changes of an event give is left within it.
+abbrev pub WithinLaw : Type 0
+WithinLaw = (f : DeviceFormat) (s : DeviceState) (event : Event) (d : DirectDisk) (kept : ℕ) (c : Content)
+    → IsDirectDevice f s d → StandsFor (after_changes (take kept (event_result f s event).changes) d) c
+    → IsLeftWithin f s event d.format c
+
+-- So it is while the data and the tag of a block are written, whether the call then fails or not,
+abbrev pub WritingLeftLaw : Type 0
+WritingLeftLaw = (f : DeviceFormat) (s : DeviceState) (d : DirectDisk) (k : ℕ) (a : Asked) (first : ℕ)
+    (blocks : List (List ℕ)) (fua : Bool) (tags : ℕ → List ℕ) (old c : Content) → IsDirectDevice f s d
+    → IsServed s k a → a.request ≡ Write first blocks fua → StandsFor d old → AreTags d tags
+    → OnlyAdds (IsOfWrite d (next_write k first blocks a.served) tags) old c
+    → IsLeftWithin f s (Serve (suc k)) d.format c × IsLeftWithin f s (FailedServe (suc k)) d.format c
+
+-- and while tags are written back, after some of the changes.
+abbrev pub BackLeftLaw : Type 0
+BackLeftLaw = (f : DeviceFormat) (s : DeviceState) (event : Event) (d : DirectDisk) (kept : ℕ)
+    (tags : ℕ → List ℕ) (old c : Content) → IsDirectDevice f s d
+    → let then_ = after_changes (take kept (event_result f s event).changes) d in
+    StandsFor then_ old → AreTags then_ tags → OnlyAdds (IsOfTags d.geometry tags tags) old c
+    → IsLeftWithin f s event d.format c
+
+-- ---- a disk that fails
+
+-- What was left before a serve may be left after it fails.
+abbrev pub FailedLeftLaw : Type 0
+FailedLeftLaw = (f : DeviceFormat) (s : DeviceState) (ticket : ℕ) (d : DirectDisk) (c : Content)
+    → IsDirectDevice f s d → StandsFor d c
+    → EachImage (IsLeftInDirect d.format (after_event f s (FailedServe ticket)).history) c

@@ -1,0 +1,70 @@
+//! Laws: a device in direct mode, by its requests, over what its disk stands for.
+//!
+//! `specs/Device.antt` is the file to read first: `IsDirectDevice` ties the two, and each law says what a step keeps
+//! of it.
+#![tactic(auto)]
+
+ghost use Rattle.direct_laws.specs.Device.{MovedDeviceLaw, OpeningLaw};
+ghost use Rattle.direct_laws.specs.EventLaws.{CloseLaw, EventLaw, FailedWriteLaw, HeldLaw, IdleLaw, QuietEventsLaw, QuietLaw, RecalcIdleLaw, ServeFlushLaw, ServeReadLaw, ServeWriteLaw, UnservedLaw};
+ghost use Rattle.direct_laws.specs.PromiseLaws.{BackLeftLaw, FailedLeftLaw, KindLeftLaw, ReopensLaw, StandingLeftLaw, WithinLaw, WritingLeftLaw};
+ghost use Rattle.direct_laws.specs.ReadLaws.{KeepsBack, KeepsFlushed, KeepsOpened, KeepsRecalculated, KeepsWrite, ReadCellLaw, ReadReplyLaw};
+
+/// A device opens on an image without a bitmap, and its position of recalculation may move.
+pub fn device_opens()
+    ensures opened { OpeningLaw }
+    ensures moved { MovedDeviceLaw }
+{}
+
+/// After each event the disk is the one after its changes: the same one, where there are none.
+pub fn events_are_kept()
+    ensures changes { EventLaw }
+    ensures none { QuietLaw }
+    ensures quiet { QuietEventsLaw }
+{}
+
+/// A serve writes the next block of a write, or flushes, and nothing is done of a request that is held, or done.
+pub fn requests_are_served()
+    ensures unserved { UnservedLaw }
+    ensures held { HeldLaw }
+    ensures read { ServeReadLaw }
+    ensures write { ServeWriteLaw }
+    ensures flush { ServeFlushLaw }
+    ensures close { CloseLaw }
+{}
+
+/// No actor has anything to do but the one that recalculates.
+pub fn actors_are_idle()
+    ensures others { IdleLaw }
+    ensures recalc { RecalcIdleLaw }
+{}
+
+/// A serve in which a disk fails leaves its write under way, and what was left before it may be left then.
+pub fn failures_leave_a_write()
+    ensures write { FailedWriteLaw }
+    ensures left { FailedLeftLaw }
+{}
+
+/// What reads give of a block, data and tag, is its cell by the history, so its reply.
+pub fn reads_give_the_reply()
+    ensures cell { ReadCellLaw }
+    ensures reply { ReadReplyLaw }
+{}
+
+/// An opening, writes, tags that are written back, a sync and a recalculation keep what reads give.
+pub fn cells_are_kept()
+    ensures opened { KeepsOpened }
+    ensures write { KeepsWrite }
+    ensures back { KeepsBack }
+    ensures flushed { KeepsFlushed }
+    ensures recalculated { KeepsRecalculated }
+{}
+
+/// Each image, also within a call, can be opened and has cells that may be left of the device.
+pub fn cut_is_left()
+    ensures standing { StandingLeftLaw }
+    ensures reopens { ReopensLaw }
+    ensures kind { KindLeftLaw }
+    ensures within { WithinLaw }
+    ensures writing { WritingLeftLaw }
+    ensures back { BackLeftLaw }
+{}
