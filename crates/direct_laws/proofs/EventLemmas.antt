@@ -1,13 +1,15 @@
 -- Events of a device in direct mode, one by one.
-use Rattle.std.proofs.Common.{◌≡◌, ◌≢◌, inl, inr, ℕ, zero, suc, ◌+◌, ◌*◌, ◌<◌, ◌≤◌, Bool, true, false, if◌then◌else◌, refl, sym, ◌∙◌, ap, subst, arith, Option, Some, None, option_map, List, [], ◌∷◌, length, get_or, find, take, slice_get}
+use Rattle.std.proofs.Common.{◌≡◌, ◌≢◌, inl, inr, ℕ, zero, suc, ◌+◌, ◌*◌, ◌<◌, ◌≤◌, Bool, true, false, if◌then◌else◌, refl, sym, ◌∙◌, ap, subst, arith, Option, Some, None, option_map, List, [], ◌∷◌, length, map, get_or, find, take, slice_get}
 use Rattle.std.specs.List.{range_with_len}
 use Rattle.std.specs.Option.{option_or}
-use Rattle.std.proofs.lemmas.Bool.{true≢false, false_from_ne_true}
+use Rattle.std.proofs.lemmas.Bool.{cases_Bool, true≢false, false_from_ne_true}
+use Rattle.std.proofs.lemmas.Option.{none-some, same_Some}
 use Rattle.image_model.specs.Bitmap.{is_to_recalculate}
+use Rattle.image_model.specs.Geometry.{regions}
 use Rattle.device_model.specs.History.{BlockWrite, Change, Begun, Written, Flushed, with_change, with_changes}
 use Rattle.device_model.specs.Mode.{Mode, DeviceFormat, is_recovery}
-use Rattle.device_model.specs.Progress.{Progress, Condition, Working, Broken, Closed, DeviceState, Event, Submit, Serve, Step, Take, Close, FailedServe, FailedStep, FailedClose, Actor, Commit, Place, Settle, Clean, Recalc, Answer, Idle, EventResult, only_answers, submit_by, form_refusal, slots_refusal, is_flushed_by, block_changes, journal_with, first_begun, serve, serve_with, serve_unheld, serve_by, serve_asked, step_regions, take_by, take_asked, take_reply, working_result, broken_result, result_in, event_result, after_event}
-use Rattle.device_model.specs.Journal.{JournalCounts}
+use Rattle.device_model.specs.Progress.{Progress, Condition, Working, Broken, Closed, DeviceState, Event, Submit, Serve, Step, Take, Close, FailedServe, FailedStep, FailedClose, Actor, Commit, Place, Settle, Clean, Recalc, Answer, Idle, Did, IsBroken, IsClosed, EventResult, only_answers, submit_by, form_refusal, slots_refusal, is_flushed_by, block_changes, journal_with, first_begun, serve, serve_with, serve_unheld, serve_by, serve_asked, step_regions, take_by, take_asked, take_reply, working_result, broken_result, result_in, event_result, after_event}
+use Rattle.device_model.specs.Journal.{SectionCounts, JournalCounts, as_committed, commit_all}
 use Rattle.device_model.specs.Regions.{RegionCounts, recalculated_region, least_region}
 use Rattle.device_model.specs.Request.{Request, Read, Write, Flush, Asked, RequestState, Unfinished, Finished, Taken, Dropped, is_unfinished, is_to_serve, asked_of, held_by}
 use Rattle.device_model.specs.SubmissionLaws.{IsInRange}
@@ -24,8 +26,8 @@ use Rattle.device_laws.specs.EventLaws.{IsServed, next_write}
 use Rattle.direct_model.specs.DirectDisk.{DirectDisk}
 use Rattle.direct_model.specs.Steps.{with_write, after_flush}
 use Rattle.direct_laws.specs.Device.{IsDirectDevice, after_changes}
-use Rattle.direct_laws.specs.EventLaws.{QuietLaw, IsQuiet, QuietEventsLaw, UnservedLaw, HeldLaw, ServeReadLaw, after_block, ServeWriteLaw, ServeFlushLaw, CloseLaw, IdleLaw, RecalcIdleLaw, FailedWriteLaw}
-use Rattle.direct_laws.proofs.CountLemmas.{direct, journal_some}
+use Rattle.direct_laws.specs.EventLaws.{QuietLaw, IsQuiet, QuietEventsLaw, UnservedLaw, HeldLaw, ServedLaw, ServeReadLaw, after_block, ServeWriteLaw, ServeFlushLaw, CloseLaw, IdleLaw, RecalcIdleLaw, RecalcLaw, FailedWriteLaw}
+use Rattle.direct_laws.proofs.CountLemmas.{direct}
 use Rattle.direct_laws.proofs.DeviceLemmas.{mode-is, blocks-is, block_size-is, event_keeps, serving-works}
 
 -- After an event with these changes the disk is the one after them.
@@ -122,33 +124,47 @@ held_law f s d k by a is there held = quiet_law f s (Serve (suc k)) d is (held-n
 
 -- ---- what is served
 
-module _ (d : DiskFormat) (s : DeviceState) (unused : s.progress.journal.sections ≡ []) (k : ℕ) (a : Asked) (request : Request) (is : IsServed s k a) (e : a.request ≡ request) where
-  serve-changes : (serve (direct d) s (suc k)).changes ≡ block_changes (suc k) a request
-  serve-changes =
+-- Without a section nothing is to be committed.
+committed-none : (j : JournalCounts) → j.sections ≡ [] → commit_all j ≡ j
+committed-none j none =
+    ap (λ (sections : List SectionCounts). let c : JournalCounts = record j { sections = map as_committed sections } in c) none
+    ∙ ap (λ (sections : List SectionCounts). let c : JournalCounts = record j { sections = sections } in c) (sym none)
+
+module _ (d : DiskFormat) (s : DeviceState) (unused : s.progress.journal.sections ≡ []) (k : ℕ) (a : Asked) where
+  room : (r : Request) → journal_with (direct d) s.progress.journal a r ≡ Some s.progress.journal
+  room (Read first count) = refl
+  room (Write first blocks fua) = refl
+  room Flush = ap (λ (j : JournalCounts). Some j) (committed-none s.progress.journal unused)
+
+  serve-is : IsServed s k a → serve (direct d) s (suc k) ≡ serve_with (direct d) s k a (Some s.progress.journal)
+  serve-is is =
       let f = direct d in
-      let some = journal_some d s unused a request in
-      ap (λ (o : Option Asked). (serve_asked f s k o).changes) is.there
-      ∙ ap (λ (state : RequestState). (serve_by f s k a state).changes) is.unfinished
-      ∙ ap (λ (o : Option ℕ). (serve_unheld f s k a o).changes) is.unheld
-      ∙ ap (λ (r : Request). (serve_with f s k a (journal_with f s.progress.journal a r)).changes) e
-      ∙ ap (λ (o : Option JournalCounts). (serve_with f s k a o).changes) some.1
-      ∙ ap (block_changes (suc k) a) e
+      ap (serve_asked f s k) is.there ∙ ap (serve_by f s k a) is.unfinished ∙ ap (serve_unheld f s k a) is.unheld ∙ ap (serve_with f s k a) (room a.request)
 
-module _ (f : DeviceFormat) (s : DeviceState) (d : DirectDisk) (k : ℕ) (a : Asked) (request : Request) (is : IsDirectDevice f s d) (asked : IsServed s k a) (e : a.request ≡ request) where
-  in_format : (serve f s (suc k)).changes ≡ block_changes (suc k) a request
-  in_format = subst (λ (x : DeviceFormat). (serve x s (suc k)).changes ≡ block_changes (suc k) a request) (sym is.format) (serve-changes d.format s is.unused k a request asked e)
+module _ (f : DeviceFormat) (s : DeviceState) (d : DirectDisk) (k : ℕ) (a : Asked) (is : IsDirectDevice f s d) (asked : IsServed s k a) where
+  in_format : serve f s (suc k) ≡ serve_with f s k a (Some s.progress.journal)
+  in_format = subst (λ (x : DeviceFormat). serve x s (suc k) ≡ serve_with x s k a (Some s.progress.journal)) (sym is.format) (serve-is d.format s is.unused k a asked)
 
-  pub served-changes : (event_result f s (Serve (suc k))).changes ≡ block_changes (suc k) a request
-  served-changes = ap (λ (result : EventResult). result.changes) (result-working f s (Serve (suc k)) asked.works) ∙ in_format
+  served_is : event_result f s (Serve (suc k)) ≡ serve_with f s k a (Some s.progress.journal)
+  served_is = result-working f s (Serve (suc k)) asked.works ∙ in_format
 
-  pub failed-changes : (event_result f s (FailedServe (suc k))).changes ≡ first_begun (block_changes (suc k) a request)
-  failed-changes = ap (λ (result : EventResult). result.changes) (result-working f s (FailedServe (suc k)) asked.works) ∙ ap first_begun in_format
+  module _ (request : Request) (e : a.request ≡ request) where
+    pub served-changes : (event_result f s (Serve (suc k))).changes ≡ block_changes (suc k) a request
+    served-changes = ap (λ (result : EventResult). result.changes) served_is ∙ ap (block_changes (suc k) a) e
+
+    pub failed-changes : (event_result f s (FailedServe (suc k))).changes ≡ first_begun (block_changes (suc k) a request)
+    failed-changes =
+        ap (λ (result : EventResult). result.changes) (result-working f s (FailedServe (suc k)) asked.works)
+        ∙ ap (λ (result : EventResult). first_begun result.changes) in_format ∙ ap (λ (r : Request). first_begun (block_changes (suc k) a r)) e
+
+pub served_law : ServedLaw
+served_law f s d k a is asked = served_is f s d k a is asked
 
 pub serve_read_law : ServeReadLaw
-serve_read_law f s d k a first count is asked e = keeps_by f s (Serve (suc k)) d [] is (served-changes f s d k a (Read first count) is asked e)
+serve_read_law f s d k a first count is asked e = keeps_by f s (Serve (suc k)) d [] is (served-changes f s d k a is asked (Read first count) e)
 
 pub serve_flush_law : ServeFlushLaw
-serve_flush_law f s d k a is asked e = keeps_by f s (Serve (suc k)) d (Flushed ∷ []) is (served-changes f s d k a Flush is asked e)
+serve_flush_law f s d k a is asked e = keeps_by f s (Serve (suc k)) d (Flushed ∷ []) is (served-changes f s d k a is asked Flush e)
 
 pub close_law : CloseLaw
 close_law f s d is works =
@@ -184,10 +200,10 @@ module _ (f : DeviceFormat) (s : DeviceState) (d : DirectDisk) (k : ℕ) (a : As
   served_write : IsDirectDevice f (after_event f s (Serve (suc k))) (after_block (is_flushed_by a blocks fua) (next_write k first blocks a.served) d)
   served_write =
       subst (IsDirectDevice f (after_event f s (Serve (suc k)))) (changes_are (is_flushed_by a blocks fua) (next_write k first blocks a.served))
-      (keeps_by f s (Serve (suc k)) d (block_changes (suc k) a (Write first blocks fua)) is (served-changes f s d k a (Write first blocks fua) is asked e))
+      (keeps_by f s (Serve (suc k)) d (block_changes (suc k) a (Write first blocks fua)) is (served-changes f s d k a is asked (Write first blocks fua) e))
 
   pub failed_write : (event_result f s (FailedServe (suc k))).changes ≡ Begun (next_write k first blocks a.served) ∷ []
-  failed_write = failed-changes f s d k a (Write first blocks fua) is asked e
+  failed_write = failed-changes f s d k a is asked (Write first blocks fua) e
 
 pub serve_write_law : ServeWriteLaw
 serve_write_law f s d k a first blocks fua is asked e = (next_is_block f s d k a first blocks fua is asked e, served_write f s d k a first blocks fua is asked e)
@@ -227,3 +243,41 @@ recalc_idle_law f s d is works none =
     result-working f s (Step Recalc) works
     ∙ subst (λ (x : DeviceFormat). working_result x s (Step Recalc) ≡ only_answers s.progress Idle) (sym is.format)
     (recalc_one d.format s (λ r. false_from_ne_true (s.progress.regions.awaiting r) (λ waits. let may = is.awaiting r waits in true≢false (sym may.to_recalculate ∙ none may.block may.inside))))
+
+-- The first number that passes is in the range, and passes.
+find-range : (p : ℕ → Bool) (from count r : ℕ) → find p (range_with_len from count) ≡ Some r → (r < from + count) × (p r ≡ true)
+find-range p from zero r e = absurd (none-some r e)
+find-range p from (suc count) r e = elim (cases_Bool (p from)) [
+  | inl passes ↦
+      let same : from ≡ r = same_Some from r (rw passes at e) in
+      (omega arith, ap p (sym same) ∙ passes)
+  | inr fails ↦
+      let later = find-range p (from + 1) count r (rw fails at e) in
+      (omega (arith, later.0), later.1)
+]
+
+-- The one that is taken, where one is.
+abbrev Takes : DiskFormat → DeviceState → EventResult → Type 0
+Takes d s result = (region : ℕ) × (region < regions d.geometry) × (s.progress.regions.awaiting region ≡ true)
+    × (result ≡ step_regions s.progress (Some (recalculated_region region s.progress.regions)))
+
+abbrev answer_of : EventResult → Answer
+answer_of result = result.answer
+
+module _ (d : DiskFormat) (s : DeviceState) where
+  recalc_by : (o : Option ℕ) → least_region (regions d.geometry) s.progress.regions.awaiting ≡ o
+      → (step_regions s.progress (option_map (λ (r : ℕ). recalculated_region r s.progress.regions) o)).answer ≡ Did
+      → Takes d s (step_regions s.progress (option_map (λ (r : ℕ). recalculated_region r s.progress.regions) o))
+  recalc_by None e did = absurd (let wrong : Idle ≡ Did = did in cc)
+  recalc_by (Some r) e did = let found = find-range s.progress.regions.awaiting 0 (regions d.geometry) r e in (r, omega (arith, found.0), found.1, refl)
+
+  recalc_in : (c : Condition) → (result_in (direct d) s c (Step Recalc)).answer ≡ Did → Takes d s (result_in (direct d) s c (Step Recalc))
+  recalc_in Working did = recalc_by (least_region (regions d.geometry) s.progress.regions.awaiting) refl did
+  recalc_in Broken did = absurd (let wrong : IsBroken ≡ Did = did in cc)
+  recalc_in Closed did = absurd (let wrong : IsClosed ≡ Did = did in cc)
+
+pub recalc_law : RecalcLaw
+recalc_law f s d is did =
+    let e : f ≡ direct d.format = is.format in
+    subst (λ (x : DeviceFormat). Takes d.format s (event_result x s (Step Recalc))) (sym e)
+    (recalc_in d.format s s.condition (sym (ap (λ (x : DeviceFormat). (event_result x s (Step Recalc)).answer) e) ∙ did))

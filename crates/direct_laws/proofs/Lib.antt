@@ -3,3 +3,4 @@ pub mod DeviceLemmas
 pub mod EventLemmas
 pub mod ReadLemmas
 pub mod PromiseLemmas
+pub mod Worked

@@ -1,5 +1,5 @@
 -- What a cut leaves of a device in direct mode.
-use Rattle.std.proofs.Common.{◌≡◌, ℕ, suc, Bool, false, refl, sym, ◌∙◌, ap, subst, None, List, [], ◌∷◌, take}
+use Rattle.std.proofs.Common.{◌≡◌, inl, inr, ⊎_elim, ℕ, suc, Bool, false, refl, sym, ◌∙◌, ap, subst, None, List, [], ◌∷◌, take}
 use Rattle.disk_model.specs.Disk.{Content, Image, OnlyAdds, EachImage}
 use Rattle.image_model.specs.declared.flags.TheConstants.{DIRTY_BITMAP}
 use Rattle.image_model.specs.Superblock.{has_flag}
@@ -15,10 +15,10 @@ use Rattle.place_model.proofs.FormatLemmas.{format_on-is}
 use Rattle.place_model.proofs.LeftLemmas.{direct_pending_law}
 use Rattle.device_laws.specs.EventLaws.{IsServed, next_write}
 use Rattle.direct_model.specs.DirectDisk.{DirectDisk, StandsFor}
-use Rattle.direct_model.specs.Steps.{with_write, AreTags, IsOfWrite}
-use Rattle.direct_model.proofs.DirectLemmas.{standing_law, left_law, writing_law, tags_written_law}
+use Rattle.direct_model.specs.Steps.{with_write, with_fields, AreTags, IsOfWrite}
+use Rattle.direct_model.proofs.DirectLemmas.{standing_law, left_law, writing_law, tags_written_law, moving_law}
 use Rattle.direct_laws.specs.Device.{IsDirectDevice, after_changes}
-use Rattle.direct_laws.specs.PromiseLaws.{IsLeftWithin, StandingLeftLaw, ReopensLaw, KindLeftLaw, WithinLaw, WritingLeftLaw, BackLeftLaw, FailedLeftLaw}
+use Rattle.direct_laws.specs.PromiseLaws.{IsLeftWithin, StandingLeftLaw, ReopensLaw, KindLeftLaw, WithinLaw, WritingLeftLaw, BackLeftLaw, MovingLeftLaw, FailedLeftLaw}
 use Rattle.direct_laws.proofs.DeviceLemmas.{after_changes-format, history-within, idle-works}
 use Rattle.direct_laws.proofs.EventLemmas.{served-changes, next_is_block, failed_write}
 
@@ -63,7 +63,7 @@ pub writing_left_law : WritingLeftLaw
 writing_left_law f s d k a first blocks fua tags old c is asked e stands are adds =
     let write = next_write k first blocks a.served in
     let then_ = writing_law d write tags old c stands (next_is_block f s d k a first blocks fua is asked e) are adds in (
-      begun_within f s (Serve (suc k)) d write _ c is (served-changes f s d k a (Write first blocks fua) is asked e) then_,
+      begun_within f s (Serve (suc k)) d write _ c is (served-changes f s d k a is asked (Write first blocks fua) e) then_,
       begun_within f s (FailedServe (suc k)) d write [] c is (failed_write f s d k a first blocks fua is asked e) then_,
     )
 
@@ -73,6 +73,12 @@ back_left_law f s event d kept tags old c is stands are adds =
     within_law f s event d kept c is
     (tags_written_law (after_changes changes d) tags tags old c stands are are
     (subst (λ (x : DiskFormat). OnlyAdds (IsOfTags x.geometry tags tags) old c) (sym (after_changes-format changes d)) adds))
+
+pub moving_left_law : MovingLeftLaw
+moving_left_law d fields h tags bytes first c history stands settled moved reads has size head adds image is_image = ⊎_elim
+    (λ old. inl (left_law d h image history old))
+    (λ new. inr (left_law (with_fields d fields) h image (record { base = history.base; writes = history.writes; flushed = history.flushed; flushed_low = history.flushed_low }) new))
+    (moving_law d fields tags bytes first c stands settled moved reads has size head adds image is_image)
 
 -- ---- a disk that fails
 

@@ -1,15 +1,16 @@
 -- What reads give of a disk in direct mode after each step, and the reply of a block.
 use Rattle.std.proofs.Common.{◌≡◌, ◌≢◌, inl, inr, ⊎_elim, ℕ, ◌+◌, ◌-◌, ◌*◌, ◌/◌, ◌<◌, ◌==◌, Bool, true, false, ◌&&◌, if◌then◌else◌, refl, sym, ◌∙◌, ap, subst, arith, Option, None, List, [], ◌++◌, length, append-nil, slice_index}
-use Rattle.std.specs.List.{Any}
+use Rattle.std.specs.List.{Any, Contains}
 use Rattle.std.specs.Option.{option_to_list}
-use Rattle.std.proofs.lemmas.Bool.{cases_Bool, cases_eq, eq-eqb, ne_eqb, true≢false}
+use Rattle.std.proofs.lemmas.Bool.{cases_Bool, cases_eq, eq-eqb, ne_eqb, true≢false, false_from_ne_true, and_parts}
 use Rattle.disk_model.specs.Disk.{Content, Image, OnlyAdds, Reads, sector_in, last_image, with_run, newest_only}
-use Rattle.disk_model.proofs.DiskLemmas.{AddsSome-adds, AddsSome-all, last_image-with_run, last_image-with_run_out, newest_only-last, newest_only-pending}
+use Rattle.disk_model.proofs.DiskLemmas.{AddsSome-adds, AddsSome-all, last_image-with_run, last_image-with_run_out, newest_only-last, newest_only-pending, only_candidate, last_image-with_other}
 use Rattle.image_model.specs.Bitmap.{is_to_recalculate}
-use Rattle.image_model.specs.Cells.{Cell, placed_cells_of}
+use Rattle.image_model.specs.Cells.{Cell, placed_cells_of, block_tag}
 use Rattle.image_model.specs.Geometry.{data_at, region_of}
 use Rattle.image_model.specs.Sectors.{bytes_at}
 use Rattle.image_model.proofs.BitmapLemmas.{awaits-journal, region_awaits-block}
+use Rattle.image_model.proofs.GeometryLemmas.{data_at-inside}
 use Rattle.image_model.proofs.SectorLemmas.{bytes_at_read}
 use Rattle.device_model.specs.Cut.{all_writes}
 use Rattle.device_model.specs.History.{Tagger, BlockWrite, History, cells_after, cells_now}
@@ -28,11 +29,11 @@ use Rattle.place_model.proofs.PlacedLemmas.{same_cell, placed_cells_of-bytes, pl
 use Rattle.place_model.proofs.TagsLemmas.{data_once}
 use Rattle.direct_model.specs.DirectDisk.{DirectDisk, StandsFor, IsFormed, IsKept, cell_now}
 use Rattle.direct_model.specs.Opening.{opened_disk}
-use Rattle.direct_model.specs.Steps.{with_write, after_flush, AreTags, AreNewTags, IsOfWrite}
-use Rattle.direct_model.proofs.DirectLemmas.{now_cells, writing_law, tags_written_law, flushed_law}
+use Rattle.direct_model.specs.Steps.{with_write, after_flush, with_fields, AreTags, AreNewTags, IsOfWrite, HasTagsOf}
+use Rattle.direct_model.proofs.DirectLemmas.{now_cells, writing_law, tags_written_law, flushed_law, moved_law}
 use Rattle.direct_model.proofs.OpeningLemmas.{opened_law}
 use Rattle.direct_laws.specs.Device.{IsDirectDevice}
-use Rattle.direct_laws.specs.ReadLaws.{awaits_tag, KeepsCells, ReadCellLaw, ReadReplyLaw, KeepsOpened, KeepsWrite, KeepsBack, KeepsFlushed, recalculated_tags, KeepsRecalculated}
+use Rattle.direct_laws.specs.ReadLaws.{awaits_tag, KeepsCells, ReadCellLaw, ReadReplyLaw, KeepsOpened, KeepsWrite, KeepsSynced, KeepsBack, KeepsFlushed, recalculated_tags, KeepsRecalculated, KeepsMoved}
 use Rattle.direct_laws.proofs.DeviceLemmas.{mode-is, blocks-is, block_size-is, idle-works}
 
 -- ---- what awaits
@@ -83,18 +84,18 @@ module _ (f : DeviceFormat) (s : DeviceState) (d : DirectDisk) (is : IsDirectDev
       ∙ cells_after-base (tagger_of d.format) h.base d.base d.writes b (sym (is.history.base b (omega (arith, low, blocks-is f d.format is.format))))
 
 pub read_cell_law : ReadCellLaw
-read_cell_law f s d tags c b bytes is works keeps low awaits size reads =
+read_cell_law f s d awaiting tags c b bytes is works keeps low awaits size reads =
     let inside : b < d.geometry.blocks = omega (arith, low, blocks-is f d.format is.format) in
     let whole : length bytes ≡ 512 * d.geometry.shape.spb = size ∙ block_size-is f d.format is.format in
     let same : bytes ≡ (cell_now d b).bytes =
     bytes_at_read (last_image c) (data_at d.geometry b) d.geometry.shape.spb bytes whole (λ k k_low. reads k (omega (arith, k_low, whole)))
-    ∙ sym (bytes_are d s.progress.regions.awaiting tags c keeps b inside) in
+    ∙ sym (bytes_are d awaiting tags c keeps b inside) in
     cells_are f s d is works b low ∙ sym (same_cell (record { bytes = bytes; tag = tags b }) (cell_now d b) same (keeps.tags_are b inside awaits))
 
 pub read_reply_law : ReadReplyLaw
-read_reply_law f s d tags c b bytes is works keeps low awaits size reads =
+read_reply_law f s d awaiting tags c b bytes is works keeps low awaits size reads =
     let cell : Cell = record { bytes = bytes; tag = tags b } in
-    ap (block_reply f.blocks.tag b) (read_cell_law f s d tags c b bytes is works keeps low awaits size reads)
+    ap (block_reply f.blocks.tag b) (read_cell_law f s d awaiting tags c b bytes is works keeps low awaits size reads)
     ∙ ap (λ (x : DeviceFormat). block_reply x.blocks.tag b cell) is.format
 
 -- ---- opening
@@ -175,6 +176,16 @@ keeps_write d write awaiting tags first c keeps is adds others =
 
 -- ---- tags, and a sync
 
+pub keeps_synced : KeepsSynced
+keeps_synced d awaiting tags first keeps image = record {
+  stands = record {
+    formed = keeps.stands.formed;
+    each = λ sector x has. keeps.stands.each sector x (subst (Contains (first sector)) (sym (only_candidate (last_image first sector) x has)) (image sector));
+  };
+  reads = record { each = keeps.reads.each };
+  tags_are = keeps.tags_are;
+}
+
 pub keeps_back : KeepsBack
 keeps_back d awaiting tags first c keeps adds others =
     let are = are_tags d awaiting tags first keeps in
@@ -231,5 +242,33 @@ keeps_recalculated d region awaiting tags first c keeps adds others =
               tags-apart d region first tags b apart
               ∙ keeps.tags_are b low (ap (λ (t : Bool). t && is_to_recalculate d.superblock g b) (sym before) ∙ awaits)
         ]
+      ];
+    }
+
+-- ---- the position
+
+pub keeps_moved : KeepsMoved
+keeps_moved d fields awaiting tags bytes first keeps image settled in_place moved passes size head =
+    let g = d.geometry in
+    -- A block that is passed does not await, so it has its tag.
+    let has : HasTagsOf d fields tags = λ b low before now. keeps.tags_are b low (ap (λ (t : Bool). t && is_to_recalculate d.superblock g b)
+    (false_from_ne_true (awaiting (region_of g b)) (λ waits. true≢false (sym before ∙ sym (passes b low waits) ∙ now)))) in
+    let stands = moved_law d fields tags bytes first keeps.stands image settled moved in_place has size head in
+    let same : (b : ℕ) → cell_now (with_fields d fields) b ≡ cell_now d b = λ b.
+    ap (λ (salt : Option (List ℕ)). cells_after (λ (n : ℕ) (x : List ℕ). block_tag d.key salt g (n * g.shape.spb) x) d.base d.writes b) moved.same_salt in
+    record {
+      stands = stands;
+      reads = record {
+        each = λ b k low k_low.
+            let inside = data_at-inside g d.sectors b keeps.stands.formed.is_geometry low in
+            last_image-with_other 0 bytes first (data_at g b + k) size (λ same_sector. omega (arith, same_sector))
+            ∙ keeps.reads.each b k low k_low ∙ ap (λ (cell : Cell). sector_in cell.bytes k) (sym (same b));
+      };
+      tags_are = λ b low awaits. elim (cases_Bool (awaits_tag d awaiting b)) [
+        | inr rested ↦ keeps.tags_are b low rested ∙ ap (λ (cell : Cell). cell.tag) (sym (same b))
+        | inl waits ↦
+            let both = and_parts (awaiting (region_of g b)) (is_to_recalculate d.superblock g b) waits in
+            let still : is_to_recalculate fields g b ≡ false = other (awaiting (region_of g b)) (is_to_recalculate fields g b) both.0 awaits in
+            absurd (true≢false (sym both.1 ∙ sym (passes b low both.0) ∙ still))
       ];
     }

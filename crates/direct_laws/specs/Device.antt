@@ -48,10 +48,13 @@ abbrev pub OpeningLaw : Type 0
 OpeningLaw = (d : DiskFormat) (image : Image) → has_flag DIRTY_BITMAP d.superblock.flags ≡ false
     → IsDirectDevice (device_format Direct d) (opened_on Direct d image) (opened_disk d image)
 
--- It is one under other fields too, where no block of a region that awaits is passed.
+-- Under these fields each block of a region that awaits is to be recalculated as before.
+abbrev pub PassesNone : DirectDisk → (awaiting : ℕ → Bool) → Superblock → Type 0
+PassesNone d awaiting fields = (b : ℕ) → b < d.geometry.blocks → awaiting (region_of d.geometry b) ≡ true
+    → is_to_recalculate fields d.geometry b ≡ is_to_recalculate d.superblock d.geometry b
+
+-- It is one under such fields too.
 abbrev pub MovedDeviceLaw : Type 0
 MovedDeviceLaw = (f : DeviceFormat) (s : DeviceState) (d : DirectDisk) (fields : Superblock)
-    → IsDirectDevice f s d → IsMoved d fields
-    → ((b : ℕ) → b < d.geometry.blocks → s.progress.regions.awaiting (region_of d.geometry b) ≡ true
-    → is_to_recalculate fields d.geometry b ≡ is_to_recalculate d.superblock d.geometry b)
+    → IsDirectDevice f s d → IsMoved d fields → PassesNone d s.progress.regions.awaiting fields
     → IsDirectDevice f s (with_fields d fields)

@@ -1,9 +1,11 @@
 -- What each event does to a device in direct mode.
 use Rattle.std.specs.Prelude.{◌≡◌, ◌≢◌, ℕ, suc, ◌<◌, Bool, true, false, if◌then◌else◌, List, [], Some, slice_get}
 use Rattle.image_model.specs.Bitmap.{is_to_recalculate}
+use Rattle.image_model.specs.Geometry.{regions}
 use Rattle.device_model.specs.History.{BlockWrite, Begun, with_change}
 use Rattle.device_model.specs.Mode.{DeviceFormat}
-use Rattle.device_model.specs.Progress.{DeviceState, Working, Event, Submit, Serve, Step, Take, Close, FailedServe, FailedStep, FailedClose, Actor, Recalc, Idle, only_answers, is_flushed_by, event_result, after_event}
+use Rattle.device_model.specs.Progress.{DeviceState, Working, Event, Submit, Serve, Step, Take, Close, FailedServe, FailedStep, FailedClose, Actor, Recalc, Idle, Did, only_answers, is_flushed_by, serve_with, step_regions, event_result, after_event}
+use Rattle.device_model.specs.Regions.{recalculated_region}
 use Rattle.device_model.specs.Request.{Read, Write, Flush, Asked, asked_of, held_by, is_to_serve}
 use Rattle.place_model.specs.Blocks.{IsBlockWrite}
 use Rattle.device_laws.specs.EventLaws.{IsServed, next_write}
@@ -51,7 +53,13 @@ HeldLaw = (f : DeviceFormat) (s : DeviceState) (d : DirectDisk) (k by : ℕ) (a 
     → held_by s.progress.requests k a.request ≡ Some by
     → IsDirectDevice f (after_event f s (Serve (suc k))) d
 
--- A read changes nothing.
+-- Any other is served: there is always room.
+abbrev pub ServedLaw : Type 0
+ServedLaw = (f : DeviceFormat) (s : DeviceState) (d : DirectDisk) (k : ℕ) (a : Asked)
+    → IsDirectDevice f s d → IsServed s k a
+    → event_result f s (Serve (suc k)) ≡ serve_with f s k a (Some s.progress.journal)
+
+-- A read changes nothing of the disk.
 abbrev pub ServeReadLaw : Type 0
 ServeReadLaw = (f : DeviceFormat) (s : DeviceState) (d : DirectDisk) (k : ℕ) (a : Asked) (first count : ℕ)
     → IsDirectDevice f s d → IsServed s k a → a.request ≡ Read first count
@@ -88,12 +96,19 @@ IdleLaw = (f : DeviceFormat) (s : DeviceState) (d : DirectDisk) (actor : Actor) 
     → s.condition ≡ Working → actor ≢ Recalc
     → event_result f s (Step actor) ≡ only_answers s.progress Idle
 
--- and that one is where no block is to be recalculated.
+-- and that one is where no block is to be recalculated,
 abbrev pub RecalcIdleLaw : Type 0
 RecalcIdleLaw = (f : DeviceFormat) (s : DeviceState) (d : DirectDisk) → IsDirectDevice f s d
     → s.condition ≡ Working
     → ((b : ℕ) → b < d.geometry.blocks → is_to_recalculate d.superblock d.geometry b ≡ false)
     → event_result f s (Step Recalc) ≡ only_answers s.progress Idle
+
+-- and else takes a region that awaits.
+abbrev pub RecalcLaw : Type 0
+RecalcLaw = (f : DeviceFormat) (s : DeviceState) (d : DirectDisk) → IsDirectDevice f s d
+    → (event_result f s (Step Recalc)).answer ≡ Did → (region : ℕ) × (region < regions d.geometry)
+    × (s.progress.regions.awaiting region ≡ true)
+    × (event_result f s (Step Recalc) ≡ step_regions s.progress (Some (recalculated_region region s.progress.regions)))
 
 -- ---- a disk that fails
 

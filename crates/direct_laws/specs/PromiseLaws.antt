@@ -1,6 +1,7 @@
 -- What a cut leaves of a device in direct mode, between its calls and within them.
-use Rattle.std.specs.Prelude.{◌≡◌, ℕ, suc, Bool, List, take}
-use Rattle.disk_model.specs.Disk.{Content, Image, EachImage, OnlyAdds}
+use Rattle.std.specs.Prelude.{◌≡◌, ◌⊎◌, ℕ, suc, Bool, Ok, List, length, take}
+use Rattle.disk_model.specs.Disk.{Content, Image, EachImage, HasNothingPending, OnlyAdds}
+use Rattle.image_model.specs.Superblock.{Superblock, superblock_of}
 use Rattle.device_model.specs.History.{History}
 use Rattle.device_model.specs.Mode.{DeviceFormat, Direct}
 use Rattle.device_model.specs.Progress.{DeviceState, Event, Serve, FailedServe, IsHistoryWithin, event_result, after_event}
@@ -9,10 +10,10 @@ use Rattle.place_model.specs.Format.{DiskFormat, format_on}
 use Rattle.place_model.specs.Kind.{CanOpenIn, MayBeLeftIn}
 use Rattle.place_model.specs.Left.{IsLeftInDirect}
 use Rattle.place_model.specs.Opened.{blocks_of}
-use Rattle.place_model.specs.Tags.{IsOfTags}
+use Rattle.place_model.specs.Tags.{IsOfTags, ReadsTags}
 use Rattle.device_laws.specs.EventLaws.{IsServed, next_write}
 use Rattle.direct_model.specs.DirectDisk.{DirectDisk, StandsFor}
-use Rattle.direct_model.specs.Steps.{AreTags, IsOfWrite}
+use Rattle.direct_model.specs.Steps.{with_fields, AreTags, IsOfWrite, IsMoved, HasTagsOf, IsHistoryOf}
 use Rattle.direct_laws.specs.Device.{IsDirectDevice, after_changes}
 
 -- Each image may be left by one history, which is one within the event.
@@ -61,6 +62,15 @@ BackLeftLaw = (f : DeviceFormat) (s : DeviceState) (event : Event) (d : DirectDi
     → let then_ = after_changes (take kept (event_result f s event).changes) d in
     StandsFor then_ old → AreTags then_ tags → OnlyAdds (IsOfTags d.geometry tags tags) old c
     → IsLeftWithin f s event d.format c
+
+-- While the position moves each image may be left, under the old fields or the new.
+abbrev pub MovingLeftLaw : Type 0
+MovingLeftLaw = (d : DirectDisk) (fields : Superblock) (h : History) (tags : ℕ → List ℕ) (bytes : List ℕ)
+    (first c : Content) → IsHistoryOf d h → StandsFor d first → HasNothingPending first → IsMoved d fields
+    → ReadsTags d.geometry tags first → HasTagsOf d fields tags → length bytes ≡ 512
+    → superblock_of bytes ≡ Ok fields → OnlyAdds (λ sector x. (sector ≡ 0) × (x ≡ bytes)) first c
+    → EachImage (λ image. IsLeftInDirect d.format h image
+    ⊎ IsLeftInDirect (with_fields d fields).format h image) c
 
 -- ---- a disk that fails
 

@@ -1,12 +1,12 @@
 -- What reads give of a disk in direct mode, through each of its calls.
 -- Own: tags may stand in memory before they are written.
-use Rattle.std.specs.Prelude.{◌≡◌, ℕ, ◌<◌, ◌==◌, Bool, true, false, ◌&&◌, if◌then◌else◌, List, [], length}
-use Rattle.disk_model.specs.Disk.{Content, IsImage, OnlyAdds, Reads, last_image, newest_only, with_run}
+use Rattle.std.specs.Prelude.{◌≡◌, ℕ, ◌<◌, ◌==◌, Bool, true, false, ◌&&◌, if◌then◌else◌, List, [], length, Ok}
+use Rattle.disk_model.specs.Disk.{Content, HasNothingPending, IsImage, OnlyAdds, Reads, last_image, newest_only, with_run}
 use Rattle.image_model.specs.declared.flags.TheConstants.{DIRTY_BITMAP}
 use Rattle.image_model.specs.Bitmap.{is_to_recalculate}
 use Rattle.image_model.specs.Cells.{Cell, placed_cells_of, replayed_entries}
 use Rattle.image_model.specs.Geometry.{data_at, region_of}
-use Rattle.image_model.specs.Superblock.{has_flag}
+use Rattle.image_model.specs.Superblock.{Superblock, has_flag, superblock_of}
 use Rattle.device_model.specs.History.{BlockWrite, cells_now}
 use Rattle.device_model.specs.Mode.{DeviceFormat, Direct}
 use Rattle.device_model.specs.Progress.{Working, DeviceState}
@@ -19,8 +19,8 @@ use Rattle.place_model.specs.Opened.{awaiting_on}
 use Rattle.place_model.specs.Tags.{IsOfTags, KeepsOthers, ReadsTags, with_block_tag}
 use Rattle.direct_model.specs.DirectDisk.{DirectDisk, StandsFor, cell_now}
 use Rattle.direct_model.specs.Opening.{opened_disk}
-use Rattle.direct_model.specs.Steps.{with_write, after_flush}
-use Rattle.direct_laws.specs.Device.{IsDirectDevice}
+use Rattle.direct_model.specs.Steps.{with_write, after_flush, with_fields, IsMoved}
+use Rattle.direct_laws.specs.Device.{IsDirectDevice, PassesNone}
 
 -- A block awaits its tag where it is to be recalculated and its region awaits.
 abbrev pub awaits_tag : DirectDisk → (awaiting : ℕ → Bool) → ℕ → Bool
@@ -38,19 +38,19 @@ pub record KeepsCells (d : DirectDisk) (awaiting : ℕ → Bool) (tags : ℕ →
 
 -- What reads give of a block is its cell by the history,
 abbrev pub ReadCellLaw : Type 0
-ReadCellLaw = (f : DeviceFormat) (s : DeviceState) (d : DirectDisk) (tags : ℕ → List ℕ) (c : Content)
-    (b : ℕ) (bytes : List ℕ) → IsDirectDevice f s d → s.condition ≡ Working
-    → KeepsCells d s.progress.regions.awaiting tags c → b < f.blocks.blocks
-    → awaits_tag d s.progress.regions.awaiting b ≡ false → length bytes ≡ f.blocks.block_size
+ReadCellLaw = (f : DeviceFormat) (s : DeviceState) (d : DirectDisk) (awaiting : ℕ → Bool)
+    (tags : ℕ → List ℕ) (c : Content) (b : ℕ) (bytes : List ℕ) → IsDirectDevice f s d → s.condition ≡ Working
+    → KeepsCells d awaiting tags c → b < f.blocks.blocks
+    → awaits_tag d awaiting b ≡ false → length bytes ≡ f.blocks.block_size
     → Reads (data_at d.geometry b) bytes c
     → readable_cells f (cells_now f.blocks.tag s.history) b ≡ record { bytes = bytes; tag = tags b }
 
 -- so the reply of the block is told by them.
 abbrev pub ReadReplyLaw : Type 0
-ReadReplyLaw = (f : DeviceFormat) (s : DeviceState) (d : DirectDisk) (tags : ℕ → List ℕ) (c : Content)
-    (b : ℕ) (bytes : List ℕ) → IsDirectDevice f s d → s.condition ≡ Working
-    → KeepsCells d s.progress.regions.awaiting tags c → b < f.blocks.blocks
-    → awaits_tag d s.progress.regions.awaiting b ≡ false → length bytes ≡ f.blocks.block_size
+ReadReplyLaw = (f : DeviceFormat) (s : DeviceState) (d : DirectDisk) (awaiting : ℕ → Bool)
+    (tags : ℕ → List ℕ) (c : Content) (b : ℕ) (bytes : List ℕ) → IsDirectDevice f s d → s.condition ≡ Working
+    → KeepsCells d awaiting tags c → b < f.blocks.blocks
+    → awaits_tag d awaiting b ≡ false → length bytes ≡ f.blocks.block_size
     → Reads (data_at d.geometry b) bytes c
     → block_reply f.blocks.tag b (readable_cells f (cells_now f.blocks.tag s.history) b)
     ≡ block_reply (tagger_of d.format) b (record { bytes = bytes; tag = tags b })
@@ -75,7 +75,13 @@ KeepsWrite = (d : DirectDisk) (write : BlockWrite) (awaiting : ℕ → Bool) (ta
     → OnlyAdds (IsOfTags d.geometry tags with_tag) written c → KeepsOthers d.geometry written c
     → KeepsCells (with_write d write) awaiting with_tag c
 
--- Tags are written back,
+-- A sync alone flushes nothing,
+abbrev pub KeepsSynced : Type 0
+KeepsSynced = (d : DirectDisk) (awaiting : ℕ → Bool) (tags : ℕ → List ℕ) (first : Content)
+    → KeepsCells d awaiting tags first → IsImage first (last_image first)
+    → KeepsCells d awaiting tags (newest_only first)
+
+-- but tags are written back,
 abbrev pub KeepsBack : Type 0
 KeepsBack = (d : DirectDisk) (awaiting : ℕ → Bool) (tags : ℕ → List ℕ) (first c : Content)
     → KeepsCells d awaiting tags first → OnlyAdds (IsOfTags d.geometry tags tags) first c
@@ -101,3 +107,11 @@ KeepsRecalculated = (d : DirectDisk) (region : ℕ) (awaiting : ℕ → Bool) (t
     KeepsCells d awaiting tags first → OnlyAdds (IsOfTags d.geometry tags new) first c
     → KeepsOthers d.geometry first c
     → KeepsCells d (with_region region false awaiting) new c
+
+-- The position moves past no block of a region that awaits, once the tags are in place.
+abbrev pub KeepsMoved : Type 0
+KeepsMoved = (d : DirectDisk) (fields : Superblock) (awaiting : ℕ → Bool) (tags : ℕ → List ℕ)
+    (bytes : List ℕ) (first : Content) → KeepsCells d awaiting tags first → IsImage first (last_image first)
+    → HasNothingPending first → ReadsTags d.geometry tags first → IsMoved d fields
+    → PassesNone d awaiting fields → length bytes ≡ 512 → superblock_of bytes ≡ Ok fields
+    → KeepsCells (with_fields d fields) awaiting tags (newest_only (with_run 0 bytes first))

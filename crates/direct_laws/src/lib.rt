@@ -5,9 +5,9 @@
 #![tactic(auto)]
 
 ghost use Rattle.direct_laws.specs.Device.{MovedDeviceLaw, OpeningLaw};
-ghost use Rattle.direct_laws.specs.EventLaws.{CloseLaw, EventLaw, FailedWriteLaw, HeldLaw, IdleLaw, QuietEventsLaw, QuietLaw, RecalcIdleLaw, ServeFlushLaw, ServeReadLaw, ServeWriteLaw, UnservedLaw};
-ghost use Rattle.direct_laws.specs.PromiseLaws.{BackLeftLaw, FailedLeftLaw, KindLeftLaw, ReopensLaw, StandingLeftLaw, WithinLaw, WritingLeftLaw};
-ghost use Rattle.direct_laws.specs.ReadLaws.{KeepsBack, KeepsFlushed, KeepsOpened, KeepsRecalculated, KeepsWrite, ReadCellLaw, ReadReplyLaw};
+ghost use Rattle.direct_laws.specs.EventLaws.{CloseLaw, EventLaw, FailedWriteLaw, HeldLaw, IdleLaw, QuietEventsLaw, QuietLaw, RecalcIdleLaw, RecalcLaw, ServeFlushLaw, ServeReadLaw, ServeWriteLaw, ServedLaw, UnservedLaw};
+ghost use Rattle.direct_laws.specs.PromiseLaws.{BackLeftLaw, FailedLeftLaw, KindLeftLaw, MovingLeftLaw, ReopensLaw, StandingLeftLaw, WithinLaw, WritingLeftLaw};
+ghost use Rattle.direct_laws.specs.ReadLaws.{KeepsBack, KeepsFlushed, KeepsMoved, KeepsOpened, KeepsRecalculated, KeepsSynced, KeepsWrite, ReadCellLaw, ReadReplyLaw};
 
 /// A device opens on an image without a bitmap, and its position of recalculation may move.
 pub fn device_opens()
@@ -26,16 +26,18 @@ pub fn events_are_kept()
 pub fn requests_are_served()
     ensures unserved { UnservedLaw }
     ensures held { HeldLaw }
+    ensures served { ServedLaw }
     ensures read { ServeReadLaw }
     ensures write { ServeWriteLaw }
     ensures flush { ServeFlushLaw }
     ensures close { CloseLaw }
 {}
 
-/// No actor has anything to do but the one that recalculates.
-pub fn actors_are_idle()
+/// No actor has anything to do but the one that recalculates, and that one only where a region awaits.
+pub fn actors_step()
     ensures others { IdleLaw }
-    ensures recalc { RecalcIdleLaw }
+    ensures none { RecalcIdleLaw }
+    ensures recalc { RecalcLaw }
 {}
 
 /// A serve in which a disk fails leaves its write under way, and what was left before it may be left then.
@@ -50,13 +52,15 @@ pub fn reads_give_the_reply()
     ensures reply { ReadReplyLaw }
 {}
 
-/// An opening, writes, tags that are written back, a sync and a recalculation keep what reads give.
+/// Reads give what the disk says after an opening, and after each step that writes or syncs.
 pub fn cells_are_kept()
     ensures opened { KeepsOpened }
     ensures write { KeepsWrite }
+    ensures synced { KeepsSynced }
     ensures back { KeepsBack }
     ensures flushed { KeepsFlushed }
     ensures recalculated { KeepsRecalculated }
+    ensures moved { KeepsMoved }
 {}
 
 /// Each image, also within a call, can be opened and has cells that may be left of the device.
@@ -67,4 +71,5 @@ pub fn cut_is_left()
     ensures within { WithinLaw }
     ensures writing { WritingLeftLaw }
     ensures back { BackLeftLaw }
+    ensures moving { MovingLeftLaw }
 {}

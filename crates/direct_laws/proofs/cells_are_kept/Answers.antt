@@ -1,4 +1,4 @@
-use Rattle.direct_laws.proofs.ReadLemmas.{keeps_opened, keeps_write, keeps_back, keeps_flushed, keeps_recalculated}
+use Rattle.direct_laws.proofs.ReadLemmas.{keeps_moved, keeps_synced, keeps_opened, keeps_write, keeps_back, keeps_flushed, keeps_recalculated}
 use Rattle.direct_laws.proofs.cells_are_kept.Goals as goal
 
 pub returns-clause-opened : goal.returns-clause-opened
@@ -15,3 +15,9 @@ returns-clause-flushed c = keeps_flushed
 
 pub returns-clause-recalculated : goal.returns-clause-recalculated
 returns-clause-recalculated c = keeps_recalculated
+
+pub returns-clause-synced : goal.returns-clause-synced
+returns-clause-synced c = keeps_synced
+
+pub returns-clause-moved : goal.returns-clause-moved
+returns-clause-moved c = keeps_moved

@@ -1,4 +1,4 @@
-use Rattle.direct_laws.proofs.PromiseLemmas.{standing_left_law, reopens_law, kind_left_law, within_law, writing_left_law, back_left_law}
+use Rattle.direct_laws.proofs.PromiseLemmas.{standing_left_law, reopens_law, kind_left_law, within_law, writing_left_law, back_left_law, moving_left_law}
 use Rattle.direct_laws.proofs.cut_is_left.Goals as goal
 
 pub returns-clause-standing : goal.returns-clause-standing
@@ -18,3 +18,6 @@ returns-clause-writing c = writing_left_law
 
 pub returns-clause-back : goal.returns-clause-back
 returns-clause-back c = back_left_law
+
+pub returns-clause-moving : goal.returns-clause-moving
+returns-clause-moving c = moving_left_law

@@ -1,4 +1,4 @@
-use Rattle.direct_laws.proofs.EventLemmas.{unserved_law, held_law, serve_read_law, serve_write_law, serve_flush_law, close_law}
+use Rattle.direct_laws.proofs.EventLemmas.{served_law, unserved_law, held_law, serve_read_law, serve_write_law, serve_flush_law, close_law}
 use Rattle.direct_laws.proofs.requests_are_served.Goals as goal
 
 pub returns-clause-unserved : goal.returns-clause-unserved
@@ -18,3 +18,6 @@ returns-clause-flush c = serve_flush_law
 
 pub returns-clause-close : goal.returns-clause-close
 returns-clause-close c = close_law
+
+pub returns-clause-served : goal.returns-clause-served
+returns-clause-served c = served_law
