@@ -1,12 +1,11 @@
 -- The counts of a device in direct mode through each event: no section is used, and no region begins to await.
-use Rattle.std.proofs.Common.{◌≡◌, inl, inr, ℕ, zero, suc, ◌==◌, Bool, true, false, not, ◌&&◌, if◌then◌else◌, refl, sym, ◌∙◌, ap, subst, Option, Some, None, option_map, List, [], map, find}
-use Rattle.std.specs.List.{range_with_len}
+use Rattle.std.proofs.Common.{◌≡◌, inl, inr, ℕ, zero, suc, ◌==◌, Bool, true, false, if◌then◌else◌, refl, sym, ◌∙◌, ap, subst, Option, Some, None, option_map, [], map}
 use Rattle.std.specs.Option.{option_or}
 use Rattle.std.proofs.lemmas.Bool.{cases_Bool, false≢true}
-use Rattle.device_model.specs.Journal.{SectionCounts, JournalCounts, as_committed, commit, place, settle}
+use Rattle.device_model.specs.Journal.{JournalCounts, as_committed}
 use Rattle.device_model.specs.Mode.{Direct, DeviceFormat}
-use Rattle.device_model.specs.Progress.{Progress, Condition, Working, Broken, Closed, DeviceState, Event, Submit, Serve, Step, Take, Close, FailedServe, FailedStep, FailedClose, Actor, Commit, Place, Settle, Clean, Recalc, Answer, Idle, EventResult, only_answers, submit_by, form_refusal, slots_refusal, is_flushed_by, journal_with, regions_with, is_journaled, serve, serve_with, serve_unheld, serve_by, serve_asked, step, step_regions, is_used, take_by, take_asked, take_reply, close, working_result, broken_result, result_in, event_result}
-use Rattle.device_model.specs.Regions.{RegionCounts, with_region, recalculated_region, written_back, recalculate, least_region, clean}
+use Rattle.device_model.specs.Progress.{Progress, Condition, Working, Broken, Closed, DeviceState, Event, Submit, Serve, Step, Take, Close, FailedServe, FailedStep, FailedClose, Commit, Place, Settle, Clean, Recalc, Answer, Idle, EventResult, only_answers, submit_by, form_refusal, slots_refusal, is_flushed_by, journal_with, regions_with, serve_with, serve_unheld, serve_by, serve_asked, step_regions, take_by, take_asked, take_reply, working_result, broken_result, result_in, event_result}
+use Rattle.device_model.specs.Regions.{with_region, recalculated_region, written_back, least_region}
 use Rattle.device_model.specs.Request.{Request, Read, Write, Flush, Asked, RequestState, Unfinished, Finished, Taken, Dropped, asked_of, held_by}
 use Rattle.place_model.specs.Format.{DiskFormat}
 use Rattle.place_model.specs.Opened.{device_format}

@@ -1,23 +1,21 @@
 -- A device in direct mode at opening, through each event, and while its position moves.
-use Rattle.std.proofs.Common.{◌≡◌, ◌≢◌, inl, inr, ⊎_elim, ℕ, zero, suc, ◌+◌, ◌*◌, ◌<◌, ◌≤◌, Bool, true, false, if◌then◌else◌, refl, sym, ◌∙◌, ap, subst, arith, Option, Some, None, List, [], ◌∷◌, ◌++◌, length, take, append-nil, length-append}
+use Rattle.std.proofs.Common.{◌≡◌, ℕ, zero, suc, ◌*◌, Bool, true, false, if◌then◌else◌, refl, sym, ◌∙◌, ap, subst, arith, Option, Some, None, List, [], ◌∷◌, ◌++◌, length, take, append-nil, length-append}
 use Rattle.std.specs.Option.{option_to_list}
 use Rattle.std.proofs.lemmas.List.{take_all}
-use Rattle.image_model.specs.Bitmap.{is_to_recalculate}
-use Rattle.image_model.specs.Cells.{salt_of, block_tag}
+use Rattle.image_model.specs.Cells.{block_tag}
 use Rattle.image_model.proofs.BitmapLemmas.{awaits-journal, region_awaits_found}
-use Rattle.device_model.specs.Cut.{all_writes}
 use Rattle.device_model.specs.History.{Tagger, BlockWrite, History, Change, Begun, Written, Flushed, with_change, with_changes}
 use Rattle.device_model.specs.Mode.{DeviceFormat, Direct}
-use Rattle.device_model.specs.Progress.{Condition, Working, Broken, Closed, DeviceState, Event, opened_device, working_result, broken_result, result_in, event_result, after_event}
+use Rattle.device_model.specs.Progress.{Condition, Working, Broken, Closed, DeviceState, Event, working_result, result_in, event_result, after_event}
 use Rattle.device_model.specs.RequestLaws.{IsReached}
 use Rattle.device_model.proofs.EventLemmas.{Serves, IsServing-reached}
 use Rattle.device_model.proofs.MomentLemmas.{EventChanges, Nothing, AFlush, AWrite, ABegun, working-changes, broken-changes, pending_law}
 use Rattle.device_model.proofs.ReachedLemmas.{IsReached-opened, IsReached-event}
 use Rattle.place_model.specs.Format.{DiskFormat}
-use Rattle.place_model.specs.Opened.{device_format, opened_on}
+use Rattle.place_model.specs.Opened.{device_format}
 use Rattle.direct_model.specs.DirectDisk.{DirectDisk}
-use Rattle.direct_model.specs.Steps.{with_write, after_flush, with_fields, IsHistoryOf}
-use Rattle.direct_laws.specs.Device.{MayAwait, IsDirectDevice, after_change, after_changes, OpeningLaw, MovedDeviceLaw}
+use Rattle.direct_model.specs.Steps.{with_write, after_flush, IsHistoryOf}
+use Rattle.direct_laws.specs.Device.{MayAwait, IsDirectDevice, after_changes, OpeningLaw, MovedDeviceLaw}
 use Rattle.direct_laws.specs.EventLaws.{EventLaw}
 use Rattle.direct_laws.proofs.CountLemmas.{KeepsCounts, counts_kept}
 

@@ -1,14 +1,13 @@
 -- Events of a device in direct mode, one by one.
-use Rattle.std.proofs.Common.{◌≡◌, ◌≢◌, inl, inr, ℕ, zero, suc, ◌+◌, ◌*◌, ◌<◌, ◌≤◌, Bool, true, false, if◌then◌else◌, refl, sym, ◌∙◌, ap, subst, arith, Option, Some, None, option_map, List, [], ◌∷◌, length, map, get_or, find, take, slice_get}
+use Rattle.std.proofs.Common.{◌≡◌, ◌≢◌, inl, inr, ℕ, zero, suc, ◌+◌, ◌<◌, Bool, true, false, if◌then◌else◌, refl, sym, ◌∙◌, ap, subst, arith, Option, Some, None, option_map, List, [], ◌∷◌, length, map, get_or, find, take, slice_get}
 use Rattle.std.specs.List.{range_with_len}
 use Rattle.std.specs.Option.{option_or}
 use Rattle.std.proofs.lemmas.Bool.{cases_Bool, true≢false, false_from_ne_true}
 use Rattle.std.proofs.lemmas.Option.{none-some, same_Some}
-use Rattle.image_model.specs.Bitmap.{is_to_recalculate}
 use Rattle.image_model.specs.Geometry.{regions}
-use Rattle.device_model.specs.History.{BlockWrite, Change, Begun, Written, Flushed, with_change, with_changes}
+use Rattle.device_model.specs.History.{BlockWrite, Change, Begun, Written, Flushed, with_changes}
 use Rattle.device_model.specs.Mode.{Mode, DeviceFormat, is_recovery}
-use Rattle.device_model.specs.Progress.{Progress, Condition, Working, Broken, Closed, DeviceState, Event, Submit, Serve, Step, Take, Close, FailedServe, FailedStep, FailedClose, Actor, Commit, Place, Settle, Clean, Recalc, Answer, Idle, Did, IsBroken, IsClosed, EventResult, only_answers, submit_by, form_refusal, slots_refusal, is_flushed_by, block_changes, journal_with, first_begun, serve, serve_with, serve_unheld, serve_by, serve_asked, step_regions, take_by, take_asked, take_reply, working_result, broken_result, result_in, event_result, after_event}
+use Rattle.device_model.specs.Progress.{Progress, Condition, Working, Broken, Closed, DeviceState, Event, Submit, Serve, Step, Take, Close, FailedServe, FailedStep, FailedClose, Actor, Commit, Place, Settle, Clean, Recalc, Answer, Idle, Did, IsBroken, IsClosed, EventResult, only_answers, submit_by, form_refusal, slots_refusal, is_flushed_by, block_changes, journal_with, first_begun, serve, serve_with, serve_unheld, serve_by, serve_asked, step_regions, take_by, take_asked, working_result, result_in, event_result, after_event}
 use Rattle.device_model.specs.Journal.{SectionCounts, JournalCounts, as_committed, commit_all}
 use Rattle.device_model.specs.Regions.{RegionCounts, recalculated_region, least_region}
 use Rattle.device_model.specs.Request.{Request, Read, Write, Flush, Asked, RequestState, Unfinished, Finished, Taken, Dropped, is_unfinished, is_to_serve, asked_of, held_by}
@@ -20,11 +19,9 @@ use Rattle.device_model.proofs.KeptLemmas.{accepted_law}
 use Rattle.device_model.proofs.SubmissionLemmas.{result-working}
 use Rattle.device_model.proofs.MomentLemmas.{broken-changes}
 use Rattle.place_model.specs.Format.{DiskFormat}
-use Rattle.place_model.specs.Opened.{device_format}
 use Rattle.place_model.specs.Blocks.{IsBlockWrite}
 use Rattle.device_laws.specs.EventLaws.{IsServed, next_write}
 use Rattle.direct_model.specs.DirectDisk.{DirectDisk}
-use Rattle.direct_model.specs.Steps.{with_write, after_flush}
 use Rattle.direct_laws.specs.Device.{IsDirectDevice, after_changes}
 use Rattle.direct_laws.specs.EventLaws.{QuietLaw, IsQuiet, QuietEventsLaw, UnservedLaw, HeldLaw, ServedLaw, ServeReadLaw, after_block, ServeWriteLaw, ServeFlushLaw, CloseLaw, IdleLaw, RecalcIdleLaw, RecalcLaw, FailedWriteLaw}
 use Rattle.direct_laws.proofs.CountLemmas.{direct}

@@ -1,9 +1,9 @@
 -- What reads give of a disk in direct mode after each step, and the reply of a block.
-use Rattle.std.proofs.Common.{◌≡◌, ◌≢◌, inl, inr, ⊎_elim, ℕ, ◌+◌, ◌-◌, ◌*◌, ◌/◌, ◌<◌, ◌==◌, Bool, true, false, ◌&&◌, if◌then◌else◌, refl, sym, ◌∙◌, ap, subst, arith, Option, None, List, [], ◌++◌, length, append-nil, slice_index}
-use Rattle.std.specs.List.{Any, Contains}
+use Rattle.std.proofs.Common.{◌≡◌, ◌≢◌, inl, inr, ⊎_elim, ℕ, ◌+◌, ◌-◌, ◌*◌, ◌/◌, ◌<◌, ◌==◌, Bool, true, false, ◌&&◌, if◌then◌else◌, refl, sym, ◌∙◌, ap, subst, arith, Option, List, ◌++◌, length, append-nil}
+use Rattle.std.specs.List.{Contains}
 use Rattle.std.specs.Option.{option_to_list}
 use Rattle.std.proofs.lemmas.Bool.{cases_Bool, cases_eq, eq-eqb, ne_eqb, true≢false, false_from_ne_true, and_parts}
-use Rattle.disk_model.specs.Disk.{Content, Image, OnlyAdds, Reads, sector_in, last_image, with_run, newest_only}
+use Rattle.disk_model.specs.Disk.{Content, OnlyAdds, sector_in, last_image, with_run, newest_only}
 use Rattle.disk_model.proofs.DiskLemmas.{AddsSome-adds, AddsSome-all, last_image-with_run, last_image-with_run_out, newest_only-last, newest_only-pending, only_candidate, last_image-with_other}
 use Rattle.image_model.specs.Bitmap.{is_to_recalculate}
 use Rattle.image_model.specs.Cells.{Cell, placed_cells_of, block_tag}
@@ -12,8 +12,7 @@ use Rattle.image_model.specs.Sectors.{bytes_at}
 use Rattle.image_model.proofs.BitmapLemmas.{awaits-journal, region_awaits-block}
 use Rattle.image_model.proofs.GeometryLemmas.{data_at-inside}
 use Rattle.image_model.proofs.SectorLemmas.{bytes_at_read}
-use Rattle.device_model.specs.Cut.{all_writes}
-use Rattle.device_model.specs.History.{Tagger, BlockWrite, History, cells_after, cells_now}
+use Rattle.device_model.specs.History.{Tagger, BlockWrite, cells_after, cells_now}
 use Rattle.device_model.specs.Mode.{Mode, DeviceFormat, Direct, is_recovery}
 use Rattle.device_model.specs.Progress.{Working, DeviceState}
 use Rattle.device_model.specs.Regions.{with_region}
@@ -21,19 +20,19 @@ use Rattle.device_model.specs.Reply.{block_reply}
 use Rattle.device_model.specs.Serial.{readable_cells}
 use Rattle.device_model.proofs.HistoryLemmas.{Any-nil, cells_after-push_same, cells_after-push_other}
 use Rattle.place_model.specs.Blocks.{IsBlockWrite, ReadsData}
-use Rattle.place_model.specs.Format.{DiskFormat, HasWholeSectors, OpensAs, tagger_of}
-use Rattle.place_model.specs.Opened.{awaiting_on, device_format}
-use Rattle.place_model.specs.Tags.{tag_byte_at, IsOfTags, KeepsOthers, with_block_tag}
+use Rattle.place_model.specs.Format.{tagger_of}
+use Rattle.place_model.specs.Opened.{awaiting_on}
+use Rattle.place_model.specs.Tags.{tag_byte_at, KeepsOthers}
 use Rattle.place_model.proofs.BlocksLemmas.{ReadsData-same, KeepsOthers-data, cells_after-base}
 use Rattle.place_model.proofs.PlacedLemmas.{same_cell, placed_cells_of-bytes, placed_tag}
 use Rattle.place_model.proofs.TagsLemmas.{data_once}
 use Rattle.direct_model.specs.DirectDisk.{DirectDisk, StandsFor, IsFormed, IsKept, cell_now}
 use Rattle.direct_model.specs.Opening.{opened_disk}
-use Rattle.direct_model.specs.Steps.{with_write, after_flush, with_fields, AreTags, AreNewTags, IsOfWrite, HasTagsOf}
+use Rattle.direct_model.specs.Steps.{with_write, with_fields, AreTags, AreNewTags, IsOfWrite, HasTagsOf}
 use Rattle.direct_model.proofs.DirectLemmas.{now_cells, writing_law, tags_written_law, flushed_law, moved_law}
 use Rattle.direct_model.proofs.OpeningLemmas.{opened_law}
 use Rattle.direct_laws.specs.Device.{IsDirectDevice}
-use Rattle.direct_laws.specs.ReadLaws.{awaits_tag, KeepsCells, ReadCellLaw, ReadReplyLaw, KeepsOpened, KeepsWrite, KeepsSynced, KeepsBack, KeepsFlushed, recalculated_tags, KeepsRecalculated, KeepsMoved}
+use Rattle.direct_laws.specs.ReadLaws.{awaits_tag, KeepsCells, ReadLaw, KeepsOpened, KeepsWrite, KeepsSynced, KeepsBack, KeepsFlushed, recalculated_tags, KeepsRecalculated, KeepsMoved}
 use Rattle.direct_laws.proofs.DeviceLemmas.{mode-is, blocks-is, block_size-is, idle-works}
 
 -- ---- what awaits
@@ -51,7 +50,7 @@ rests : (d : DirectDisk) (awaiting : ℕ → Bool) (b : ℕ) → is_to_recalcula
 rests d awaiting b e = neither (awaiting (region_of d.geometry b)) (is_to_recalculate d.superblock d.geometry b) e
 
 module _ (d : DirectDisk) (awaiting : ℕ → Bool) (tags : ℕ → List ℕ) (c : Content) (keeps : KeepsCells d awaiting tags c) where
-  are_tags : AreTags d tags
+  pub are_tags : AreTags d tags
   are_tags = record { each = λ b low e kept. keeps.tags_are b low (rests d awaiting b e) }
 
   are_new_tags : AreNewTags d tags
@@ -83,20 +82,16 @@ module _ (f : DeviceFormat) (s : DeviceState) (d : DirectDisk) (is : IsDirectDev
       ∙ ap (λ (ws : List BlockWrite). cells_after (tagger_of d.format) h.base ws b) all
       ∙ cells_after-base (tagger_of d.format) h.base d.base d.writes b (sym (is.history.base b (omega (arith, low, blocks-is f d.format is.format))))
 
-pub read_cell_law : ReadCellLaw
-read_cell_law f s d awaiting tags c b bytes is works keeps low awaits size reads =
+pub read_law : ReadLaw
+read_law f s d awaiting tags c b bytes is works keeps low awaits size reads =
+    let cell : Cell = record { bytes = bytes; tag = tags b } in
     let inside : b < d.geometry.blocks = omega (arith, low, blocks-is f d.format is.format) in
     let whole : length bytes ≡ 512 * d.geometry.shape.spb = size ∙ block_size-is f d.format is.format in
     let same : bytes ≡ (cell_now d b).bytes =
     bytes_at_read (last_image c) (data_at d.geometry b) d.geometry.shape.spb bytes whole (λ k k_low. reads k (omega (arith, k_low, whole)))
     ∙ sym (bytes_are d awaiting tags c keeps b inside) in
-    cells_are f s d is works b low ∙ sym (same_cell (record { bytes = bytes; tag = tags b }) (cell_now d b) same (keeps.tags_are b inside awaits))
-
-pub read_reply_law : ReadReplyLaw
-read_reply_law f s d awaiting tags c b bytes is works keeps low awaits size reads =
-    let cell : Cell = record { bytes = bytes; tag = tags b } in
-    ap (block_reply f.blocks.tag b) (read_cell_law f s d awaiting tags c b bytes is works keeps low awaits size reads)
-    ∙ ap (λ (x : DeviceFormat). block_reply x.blocks.tag b cell) is.format
+    let told : readable_cells f (cells_now f.blocks.tag s.history) b ≡ cell = cells_are f s d is works b low ∙ sym (same_cell cell (cell_now d b) same (keeps.tags_are b inside awaits)) in
+    (told, ap (block_reply f.blocks.tag b) told ∙ ap (λ (x : DeviceFormat). block_reply x.blocks.tag b cell) is.format)
 
 -- ---- opening
 
@@ -221,14 +216,17 @@ module _ (d : DirectDisk) (region : ℕ) (first : Content) (tags : ℕ → List 
   tags-made same waits = ap (λ (t : Bool). if t && is_to_recalculate d.superblock d.geometry b then made else tags b) (eq-eqb (region_of d.geometry b) region same)
       ∙ ap (λ (t : Bool). if t then made else tags b) waits
 
+-- They are right where the old ones are.
+pub are_recalculated : (d : DirectDisk) (region : ℕ) (awaiting : ℕ → Bool) (tags : ℕ → List ℕ) (first : Content) → KeepsCells d awaiting tags first → AreTags d (recalculated_tags d region first tags)
+are_recalculated d region awaiting tags first keeps = record { each = λ b low e kept. tags-rest d region first tags b e ∙ keeps.tags_are b low (rests d awaiting b e) }
+
 pub keeps_recalculated : KeepsRecalculated
 keeps_recalculated d region awaiting tags first c keeps adds others =
     let g = d.geometry in
     let formed = keeps.stands.formed in
     let new = recalculated_tags d region first tags in
-    let are_new : AreTags d new = record { each = λ b low e kept. tags-rest d region first tags b e ∙ keeps.tags_are b low (rests d awaiting b e) } in
     record {
-      stands = tags_written_law d tags new first c keeps.stands (are_tags d awaiting tags first keeps) are_new adds;
+      stands = tags_written_law d tags new first c keeps.stands (are_tags d awaiting tags first keeps) (are_recalculated d region awaiting tags first keeps) adds;
       reads = same_data d awaiting tags first keeps c others;
       tags_are = λ b low awaits. elim (cases_Bool (is_to_recalculate d.superblock g b)) [
         | inr e ↦ tags-rest d region first tags b e ∙ keeps.tags_are b low (rests d awaiting b e)

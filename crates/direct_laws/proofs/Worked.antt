@@ -1,19 +1,19 @@
 -- A device in direct mode on a fresh disk of eight blocks, which writes block 5: no law speaks of nothing.
-use Rattle.std.proofs.Common.{◌≡◌, ℕ, Bool, true, false, refl, arith, Some, List, [], ◌∷◌, length, replicate}
-use Rattle.disk_model.specs.Disk.{Content, EachImage, newest_only, last_image}
+use Rattle.std.proofs.Common.{◌≡◌, ℕ, true, false, refl, List, [], ◌∷◌, replicate}
+use Rattle.disk_model.specs.Disk.{EachImage}
 use Rattle.disk_model.proofs.DiskLemmas.{OnlyAdds-none, newest_only-last}
 use Rattle.image_model.specs.Cells.{placed_cells_of}
 use Rattle.device_model.specs.History.{BlockWrite, Begun, Written, Flushed, opened}
 use Rattle.device_model.specs.Mode.{Direct, DeviceFormat}
-use Rattle.device_model.specs.Progress.{DeviceState, Event, Submit, Serve, Take, Step, Commit, FailedServe, Ticket, Done, Idle, after_event, event_result}
+use Rattle.device_model.specs.Progress.{DeviceState, Submit, Serve, FailedServe, Ticket, Done, after_event, event_result}
 use Rattle.device_model.specs.Request.{Request, Asked, newly_asked}
 use Rattle.device_model.specs.Submission.{Submission}
 use Rattle.place_model.specs.Kind.{CanOpenIn}
 use Rattle.place_model.specs.Left.{IsLeftInDirect}
 use Rattle.place_model.specs.Opened.{awaiting_on, device_format, opened_on}
 use Rattle.place_model.proofs.WorkedDisk.{journal_format, fresh_journal, replayed_entries-fresh, OpensAs-journal, HasWholeSectors-journal}
-use Rattle.device_laws.specs.EventLaws.{IsServed, next_write}
-use Rattle.direct_model.specs.DirectDisk.{DirectDisk, StandsFor, cell_now}
+use Rattle.device_laws.specs.EventLaws.{IsServed}
+use Rattle.direct_model.specs.DirectDisk.{DirectDisk}
 use Rattle.direct_model.specs.Steps.{with_write, after_flush}
 use Rattle.direct_model.proofs.WorkedDisk.{fresh, content, StandsFor-fresh}
 use Rattle.direct_laws.specs.Device.{IsDirectDevice, after_changes}
@@ -65,8 +65,11 @@ pub IsDirectDevice-fresh : IsDirectDevice format at_start fresh
 IsDirectDevice-fresh = opening_law journal_format fresh_journal refl
 
 -- Reads of it give its cells, with the tags in place.
-pub KeepsCells-fresh : KeepsCells fresh (awaiting_on Direct journal_format fresh_journal) (λ b. (placed_cells_of journal_format.geometry fresh_journal b).tag) content
-KeepsCells-fresh = keeps_opened journal_format content (λ b. (placed_cells_of journal_format.geometry fresh_journal b).tag) (λ sector. newest_only-last content sector) OpensAs-journal refl replayed_entries-fresh HasWholeSectors-journal (λ b low. refl)
+abbrev tags : ℕ → List ℕ
+tags b = (placed_cells_of journal_format.geometry fresh_journal b).tag
+
+pub KeepsCells-fresh : KeepsCells fresh (awaiting_on Direct journal_format fresh_journal) tags content
+KeepsCells-fresh = keeps_opened journal_format content tags (λ sector. newest_only-last content sector) OpensAs-journal refl replayed_entries-fresh HasWholeSectors-journal (λ b low. refl)
 
 -- Each image of it may be left, and opened again.
 pub IsLeftInDirect-fresh : EachImage (IsLeftInDirect journal_format (opened fresh.base)) content
@@ -112,6 +115,5 @@ IsDirectDevice-failed = (failed_write_law format submitted fresh 0 asked 5 block
 -- Within the call each image may be left, also before any sector is written.
 pub IsLeftWithin-write : IsLeftWithin format submitted (Serve 1) journal_format content
 IsLeftWithin-write =
-    let tags : ℕ → List ℕ = λ b. (cell_now fresh b).tag in
-    (writing_left_law format submitted fresh 0 asked 5 blocks true tags content content IsDirectDevice-submitted IsServed-write refl StandsFor-fresh
-    (record { each = λ b low rests kept. refl }) (OnlyAdds-none _ content)).0
+    (writing_left_law format submitted fresh 0 asked 5 blocks true (awaiting_on Direct journal_format fresh_journal) tags content content IsDirectDevice-submitted IsServed-write refl KeepsCells-fresh
+    (OnlyAdds-none _ content)).0

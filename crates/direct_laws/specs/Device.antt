@@ -1,5 +1,5 @@
--- A device in direct mode over its disk: its format, history and counts are those of what the disk stands for.
-use Rattle.std.specs.Prelude.{◌≡◌, ℕ, ◌<◌, Bool, true, false, ◌&&◌, List, []}
+-- A device in direct mode over its disk: format, history and counts are those of what the disk stands for.
+use Rattle.std.specs.Prelude.{◌≡◌, ℕ, ◌<◌, Bool, true, false, List, []}
 use Rattle.std.specs.List.{fold}
 use Rattle.disk_model.specs.Disk.{Image}
 use Rattle.image_model.specs.Bitmap.{is_to_recalculate}
@@ -10,7 +10,7 @@ use Rattle.device_model.specs.History.{Change, Begun, Written, Flushed}
 use Rattle.device_model.specs.Mode.{DeviceFormat, Direct}
 use Rattle.device_model.specs.Progress.{DeviceState}
 use Rattle.device_model.specs.RequestLaws.{IsReached}
-use Rattle.place_model.specs.Format.{DiskFormat, cells_on}
+use Rattle.place_model.specs.Format.{DiskFormat}
 use Rattle.place_model.specs.Opened.{device_format, opened_on}
 use Rattle.direct_model.specs.DirectDisk.{DirectDisk}
 use Rattle.direct_model.specs.Opening.{opened_disk}

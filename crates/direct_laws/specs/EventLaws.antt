@@ -23,7 +23,7 @@ abbrev pub QuietLaw : Type 0
 QuietLaw = (f : DeviceFormat) (s : DeviceState) (event : Event) (d : DirectDisk) → IsDirectDevice f s d
     → (event_result f s event).changes ≡ [] → IsDirectDevice f (after_event f s event) d
 
--- All events but a serve and a close.
+-- All events but serves, and a close that is done.
 abbrev pub IsQuiet : Event → Type 0
 IsQuiet (Submit submission) = Unit {0}
 IsQuiet (Serve ticket) = ⊥
@@ -107,8 +107,8 @@ RecalcIdleLaw = (f : DeviceFormat) (s : DeviceState) (d : DirectDisk) → IsDire
 abbrev pub RecalcLaw : Type 0
 RecalcLaw = (f : DeviceFormat) (s : DeviceState) (d : DirectDisk) → IsDirectDevice f s d
     → (event_result f s (Step Recalc)).answer ≡ Did → (region : ℕ) × (region < regions d.geometry)
-    × (s.progress.regions.awaiting region ≡ true)
-    × (event_result f s (Step Recalc) ≡ step_regions s.progress (Some (recalculated_region region s.progress.regions)))
+    × (s.progress.regions.awaiting region ≡ true) × (event_result f s (Step Recalc)
+    ≡ step_regions s.progress (Some (recalculated_region region s.progress.regions)))
 
 -- ---- a disk that fails
 

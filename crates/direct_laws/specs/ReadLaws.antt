@@ -1,6 +1,6 @@
 -- What reads give of a disk in direct mode, through each of its calls.
 -- Own: tags may stand in memory before they are written.
-use Rattle.std.specs.Prelude.{◌≡◌, ℕ, ◌<◌, ◌==◌, Bool, true, false, ◌&&◌, if◌then◌else◌, List, [], length, Ok}
+use Rattle.std.specs.Prelude.{◌≡◌, ℕ, ◌<◌, ◌==◌, Bool, false, ◌&&◌, if◌then◌else◌, List, [], length, Ok}
 use Rattle.disk_model.specs.Disk.{Content, HasNothingPending, IsImage, OnlyAdds, Reads, last_image, newest_only, with_run}
 use Rattle.image_model.specs.declared.flags.TheConstants.{DIRTY_BITMAP}
 use Rattle.image_model.specs.Bitmap.{is_to_recalculate}
@@ -26,8 +26,8 @@ use Rattle.direct_laws.specs.Device.{IsDirectDevice, PassesNone}
 abbrev pub awaits_tag : DirectDisk → (awaiting : ℕ → Bool) → ℕ → Bool
 awaits_tag d awaiting b = awaiting (region_of d.geometry b) && is_to_recalculate d.superblock d.geometry b
 
--- The disk stands for this, reads give the data after all writes, and the tags that are told are those after all writes,
--- but of blocks that await theirs.
+-- The disk stands for this. Data as reads give them, and tags as they are told, are those after all writes, but for a
+-- tag that is awaited.
 pub record KeepsCells (d : DirectDisk) (awaiting : ℕ → Bool) (tags : ℕ → List ℕ) (c : Content) : Type 0 where
   pub stands : StandsFor d c
   pub reads : ReadsData d.geometry (cell_now d) c
@@ -36,24 +36,15 @@ pub record KeepsCells (d : DirectDisk) (awaiting : ℕ → Bool) (tags : ℕ →
 
 -- ---- a read
 
--- What reads give of a block is its cell by the history,
-abbrev pub ReadCellLaw : Type 0
-ReadCellLaw = (f : DeviceFormat) (s : DeviceState) (d : DirectDisk) (awaiting : ℕ → Bool)
-    (tags : ℕ → List ℕ) (c : Content) (b : ℕ) (bytes : List ℕ) → IsDirectDevice f s d → s.condition ≡ Working
-    → KeepsCells d awaiting tags c → b < f.blocks.blocks
-    → awaits_tag d awaiting b ≡ false → length bytes ≡ f.blocks.block_size
-    → Reads (data_at d.geometry b) bytes c
-    → readable_cells f (cells_now f.blocks.tag s.history) b ≡ record { bytes = bytes; tag = tags b }
-
--- so the reply of the block is told by them.
-abbrev pub ReadReplyLaw : Type 0
-ReadReplyLaw = (f : DeviceFormat) (s : DeviceState) (d : DirectDisk) (awaiting : ℕ → Bool)
-    (tags : ℕ → List ℕ) (c : Content) (b : ℕ) (bytes : List ℕ) → IsDirectDevice f s d → s.condition ≡ Working
-    → KeepsCells d awaiting tags c → b < f.blocks.blocks
-    → awaits_tag d awaiting b ≡ false → length bytes ≡ f.blocks.block_size
-    → Reads (data_at d.geometry b) bytes c
-    → block_reply f.blocks.tag b (readable_cells f (cells_now f.blocks.tag s.history) b)
-    ≡ block_reply (tagger_of d.format) b (record { bytes = bytes; tag = tags b })
+-- What reads give of a block is its cell by the history, and so its reply is theirs.
+abbrev pub ReadLaw : Type 0
+ReadLaw = (f : DeviceFormat) (s : DeviceState) (d : DirectDisk) (awaiting : ℕ → Bool) (tags : ℕ → List ℕ)
+    (c : Content) (b : ℕ) (bytes : List ℕ) → IsDirectDevice f s d → s.condition ≡ Working
+    → KeepsCells d awaiting tags c → b < f.blocks.blocks → awaits_tag d awaiting b ≡ false
+    → length bytes ≡ f.blocks.block_size → Reads (data_at d.geometry b) bytes c
+    → let cell : Cell = record { bytes = bytes; tag = tags b } in
+    let told = readable_cells f (cells_now f.blocks.tag s.history) b in
+    (told ≡ cell) × (block_reply f.blocks.tag b told ≡ block_reply (tagger_of d.format) b cell)
 
 -- ---- what keeps that
 
@@ -69,7 +60,8 @@ KeepsOpened = (d : DiskFormat) (entry : Content) (tags : ℕ → List ℕ) → I
 -- The bytes of a block are written, then sectors of tags without and with its tag.
 abbrev pub KeepsWrite : Type 0
 KeepsWrite = (d : DirectDisk) (write : BlockWrite) (awaiting : ℕ → Bool) (tags : ℕ → List ℕ)
-    (first c : Content) → let with_tag = with_block_tag write.block (tagger_of d.format write.block write.bytes) tags in
+    (first c : Content) → let tag = tagger_of d.format write.block write.bytes in
+    let with_tag = with_block_tag write.block tag tags in
     let written = with_run (data_at d.geometry write.block) write.bytes first in
     KeepsCells d awaiting tags first → IsBlockWrite d.geometry write
     → OnlyAdds (IsOfTags d.geometry tags with_tag) written c → KeepsOthers d.geometry written c

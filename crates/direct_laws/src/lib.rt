@@ -1,13 +1,13 @@
 //! Laws: a device in direct mode, by its requests, over what its disk stands for.
 //!
-//! `specs/Device.antt` is the file to read first: `IsDirectDevice` ties the two, and each law says what a step keeps
-//! of it.
+//! `specs/Device.antt` is the file to read first: `IsDirectDevice` ties the two, and each law says what a step
+//! keeps of it.
 #![tactic(auto)]
 
 ghost use Rattle.direct_laws.specs.Device.{MovedDeviceLaw, OpeningLaw};
 ghost use Rattle.direct_laws.specs.EventLaws.{CloseLaw, EventLaw, FailedWriteLaw, HeldLaw, IdleLaw, QuietEventsLaw, QuietLaw, RecalcIdleLaw, RecalcLaw, ServeFlushLaw, ServeReadLaw, ServeWriteLaw, ServedLaw, UnservedLaw};
-ghost use Rattle.direct_laws.specs.PromiseLaws.{BackLeftLaw, FailedLeftLaw, KindLeftLaw, MovingLeftLaw, ReopensLaw, StandingLeftLaw, WithinLaw, WritingLeftLaw};
-ghost use Rattle.direct_laws.specs.ReadLaws.{KeepsBack, KeepsFlushed, KeepsMoved, KeepsOpened, KeepsRecalculated, KeepsSynced, KeepsWrite, ReadCellLaw, ReadReplyLaw};
+ghost use Rattle.direct_laws.specs.PromiseLaws.{BackLeftLaw, FailedLeftLaw, FlushedLeftLaw, KindLeftLaw, MovingLeftLaw, RecalculatingLeftLaw, ReopensLaw, StandingLeftLaw, WithinLaw, WritingLeftLaw};
+ghost use Rattle.direct_laws.specs.ReadLaws.{KeepsBack, KeepsFlushed, KeepsMoved, KeepsOpened, KeepsRecalculated, KeepsSynced, KeepsWrite, ReadLaw};
 
 /// A device opens on an image without a bitmap, and its position of recalculation may move.
 pub fn device_opens()
@@ -22,7 +22,7 @@ pub fn events_are_kept()
     ensures quiet { QuietEventsLaw }
 {}
 
-/// A serve writes the next block of a write, or flushes, and nothing is done of a request that is held, or done.
+/// A serve reads or writes one block, or flushes, and does nothing of a request that is held, or done.
 pub fn requests_are_served()
     ensures unserved { UnservedLaw }
     ensures held { HeldLaw }
@@ -48,8 +48,7 @@ pub fn failures_leave_a_write()
 
 /// What reads give of a block, data and tag, is its cell by the history, so its reply.
 pub fn reads_give_the_reply()
-    ensures cell { ReadCellLaw }
-    ensures reply { ReadReplyLaw }
+    ensures { ReadLaw }
 {}
 
 /// Reads give what the disk says after an opening, and after each step that writes or syncs.
@@ -67,9 +66,11 @@ pub fn cells_are_kept()
 pub fn cut_is_left()
     ensures standing { StandingLeftLaw }
     ensures reopens { ReopensLaw }
+    ensures all { FlushedLeftLaw }
     ensures kind { KindLeftLaw }
     ensures within { WithinLaw }
     ensures writing { WritingLeftLaw }
     ensures back { BackLeftLaw }
+    ensures recalculating { RecalculatingLeftLaw }
     ensures moving { MovingLeftLaw }
 {}

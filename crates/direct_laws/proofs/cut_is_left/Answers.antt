@@ -1,4 +1,4 @@
-use Rattle.direct_laws.proofs.PromiseLemmas.{standing_left_law, reopens_law, kind_left_law, within_law, writing_left_law, back_left_law, moving_left_law}
+use Rattle.direct_laws.proofs.PromiseLemmas.{flushed_left_law, standing_left_law, reopens_law, kind_left_law, within_law, writing_left_law, back_left_law, moving_left_law, recalculating_left_law}
 use Rattle.direct_laws.proofs.cut_is_left.Goals as goal
 
 pub returns-clause-standing : goal.returns-clause-standing
@@ -21,3 +21,9 @@ returns-clause-back c = back_left_law
 
 pub returns-clause-moving : goal.returns-clause-moving
 returns-clause-moving c = moving_left_law
+
+pub returns-clause-all : goal.returns-clause-all
+returns-clause-all c = flushed_left_law
+
+pub returns-clause-recalculating : goal.returns-clause-recalculating
+returns-clause-recalculating c = recalculating_left_law
