@@ -4,3 +4,4 @@ pub mod EventLemmas
 pub mod ReadLemmas
 pub mod PromiseLemmas
 pub mod Worked
+pub mod WorkedServe
