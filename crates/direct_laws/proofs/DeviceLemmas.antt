@@ -14,8 +14,9 @@ use Rattle.device_model.proofs.ReachedLemmas.{IsReached-opened, IsReached-event}
 use Rattle.place_model.specs.Format.{DiskFormat}
 use Rattle.place_model.specs.Opened.{device_format}
 use Rattle.direct_model.specs.DirectDisk.{DirectDisk}
+use Rattle.direct_model.specs.Opening.{opened_disk}
 use Rattle.direct_model.specs.Steps.{with_write, after_flush, IsHistoryOf}
-use Rattle.direct_laws.specs.Device.{MayAwait, IsDirectDevice, after_changes, OpeningLaw, MovedDeviceLaw}
+use Rattle.direct_laws.specs.Device.{MayAwait, IsDirectDevice, after_changes, BeginningLaw, OpeningLaw, MovedDeviceLaw}
 use Rattle.direct_laws.specs.EventLaws.{EventLaw}
 use Rattle.direct_laws.proofs.CountLemmas.{KeepsCounts, counts_kept}
 
@@ -155,21 +156,24 @@ event_law f s event d is = event_keeps f s event d is
 
 -- ---- opening, and the position
 
-pub opening_law : OpeningLaw
-opening_law d image clear = record {
-  reached = IsReached-opened (device_format Direct d) _ _ _ _;
-  format = refl;
-  history = record { base = λ b low. refl; writes = refl; flushed = refl; flushed_low = omega arith };
+pub beginning_law : BeginningLaw
+beginning_law f d base next set_bits awaiting format none unflushed same may = record {
+  reached = IsReached-opened f base next set_bits awaiting;
+  format = format;
+  history = record { base = same; writes = none; flushed = unflushed; flushed_low = omega arith };
   unused = refl;
-  awaiting = λ region waits.
-      let found = region_awaits_found d.superblock d.geometry image region waits in
-      record {
-        block = found.0;
-        inside = found.1;
-        is = found.2;
-        to_recalculate = sym (awaits-journal d.superblock d.geometry image found.0 clear) ∙ found.3;
-      };
+  awaiting = may;
 }
+
+pub opening_law : OpeningLaw
+opening_law d image clear = beginning_law (device_format Direct d) (opened_disk d image) _ _ _ _ refl refl refl (λ b low. refl) (λ region waits.
+    let found = region_awaits_found d.superblock d.geometry image region waits in
+    record {
+      block = found.0;
+      inside = found.1;
+      is = found.2;
+      to_recalculate = sym (awaits-journal d.superblock d.geometry image found.0 clear) ∙ found.3;
+    })
 
 pub moved_device_law : MovedDeviceLaw
 moved_device_law f s d fields is moved passes = record {

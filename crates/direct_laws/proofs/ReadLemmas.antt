@@ -1,8 +1,9 @@
 -- What reads give of a disk in direct mode after each step, and the reply of a block.
 use Rattle.std.proofs.Common.{◌≡◌, ◌≢◌, inl, inr, ⊎_elim, ℕ, ◌+◌, ◌-◌, ◌*◌, ◌/◌, ◌<◌, ◌==◌, Bool, true, false, ◌&&◌, if◌then◌else◌, refl, sym, ◌∙◌, ap, subst, arith, Option, List, ◌++◌, length, append-nil}
-use Rattle.std.specs.List.{Contains}
+use Rattle.std.specs.List.{Any, Contains}
 use Rattle.std.specs.Option.{option_to_list}
 use Rattle.std.proofs.lemmas.Bool.{cases_Bool, cases_eq, eq-eqb, ne_eqb, true≢false, false_from_ne_true, and_parts}
+use Rattle.std.proofs.lemmas.List.{drop_all}
 use Rattle.disk_model.specs.Disk.{Content, OnlyAdds, sector_in, last_image, with_run, newest_only}
 use Rattle.disk_model.proofs.DiskLemmas.{AddsSome-adds, AddsSome-all, last_image-with_run, last_image-with_run_out, newest_only-last, newest_only-pending, only_candidate, last_image-with_other}
 use Rattle.image_model.specs.Bitmap.{is_to_recalculate}
@@ -18,7 +19,7 @@ use Rattle.device_model.specs.Progress.{Working, DeviceState}
 use Rattle.device_model.specs.Regions.{with_region}
 use Rattle.device_model.specs.Reply.{block_reply}
 use Rattle.device_model.specs.Serial.{readable_cells}
-use Rattle.device_model.proofs.HistoryLemmas.{Any-nil, cells_after-push_same, cells_after-push_other}
+use Rattle.device_model.proofs.HistoryLemmas.{IsOfBlock, Any-nil, cells_after-push_same, cells_after-push_other}
 use Rattle.place_model.specs.Blocks.{IsBlockWrite, ReadsData}
 use Rattle.place_model.specs.Format.{tagger_of}
 use Rattle.place_model.specs.Opened.{awaiting_on}
@@ -26,13 +27,13 @@ use Rattle.place_model.specs.Tags.{tag_byte_at, KeepsOthers}
 use Rattle.place_model.proofs.BlocksLemmas.{ReadsData-same, KeepsOthers-data, cells_after-base}
 use Rattle.place_model.proofs.PlacedLemmas.{same_cell, placed_cells_of-bytes, placed_tag}
 use Rattle.place_model.proofs.TagsLemmas.{data_once}
-use Rattle.direct_model.specs.DirectDisk.{DirectDisk, StandsFor, IsFormed, IsKept, cell_now}
+use Rattle.direct_model.specs.DirectDisk.{DirectDisk, IsFormed, IsKept, cell_now}
 use Rattle.direct_model.specs.Opening.{opened_disk}
 use Rattle.direct_model.specs.Steps.{with_write, with_fields, AreTags, AreNewTags, IsOfWrite, HasTagsOf}
 use Rattle.direct_model.proofs.DirectLemmas.{now_cells, writing_law, tags_written_law, flushed_law, moved_law}
 use Rattle.direct_model.proofs.OpeningLemmas.{opened_law}
 use Rattle.direct_laws.specs.Device.{IsDirectDevice}
-use Rattle.direct_laws.specs.ReadLaws.{awaits_tag, KeepsCells, ReadLaw, KeepsOpened, KeepsWrite, KeepsSynced, KeepsBack, KeepsFlushed, recalculated_tags, KeepsRecalculated, KeepsMoved}
+use Rattle.direct_laws.specs.ReadLaws.{awaits_tag, KeepsCells, ReadLaw, KeepsBegun, KeepsOpened, KeepsWrite, KeepsSynced, KeepsBack, KeepsFlushed, recalculated_tags, KeepsRecalculated, KeepsMoved}
 use Rattle.direct_laws.proofs.DeviceLemmas.{mode-is, blocks-is, block_size-is, idle-works}
 
 -- ---- what awaits
@@ -95,25 +96,28 @@ read_law f s d awaiting tags c b bytes is works keeps low awaits size reads =
 
 -- ---- opening
 
+pub keeps_begun : KeepsBegun
+keeps_begun d awaiting tags c stands image flushed waits placed =
+    let kept : (b : ℕ) → IsKept d b = λ b any. Any-nil (IsOfBlock b) (subst (Any (IsOfBlock b)) (drop_all d.flushed d.writes (omega (arith, flushed))) any) in
+    let whole : (sector : ℕ) → sector < d.sectors → length (last_image c sector) ≡ 512 = λ sector inside. (stands.each sector (last_image c sector) (image sector)).whole inside in
+    record {
+      stands = stands;
+      reads = record { each = λ b k low k_low. (stands.each (data_at d.geometry b + k) (last_image c (data_at d.geometry b + k)) (image (data_at d.geometry b + k))).data_ b k low k_low (kept b) refl };
+      tags_are = λ b low awaits.
+          let still : is_to_recalculate d.superblock d.geometry b ≡ false = false_from_ne_true (is_to_recalculate d.superblock d.geometry b) (λ is.
+          true≢false (sym is ∙ other (awaiting (region_of d.geometry b)) (is_to_recalculate d.superblock d.geometry b) (waits b low is) awaits)) in
+          placed b low
+          ∙ placed_tag d.geometry d.sectors stands.formed.is_geometry (last_image c) whole b low (cell_now d b) ((now_cells d stands.formed).tag b low)
+          (λ i i_low. (stands.each (tag_byte_at d.geometry b i).0 (last_image c (tag_byte_at d.geometry b i).0) (image (tag_byte_at d.geometry b i).0)).tags b i low i_low still (kept b) refl);
+    }
+
 pub keeps_opened : KeepsOpened
 keeps_opened d entry tags image_is opens clear none whole placed =
     let image = last_image entry in
-    let disk = opened_disk d image in
-    let stands : StandsFor disk (newest_only entry) = opened_law d (newest_only entry) opens clear none (newest_only-pending entry) whole in
-    let kept : (b : ℕ) → IsKept disk b = λ b any. Any-nil (λ (write : BlockWrite). write.block ≡ b) any in
-    record {
-      stands = stands;
-      reads = record { each = λ b k low k_low. (stands.each (data_at d.geometry b + k) (image (data_at d.geometry b + k)) (newest_only-last entry (data_at d.geometry b + k))).data_ b k low k_low (kept b) refl };
-      tags_are = λ b low awaits.
-          let still : is_to_recalculate d.superblock d.geometry b ≡ false = elim (cases_Bool (is_to_recalculate d.superblock d.geometry b)) [
-            | inr e ↦ e
-            | inl waits ↦ other (awaiting_on Direct d image (region_of d.geometry b)) (is_to_recalculate d.superblock d.geometry b)
-                (region_awaits-block d.superblock d.geometry image b low (awaits-journal d.superblock d.geometry image b clear ∙ waits)) awaits
-          ] in
-          placed b low
-          ∙ placed_tag d.geometry d.sectors stands.formed.is_geometry image whole b low (cell_now disk b) ((now_cells disk stands.formed).tag b low)
-          (λ i i_low. (stands.each (tag_byte_at d.geometry b i).0 (image (tag_byte_at d.geometry b i).0) (newest_only-last entry (tag_byte_at d.geometry b i).0)).tags b i low i_low still (kept b) refl);
-    }
+    keeps_begun (opened_disk d image) (awaiting_on Direct d image) tags (newest_only entry)
+    (opened_law d (newest_only entry) opens clear none (newest_only-pending entry) whole) (newest_only-last entry) refl
+    (λ b low waits. region_awaits-block d.superblock d.geometry image b low (awaits-journal d.superblock d.geometry image b clear ∙ waits))
+    placed
 
 -- ---- a write
 

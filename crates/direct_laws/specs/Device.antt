@@ -3,12 +3,13 @@ use Rattle.std.specs.Prelude.{◌≡◌, ℕ, ◌<◌, Bool, true, false, List, 
 use Rattle.std.specs.List.{fold}
 use Rattle.disk_model.specs.Disk.{Image}
 use Rattle.image_model.specs.Bitmap.{is_to_recalculate}
+use Rattle.image_model.specs.Cells.{Cell}
 use Rattle.image_model.specs.Geometry.{region_of}
 use Rattle.image_model.specs.Superblock.{Superblock, has_flag}
 use Rattle.image_model.specs.declared.flags.TheConstants.{DIRTY_BITMAP}
 use Rattle.device_model.specs.History.{Change, Begun, Written, Flushed}
 use Rattle.device_model.specs.Mode.{DeviceFormat, Direct}
-use Rattle.device_model.specs.Progress.{DeviceState}
+use Rattle.device_model.specs.Progress.{DeviceState, opened_device}
 use Rattle.device_model.specs.RequestLaws.{IsReached}
 use Rattle.place_model.specs.Format.{DiskFormat}
 use Rattle.place_model.specs.Opened.{device_format, opened_on}
@@ -43,7 +44,15 @@ after_changes changes d = fold after_change d changes
 
 -- ---- laws
 
--- The device that has just been opened on an image without a bitmap is one.
+-- A device that has just been opened is one on a disk without a write, with the same cells,
+abbrev pub BeginningLaw : Type 0
+BeginningLaw = (f : DeviceFormat) (d : DirectDisk) (base : ℕ → Cell) (next : ℕ) (set_bits awaiting : ℕ → Bool)
+    → f ≡ device_format Direct d.format → d.writes ≡ [] → d.flushed ≡ 0
+    → ((b : ℕ) → b < d.geometry.blocks → d.base b ≡ base b)
+    → ((region : ℕ) → awaiting region ≡ true → MayAwait d region)
+    → IsDirectDevice f (opened_device base next set_bits awaiting) d
+
+-- so on an image without a bitmap.
 abbrev pub OpeningLaw : Type 0
 OpeningLaw = (d : DiskFormat) (image : Image) → has_flag DIRTY_BITMAP d.superblock.flags ≡ false
     → IsDirectDevice (device_format Direct d) (opened_on Direct d image) (opened_disk d image)

@@ -1,6 +1,6 @@
 -- What reads give of a disk in direct mode, through each of its calls.
 -- Own: tags may stand in memory before they are written.
-use Rattle.std.specs.Prelude.{◌≡◌, ℕ, ◌<◌, ◌==◌, Bool, false, ◌&&◌, if◌then◌else◌, List, [], length, Ok}
+use Rattle.std.specs.Prelude.{◌≡◌, ℕ, ◌<◌, ◌==◌, Bool, true, false, ◌&&◌, if◌then◌else◌, List, [], length, Ok}
 use Rattle.disk_model.specs.Disk.{Content, HasNothingPending, IsImage, OnlyAdds, Reads, last_image, newest_only, with_run}
 use Rattle.image_model.specs.declared.flags.TheConstants.{DIRTY_BITMAP}
 use Rattle.image_model.specs.Bitmap.{is_to_recalculate}
@@ -48,7 +48,16 @@ ReadLaw = (f : DeviceFormat) (s : DeviceState) (d : DirectDisk) (awaiting : ℕ 
 
 -- ---- what keeps that
 
--- The first sync of an opening leaves it, with the tags that are in place.
+-- A disk with all flushed has it, with the tags that are in place,
+abbrev pub KeepsBegun : Type 0
+KeepsBegun = (d : DirectDisk) (awaiting : ℕ → Bool) (tags : ℕ → List ℕ) (c : Content) → StandsFor d c
+    → IsImage c (last_image c) → d.flushed ≡ length d.writes
+    → ((b : ℕ) → b < d.geometry.blocks → is_to_recalculate d.superblock d.geometry b ≡ true
+    → awaiting (region_of d.geometry b) ≡ true)
+    → ((b : ℕ) → b < d.geometry.blocks → tags b ≡ (placed_cells_of d.geometry (last_image c) b).tag)
+    → KeepsCells d awaiting tags c
+
+-- so one after the first sync of an opening.
 abbrev pub KeepsOpened : Type 0
 KeepsOpened = (d : DiskFormat) (entry : Content) (tags : ℕ → List ℕ) → IsImage entry (last_image entry)
     → OpensAs d (last_image entry) → has_flag DIRTY_BITMAP d.superblock.flags ≡ false

@@ -4,13 +4,14 @@
 //! keeps of it.
 #![tactic(auto)]
 
-ghost use Rattle.direct_laws.specs.Device.{MovedDeviceLaw, OpeningLaw};
+ghost use Rattle.direct_laws.specs.Device.{BeginningLaw, MovedDeviceLaw, OpeningLaw};
 ghost use Rattle.direct_laws.specs.EventLaws.{CloseLaw, EventLaw, FailedWriteLaw, HeldLaw, IdleLaw, QuietEventsLaw, QuietLaw, RecalcIdleLaw, RecalcLaw, ServeFlushLaw, ServeReadLaw, ServeWriteLaw, ServedLaw, UnservedLaw};
 ghost use Rattle.direct_laws.specs.PromiseLaws.{BackLeftLaw, FailedLeftLaw, FlushedLeftLaw, KindLeftLaw, MovingLeftLaw, RecalculatingLeftLaw, ReopensLaw, StandingLeftLaw, WithinLaw, WritingLeftLaw};
-ghost use Rattle.direct_laws.specs.ReadLaws.{KeepsBack, KeepsFlushed, KeepsMoved, KeepsOpened, KeepsRecalculated, KeepsSynced, KeepsWrite, ReadLaw};
+ghost use Rattle.direct_laws.specs.ReadLaws.{KeepsBack, KeepsBegun, KeepsFlushed, KeepsMoved, KeepsOpened, KeepsRecalculated, KeepsSynced, KeepsWrite, ReadLaw};
 
-/// A device opens on an image without a bitmap, and its position of recalculation may move.
+/// A device opens on a disk without a write, so on an image without a bitmap; its position of recalculation may move.
 pub fn device_opens()
+    ensures begins { BeginningLaw }
     ensures opened { OpeningLaw }
     ensures moved { MovedDeviceLaw }
 {}
@@ -53,6 +54,7 @@ pub fn reads_give_the_reply()
 
 /// Reads give what the disk says after an opening, and after each step that writes or syncs.
 pub fn cells_are_kept()
+    ensures begins { KeepsBegun }
     ensures opened { KeepsOpened }
     ensures write { KeepsWrite }
     ensures synced { KeepsSynced }
