@@ -33,7 +33,7 @@ use Rattle.direct_model.specs.Steps.{with_write, with_fields, AreTags, AreNewTag
 use Rattle.direct_model.proofs.DirectLemmas.{now_cells, writing_law, tags_written_law, flushed_law, moved_law}
 use Rattle.direct_model.proofs.OpeningLemmas.{opened_law}
 use Rattle.direct_laws.specs.Device.{IsDirectDevice}
-use Rattle.direct_laws.specs.ReadLaws.{awaits_tag, KeepsCells, ReadLaw, KeepsBegun, KeepsOpened, KeepsWrite, KeepsSynced, KeepsBack, KeepsFlushed, recalculated_tags, KeepsRecalculated, KeepsMoved}
+use Rattle.direct_laws.specs.ReadLaws.{awaits_tag, KeepsCells, ReadLaw, KeepsBegun, KeepsOpened, KeepsWrite, KeepsSynced, KeepsBack, KeepsFlushed, KeepsSame, recalculated_tags, KeepsRecalculated, KeepsMoved}
 use Rattle.direct_laws.proofs.DeviceLemmas.{mode-is, blocks-is, block_size-is, idle-works}
 
 -- ---- what awaits
@@ -199,6 +199,13 @@ keeps_flushed d awaiting tags first keeps image reads = record {
   stands = flushed_law d tags first keeps.stands image keeps.reads (are_new_tags d awaiting tags first keeps) reads;
   reads = record { each = keeps.reads.each };
   tags_are = keeps.tags_are;
+}
+
+pub keeps_same : KeepsSame
+keeps_same d awaiting now tags others c same rested keeps = record {
+  stands = keeps.stands;
+  reads = keeps.reads;
+  tags_are = λ b low awaits. same b low ∙ keeps.tags_are b low (rested b low awaits);
 }
 
 -- ---- a recalculation

@@ -94,6 +94,13 @@ KeepsFlushed = (d : DirectDisk) (awaiting : ℕ → Bool) (tags : ℕ → List �
     → KeepsCells d awaiting tags first → IsImage first (last_image first) → ReadsTags d.geometry tags first
     → KeepsCells (after_flush d) awaiting tags (newest_only first)
 
+-- Other tags and regions are as good, where they say the same of each block.
+abbrev pub KeepsSame : Type 0
+KeepsSame = (d : DirectDisk) (awaiting now : ℕ → Bool) (tags others : ℕ → List ℕ) (c : Content)
+    → ((b : ℕ) → b < d.geometry.blocks → others b ≡ tags b)
+    → ((b : ℕ) → b < d.geometry.blocks → awaits_tag d now b ≡ false → awaits_tag d awaiting b ≡ false)
+    → KeepsCells d awaiting tags c → KeepsCells d now others c
+
 -- The tags, with those of the bytes in place of the blocks of a region that are to be recalculated.
 abbrev pub recalculated_tags : DirectDisk → ℕ → Content → (ℕ → List ℕ) → ℕ → List ℕ
 recalculated_tags d region c tags b =

@@ -7,7 +7,7 @@
 ghost use Rattle.direct_laws.specs.Device.{BeginningLaw, MovedDeviceLaw, OpeningLaw};
 ghost use Rattle.direct_laws.specs.EventLaws.{CloseLaw, EventLaw, FailedWriteLaw, HeldLaw, IdleLaw, QuietEventsLaw, QuietLaw, RecalcIdleLaw, RecalcLaw, ServeFlushLaw, ServeReadLaw, ServeWriteLaw, ServedLaw, UnservedLaw};
 ghost use Rattle.direct_laws.specs.PromiseLaws.{BackLeftLaw, FailedLeftLaw, FlushedLeftLaw, KindLeftLaw, MovingLeftLaw, RecalculatingLeftLaw, ReopensLaw, StandingLeftLaw, WithinLaw, WritingLeftLaw};
-ghost use Rattle.direct_laws.specs.ReadLaws.{KeepsBack, KeepsBegun, KeepsFlushed, KeepsMoved, KeepsOpened, KeepsRecalculated, KeepsSynced, KeepsWrite, ReadLaw};
+ghost use Rattle.direct_laws.specs.ReadLaws.{KeepsBack, KeepsBegun, KeepsFlushed, KeepsMoved, KeepsOpened, KeepsRecalculated, KeepsSame, KeepsSynced, KeepsWrite, ReadLaw};
 
 /// A device opens on a disk without a write, so on an image without a bitmap; its position of recalculation may move.
 pub fn device_opens()
@@ -60,6 +60,7 @@ pub fn cells_are_kept()
     ensures synced { KeepsSynced }
     ensures back { KeepsBack }
     ensures flushed { KeepsFlushed }
+    ensures same { KeepsSame }
     ensures recalculated { KeepsRecalculated }
     ensures moved { KeepsMoved }
 {}

@@ -1,4 +1,4 @@
-use Rattle.direct_laws.proofs.ReadLemmas.{keeps_begun, keeps_moved, keeps_synced, keeps_opened, keeps_write, keeps_back, keeps_flushed, keeps_recalculated}
+use Rattle.direct_laws.proofs.ReadLemmas.{keeps_same, keeps_begun, keeps_moved, keeps_synced, keeps_opened, keeps_write, keeps_back, keeps_flushed, keeps_recalculated}
 use Rattle.direct_laws.proofs.cells_are_kept.Goals as goal
 
 pub returns-clause-opened : goal.returns-clause-opened
@@ -24,3 +24,6 @@ returns-clause-moved c = keeps_moved
 
 pub returns-clause-begins : goal.returns-clause-begins
 returns-clause-begins c = keeps_begun
+
+pub returns-clause-same : goal.returns-clause-same
+returns-clause-same c = keeps_same
