@@ -1,0 +1,7 @@
+pub mod CountLemmas
+pub mod DeviceLemmas
+pub mod EventLemmas
+pub mod ReadLemmas
+pub mod PromiseLemmas
+pub mod Worked
+pub mod WorkedServe

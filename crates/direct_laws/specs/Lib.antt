@@ -1,0 +1,4 @@
+pub mod Device
+pub mod EventLaws
+pub mod ReadLaws
+pub mod PromiseLaws
