@@ -23,14 +23,13 @@ use Rattle.journal_model.proofs.CommittedLemmas.{ring_after, new_in, old_below, 
 use Rattle.journal_model.proofs.FreeLemmas.{kept_law}
 use Rattle.journal_model.proofs.HistoryLemmas.{history_committed}
 use Rattle.journal_model.proofs.RingLemmas.{ring_rest}
-use Rattle.journal_model.specs.View.{IsRingOf}
-use Rattle.journal_model.proofs.ViewLemmas.{ring_law}
+use Rattle.journal_model.specs.Ring.{JournalRing, entries_of, uncommitted_entries, next_batch, opened_at, with_commit, IsRingOf}
+use Rattle.journal_model.proofs.JournalRingLemmas.{kept_size, ring_law, entries_of-append, entries_of-take, entries_of-drop, entries_of-map}
 use Rattle.device_laws.specs.CountLaws.{IdleCommitLaw, CommitLaw}
-use Rattle.device_laws.specs.Device.{AreCounts, IsJournalRing, IsJournalOf}
-use Rattle.device_laws.specs.Ring.{JournalRing, entries_of, uncommitted_entries, view_of, batch_of, opened_at, with_commit, freed_count, committed_counts}
+use Rattle.device_laws.specs.Device.{freed_count, committed_counts, AreCounts, IsJournalRing, IsJournalOf}
 use Rattle.device_laws.proofs.FormatLemmas.{sections-is}
 use Rattle.device_laws.proofs.CountLemmas.{AreDone, done-front, closed_end-front, any-front, batch-front, some_opened, closed_end-opened, IsBatchCounts, batch-opened, counts-append}
-use Rattle.device_laws.proofs.RingLemmas.{entries_of-append, entries_of-take, entries_of-drop, entries_of-map, map_run-same, map-same, run_of, length-counts, next_mod, placed_part}
+use Rattle.device_laws.proofs.RingLemmas.{map_run-same, map-same, run_of, length-counts, next_mod, placed_part}
 
 all_run : (P : ℕ → Type 0) (from count : ℕ) → ((i : ℕ) → from ≤ i → i < from + count → P i) → AllByRecursion P (range_with_len from count)
 all_run P from zero f = tt
@@ -104,25 +103,25 @@ closed_end-some fr [] some = absurd (false≢true some)
 closed_end-some fr (o ∷ op) some = closed_end-front fr o op
 
 module _ (f : DeviceFormat) (h : History) (j : JournalCounts) (d : JournaledDisk) (r : JournalRing) (bytes : List ℕ) (is : IsJournalOf f h j d r)
-    (some : list_any (λ (s : SectionCounts). is_uncommitted s.state) j.sections ≡ true) (are : AreSections d (batch_of d r) (opened_at d r) bytes) where
+    (some : list_any (λ (s : SectionCounts). is_uncommitted s.state) j.sections ≡ true) (are : AreSections d (next_batch r) (opened_at r) bytes) where
   abbrev n : ℕ
   n = d.geometry.sections
 
   abbrev k : ℕ
-  k = batch_of d r
+  k = next_batch r
 
   inside : d.next < d.geometry.sections
   inside = is.is_ring.rests.at.inside
 
-  k_low : batch_of d r ≤ length r.opened
+  k_low : next_batch r ≤ length r.opened
   k_low = omega arith
 
   -- The entries of the batch's sections are those of the opened ones.
-  opened_run : map (opened_at d r) (range_with_len d.next (batch_of d r)) ≡ take (batch_of d r) r.opened
-  opened_run = run_of d.next (batch_of d r) r.opened k_low
+  opened_run : map (opened_at r) (range_with_len d.next (next_batch r)) ≡ take (next_batch r) r.opened
+  opened_run = run_of d.next (next_batch r) r.opened k_low
 
-  pub told : batch_entries d (batch_of d r) bytes ≡ entries_of (take (batch_of d r) r.opened)
-  told = (batch_law d k (opened_at d r) bytes are).entries_are ∙ sym (entries_of-map (opened_at d r) (range_with_len d.next k)) ∙ ap entries_of opened_run
+  pub told : batch_entries d (next_batch r) bytes ≡ entries_of (take (next_batch r) r.opened)
+  told = (batch_law d k (opened_at r) bytes are).entries_are ∙ sym (entries_of-map (opened_at r) (range_with_len d.next k)) ∙ ap entries_of opened_run
 
   ring_of : IsRingOf (view_of d r) d
   ring_of = record {
@@ -135,10 +134,10 @@ module _ (f : DeviceFormat) (h : History) (j : JournalCounts) (d : JournaledDisk
     each = is.is_ring.each;
   }
 
-  pub batch : IsBatch d (batch_of d r) bytes
-  batch = (ring_law (view_of d r) d (opened_at d r) bytes is.sound ring_of are told).0
+  pub batch : IsBatch d (next_batch r) bytes
+  batch = (ring_law (view_of d r) d (opened_at r) bytes is.sound ring_of are told).0
 
-  fits : batch_of d r + length r.committed ≤ d.geometry.sections
+  fits : next_batch r + length r.committed ≤ d.geometry.sections
   fits = omega (arith, is.is_ring.fits, k_low)
 
   -- ---- the ring
@@ -147,25 +146,25 @@ module _ (f : DeviceFormat) (h : History) (j : JournalCounts) (d : JournaledDisk
   old_ = entries_in d.geometry d.journal
 
   now_ : ℕ → List Entry
-  now_ = entries_in d.geometry (with_batch d (batch_of d r) bytes)
+  now_ = entries_in d.geometry (with_batch d (next_batch r) bytes)
 
-  kept_size : length r.committed + batch_of d r ≡ length (r.committed ++ take (batch_of d r) r.opened)
+  kept_size : length r.committed + next_batch r ≡ length (r.committed ++ take (next_batch r) r.opened)
   kept_size = omega (arith, length-append r.committed (take k r.opened), length-take k r.opened, k_low)
 
-  length-behind : length (drop (batch_of d r) (ring d.geometry.sections d.next)) ≡ d.geometry.sections - batch_of d r
+  length-behind : length (drop (next_batch r) (ring d.geometry.sections d.next)) ≡ d.geometry.sections - next_batch r
   length-behind =
       let whole = length-append (range_with_len d.next (n - d.next)) (range_with_len 0 d.next) in
       omega (arith, length-drop k (ring n d.next), whole, length-range_with_len d.next (n - d.next), length-range_with_len 0 d.next, inside)
 
-  all_old : AllByRecursion (λ i. now_ i ≡ old_ i) (drop (batch_of d r) (ring d.geometry.sections d.next))
+  all_old : AllByRecursion (λ i. now_ i ≡ old_ i) (drop (next_batch r) (ring d.geometry.sections d.next))
   unfolding old_ now_
   all_old =
       subst (AllByRecursion (λ i. now_ i ≡ old_ i)) (sym (ring_rest n d.next k batch.fits)) (all_append (λ i. now_ i ≡ old_ i) (range_with_len (d.next + k) (n - (d.next + k))) (range_with_len 0 d.next)
       (all_run (λ i. now_ i ≡ old_ i) (d.next + k) (n - (d.next + k)) (λ i past low. entries_in-same d.geometry (with_batch d k bytes) d.journal i (λ s narrow. old_behind d k bytes is.sound is.is_ring.rests batch i s past narrow)))
       (all_run (λ i. now_ i ≡ old_ i) 0 d.next (λ i _ under. entries_in-same d.geometry (with_batch d k bytes) d.journal i (λ s narrow. old_below d k bytes is.sound is.is_ring.rests batch i s (omega arith) narrow))))
 
-  kept_after : map (entries_in d.geometry (with_batch d (batch_of d r) bytes)) (drop (d.geometry.sections - length (r.committed ++ take (batch_of d r) r.opened)) (ring d.geometry.sections (next_after d.geometry.sections d.next (batch_of d r))))
-      ≡ r.committed ++ take (batch_of d r) r.opened
+  kept_after : map (entries_in d.geometry (with_batch d (next_batch r) bytes)) (drop (d.geometry.sections - length (r.committed ++ take (next_batch r) r.opened)) (ring d.geometry.sections (next_after d.geometry.sections d.next (next_batch r))))
+      ≡ r.committed ++ take (next_batch r) r.opened
   unfolding old_ now_
   kept_after =
       let count = n - (length r.committed + k) in
@@ -180,18 +179,18 @@ module _ (f : DeviceFormat) (h : History) (j : JournalCounts) (d : JournaledDisk
       ∙ ap (map old_) (drop-drop count k (ring n d.next) ∙ ap (λ (m : ℕ). drop m (ring n d.next)) same)
       ∙ is.is_ring.kept)
       ∙ ap (λ (xs : List (List Entry)). r.committed ++ xs)
-      (map_run-same d.next k now_ (opened_at d r) (λ i above under.
+      (map_run-same d.next k now_ (opened_at r) (λ i above under.
       entries_in-same d.geometry (with_batch d k bytes) (batch_image d bytes) i (λ s narrow. new_in d k bytes is.sound is.is_ring.rests batch i s above under narrow)
-      ∙ section_is d k (opened_at d r) bytes are i above under)
+      ∙ section_is d k (opened_at r) bytes are i above under)
       ∙ opened_run)
 
-  ring_is : IsJournalRing (after_commit d (batch_of d r) bytes) (with_commit d r)
+  ring_is : IsJournalRing (after_commit d (next_batch r) bytes) (with_commit r)
   ring_is = record {
     rests = rests_after d k bytes is.sound is.is_ring.rests batch;
     kept = kept_after;
     free =
         let e : k + length r.committed ≡ length (r.committed ++ take k r.opened) = omega (arith, kept_size) in
-        subst (λ (m : ℕ). IsFreeBut (after_commit d (batch_of d r) bytes) m) e (kept_law d (length r.committed) k bytes is.sound is.is_ring.rests batch is.is_ring.free fits);
+        subst (λ (m : ℕ). IsFreeBut (after_commit d (next_batch r) bytes) m) e (kept_law d (length r.committed) k bytes is.sound is.is_ring.rests batch is.is_ring.free fits);
     fits = omega (arith, is.is_ring.fits, kept_size, length-drop k r.opened, k_low);
     each = all_drop _ k r.opened is.is_ring.each;
     some_committed = all_append _ r.committed (take k r.opened) is.is_ring.some_committed (all_take _ k r.opened is.is_ring.some_opened);
@@ -206,15 +205,15 @@ module _ (f : DeviceFormat) (h : History) (j : JournalCounts) (d : JournaledDisk
   some_left : list_any (λ (s : SectionCounts). is_uncommitted s.state) is.counts.opened ≡ true
   some_left = sym (any-is j d r is.counts) ∙ some
 
-  batched : IsBatchCounts d.geometry true (batch_of d r) r.opened (committed_batch d.geometry.sections (j.next + length (front j d r is.counts)) (closed_end is.counts.opened))
+  batched : IsBatchCounts d.geometry true (next_batch r) r.opened (committed_batch d.geometry.sections (j.next + length (front j d r is.counts)) (closed_end is.counts.opened))
   batched = batch-opened d.geometry true n (j.next + length (front j d r is.counts)) k r.opened (closed_end is.counts.opened) (omega (arith, inside)) (closed_end-opened d.geometry r.closed r.opened is.counts.opened is.counts.are_opened)
       k_low (omega (arith, at_is)) (λ less. omega (arith, at_is, less)) (omega (arith, at_is, inside))
 
-  freed_same : freed_count (after_commit d (batch_of d r) bytes) (with_commit d r) ≡ freed_count d r
+  freed_same : freed_count (after_commit d (next_batch r) bytes) (with_commit r) ≡ freed_count d r
   freed_same = omega (arith, length-append d.entries (batch_entries d k bytes), ap length told, ap length (entries_of-append r.committed (take k r.opened)), length-append (entries_of r.committed) (entries_of (take k r.opened)))
 
   sections_then : committed_batch f.sections j.next (closed_end j.sections)
-      ≡ is.counts.free ++ (committed_counts d.geometry (d.placed - freed_count (after_commit d (batch_of d r) bytes) (with_commit d r)) (r.committed ++ take (batch_of d r) r.opened) ++ batched.rest)
+      ≡ is.counts.free ++ (committed_counts d.geometry (d.placed - freed_count (after_commit d (next_batch r) bytes) (with_commit r)) (r.committed ++ take (next_batch r) r.opened) ++ batched.rest)
   sections_then =
       let c = is.counts in
       let p = d.placed - freed_count d r in
@@ -230,7 +229,7 @@ module _ (f : DeviceFormat) (h : History) (j : JournalCounts) (d : JournaledDisk
       ∙ ap (λ (xs : List SectionCounts). c.free ++ (xs ++ batched.rest)) (sym (counts-append d.geometry p r.committed (take k r.opened)))
       ∙ ap (λ (m : ℕ). c.free ++ (committed_counts d.geometry (d.placed - m) (r.committed ++ take k r.opened) ++ batched.rest)) (sym freed_same)
 
-  next_then : next_after d.geometry.sections d.next (batch_of d r) ≡ (j.next + (length is.counts.free + length (r.committed ++ take (batch_of d r) r.opened))) % d.geometry.sections
+  next_then : next_after d.geometry.sections d.next (next_batch r) ≡ (j.next + (length is.counts.free + length (r.committed ++ take (next_batch r) r.opened))) % d.geometry.sections
   next_then =
       let at = j.next + (length is.counts.free + length r.committed) in
       let e : at + k ≡ j.next + (length is.counts.free + length (r.committed ++ take k r.opened)) = omega (arith, kept_size) in
@@ -238,7 +237,7 @@ module _ (f : DeviceFormat) (h : History) (j : JournalCounts) (d : JournaledDisk
       ∙ next_mod n at k (omega (arith, inside)) (omega (arith, is.counts.next))
       ∙ ap (λ (m : ℕ). m % n) e
 
-  counts_are : AreCounts (record j { sections = committed_batch f.sections j.next (closed_end j.sections) }) (after_commit d (batch_of d r) bytes) (with_commit d r)
+  counts_are : AreCounts (record j { sections = committed_batch f.sections j.next (closed_end j.sections) }) (after_commit d (next_batch r) bytes) (with_commit r)
   counts_are = record {
     free = is.counts.free;
     opened = batched.rest;
@@ -248,7 +247,7 @@ module _ (f : DeviceFormat) (h : History) (j : JournalCounts) (d : JournaledDisk
     next = next_then;
   }
 
-  pub after : IsJournalOf f h (record j { sections = committed_batch f.sections j.next (closed_end j.sections) }) (after_commit d (batch_of d r) bytes) (with_commit d r)
+  pub after : IsJournalOf f h (record j { sections = committed_batch f.sections j.next (closed_end j.sections) }) (after_commit d (next_batch r) bytes) (with_commit r)
   after = record {
     format = is.format;
     sound = sound_after d k bytes is.sound is.is_ring.rests batch;
@@ -257,12 +256,12 @@ module _ (f : DeviceFormat) (h : History) (j : JournalCounts) (d : JournaledDisk
     history =
         let count = length (entries_of (take k r.opened)) in
         let past = history_committed d k bytes (uncommitted_entries r) count h (told ∙ sym (entries_of-take k r.opened)) is.history in
-        subst (λ (xs : List Entry). IsHistoryOf (after_commit d (batch_of d r) bytes) xs h) (entries_of-drop k r.opened) past;
+        subst (λ (xs : List Entry). IsHistoryOf (after_commit d (next_batch r) bytes) xs h) (entries_of-drop k r.opened) past;
   }
 
 pub commit_law : CommitLaw
 commit_law f h j j' d r bytes is told are =
     let tells = commit-some f.sections j j' told in (
       batch f h j d r bytes is tells.0 are,
-      subst (λ (k : JournalCounts). IsJournalOf f h k (after_commit d (batch_of d r) bytes) (with_commit d r)) tells.1 (after f h j d r bytes is tells.0 are),
+      subst (λ (k : JournalCounts). IsJournalOf f h k (after_commit d (next_batch r) bytes) (with_commit r)) tells.1 (after f h j d r bytes is tells.0 are),
     )

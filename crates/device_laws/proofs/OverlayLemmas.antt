@@ -11,12 +11,12 @@ use Rattle.place_model.proofs.TagsLemmas.{same_product}
 use Rattle.journal_model.specs.JournaledDisk.{JournaledDisk, IsSound}
 use Rattle.journal_model.specs.Steps.{batch_entries, after_commit}
 use Rattle.journal_model.proofs.EntriesLemmas.{last_entry-append, last_entry-none, last_entry-some, cell_after-some}
-use Rattle.journal_model.specs.View.{takes_more, put_last}
-use Rattle.device_laws.specs.Device.{IsJournalRing}
+use Rattle.journal_model.specs.Ring.{JournalRing, entries_of, uncommitted_entries, empty_ring, with_put, next_batch, with_commit, with_settle, unplaced_from, takes_more, put_last}
+use Rattle.journal_model.proofs.JournalRingLemmas.{entries_of-append, entries_of-push, entries_of-put_last, split}
+use Rattle.device_laws.specs.Device.{freed_count, IsJournalRing}
 use Rattle.device_laws.specs.OverlayLaws.{all_entries, IsNewestAt, IsOverlayOf, with_newest, kept_from, OverlayBegins, OverlayPut, OverlayCommitted, OverlaySettled, OverlayReadLaw, PlaceNumberLaw}
-use Rattle.device_laws.specs.Ring.{JournalRing, entries_of, uncommitted_entries, empty_ring, with_put, batch_of, with_commit, with_settle, unplaced_from, freed_count}
 use Rattle.device_laws.proofs.PromiseLemmas.{cell_is, last_entry-here, split_at}
-use Rattle.device_laws.proofs.RingLemmas.{entries_of-append, entries_of-push, entries_of-put_last, split, held_at}
+use Rattle.device_laws.proofs.RingLemmas.{held_at}
 
 -- ---- lists
 
@@ -124,13 +124,13 @@ overlay_put d r newest entries b entry at some is =
 
 pub overlay_committed : OverlayCommitted
 overlay_committed d r newest bytes told is =
-    let k = batch_of d r in
+    let k = next_batch r in
     let more = batch_entries d k bytes in
-    let size : freed_count d r ≡ freed_count (after_commit d k bytes) (with_commit d r) =
+    let size : freed_count d r ≡ freed_count (after_commit d k bytes) (with_commit r) =
     omega (arith, length-append d.entries more, ap length told, ap length (entries_of-append r.committed (take k r.opened)), length-append (entries_of r.committed) (entries_of (take k r.opened))) in
-    let all : all_entries d r ≡ all_entries (after_commit d k bytes) (with_commit d r) =
+    let all : all_entries d r ≡ all_entries (after_commit d k bytes) (with_commit r) =
     ap (λ (xs : List Entry). d.entries ++ xs) (split k r.opened ∙ ap (λ (xs : List Entry). xs ++ entries_of (drop k r.opened)) (sym told)) ∙ sym (append_assoc d.entries more (entries_of (drop k r.opened))) in (
-      tells (after_commit d k bytes) (with_commit d r) newest (freed_count d r) (all_entries d r) size all (told_of d r newest is),
+      tells (after_commit d k bytes) (with_commit r) newest (freed_count d r) (all_entries d r) size all (told_of d r newest is),
       record { there = is.there; kept = is.kept; none = is.none },
     )
 
@@ -166,7 +166,7 @@ kept_none n (Some k) e =
 
 pub overlay_settled : OverlaySettled
 overlay_settled d r newest is =
-    let n = freed_count d (with_settle d r) in
+    let n = freed_count d (with_settle (placed_count d r) r) in
     let low : freed_count d r ≤ n = omega (arith, fewer (d.placed - freed_count d r) r.committed) in
     record {
       there = λ b m e. is.there b m (kept_is n m (newest b) e).0;

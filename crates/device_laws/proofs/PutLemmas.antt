@@ -16,14 +16,13 @@ use Rattle.journal_model.specs.Entries.{IsBlockEntry}
 use Rattle.journal_model.specs.HistoryOf.{IsHistoryOf, entry_of_write}
 use Rattle.journal_model.specs.JournaledDisk.{JournaledDisk}
 use Rattle.journal_model.proofs.HistoryLemmas.{history_put}
-use Rattle.journal_model.specs.View.{takes_more, put_last}
+use Rattle.journal_model.specs.Ring.{JournalRing, uncommitted_entries, has_room, with_put, takes_more, put_last}
+use Rattle.journal_model.proofs.JournalRingLemmas.{entries_of-push, entries_of-put_last, length-put_last, all-put_last, some-put_last}
 use Rattle.device_laws.specs.CountLaws.{HasRoomLaw, PutLaw}
-use Rattle.device_laws.specs.Device.{AreOpened, AreCounts, IsJournalRing, IsJournalOf}
-use Rattle.device_laws.specs.Ring.{JournalRing, uncommitted_entries, has_room, with_put, freed_count, block_of, committed_counts}
+use Rattle.device_laws.specs.Device.{freed_count, block_of, committed_counts, AreOpened, AreCounts, IsJournalRing, IsJournalOf}
 use Rattle.device_laws.proofs.FormatLemmas.{block_size-is, blocks-is, sections-is}
 use Rattle.device_laws.proofs.CommitLemmas.{front, sections_are, front-done, front-then}
 use Rattle.device_laws.proofs.CountLemmas.{has_open_end-front, has_open_end-opened, with_entry-front, count-all, opened-put_last, opened-push}
-use Rattle.device_laws.proofs.RingLemmas.{entries_of-push, entries_of-put_last, length-put_last, all-put_last, some-put_last}
 
 -- What `put` gives, by its two tests.
 put_by : ℕ → List SectionCounts → Bool → Bool → Option (List SectionCounts)
@@ -50,7 +49,7 @@ module _ (f : DeviceFormat) (h : History) (j : JournalCounts) (d : JournaledDisk
   free_is : ltb (count_by is_unfreed j.sections) f.sections ≡ ltb (length r.opened + length r.committed) f.sections
   free_is = ap (λ (m : ℕ). ltb m f.sections) count_is
 
-  pub room_is : (b : ℕ) → is_some (put f.sections f.entries b j.sections) ≡ has_room f.sections f.entries r
+  pub room_is : (b : ℕ) → is_some (put f.sections f.entries b j.sections) ≡ has_room r
   unfolding put_by
   room_is b =
       ap (λ (o : Option (List SectionCounts)). is_some o) (put-is f.sections f.entries b j.sections (takes_more f.entries r.closed r.opened) (ltb (length r.opened + length r.committed) f.sections) open_is free_is)
@@ -183,7 +182,7 @@ module _ (f : DeviceFormat) (h : History) (j : JournalCounts) (d : JournaledDisk
     closed = if t then r.closed else false;
   }
 
-  pub put_law-at : (sections : List SectionCounts) → h.pending ≡ None → put f.sections f.entries write.block j.sections ≡ Some sections → Both sections (with_put f.entries (entry_of_write d write) r)
+  pub put_law-at : (sections : List SectionCounts) → h.pending ≡ None → put f.sections f.entries write.block j.sections ≡ Some sections → Both sections (with_put (entry_of_write d write) r)
   unfolding put_by
   put_law-at sections idle told = elim (cases_Bool (takes_more f.entries r.closed r.opened)) [
     | inl room ↦

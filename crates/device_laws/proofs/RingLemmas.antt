@@ -15,54 +15,8 @@ use Rattle.journal_model.specs.Cuts.{next_after}
 use Rattle.journal_model.specs.JournaledDisk.{JournaledDisk, IsSound}
 use Rattle.journal_model.specs.Steps.{oldest_entries}
 use Rattle.journal_model.proofs.FreeLemmas.{kept_entries_law}
-use Rattle.journal_model.specs.View.{takes_more, put_last}
-use Rattle.device_laws.specs.Device.{IsJournalRing}
-use Rattle.device_laws.specs.Ring.{JournalRing, entries_of, committed_counts, freed_count}
-
--- ---- joined sections
-
-pub entries_of-append : (xs ys : List (List Entry)) → entries_of (xs ++ ys) ≡ entries_of xs ++ entries_of ys
-entries_of-append xs ys = flat_map-append (λ entries. entries) xs ys
-
-pub split : (k : ℕ) (xs : List (List Entry)) → entries_of xs ≡ entries_of (take k xs) ++ entries_of (drop k xs)
-split k xs = ap entries_of (sym (take-append-drop k xs)) ∙ entries_of-append (take k xs) (drop k xs)
-
-pub entries_of-take : (k : ℕ) (xs : List (List Entry)) → take (length (entries_of (take k xs))) (entries_of xs) ≡ entries_of (take k xs)
-entries_of-take k xs = ap (take (length (entries_of (take k xs)))) (split k xs) ∙ take-append_seam (entries_of (take k xs)) (entries_of (drop k xs))
-
-pub entries_of-drop : (k : ℕ) (xs : List (List Entry)) → drop (length (entries_of (take k xs))) (entries_of xs) ≡ entries_of (drop k xs)
-entries_of-drop k xs = ap (drop (length (entries_of (take k xs)))) (split k xs) ∙ drop-append_seam (entries_of (take k xs)) (entries_of (drop k xs))
-
-pub entries_of-size : (k : ℕ) (xs : List (List Entry)) → length (entries_of xs) ≡ length (entries_of (take k xs)) + length (entries_of (drop k xs))
-entries_of-size k xs = ap length (split k xs) ∙ length-append (entries_of (take k xs)) (entries_of (drop k xs))
-
-pub entries_of-map : (f : ℕ → List Entry) (ns : List ℕ) → entries_of (map f ns) ≡ flat_map f ns
-entries_of-map f [] = refl
-entries_of-map f (n ∷ ns) = ap (λ (xs : List Entry). f n ++ xs) (entries_of-map f ns)
-
-pub entries_of-push : (entry : Entry) (xs : List (List Entry)) → entries_of (xs ++ (entry ∷ []) ∷ []) ≡ entries_of xs ++ entry ∷ []
-entries_of-push entry xs = entries_of-append xs ((entry ∷ []) ∷ [])
-
-pub entries_of-put_last : (entry : Entry) (entries : ℕ) (closed : Bool) (xs : List (List Entry)) → takes_more entries closed xs ≡ true → entries_of (put_last entry xs) ≡ entries_of xs ++ entry ∷ []
-entries_of-put_last entry entries closed [] room = absurd (false≢true room)
-entries_of-put_last entry entries closed (x ∷ []) room = append-nil (x ++ entry ∷ []) ∙ ap (λ (xs : List Entry). xs ++ entry ∷ []) (sym (append-nil x))
-entries_of-put_last entry entries closed (x ∷ y ∷ xs) room =
-    ap (λ (ys : List Entry). x ++ ys) (entries_of-put_last entry entries closed (y ∷ xs) room) ∙ sym (append_assoc x (entries_of (y ∷ xs)) (entry ∷ []))
-
-pub length-put_last : (entry : Entry) (xs : List (List Entry)) → length (put_last entry xs) ≡ length xs
-length-put_last entry [] = refl
-length-put_last entry (x ∷ []) = refl
-length-put_last entry (x ∷ y ∷ xs) = ap suc (length-put_last entry (y ∷ xs))
-
-pub all-put_last : (P : Entry → Type 0) (entry : Entry) (xs : List (List Entry)) → P entry → AllByRecursion (AllByRecursion P) xs → AllByRecursion (AllByRecursion P) (put_last entry xs)
-all-put_last P entry [] is all = tt
-all-put_last P entry (x ∷ []) is all = (all_append P x (entry ∷ []) all.0 (is, tt), tt)
-all-put_last P entry (x ∷ y ∷ xs) is all = (all.0, all-put_last P entry (y ∷ xs) is all.1)
-
-pub some-put_last : (entry : Entry) (xs : List (List Entry)) → AllByRecursion (λ (x : List Entry). 1 ≤ length x) xs → AllByRecursion (λ (x : List Entry). 1 ≤ length x) (put_last entry xs)
-some-put_last entry [] all = tt
-some-put_last entry (x ∷ []) all = (omega (arith, length-append x (entry ∷ [])), tt)
-some-put_last entry (x ∷ y ∷ xs) all = (all.0, some-put_last entry (y ∷ xs) all.1)
+use Rattle.journal_model.specs.Ring.{JournalRing, entries_of, takes_more, put_last}
+use Rattle.device_laws.specs.Device.{committed_counts, freed_count, IsJournalRing}
 
 -- ---- lists
 

@@ -11,8 +11,8 @@ use Rattle.place_model.specs.Opened.{device_format}
 use Rattle.place_model.proofs.WorkedDisk.{journal_format, replayed_entries-fresh}
 use Rattle.journal_model.proofs.EntriesLemmas.{cell_after-none}
 use Rattle.journal_model.proofs.WorkedDisk.{fresh, content, StandsFor-fresh, Rests-fresh}
+use Rattle.journal_model.specs.Ring.{empty_ring}
 use Rattle.device_laws.specs.Device.{IsJournalDevice}
-use Rattle.device_laws.specs.Ring.{empty_ring}
 use Rattle.device_laws.proofs.PromiseLemmas.{standing_left_law}
 use Rattle.device_laws.proofs.StepLemmas.{opening_law}
 
