@@ -1,5 +1,5 @@
 -- A commit, on the counts, the disk and the ring.
-use Rattle.std.proofs.Common.{◌≡◌, inl, inr, ℕ, zero, suc, ◌+◌, ◌-◌, ◌%◌, ◌<◌, ◌≤◌, Bool, true, false, if◌then◌else◌, refl, sym, ◌∙◌, ap, subst, arith, Option, Some, None, List, [], ◌∷◌, ◌++◌, length, take, drop, map, length-append, length-take, length-drop, append_assoc}
+use Rattle.std.proofs.Common.{◌≡◌, inl, inr, ℕ, zero, suc, ◌+◌, ◌-◌, ◌%◌, ◌<◌, ◌≤◌, min, Bool, true, false, if◌then◌else◌, refl, sym, ◌∙◌, ap, subst, arith, Option, Some, None, List, [], ◌∷◌, ◌++◌, length, take, drop, map, length-append, length-drop, append_assoc}
 use Rattle.std.specs.List.{AllByRecursion, list_any, range_with_len}
 use Rattle.std.proofs.lemmas.Bool.{cases_Bool, false≢true}
 use Rattle.std.proofs.lemmas.List.{map-append, drop-drop, drop-append-le}
@@ -17,16 +17,15 @@ use Rattle.journal_model.specs.Batch.{AreSections}
 use Rattle.journal_model.specs.Cuts.{next_after}
 use Rattle.journal_model.specs.HistoryOf.{IsHistoryOf}
 use Rattle.journal_model.specs.JournaledDisk.{JournaledDisk}
-use Rattle.journal_model.specs.Steps.{IsBatch, IsFreeBut, batch_image, with_batch, batch_entries, after_commit}
+use Rattle.journal_model.specs.Steps.{IsBatch, batch_image, with_batch, batch_entries, after_commit}
 use Rattle.journal_model.proofs.BatchLemmas.{batch_law, section_is}
-use Rattle.journal_model.proofs.CommittedLemmas.{ring_after, new_in, old_below, old_behind, rests_after, sound_after}
-use Rattle.journal_model.proofs.FreeLemmas.{kept_law}
+use Rattle.journal_model.proofs.CommittedLemmas.{ring_after, new_in, old_below, old_behind, sound_after}
 use Rattle.journal_model.proofs.HistoryLemmas.{history_committed}
 use Rattle.journal_model.proofs.RingLemmas.{ring_rest}
 use Rattle.journal_model.specs.Ring.{JournalRing, entries_of, uncommitted_entries, next_batch, opened_at, with_commit, IsRingOf}
 use Rattle.journal_model.proofs.JournalRingLemmas.{kept_size, ring_law, entries_of-append, entries_of-take, entries_of-drop, entries_of-map}
 use Rattle.device_laws.specs.CountLaws.{IdleCommitLaw, CommitLaw}
-use Rattle.device_laws.specs.Device.{freed_count, committed_counts, AreCounts, IsJournalRing, IsJournalOf}
+use Rattle.device_laws.specs.Device.{freed_count, placed_count, committed_counts, AreCounts, IsJournalRing, IsJournalOf}
 use Rattle.device_laws.proofs.FormatLemmas.{sections-is}
 use Rattle.device_laws.proofs.CountLemmas.{AreDone, done-front, closed_end-front, any-front, batch-front, some_opened, closed_end-opened, IsBatchCounts, batch-opened, counts-append}
 use Rattle.device_laws.proofs.RingLemmas.{map_run-same, map-same, run_of, length-counts, next_mod, placed_part}
@@ -39,11 +38,11 @@ all_run P from (suc count) f = (f from (omega arith) (omega arith), all_run P (f
 
 module _ (j : JournalCounts) (d : JournaledDisk) (r : JournalRing) (is : AreCounts j d r) where
   abbrev part : ℕ
-  part = d.placed - freed_count d r
+  part = placed_count d r
 
   -- The sections that are free or committed.
   pub front : List SectionCounts
-  front = is.free ++ committed_counts d.geometry (d.placed - freed_count d r) r.committed
+  front = is.free ++ committed_counts d.geometry (placed_count d r) r.committed
 
   pub sections_are : j.sections ≡ front ++ is.opened
   unfolding front
@@ -57,7 +56,7 @@ module _ (j : JournalCounts) (d : JournaledDisk) (r : JournalRing) (is : AreCoun
   unfolding front
   length-front = length-append is.free (committed_counts d.geometry part r.committed) ∙ ap (λ (n : ℕ). length is.free + n) (length-counts d.geometry part r.committed)
 
-  pub front-then : (op : List SectionCounts) → front ++ op ≡ is.free ++ (committed_counts d.geometry (d.placed - freed_count d r) r.committed ++ op)
+  pub front-then : (op : List SectionCounts) → front ++ op ≡ is.free ++ (committed_counts d.geometry (placed_count d r) r.committed ++ op)
   unfolding front
   front-then op = append_assoc is.free (committed_counts d.geometry part r.committed) op
 
@@ -116,26 +115,21 @@ module _ (f : DeviceFormat) (h : History) (j : JournalCounts) (d : JournaledDisk
   k_low : next_batch r ≤ length r.opened
   k_low = omega arith
 
+  k_is : next_batch r ≡ min (length r.opened) (d.geometry.sections - d.next)
+  k_is = omega (arith, ap (λ g. g.sections) is.is_ring.geometry, is.is_ring.next)
+
   -- The entries of the batch's sections are those of the opened ones.
   opened_run : map (opened_at r) (range_with_len d.next (next_batch r)) ≡ take (next_batch r) r.opened
-  opened_run = run_of d.next (next_batch r) r.opened k_low
+  opened_run = ap (λ (m : ℕ). map (opened_at r) (range_with_len m k)) (sym is.is_ring.next) ∙ run_of r.next k r.opened k_low
 
   pub told : batch_entries d (next_batch r) bytes ≡ entries_of (take (next_batch r) r.opened)
   told = (batch_law d k (opened_at r) bytes are).entries_are ∙ sym (entries_of-map (opened_at r) (range_with_len d.next k)) ∙ ap entries_of opened_run
 
-  ring_of : IsRingOf (view_of d r) d
-  ring_of = record {
-    geometry = refl;
-    next = refl;
-    number = refl;
-    rests = is.is_ring.rests;
-    free = is.is_ring.free;
-    fits = is.is_ring.fits;
-    each = is.is_ring.each;
-  }
+  both : IsBatch d (next_batch r) bytes × IsRingOf (with_commit r) (after_commit d (next_batch r) bytes)
+  both = ring_law r d (opened_at r) bytes is.sound is.is_ring.of_disk are told
 
   pub batch : IsBatch d (next_batch r) bytes
-  batch = (ring_law (view_of d r) d (opened_at r) bytes is.sound ring_of are told).0
+  batch = both.0
 
   fits : next_batch r + length r.committed ≤ d.geometry.sections
   fits = omega (arith, is.is_ring.fits, k_low)
@@ -147,9 +141,6 @@ module _ (f : DeviceFormat) (h : History) (j : JournalCounts) (d : JournaledDisk
 
   now_ : ℕ → List Entry
   now_ = entries_in d.geometry (with_batch d (next_batch r) bytes)
-
-  kept_size : length r.committed + next_batch r ≡ length (r.committed ++ take (next_batch r) r.opened)
-  kept_size = omega (arith, length-append r.committed (take k r.opened), length-take k r.opened, k_low)
 
   length-behind : length (drop (next_batch r) (ring d.geometry.sections d.next)) ≡ d.geometry.sections - next_batch r
   length-behind =
@@ -170,7 +161,7 @@ module _ (f : DeviceFormat) (h : History) (j : JournalCounts) (d : JournaledDisk
       let count = n - (length r.committed + k) in
       let behind = drop k (ring n d.next) in
       let same : k + count ≡ n - length r.committed = omega (arith, fits) in
-      ap (λ (m : ℕ). map now_ (drop (n - m) (ring n (next_after n d.next k)))) (sym kept_size)
+      ap (λ (m : ℕ). map now_ (drop (n - m) (ring n (next_after n d.next k)))) (sym (kept_size r))
       ∙ ap (λ (xs : List ℕ). map now_ (drop count xs)) (ring_after n d.next k batch.fits)
       ∙ ap (map now_) (drop-append-le count behind (range_with_len d.next k) (omega (arith, length-behind)))
       ∙ map-append now_ (drop count behind) (range_with_len d.next k)
@@ -186,13 +177,8 @@ module _ (f : DeviceFormat) (h : History) (j : JournalCounts) (d : JournaledDisk
 
   ring_is : IsJournalRing (after_commit d (next_batch r) bytes) (with_commit r)
   ring_is = record {
-    rests = rests_after d k bytes is.sound is.is_ring.rests batch;
+    of_disk = both.1;
     kept = kept_after;
-    free =
-        let e : k + length r.committed ≡ length (r.committed ++ take k r.opened) = omega (arith, kept_size) in
-        subst (λ (m : ℕ). IsFreeBut (after_commit d (next_batch r) bytes) m) e (kept_law d (length r.committed) k bytes is.sound is.is_ring.rests batch is.is_ring.free fits);
-    fits = omega (arith, is.is_ring.fits, kept_size, length-drop k r.opened, k_low);
-    each = all_drop _ k r.opened is.is_ring.each;
     some_committed = all_append _ r.committed (take k r.opened) is.is_ring.some_committed (all_take _ k r.opened is.is_ring.some_opened);
     some_opened = all_drop _ k r.opened is.is_ring.some_opened;
   }
@@ -207,16 +193,16 @@ module _ (f : DeviceFormat) (h : History) (j : JournalCounts) (d : JournaledDisk
 
   batched : IsBatchCounts d.geometry true (next_batch r) r.opened (committed_batch d.geometry.sections (j.next + length (front j d r is.counts)) (closed_end is.counts.opened))
   batched = batch-opened d.geometry true n (j.next + length (front j d r is.counts)) k r.opened (closed_end is.counts.opened) (omega (arith, inside)) (closed_end-opened d.geometry r.closed r.opened is.counts.opened is.counts.are_opened)
-      k_low (omega (arith, at_is)) (λ less. omega (arith, at_is, less)) (omega (arith, at_is, inside))
+      k_low (omega (arith, at_is, k_is)) (λ less. omega (arith, at_is, less, k_is)) (omega (arith, at_is, inside))
 
   freed_same : freed_count (after_commit d (next_batch r) bytes) (with_commit r) ≡ freed_count d r
   freed_same = omega (arith, length-append d.entries (batch_entries d k bytes), ap length told, ap length (entries_of-append r.committed (take k r.opened)), length-append (entries_of r.committed) (entries_of (take k r.opened)))
 
   sections_then : committed_batch f.sections j.next (closed_end j.sections)
-      ≡ is.counts.free ++ (committed_counts d.geometry (d.placed - freed_count (after_commit d (next_batch r) bytes) (with_commit r)) (r.committed ++ take (next_batch r) r.opened) ++ batched.rest)
+      ≡ is.counts.free ++ (committed_counts d.geometry (placed_count (after_commit d (next_batch r) bytes) (with_commit r)) (r.committed ++ take (next_batch r) r.opened) ++ batched.rest)
   sections_then =
       let c = is.counts in
-      let p = d.placed - freed_count d r in
+      let p = placed_count d r in
       let none : p - length (entries_of r.committed) ≡ 0 = omega (arith, placed_part d r is.sound is.is_ring) in
       ap (λ (m : ℕ). committed_batch m j.next (closed_end j.sections)) (sections-is f d.format is.format)
       ∙ ap (λ (xs : List SectionCounts). committed_batch n j.next (closed_end xs)) (sections_are j d r c)
@@ -232,9 +218,9 @@ module _ (f : DeviceFormat) (h : History) (j : JournalCounts) (d : JournaledDisk
   next_then : next_after d.geometry.sections d.next (next_batch r) ≡ (j.next + (length is.counts.free + length (r.committed ++ take (next_batch r) r.opened))) % d.geometry.sections
   next_then =
       let at = j.next + (length is.counts.free + length r.committed) in
-      let e : at + k ≡ j.next + (length is.counts.free + length (r.committed ++ take k r.opened)) = omega (arith, kept_size) in
+      let e : at + k ≡ j.next + (length is.counts.free + length (r.committed ++ take k r.opened)) = omega (arith, kept_size r) in
       ap (λ (m : ℕ). next_after n m k) is.counts.next
-      ∙ next_mod n at k (omega (arith, inside)) (omega (arith, is.counts.next))
+      ∙ next_mod n at k (omega (arith, inside)) (omega (arith, is.counts.next, k_is))
       ∙ ap (λ (m : ℕ). m % n) e
 
   counts_are : AreCounts (record j { sections = committed_batch f.sections j.next (closed_end j.sections) }) (after_commit d (next_batch r) bytes) (with_commit r)

@@ -15,8 +15,9 @@ use Rattle.journal_model.specs.Cuts.{next_after}
 use Rattle.journal_model.specs.JournaledDisk.{JournaledDisk, IsSound}
 use Rattle.journal_model.specs.Steps.{oldest_entries}
 use Rattle.journal_model.proofs.FreeLemmas.{kept_entries_law}
-use Rattle.journal_model.specs.Ring.{JournalRing, entries_of, takes_more, put_last}
-use Rattle.device_laws.specs.Device.{committed_counts, freed_count, IsJournalRing}
+use Rattle.journal_model.specs.Ring.{JournalRing, entries_of}
+use Rattle.journal_model.proofs.JournalRingLemmas.{entries_of-map}
+use Rattle.device_laws.specs.Device.{freed_count, placed_count, committed_counts, IsJournalRing}
 
 -- ---- lists
 
@@ -98,5 +99,5 @@ module _ (d : JournaledDisk) (r : JournalRing) (sound : IsSound d) (is : IsJourn
   pub committed_low : length (entries_of r.committed) ≤ length d.entries
   committed_low = omega (arith, ap length held, length-drop before d.entries)
 
-  pub placed_part : d.placed - freed_count d r ≤ length (entries_of r.committed)
+  pub placed_part : placed_count d r ≤ length (entries_of r.committed)
   placed_part = omega (arith, committed_low, sound.formed.placed_low)
