@@ -1,16 +1,12 @@
 -- The entries of a ring, and where its sections lie.
-use Rattle.std.proofs.Common.{◌≡◌, inl, inr, ℕ, zero, suc, ◌+◌, ◌-◌, ◌*◌, ◌/◌, ◌%◌, ◌<◌, ◌≤◌, Bool, true, refl, sym, ◌∙◌, ap, arith, List, [], ◌∷◌, ◌++◌, length, take, drop, map, get_or, length-append, length-drop, append_assoc, append-nil}
-use Rattle.std.specs.List.{AllByRecursion, flat_map, range_with_len}
-use Rattle.std.proofs.Math.Seq.{drop-append_seam, take-append_seam}
-use Rattle.std.proofs.lemmas.Bool.{cases_eq, false≢true, eq-eqb, ne_eqb}
-use Rattle.std.proofs.lemmas.List.{take-append-drop}
-use Rattle.std.proofs.lemmas.List.Concat.{flat_map-append}
+use Rattle.std.proofs.Common.{◌≡◌, inl, inr, ℕ, zero, suc, ◌+◌, ◌-◌, ◌*◌, ◌/◌, ◌%◌, ◌<◌, ◌≤◌, refl, sym, ◌∙◌, ap, arith, List, [], ◌∷◌, length, take, drop, map, get_or, length-drop}
+use Rattle.std.specs.List.{AllByRecursion, range_with_len}
+use Rattle.std.proofs.lemmas.Bool.{cases_eq, eq-eqb, ne_eqb}
 use Rattle.std.proofs.lemmas.Nat.{div-add-mod', mod-mul-add, mod_below}
 use Rattle.image_model.specs.Geometry.{Geometry}
 use Rattle.image_model.specs.Section.{Entry}
 use Rattle.image_model.specs.Walk.{ring}
 use Rattle.place_model.specs.Journal.{entries_in}
-use Rattle.place_model.proofs.EachLemmas.{all_append}
 use Rattle.journal_model.specs.Cuts.{next_after}
 use Rattle.journal_model.specs.JournaledDisk.{JournaledDisk, IsSound}
 use Rattle.journal_model.specs.Steps.{oldest_entries}

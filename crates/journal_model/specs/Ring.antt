@@ -74,10 +74,10 @@ with_put entry ring = record ring {
 abbrev pub HasFreeSection : JournalRing → Type 0
 HasFreeSection ring = length ring.opened + length ring.committed < ring.geometry.sections
 
--- There is room where one is, and else the last section is open.
+-- There is room exactly where one is, or the last section is open.
 abbrev pub FreeSectionLaw : Type 0
-FreeSectionLaw = (ring : JournalRing) → (HasFreeSection ring → has_room ring ≡ true)
-    × (has_room ring ≡ true → (has_open_section ring ≡ true) ⊎ HasFreeSection ring)
+FreeSectionLaw = (ring : JournalRing)
+    → has_room ring ≡ true ↔ (has_open_section ring ≡ true) ⊎ HasFreeSection ring
 
 -- ---- a commit
 
