@@ -22,8 +22,8 @@ use Rattle.journal_model.proofs.BatchLemmas.{batch_law, section_is}
 use Rattle.journal_model.proofs.CommittedLemmas.{ring_after, new_in, old_below, old_behind, sound_after}
 use Rattle.journal_model.proofs.HistoryLemmas.{history_committed}
 use Rattle.journal_model.proofs.RingLemmas.{ring_rest}
-use Rattle.journal_model.specs.Ring.{JournalRing, entries_of, uncommitted_entries, next_batch, opened_at, with_commit, IsRingOf}
-use Rattle.journal_model.proofs.JournalRingLemmas.{kept_size, ring_law, entries_of-append, entries_of-take, entries_of-drop, entries_of-map}
+use Rattle.journal_model.specs.Ring.{JournalRing, entries_of, uncommitted_entries, next_batch, opened_at, IsNextBatch, with_commit, IsRingOf}
+use Rattle.journal_model.proofs.JournalRingLemmas.{kept_size, next_batch-of_disk, ring_law, entries_of-append, entries_of-take, entries_of-drop, entries_of-map}
 use Rattle.device_laws.specs.CountLaws.{IdleCommitLaw, CommitLaw}
 use Rattle.device_laws.specs.Device.{freed_count, placed_count, committed_counts, AreCounts, IsJournalRing, IsJournalOf}
 use Rattle.device_laws.proofs.FormatLemmas.{sections-is}
@@ -102,7 +102,7 @@ closed_end-some fr [] some = absurd (false≢true some)
 closed_end-some fr (o ∷ op) some = closed_end-front fr o op
 
 module _ (f : DeviceFormat) (h : History) (j : JournalCounts) (d : JournaledDisk) (r : JournalRing) (bytes : List ℕ) (is : IsJournalOf f h j d r)
-    (some : list_any (λ (s : SectionCounts). is_uncommitted s.state) j.sections ≡ true) (are : AreSections d (next_batch r) (opened_at r) bytes) where
+    (some : list_any (λ (s : SectionCounts). is_uncommitted s.state) j.sections ≡ true) (next : IsNextBatch r bytes) where
   abbrev n : ℕ
   n = d.geometry.sections
 
@@ -111,6 +111,9 @@ module _ (f : DeviceFormat) (h : History) (j : JournalCounts) (d : JournaledDisk
 
   inside : d.next < d.geometry.sections
   inside = is.is_ring.rests.at.inside
+
+  are : AreSections d.geometry.shape d.next d.number (next_batch r) (opened_at r) bytes
+  are = next_batch-of_disk r d bytes is.is_ring.of_disk next
 
   k_low : next_batch r ≤ length r.opened
   k_low = omega arith

@@ -6,10 +6,10 @@ use Rattle.device_model.specs.History.{BlockWrite, History, Written, Flushed, wi
 use Rattle.device_model.specs.Journal.{SectionCounts, JournalCounts, put, commit, commit_all, place, settle}
 use Rattle.device_model.specs.Mode.{DeviceFormat}
 use Rattle.device_model.specs.RoomLaws.{commits}
-use Rattle.journal_model.specs.Batch.{AreSections, IsSection}
+use Rattle.journal_model.specs.Batch.{IsSection}
 use Rattle.journal_model.specs.HistoryOf.{entry_of_write}
 use Rattle.journal_model.specs.JournaledDisk.{JournaledDisk}
-use Rattle.journal_model.specs.Ring.{JournalRing, has_room, with_put, next_batch, opened_at, with_commit, with_settle}
+use Rattle.journal_model.specs.Ring.{JournalRing, has_room, with_put, next_batch, IsNextBatch, with_commit, with_settle}
 use Rattle.journal_model.specs.Steps.{IsBatch, after_commit, after_place, after_settle}
 use Rattle.journal_section.specs.Entries.{HoldsEntries, BearsNumber}
 use Rattle.device_laws.specs.Device.{placed_count, IsJournalRing, IsJournalOf}
@@ -44,8 +44,8 @@ IdleCommitLaw = (f : DeviceFormat) (h : History) (j : JournalCounts) (d : Journa
 -- A commit writes one batch, from `next` on: the opened sections, up to the journal's end.
 abbrev pub CommitLaw : Type 0
 CommitLaw = (f : DeviceFormat) (h : History) (j j' : JournalCounts) (d : JournaledDisk) (r : JournalRing)
-    (bytes : List ℕ) → IsJournalOf f h j d r → commit f.sections j ≡ Some j' → AreSections d (next_batch r)
-    (opened_at r) bytes → IsBatch d (next_batch r) bytes
+    (bytes : List ℕ) → IsJournalOf f h j d r → commit f.sections j ≡ Some j' → IsNextBatch r bytes
+    → IsBatch d (next_batch r) bytes
     × IsJournalOf f h j' (after_commit d (next_batch r) bytes) (with_commit r)
 
 -- Two commits leave no section opened.

@@ -2,17 +2,18 @@
 use Rattle.std.proofs.Common.{◌≡◌, inl, inr, ℕ, suc, ◌+◌, ◌≤◌, ltb, Bool, true, refl, sym, ◌∙◌, ap, subst, arith, List, [], ◌∷◌, ◌++◌, length, take, drop, map, length-append, length-take, length-drop, append_assoc, append-nil}
 use Rattle.std.specs.List.{AllByRecursion, flat_map}
 use Rattle.std.proofs.Math.Seq.{drop-append_seam, take-append_seam}
-use Rattle.std.proofs.lemmas.Bool.{false≢true, or_cases, or_right, ltb-true, lt-ltb}
+use Rattle.std.proofs.lemmas.Bool.{false≢true, or_cases, or_left, or_right, ltb-true, lt-ltb}
 use Rattle.std.proofs.lemmas.List.{take-append-drop}
 use Rattle.std.proofs.lemmas.List.Concat.{flat_map-append}
 use Rattle.image_model.specs.Cells.{salt_of}
+use Rattle.image_model.specs.Geometry.{Geometry}
 use Rattle.image_model.specs.Section.{Entry}
 use Rattle.place_model.proofs.EachLemmas.{all_flat, all_append, all_take, all_drop}
 use Rattle.journal_model.specs.Batch.{AreSections}
 use Rattle.journal_model.specs.Cuts.{next_after, number_after}
 use Rattle.journal_model.specs.Entries.{IsBlockEntry}
 use Rattle.journal_model.specs.JournaledDisk.{JournaledDisk, IsSound}
-use Rattle.journal_model.specs.Ring.{JournalRing, entries_of, takes_more, has_open_section, put_last, FreeSectionLaw, next_batch, with_commit, IsRingOf, RingLaw}
+use Rattle.journal_model.specs.Ring.{JournalRing, entries_of, takes_more, has_open_section, put_last, FreeSectionLaw, next_batch, opened_at, IsNextBatch, with_commit, IsRingOf, RingLaw}
 use Rattle.journal_model.specs.Steps.{IsBatch, IsFreeBut, batch_entries, after_commit}
 use Rattle.journal_model.proofs.BatchLemmas.{has_sections}
 use Rattle.journal_model.proofs.CommittedLemmas.{rests_after}
@@ -69,8 +70,15 @@ some-put_last entry (x ∷ y ∷ xs) all = (all.0, some-put_last entry (y ∷ xs
 pub kept_size : (r : JournalRing) → length r.committed + next_batch r ≡ length (with_commit r).committed
 kept_size r = omega (arith, length-append r.committed (take (next_batch r) r.opened), length-take (next_batch r) r.opened)
 
+-- On its disk the next batch is one of sections from where writing goes on there.
+pub next_batch-of_disk : (r : JournalRing) (d : JournaledDisk) (bytes : List ℕ) → IsRingOf r d → IsNextBatch r bytes → AreSections d.geometry.shape d.next d.number (next_batch r) (opened_at r) bytes
+next_batch-of_disk r d bytes is are =
+    subst (λ (n : ℕ). AreSections d.geometry.shape d.next n (next_batch r) (opened_at r) bytes) is.number
+    (subst (λ (n : ℕ). AreSections d.geometry.shape n r.number (next_batch r) (opened_at r) bytes) is.next
+    (subst (λ (g : Geometry). AreSections g.shape r.next r.number (next_batch r) (opened_at r) bytes) is.geometry are))
+
 module _ (r : JournalRing) (d : JournaledDisk) (entries : ℕ → List Entry) (bytes : List ℕ) (sound : IsSound d) (is : IsRingOf r d)
-    (are : AreSections d (next_batch r) entries bytes) (told : batch_entries d (next_batch r) bytes ≡ entries_of (take (next_batch r) r.opened)) where
+    (are : AreSections d.geometry.shape d.next d.number (next_batch r) entries bytes) (told : batch_entries d (next_batch r) bytes ≡ entries_of (take (next_batch r) r.opened)) where
   abbrev k : ℕ
   k = next_batch r
 
@@ -113,9 +121,12 @@ ring_law r d entries bytes sound is are told = (batch r d entries bytes sound is
 pub free_section_law : FreeSectionLaw
 free_section_law r =
     let free = ltb (length r.opened + length r.committed) r.geometry.sections in (
-      λ has. or_right (has_open_section r) free (lt-ltb (length r.opened + length r.committed) r.geometry.sections has),
       λ room. elim (or_cases (has_open_section r) free room) [
         | inl more ↦ inl more
         | inr next ↦ inr (ltb-true (length r.opened + length r.committed) r.geometry.sections next)
+      ],
+      λ either. elim either [
+        | inl more ↦ or_left (has_open_section r) free more
+        | inr has ↦ or_right (has_open_section r) free (lt-ltb (length r.opened + length r.committed) r.geometry.sections has)
       ],
     )

@@ -1,6 +1,6 @@
 -- The ring of the sections of a journal, and what it says of the disk below.
 -- Own: sections are opened, committed and freed in the order of the ring.
-use Rattle.std.specs.Prelude.{◌≡◌, ◌⊎◌, ℕ, ◌+◌, ◌-◌, ◌<◌, ◌≤◌, min, ltb, leb, Bool, true, false, not, ◌&&◌, ◌||◌, if◌then◌else◌, List, [], ◌∷◌, ◌++◌, length, take, drop, get_or}
+use Rattle.std.specs.Prelude.{◌≡◌, ◌⊎◌, ◌↔◌, ℕ, ◌+◌, ◌-◌, ◌<◌, ◌≤◌, min, ltb, leb, Bool, true, false, not, ◌&&◌, ◌||◌, if◌then◌else◌, List, [], ◌∷◌, ◌++◌, length, take, drop, get_or}
 use Rattle.std.specs.List.{AllByRecursion, flat_map}
 use Rattle.image_model.specs.Cells.{salt_of}
 use Rattle.image_model.specs.Geometry.{Geometry, section_entries}
@@ -89,6 +89,11 @@ next_batch ring = min (length ring.opened) (ring.geometry.sections - ring.next)
 abbrev pub opened_at : JournalRing → ℕ → List Entry
 opened_at ring section = get_or ring.opened (section - ring.next) []
 
+-- The bytes are those of the next batch.
+abbrev pub IsNextBatch : JournalRing → List ℕ → Type 0
+IsNextBatch ring bytes =
+    AreSections ring.geometry.shape ring.next ring.number (next_batch ring) (opened_at ring) bytes
+
 -- The ring after the batch is committed: no entry goes into what is left open.
 abbrev pub with_commit : JournalRing → JournalRing
 with_commit ring = record ring {
@@ -127,6 +132,7 @@ pub record IsRingOf (ring : JournalRing) (d : JournaledDisk) : Type 0 where
 -- The sections of a ring are a batch of its disk, and after it is committed the ring is that of the disk then.
 abbrev pub RingLaw : Type 0
 RingLaw = (ring : JournalRing) (d : JournaledDisk) (entries : ℕ → List Entry) (bytes : List ℕ) → IsSound d
-    → IsRingOf ring d → AreSections d (next_batch ring) entries bytes → batch_entries d (next_batch ring) bytes
-    ≡ entries_of (take (next_batch ring) ring.opened) → IsBatch d (next_batch ring) bytes
+    → IsRingOf ring d → AreSections d.geometry.shape d.next d.number (next_batch ring) entries bytes
+    → batch_entries d (next_batch ring) bytes ≡ entries_of (take (next_batch ring) ring.opened)
+    → IsBatch d (next_batch ring) bytes
     × IsRingOf (with_commit ring) (after_commit d (next_batch ring) bytes)
