@@ -12,8 +12,8 @@ use Rattle.journal_model.specs.JournaledDisk.{JournaledDisk, IsSound, Rests}
 use Rattle.journal_model.specs.Steps.{IsBatch, IsFreeBut, batch_entries, after_commit}
 
 -- Where the next batch begins and with which number, and the entries of each section in order: of those that are
--- committed and not free, and of those that are opened and not committed. The last of these is closed where no entry goes
--- into it any more.
+-- committed and not free, and of those that are opened and not committed. The last of these is closed where no entry
+-- goes into it any more.
 pub record JournalRing : Type 0 where
   pub geometry : Geometry
   pub next : ℕ
@@ -49,7 +49,7 @@ takes_more entries closed [] = false
 takes_more entries closed (x ∷ []) = not closed && ltb (length x) entries
 takes_more entries closed (x ∷ y ∷ opened) = takes_more entries closed (y ∷ opened)
 
--- So it is with the last section of the ring.
+-- So is the last opened section of the ring.
 abbrev pub has_open_section : JournalRing → Bool
 has_open_section ring = takes_more (section_entries ring.geometry.shape) ring.closed ring.opened
 
@@ -89,7 +89,7 @@ next_batch ring = min (length ring.opened) (ring.geometry.sections - ring.next)
 abbrev pub opened_at : JournalRing → ℕ → List Entry
 opened_at ring section = get_or ring.opened (section - ring.next) []
 
--- The bytes are those of the next batch.
+-- The bytes are those of the sections of the next batch.
 abbrev pub IsNextBatch : JournalRing → List ℕ → Type 0
 IsNextBatch ring bytes =
     AreSections ring.geometry.shape ring.next ring.number (next_batch ring) (opened_at ring) bytes
@@ -112,7 +112,7 @@ unplaced_from placed [] = []
 unplaced_from placed (x ∷ sections) =
     if leb (length x) placed then unplaced_from (placed - length x) sections else x ∷ sections
 
--- The ring after a settle, with so many entries of its committed sections placed: those wholly placed are free.
+-- The ring after a settle of so many placed entries: the first sections, which are wholly placed, are free.
 abbrev pub with_settle : ℕ → JournalRing → JournalRing
 with_settle placed ring = record ring { committed = unplaced_from placed ring.committed }
 
