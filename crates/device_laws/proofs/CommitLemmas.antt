@@ -1,5 +1,5 @@
 -- A commit, on the counts, the disk and the ring.
-use Rattle.std.proofs.Common.{◌≡◌, inl, inr, ℕ, zero, suc, ◌+◌, ◌-◌, ◌%◌, ◌<◌, ◌≤◌, Bool, true, false, if◌then◌else◌, refl, sym, ◌∙◌, ap, subst, arith, Option, Some, None, List, [], ◌∷◌, ◌++◌, length, take, drop, map, length-append, length-take, length-drop, append_assoc}
+use Rattle.std.proofs.Common.{◌≡◌, inl, inr, ℕ, zero, suc, ◌+◌, ◌-◌, ◌%◌, ◌<◌, ◌≤◌, min, Bool, true, false, if◌then◌else◌, sym, ◌∙◌, ap, subst, arith, Option, Some, None, List, [], ◌∷◌, ◌++◌, length, take, drop, map, length-append, length-drop, append_assoc}
 use Rattle.std.specs.List.{AllByRecursion, list_any, range_with_len}
 use Rattle.std.proofs.lemmas.Bool.{cases_Bool, false≢true}
 use Rattle.std.proofs.lemmas.List.{map-append, drop-drop, drop-append-le}
@@ -17,20 +17,18 @@ use Rattle.journal_model.specs.Batch.{AreSections}
 use Rattle.journal_model.specs.Cuts.{next_after}
 use Rattle.journal_model.specs.HistoryOf.{IsHistoryOf}
 use Rattle.journal_model.specs.JournaledDisk.{JournaledDisk}
-use Rattle.journal_model.specs.Steps.{IsBatch, IsFreeBut, batch_image, with_batch, batch_entries, after_commit}
+use Rattle.journal_model.specs.Steps.{IsBatch, batch_image, with_batch, batch_entries, after_commit}
 use Rattle.journal_model.proofs.BatchLemmas.{batch_law, section_is}
-use Rattle.journal_model.proofs.CommittedLemmas.{ring_after, new_in, old_below, old_behind, rests_after, sound_after}
-use Rattle.journal_model.proofs.FreeLemmas.{kept_law}
+use Rattle.journal_model.proofs.CommittedLemmas.{ring_after, new_in, old_below, old_behind, sound_after}
 use Rattle.journal_model.proofs.HistoryLemmas.{history_committed}
 use Rattle.journal_model.proofs.RingLemmas.{ring_rest}
-use Rattle.journal_model.specs.View.{IsRingOf}
-use Rattle.journal_model.proofs.ViewLemmas.{ring_law}
+use Rattle.journal_model.specs.Ring.{JournalRing, entries_of, uncommitted_entries, next_batch, opened_at, IsNextBatch, with_commit, IsRingOf}
+use Rattle.journal_model.proofs.JournalRingLemmas.{kept_size, next_batch-of_disk, ring_law, entries_of-append, entries_of-take, entries_of-drop, entries_of-map}
 use Rattle.device_laws.specs.CountLaws.{IdleCommitLaw, CommitLaw}
-use Rattle.device_laws.specs.Device.{AreCounts, IsJournalRing, IsJournalOf}
-use Rattle.device_laws.specs.Ring.{JournalRing, entries_of, uncommitted_entries, view_of, batch_of, opened_at, with_commit, freed_count, committed_counts}
+use Rattle.device_laws.specs.Device.{freed_count, placed_count, committed_counts, AreCounts, IsJournalRing, IsJournalOf}
 use Rattle.device_laws.proofs.FormatLemmas.{sections-is}
 use Rattle.device_laws.proofs.CountLemmas.{AreDone, done-front, closed_end-front, any-front, batch-front, some_opened, closed_end-opened, IsBatchCounts, batch-opened, counts-append}
-use Rattle.device_laws.proofs.RingLemmas.{entries_of-append, entries_of-take, entries_of-drop, entries_of-map, map_run-same, map-same, run_of, length-counts, next_mod, placed_part}
+use Rattle.device_laws.proofs.RingLemmas.{map_run-same, map-same, run_of, length-counts, next_mod, placed_part}
 
 all_run : (P : ℕ → Type 0) (from count : ℕ) → ((i : ℕ) → from ≤ i → i < from + count → P i) → AllByRecursion P (range_with_len from count)
 all_run P from zero f = tt
@@ -40,11 +38,11 @@ all_run P from (suc count) f = (f from (omega arith) (omega arith), all_run P (f
 
 module _ (j : JournalCounts) (d : JournaledDisk) (r : JournalRing) (is : AreCounts j d r) where
   abbrev part : ℕ
-  part = d.placed - freed_count d r
+  part = placed_count d r
 
   -- The sections that are free or committed.
   pub front : List SectionCounts
-  front = is.free ++ committed_counts d.geometry (d.placed - freed_count d r) r.committed
+  front = is.free ++ committed_counts d.geometry (placed_count d r) r.committed
 
   pub sections_are : j.sections ≡ front ++ is.opened
   unfolding front
@@ -58,7 +56,7 @@ module _ (j : JournalCounts) (d : JournaledDisk) (r : JournalRing) (is : AreCoun
   unfolding front
   length-front = length-append is.free (committed_counts d.geometry part r.committed) ∙ ap (λ (n : ℕ). length is.free + n) (length-counts d.geometry part r.committed)
 
-  pub front-then : (op : List SectionCounts) → front ++ op ≡ is.free ++ (committed_counts d.geometry (d.placed - freed_count d r) r.committed ++ op)
+  pub front-then : (op : List SectionCounts) → front ++ op ≡ is.free ++ (committed_counts d.geometry (placed_count d r) r.committed ++ op)
   unfolding front
   front-then op = append_assoc is.free (committed_counts d.geometry part r.committed) op
 
@@ -104,41 +102,39 @@ closed_end-some fr [] some = absurd (false≢true some)
 closed_end-some fr (o ∷ op) some = closed_end-front fr o op
 
 module _ (f : DeviceFormat) (h : History) (j : JournalCounts) (d : JournaledDisk) (r : JournalRing) (bytes : List ℕ) (is : IsJournalOf f h j d r)
-    (some : list_any (λ (s : SectionCounts). is_uncommitted s.state) j.sections ≡ true) (are : AreSections d (batch_of d r) (opened_at d r) bytes) where
+    (some : list_any (λ (s : SectionCounts). is_uncommitted s.state) j.sections ≡ true) (next : IsNextBatch r bytes) where
   abbrev n : ℕ
   n = d.geometry.sections
 
   abbrev k : ℕ
-  k = batch_of d r
+  k = next_batch r
 
   inside : d.next < d.geometry.sections
   inside = is.is_ring.rests.at.inside
 
-  k_low : batch_of d r ≤ length r.opened
+  are : AreSections d.geometry.shape d.next d.number (next_batch r) (opened_at r) bytes
+  are = next_batch-of_disk r d bytes is.is_ring.of_disk next
+
+  k_low : next_batch r ≤ length r.opened
   k_low = omega arith
 
+  k_is : next_batch r ≡ min (length r.opened) (d.geometry.sections - d.next)
+  k_is = omega (arith, ap (λ g. g.sections) is.is_ring.geometry, is.is_ring.next)
+
   -- The entries of the batch's sections are those of the opened ones.
-  opened_run : map (opened_at d r) (range_with_len d.next (batch_of d r)) ≡ take (batch_of d r) r.opened
-  opened_run = run_of d.next (batch_of d r) r.opened k_low
+  opened_run : map (opened_at r) (range_with_len d.next (next_batch r)) ≡ take (next_batch r) r.opened
+  opened_run = ap (λ (m : ℕ). map (opened_at r) (range_with_len m k)) (sym is.is_ring.next) ∙ run_of r.next k r.opened k_low
 
-  pub told : batch_entries d (batch_of d r) bytes ≡ entries_of (take (batch_of d r) r.opened)
-  told = (batch_law d k (opened_at d r) bytes are).entries_are ∙ sym (entries_of-map (opened_at d r) (range_with_len d.next k)) ∙ ap entries_of opened_run
+  pub told : batch_entries d (next_batch r) bytes ≡ entries_of (take (next_batch r) r.opened)
+  told = (batch_law d k (opened_at r) bytes are).entries_are ∙ sym (entries_of-map (opened_at r) (range_with_len d.next k)) ∙ ap entries_of opened_run
 
-  ring_of : IsRingOf (view_of d r) d
-  ring_of = record {
-    geometry = refl;
-    next = refl;
-    number = refl;
-    rests = is.is_ring.rests;
-    free = is.is_ring.free;
-    fits = is.is_ring.fits;
-    each = is.is_ring.each;
-  }
+  both : IsBatch d (next_batch r) bytes × IsRingOf (with_commit r) (after_commit d (next_batch r) bytes)
+  both = ring_law r d (opened_at r) bytes is.sound is.is_ring.of_disk are told
 
-  pub batch : IsBatch d (batch_of d r) bytes
-  batch = (ring_law (view_of d r) d (opened_at d r) bytes is.sound ring_of are told).0
+  pub batch : IsBatch d (next_batch r) bytes
+  batch = both.0
 
-  fits : batch_of d r + length r.committed ≤ d.geometry.sections
+  fits : next_batch r + length r.committed ≤ d.geometry.sections
   fits = omega (arith, is.is_ring.fits, k_low)
 
   -- ---- the ring
@@ -147,31 +143,28 @@ module _ (f : DeviceFormat) (h : History) (j : JournalCounts) (d : JournaledDisk
   old_ = entries_in d.geometry d.journal
 
   now_ : ℕ → List Entry
-  now_ = entries_in d.geometry (with_batch d (batch_of d r) bytes)
+  now_ = entries_in d.geometry (with_batch d (next_batch r) bytes)
 
-  kept_size : length r.committed + batch_of d r ≡ length (r.committed ++ take (batch_of d r) r.opened)
-  kept_size = omega (arith, length-append r.committed (take k r.opened), length-take k r.opened, k_low)
-
-  length-behind : length (drop (batch_of d r) (ring d.geometry.sections d.next)) ≡ d.geometry.sections - batch_of d r
+  length-behind : length (drop (next_batch r) (ring d.geometry.sections d.next)) ≡ d.geometry.sections - next_batch r
   length-behind =
       let whole = length-append (range_with_len d.next (n - d.next)) (range_with_len 0 d.next) in
       omega (arith, length-drop k (ring n d.next), whole, length-range_with_len d.next (n - d.next), length-range_with_len 0 d.next, inside)
 
-  all_old : AllByRecursion (λ i. now_ i ≡ old_ i) (drop (batch_of d r) (ring d.geometry.sections d.next))
+  all_old : AllByRecursion (λ i. now_ i ≡ old_ i) (drop (next_batch r) (ring d.geometry.sections d.next))
   unfolding old_ now_
   all_old =
       subst (AllByRecursion (λ i. now_ i ≡ old_ i)) (sym (ring_rest n d.next k batch.fits)) (all_append (λ i. now_ i ≡ old_ i) (range_with_len (d.next + k) (n - (d.next + k))) (range_with_len 0 d.next)
       (all_run (λ i. now_ i ≡ old_ i) (d.next + k) (n - (d.next + k)) (λ i past low. entries_in-same d.geometry (with_batch d k bytes) d.journal i (λ s narrow. old_behind d k bytes is.sound is.is_ring.rests batch i s past narrow)))
       (all_run (λ i. now_ i ≡ old_ i) 0 d.next (λ i _ under. entries_in-same d.geometry (with_batch d k bytes) d.journal i (λ s narrow. old_below d k bytes is.sound is.is_ring.rests batch i s (omega arith) narrow))))
 
-  kept_after : map (entries_in d.geometry (with_batch d (batch_of d r) bytes)) (drop (d.geometry.sections - length (r.committed ++ take (batch_of d r) r.opened)) (ring d.geometry.sections (next_after d.geometry.sections d.next (batch_of d r))))
-      ≡ r.committed ++ take (batch_of d r) r.opened
+  kept_after : map (entries_in d.geometry (with_batch d (next_batch r) bytes)) (drop (d.geometry.sections - length (r.committed ++ take (next_batch r) r.opened)) (ring d.geometry.sections (next_after d.geometry.sections d.next (next_batch r))))
+      ≡ r.committed ++ take (next_batch r) r.opened
   unfolding old_ now_
   kept_after =
       let count = n - (length r.committed + k) in
       let behind = drop k (ring n d.next) in
       let same : k + count ≡ n - length r.committed = omega (arith, fits) in
-      ap (λ (m : ℕ). map now_ (drop (n - m) (ring n (next_after n d.next k)))) (sym kept_size)
+      ap (λ (m : ℕ). map now_ (drop (n - m) (ring n (next_after n d.next k)))) (sym (kept_size r))
       ∙ ap (λ (xs : List ℕ). map now_ (drop count xs)) (ring_after n d.next k batch.fits)
       ∙ ap (map now_) (drop-append-le count behind (range_with_len d.next k) (omega (arith, length-behind)))
       ∙ map-append now_ (drop count behind) (range_with_len d.next k)
@@ -180,20 +173,15 @@ module _ (f : DeviceFormat) (h : History) (j : JournalCounts) (d : JournaledDisk
       ∙ ap (map old_) (drop-drop count k (ring n d.next) ∙ ap (λ (m : ℕ). drop m (ring n d.next)) same)
       ∙ is.is_ring.kept)
       ∙ ap (λ (xs : List (List Entry)). r.committed ++ xs)
-      (map_run-same d.next k now_ (opened_at d r) (λ i above under.
+      (map_run-same d.next k now_ (opened_at r) (λ i above under.
       entries_in-same d.geometry (with_batch d k bytes) (batch_image d bytes) i (λ s narrow. new_in d k bytes is.sound is.is_ring.rests batch i s above under narrow)
-      ∙ section_is d k (opened_at d r) bytes are i above under)
+      ∙ section_is d k (opened_at r) bytes are i above under)
       ∙ opened_run)
 
-  ring_is : IsJournalRing (after_commit d (batch_of d r) bytes) (with_commit d r)
+  ring_is : IsJournalRing (after_commit d (next_batch r) bytes) (with_commit r)
   ring_is = record {
-    rests = rests_after d k bytes is.sound is.is_ring.rests batch;
+    of_disk = both.1;
     kept = kept_after;
-    free =
-        let e : k + length r.committed ≡ length (r.committed ++ take k r.opened) = omega (arith, kept_size) in
-        subst (λ (m : ℕ). IsFreeBut (after_commit d (batch_of d r) bytes) m) e (kept_law d (length r.committed) k bytes is.sound is.is_ring.rests batch is.is_ring.free fits);
-    fits = omega (arith, is.is_ring.fits, kept_size, length-drop k r.opened, k_low);
-    each = all_drop _ k r.opened is.is_ring.each;
     some_committed = all_append _ r.committed (take k r.opened) is.is_ring.some_committed (all_take _ k r.opened is.is_ring.some_opened);
     some_opened = all_drop _ k r.opened is.is_ring.some_opened;
   }
@@ -206,18 +194,18 @@ module _ (f : DeviceFormat) (h : History) (j : JournalCounts) (d : JournaledDisk
   some_left : list_any (λ (s : SectionCounts). is_uncommitted s.state) is.counts.opened ≡ true
   some_left = sym (any-is j d r is.counts) ∙ some
 
-  batched : IsBatchCounts d.geometry true (batch_of d r) r.opened (committed_batch d.geometry.sections (j.next + length (front j d r is.counts)) (closed_end is.counts.opened))
+  batched : IsBatchCounts d.geometry true (next_batch r) r.opened (committed_batch d.geometry.sections (j.next + length (front j d r is.counts)) (closed_end is.counts.opened))
   batched = batch-opened d.geometry true n (j.next + length (front j d r is.counts)) k r.opened (closed_end is.counts.opened) (omega (arith, inside)) (closed_end-opened d.geometry r.closed r.opened is.counts.opened is.counts.are_opened)
-      k_low (omega (arith, at_is)) (λ less. omega (arith, at_is, less)) (omega (arith, at_is, inside))
+      k_low (omega (arith, at_is, k_is)) (λ less. omega (arith, at_is, less, k_is)) (omega (arith, at_is, inside))
 
-  freed_same : freed_count (after_commit d (batch_of d r) bytes) (with_commit d r) ≡ freed_count d r
+  freed_same : freed_count (after_commit d (next_batch r) bytes) (with_commit r) ≡ freed_count d r
   freed_same = omega (arith, length-append d.entries (batch_entries d k bytes), ap length told, ap length (entries_of-append r.committed (take k r.opened)), length-append (entries_of r.committed) (entries_of (take k r.opened)))
 
   sections_then : committed_batch f.sections j.next (closed_end j.sections)
-      ≡ is.counts.free ++ (committed_counts d.geometry (d.placed - freed_count (after_commit d (batch_of d r) bytes) (with_commit d r)) (r.committed ++ take (batch_of d r) r.opened) ++ batched.rest)
+      ≡ is.counts.free ++ (committed_counts d.geometry (placed_count (after_commit d (next_batch r) bytes) (with_commit r)) (r.committed ++ take (next_batch r) r.opened) ++ batched.rest)
   sections_then =
       let c = is.counts in
-      let p = d.placed - freed_count d r in
+      let p = placed_count d r in
       let none : p - length (entries_of r.committed) ≡ 0 = omega (arith, placed_part d r is.sound is.is_ring) in
       ap (λ (m : ℕ). committed_batch m j.next (closed_end j.sections)) (sections-is f d.format is.format)
       ∙ ap (λ (xs : List SectionCounts). committed_batch n j.next (closed_end xs)) (sections_are j d r c)
@@ -230,15 +218,15 @@ module _ (f : DeviceFormat) (h : History) (j : JournalCounts) (d : JournaledDisk
       ∙ ap (λ (xs : List SectionCounts). c.free ++ (xs ++ batched.rest)) (sym (counts-append d.geometry p r.committed (take k r.opened)))
       ∙ ap (λ (m : ℕ). c.free ++ (committed_counts d.geometry (d.placed - m) (r.committed ++ take k r.opened) ++ batched.rest)) (sym freed_same)
 
-  next_then : next_after d.geometry.sections d.next (batch_of d r) ≡ (j.next + (length is.counts.free + length (r.committed ++ take (batch_of d r) r.opened))) % d.geometry.sections
+  next_then : next_after d.geometry.sections d.next (next_batch r) ≡ (j.next + (length is.counts.free + length (r.committed ++ take (next_batch r) r.opened))) % d.geometry.sections
   next_then =
       let at = j.next + (length is.counts.free + length r.committed) in
-      let e : at + k ≡ j.next + (length is.counts.free + length (r.committed ++ take k r.opened)) = omega (arith, kept_size) in
+      let e : at + k ≡ j.next + (length is.counts.free + length (r.committed ++ take k r.opened)) = omega (arith, kept_size r) in
       ap (λ (m : ℕ). next_after n m k) is.counts.next
-      ∙ next_mod n at k (omega (arith, inside)) (omega (arith, is.counts.next))
+      ∙ next_mod n at k (omega (arith, inside)) (omega (arith, is.counts.next, k_is))
       ∙ ap (λ (m : ℕ). m % n) e
 
-  counts_are : AreCounts (record j { sections = committed_batch f.sections j.next (closed_end j.sections) }) (after_commit d (batch_of d r) bytes) (with_commit d r)
+  counts_are : AreCounts (record j { sections = committed_batch f.sections j.next (closed_end j.sections) }) (after_commit d (next_batch r) bytes) (with_commit r)
   counts_are = record {
     free = is.counts.free;
     opened = batched.rest;
@@ -248,7 +236,7 @@ module _ (f : DeviceFormat) (h : History) (j : JournalCounts) (d : JournaledDisk
     next = next_then;
   }
 
-  pub after : IsJournalOf f h (record j { sections = committed_batch f.sections j.next (closed_end j.sections) }) (after_commit d (batch_of d r) bytes) (with_commit d r)
+  pub after : IsJournalOf f h (record j { sections = committed_batch f.sections j.next (closed_end j.sections) }) (after_commit d (next_batch r) bytes) (with_commit r)
   after = record {
     format = is.format;
     sound = sound_after d k bytes is.sound is.is_ring.rests batch;
@@ -257,12 +245,12 @@ module _ (f : DeviceFormat) (h : History) (j : JournalCounts) (d : JournaledDisk
     history =
         let count = length (entries_of (take k r.opened)) in
         let past = history_committed d k bytes (uncommitted_entries r) count h (told ∙ sym (entries_of-take k r.opened)) is.history in
-        subst (λ (xs : List Entry). IsHistoryOf (after_commit d (batch_of d r) bytes) xs h) (entries_of-drop k r.opened) past;
+        subst (λ (xs : List Entry). IsHistoryOf (after_commit d (next_batch r) bytes) xs h) (entries_of-drop k r.opened) past;
   }
 
 pub commit_law : CommitLaw
 commit_law f h j j' d r bytes is told are =
     let tells = commit-some f.sections j j' told in (
       batch f h j d r bytes is tells.0 are,
-      subst (λ (k : JournalCounts). IsJournalOf f h k (after_commit d (batch_of d r) bytes) (with_commit d r)) tells.1 (after f h j d r bytes is tells.0 are),
+      subst (λ (k : JournalCounts). IsJournalOf f h k (after_commit d (next_batch r) bytes) (with_commit r)) tells.1 (after f h j d r bytes is tells.0 are),
     )

@@ -9,9 +9,8 @@ use Rattle.image_model.specs.Section.{Entry}
 use Rattle.device_model.specs.Journal.{SectionState, Open, Closed, Committed, Free, SectionCounts, is_open, is_uncommitted, is_committed, has_open_end, with_entry, opened_with, closed_end, committed_batch, place_oldest, is_all_placed, as_settled}
 use Rattle.device_model.proofs.RingLemmas.{unfreed_weight, mod-suc}
 use Rattle.place_model.proofs.EachLemmas.{all_append}
-use Rattle.journal_model.specs.View.{takes_more, put_last}
-use Rattle.device_laws.specs.Device.{IsOpened, AreOpened}
-use Rattle.device_laws.specs.Ring.{entries_of, unplaced_from, block_of, committed_counts}
+use Rattle.journal_model.specs.Ring.{entries_of, unplaced_from, takes_more, put_last}
+use Rattle.device_laws.specs.Device.{block_of, committed_counts, IsOpened, AreOpened}
 
 -- ---- sections that are committed or free
 

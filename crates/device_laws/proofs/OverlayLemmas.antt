@@ -5,18 +5,18 @@ use Rattle.std.proofs.lemmas.Bool.{cases_Bool, eqb-true, eqb-false, ltb-true, lt
 use Rattle.std.proofs.lemmas.List.{take-append-drop, drop-append-le, drop-drop, drop_all, drop_at, length-take-le}
 use Rattle.std.proofs.lemmas.Option.{none-some, same_Some, slice_get_within}
 use Rattle.image_model.specs.Cells.{last_entry}
-use Rattle.image_model.specs.Geometry.{Geometry}
+use Rattle.image_model.specs.Geometry.{Geometry, section_entries}
 use Rattle.image_model.specs.Section.{Entry}
 use Rattle.place_model.proofs.TagsLemmas.{same_product}
 use Rattle.journal_model.specs.JournaledDisk.{JournaledDisk, IsSound}
 use Rattle.journal_model.specs.Steps.{batch_entries, after_commit}
 use Rattle.journal_model.proofs.EntriesLemmas.{last_entry-append, last_entry-none, last_entry-some, cell_after-some}
-use Rattle.journal_model.specs.View.{takes_more, put_last}
-use Rattle.device_laws.specs.Device.{IsJournalRing}
+use Rattle.journal_model.specs.Ring.{JournalRing, entries_of, uncommitted_entries, empty_ring, with_put, next_batch, with_commit, with_settle, unplaced_from, has_open_section, put_last}
+use Rattle.journal_model.proofs.JournalRingLemmas.{entries_of-append, entries_of-push, entries_of-put_last, split}
+use Rattle.device_laws.specs.Device.{freed_count, placed_count, IsJournalRing}
 use Rattle.device_laws.specs.OverlayLaws.{all_entries, IsNewestAt, IsOverlayOf, with_newest, kept_from, OverlayBegins, OverlayPut, OverlayCommitted, OverlaySettled, OverlayReadLaw, PlaceNumberLaw}
-use Rattle.device_laws.specs.Ring.{JournalRing, entries_of, uncommitted_entries, empty_ring, with_put, batch_of, with_commit, with_settle, unplaced_from, freed_count}
 use Rattle.device_laws.proofs.PromiseLemmas.{cell_is, last_entry-here, split_at}
-use Rattle.device_laws.proofs.RingLemmas.{entries_of-append, entries_of-push, entries_of-put_last, split, held_at}
+use Rattle.device_laws.proofs.RingLemmas.{held_at}
 
 -- ---- lists
 
@@ -63,20 +63,20 @@ tells d r newest n xs e e' is =
     record { there = now.there; kept = now.kept; none = now.none }
 
 pub overlay_begins : OverlayBegins
-overlay_begins d = record {
+overlay_begins d g next number = record {
   there = λ b m e. absurd (none-some m e);
   kept = λ b m e. absurd (none-some m e);
-  none = λ b e. ap (λ (xs : List Entry). last_entry d.geometry xs b) (drop_all (freed_count d empty_ring) (all_entries d empty_ring) (omega (arith, length-append d.entries (uncommitted_entries empty_ring))));
+  none = λ b e. ap (λ (xs : List Entry). last_entry d.geometry xs b) (drop_all (freed_count d (empty_ring g next number)) (all_entries d (empty_ring g next number)) (omega (arith, length-append d.entries [])));
 }
 
 -- ---- put
 
-put_entries : (d : JournaledDisk) (r : JournalRing) (entries : ℕ) (entry : Entry) → all_entries d r ++ entry ∷ [] ≡ all_entries d (with_put entries entry r)
-put_entries d r entries entry =
-    append_assoc d.entries (uncommitted_entries r) (entry ∷ []) ∙ ap (λ (xs : List Entry). d.entries ++ xs) (by_test (takes_more entries r.closed r.opened) refl)
+put_entries : (d : JournaledDisk) (r : JournalRing) (entry : Entry) → all_entries d r ++ entry ∷ [] ≡ all_entries d (with_put entry r)
+put_entries d r entry =
+    append_assoc d.entries (uncommitted_entries r) (entry ∷ []) ∙ ap (λ (xs : List Entry). d.entries ++ xs) (by_test (has_open_section r) refl)
   where
-    by_test : (t : Bool) → takes_more entries r.closed r.opened ≡ t → uncommitted_entries r ++ entry ∷ [] ≡ entries_of (if t then put_last entry r.opened else r.opened ++ (entry ∷ []) ∷ [])
-    by_test true room = sym (entries_of-put_last entry entries r.closed r.opened room)
+    by_test : (t : Bool) → has_open_section r ≡ t → uncommitted_entries r ++ entry ∷ [] ≡ entries_of (if t then put_last entry r.opened else r.opened ++ (entry ∷ []) ∷ [])
+    by_test true room = sym (entries_of-put_last entry (section_entries r.geometry.shape) r.closed r.opened room)
     by_test false full = sym (entries_of-push entry r.opened)
 
 put_overlay : (g : Geometry) (n : ℕ) (xs : List Entry) (newest : ℕ → Option ℕ) (b : ℕ) (entry : Entry) → entry.sector ≡ b * g.shape.spb → 1 ≤ g.shape.spb → n ≤ length xs → IsOverlay g n xs newest
@@ -116,21 +116,21 @@ put_overlay g n xs newest b entry at some low is =
     }
 
 pub overlay_put : OverlayPut
-overlay_put d r newest entries b entry at some is =
-    tells d (with_put entries entry r) (with_newest b (length (all_entries d r)) newest) (freed_count d r) (all_entries d r ++ entry ∷ []) refl (put_entries d r entries entry)
+overlay_put d r newest b entry at some is =
+    tells d (with_put entry r) (with_newest b (length (all_entries d r)) newest) (freed_count d r) (all_entries d r ++ entry ∷ []) refl (put_entries d r entry)
     (put_overlay d.geometry (freed_count d r) (all_entries d r) newest b entry at some (omega (arith, length-append d.entries (uncommitted_entries r))) (told_of d r newest is))
 
 -- ---- commit, place and settle
 
 pub overlay_committed : OverlayCommitted
 overlay_committed d r newest bytes told is =
-    let k = batch_of d r in
+    let k = next_batch r in
     let more = batch_entries d k bytes in
-    let size : freed_count d r ≡ freed_count (after_commit d k bytes) (with_commit d r) =
+    let size : freed_count d r ≡ freed_count (after_commit d k bytes) (with_commit r) =
     omega (arith, length-append d.entries more, ap length told, ap length (entries_of-append r.committed (take k r.opened)), length-append (entries_of r.committed) (entries_of (take k r.opened))) in
-    let all : all_entries d r ≡ all_entries (after_commit d k bytes) (with_commit d r) =
+    let all : all_entries d r ≡ all_entries (after_commit d k bytes) (with_commit r) =
     ap (λ (xs : List Entry). d.entries ++ xs) (split k r.opened ∙ ap (λ (xs : List Entry). xs ++ entries_of (drop k r.opened)) (sym told)) ∙ sym (append_assoc d.entries more (entries_of (drop k r.opened))) in (
-      tells (after_commit d k bytes) (with_commit d r) newest (freed_count d r) (all_entries d r) size all (told_of d r newest is),
+      tells (after_commit d k bytes) (with_commit r) newest (freed_count d r) (all_entries d r) size all (told_of d r newest is),
       record { there = is.there; kept = is.kept; none = is.none },
     )
 
@@ -166,8 +166,8 @@ kept_none n (Some k) e =
 
 pub overlay_settled : OverlaySettled
 overlay_settled d r newest is =
-    let n = freed_count d (with_settle d r) in
-    let low : freed_count d r ≤ n = omega (arith, fewer (d.placed - freed_count d r) r.committed) in
+    let n = freed_count d (with_settle (placed_count d r) r) in
+    let low : freed_count d r ≤ n = omega (arith, fewer (placed_count d r) r.committed) in
     record {
       there = λ b m e. is.there b m (kept_is n m (newest b) e).0;
       kept = λ b m e. (kept_is n m (newest b) e).1;

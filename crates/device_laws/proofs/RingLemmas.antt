@@ -1,68 +1,19 @@
 -- The entries of a ring, and where its sections lie.
-use Rattle.std.proofs.Common.{◌≡◌, inl, inr, ℕ, zero, suc, ◌+◌, ◌-◌, ◌*◌, ◌/◌, ◌%◌, ◌<◌, ◌≤◌, Bool, true, refl, sym, ◌∙◌, ap, arith, List, [], ◌∷◌, ◌++◌, length, take, drop, map, get_or, length-append, length-drop, append_assoc, append-nil}
-use Rattle.std.specs.List.{AllByRecursion, flat_map, range_with_len}
-use Rattle.std.proofs.Math.Seq.{drop-append_seam, take-append_seam}
-use Rattle.std.proofs.lemmas.Bool.{cases_eq, false≢true, eq-eqb, ne_eqb}
-use Rattle.std.proofs.lemmas.List.{take-append-drop}
-use Rattle.std.proofs.lemmas.List.Concat.{flat_map-append}
+use Rattle.std.proofs.Common.{◌≡◌, inl, inr, ℕ, zero, suc, ◌+◌, ◌-◌, ◌*◌, ◌/◌, ◌%◌, ◌<◌, ◌≤◌, refl, sym, ◌∙◌, ap, arith, List, [], ◌∷◌, length, take, drop, map, get_or, length-drop}
+use Rattle.std.specs.List.{AllByRecursion, range_with_len}
+use Rattle.std.proofs.lemmas.Bool.{cases_eq, eq-eqb, ne_eqb}
 use Rattle.std.proofs.lemmas.Nat.{div-add-mod', mod-mul-add, mod_below}
 use Rattle.image_model.specs.Geometry.{Geometry}
 use Rattle.image_model.specs.Section.{Entry}
 use Rattle.image_model.specs.Walk.{ring}
 use Rattle.place_model.specs.Journal.{entries_in}
-use Rattle.place_model.proofs.EachLemmas.{all_append}
 use Rattle.journal_model.specs.Cuts.{next_after}
 use Rattle.journal_model.specs.JournaledDisk.{JournaledDisk, IsSound}
 use Rattle.journal_model.specs.Steps.{oldest_entries}
 use Rattle.journal_model.proofs.FreeLemmas.{kept_entries_law}
-use Rattle.journal_model.specs.View.{takes_more, put_last}
-use Rattle.device_laws.specs.Device.{IsJournalRing}
-use Rattle.device_laws.specs.Ring.{JournalRing, entries_of, committed_counts, freed_count}
-
--- ---- joined sections
-
-pub entries_of-append : (xs ys : List (List Entry)) → entries_of (xs ++ ys) ≡ entries_of xs ++ entries_of ys
-entries_of-append xs ys = flat_map-append (λ entries. entries) xs ys
-
-pub split : (k : ℕ) (xs : List (List Entry)) → entries_of xs ≡ entries_of (take k xs) ++ entries_of (drop k xs)
-split k xs = ap entries_of (sym (take-append-drop k xs)) ∙ entries_of-append (take k xs) (drop k xs)
-
-pub entries_of-take : (k : ℕ) (xs : List (List Entry)) → take (length (entries_of (take k xs))) (entries_of xs) ≡ entries_of (take k xs)
-entries_of-take k xs = ap (take (length (entries_of (take k xs)))) (split k xs) ∙ take-append_seam (entries_of (take k xs)) (entries_of (drop k xs))
-
-pub entries_of-drop : (k : ℕ) (xs : List (List Entry)) → drop (length (entries_of (take k xs))) (entries_of xs) ≡ entries_of (drop k xs)
-entries_of-drop k xs = ap (drop (length (entries_of (take k xs)))) (split k xs) ∙ drop-append_seam (entries_of (take k xs)) (entries_of (drop k xs))
-
-pub entries_of-size : (k : ℕ) (xs : List (List Entry)) → length (entries_of xs) ≡ length (entries_of (take k xs)) + length (entries_of (drop k xs))
-entries_of-size k xs = ap length (split k xs) ∙ length-append (entries_of (take k xs)) (entries_of (drop k xs))
-
-pub entries_of-map : (f : ℕ → List Entry) (ns : List ℕ) → entries_of (map f ns) ≡ flat_map f ns
-entries_of-map f [] = refl
-entries_of-map f (n ∷ ns) = ap (λ (xs : List Entry). f n ++ xs) (entries_of-map f ns)
-
-pub entries_of-push : (entry : Entry) (xs : List (List Entry)) → entries_of (xs ++ (entry ∷ []) ∷ []) ≡ entries_of xs ++ entry ∷ []
-entries_of-push entry xs = entries_of-append xs ((entry ∷ []) ∷ [])
-
-pub entries_of-put_last : (entry : Entry) (entries : ℕ) (closed : Bool) (xs : List (List Entry)) → takes_more entries closed xs ≡ true → entries_of (put_last entry xs) ≡ entries_of xs ++ entry ∷ []
-entries_of-put_last entry entries closed [] room = absurd (false≢true room)
-entries_of-put_last entry entries closed (x ∷ []) room = append-nil (x ++ entry ∷ []) ∙ ap (λ (xs : List Entry). xs ++ entry ∷ []) (sym (append-nil x))
-entries_of-put_last entry entries closed (x ∷ y ∷ xs) room =
-    ap (λ (ys : List Entry). x ++ ys) (entries_of-put_last entry entries closed (y ∷ xs) room) ∙ sym (append_assoc x (entries_of (y ∷ xs)) (entry ∷ []))
-
-pub length-put_last : (entry : Entry) (xs : List (List Entry)) → length (put_last entry xs) ≡ length xs
-length-put_last entry [] = refl
-length-put_last entry (x ∷ []) = refl
-length-put_last entry (x ∷ y ∷ xs) = ap suc (length-put_last entry (y ∷ xs))
-
-pub all-put_last : (P : Entry → Type 0) (entry : Entry) (xs : List (List Entry)) → P entry → AllByRecursion (AllByRecursion P) xs → AllByRecursion (AllByRecursion P) (put_last entry xs)
-all-put_last P entry [] is all = tt
-all-put_last P entry (x ∷ []) is all = (all_append P x (entry ∷ []) all.0 (is, tt), tt)
-all-put_last P entry (x ∷ y ∷ xs) is all = (all.0, all-put_last P entry (y ∷ xs) is all.1)
-
-pub some-put_last : (entry : Entry) (xs : List (List Entry)) → AllByRecursion (λ (x : List Entry). 1 ≤ length x) xs → AllByRecursion (λ (x : List Entry). 1 ≤ length x) (put_last entry xs)
-some-put_last entry [] all = tt
-some-put_last entry (x ∷ []) all = (omega (arith, length-append x (entry ∷ [])), tt)
-some-put_last entry (x ∷ y ∷ xs) all = (all.0, some-put_last entry (y ∷ xs) all.1)
+use Rattle.journal_model.specs.Ring.{JournalRing, entries_of}
+use Rattle.journal_model.proofs.JournalRingLemmas.{entries_of-map}
+use Rattle.device_laws.specs.Device.{freed_count, placed_count, committed_counts, IsJournalRing}
 
 -- ---- lists
 
@@ -144,5 +95,5 @@ module _ (d : JournaledDisk) (r : JournalRing) (sound : IsSound d) (is : IsJourn
   pub committed_low : length (entries_of r.committed) ≤ length d.entries
   committed_low = omega (arith, ap length held, length-drop before d.entries)
 
-  pub placed_part : d.placed - freed_count d r ≤ length (entries_of r.committed)
+  pub placed_part : placed_count d r ≤ length (entries_of r.committed)
   placed_part = omega (arith, committed_low, sound.formed.placed_low)

@@ -11,12 +11,12 @@ use Rattle.place_model.specs.Opened.{device_format}
 use Rattle.place_model.proofs.WorkedDisk.{journal_format, replayed_entries-fresh}
 use Rattle.journal_model.proofs.EntriesLemmas.{cell_after-none}
 use Rattle.journal_model.proofs.WorkedDisk.{fresh, content, StandsFor-fresh, Rests-fresh}
+use Rattle.journal_model.specs.Ring.{empty_ring}
 use Rattle.device_laws.specs.Device.{IsJournalDevice}
-use Rattle.device_laws.specs.Ring.{empty_ring}
 use Rattle.device_laws.proofs.PromiseLemmas.{standing_left_law}
 use Rattle.device_laws.proofs.StepLemmas.{opening_law}
 
-pub IsJournalDevice-fresh : IsJournalDevice (device_format Journal journal_format) (opened_device fresh.base 0 (λ region. false) (λ region. false)) fresh empty_ring
+pub IsJournalDevice-fresh : IsJournalDevice (device_format Journal journal_format) (opened_device fresh.base 0 (λ region. false) (λ region. false)) fresh (empty_ring fresh.geometry fresh.next fresh.number)
 IsJournalDevice-fresh = opening_law (device_format Journal journal_format) fresh fresh.base (λ region. false) (λ region. false) refl StandsFor-fresh.sound Rests-fresh
     (sym (ap length replayed_entries-fresh))
     (λ b low. cell_after-none journal_format.geometry fresh.base fresh.entries b (ap (λ (entries : List Entry). last_entry journal_format.geometry entries b) replayed_entries-fresh))
@@ -24,4 +24,4 @@ IsJournalDevice-fresh = opening_law (device_format Journal journal_format) fresh
 
 -- Each image of it may be left.
 pub IsLeftInJournal-fresh : EachImage (IsLeftInJournal journal_format (opened fresh.base)) content
-IsLeftInJournal-fresh = standing_left_law (device_format Journal journal_format) (opened fresh.base) _ fresh empty_ring content IsJournalDevice-fresh StandsFor-fresh
+IsLeftInJournal-fresh = standing_left_law (device_format Journal journal_format) (opened fresh.base) _ fresh (empty_ring fresh.geometry fresh.next fresh.number) content IsJournalDevice-fresh StandsFor-fresh

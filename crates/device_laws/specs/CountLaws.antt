@@ -6,13 +6,13 @@ use Rattle.device_model.specs.History.{BlockWrite, History, Written, Flushed, wi
 use Rattle.device_model.specs.Journal.{SectionCounts, JournalCounts, put, commit, commit_all, place, settle}
 use Rattle.device_model.specs.Mode.{DeviceFormat}
 use Rattle.device_model.specs.RoomLaws.{commits}
-use Rattle.journal_model.specs.Batch.{AreSections, IsSection}
+use Rattle.journal_model.specs.Batch.{IsSection}
 use Rattle.journal_model.specs.HistoryOf.{entry_of_write}
 use Rattle.journal_model.specs.JournaledDisk.{JournaledDisk}
+use Rattle.journal_model.specs.Ring.{JournalRing, has_room, with_put, next_batch, IsNextBatch, with_commit, with_settle}
 use Rattle.journal_model.specs.Steps.{IsBatch, after_commit, after_place, after_settle}
 use Rattle.journal_section.specs.Entries.{HoldsEntries, BearsNumber}
-use Rattle.device_laws.specs.Device.{IsJournalRing, IsJournalOf}
-use Rattle.device_laws.specs.Ring.{JournalRing, has_room, with_put, batch_of, opened_at, with_commit, with_settle}
+use Rattle.device_laws.specs.Device.{placed_count, IsJournalRing, IsJournalOf}
 
 -- ---- put
 
@@ -20,7 +20,7 @@ use Rattle.device_laws.specs.Ring.{JournalRing, has_room, with_put, batch_of, op
 abbrev pub HasRoomLaw : Type 0
 HasRoomLaw = (f : DeviceFormat) (h : History) (j : JournalCounts) (d : JournaledDisk) (r : JournalRing)
     (b : ℕ) → IsJournalOf f h j d r
-    → is_some (put f.sections f.entries b j.sections) ≡ has_room f.sections f.entries r
+    → is_some (put f.sections f.entries b j.sections) ≡ has_room r
 
 -- A write of a block that is put is the one under way, and one of the writes once that is done.
 abbrev pub PutLaw : Type 0
@@ -29,9 +29,9 @@ PutLaw = (f : DeviceFormat) (h : History) (j : JournalCounts) (sections : List S
     → write.block < f.blocks.blocks → length write.bytes ≡ f.blocks.block_size
     → put f.sections f.entries write.block j.sections ≡ Some sections
     → IsJournalOf f (with_change h (Begun write))
-    (record j { sections = sections }) d (with_put f.entries (entry_of_write d write) r)
+    (record j { sections = sections }) d (with_put (entry_of_write d write) r)
     × IsJournalOf f (with_change h (Written write))
-    (record j { sections = sections }) d (with_put f.entries (entry_of_write d write) r)
+    (record j { sections = sections }) d (with_put (entry_of_write d write) r)
 
 -- ---- commit
 
@@ -44,14 +44,13 @@ IdleCommitLaw = (f : DeviceFormat) (h : History) (j : JournalCounts) (d : Journa
 -- A commit writes one batch, from `next` on: the opened sections, up to the journal's end.
 abbrev pub CommitLaw : Type 0
 CommitLaw = (f : DeviceFormat) (h : History) (j j' : JournalCounts) (d : JournaledDisk) (r : JournalRing)
-    (bytes : List ℕ) → IsJournalOf f h j d r → commit f.sections j ≡ Some j' → AreSections d (batch_of d r)
-    (opened_at d r) bytes → IsBatch d (batch_of d r) bytes
-    × IsJournalOf f h j' (after_commit d (batch_of d r) bytes) (with_commit d r)
+    (bytes : List ℕ) → IsJournalOf f h j d r → commit f.sections j ≡ Some j' → IsNextBatch r bytes
+    → IsBatch d (next_batch r) bytes
+    × IsJournalOf f h j' (after_commit d (next_batch r) bytes) (with_commit r)
 
 -- Two commits leave no section opened.
 abbrev pub TwoCommitsLaw : Type 0
-TwoCommitsLaw = (d : JournaledDisk) (r : JournalRing) (bytes : List ℕ) → IsJournalRing d r
-    → (with_commit (after_commit d (batch_of d r) bytes) (with_commit d r)).opened ≡ []
+TwoCommitsLaw = (d : JournaledDisk) (r : JournalRing) → IsJournalRing d r → (with_commit (with_commit r)).opened ≡ []
 
 -- Sealed bytes of a section that hold entries are that section of a batch.
 abbrev pub SealedLaw : Type 0
@@ -97,9 +96,10 @@ IdlePlaceLaw = (f : DeviceFormat) (h : History) (j : JournalCounts) (d : Journal
 -- A settle frees the sections whose entries are all placed, the first ones.
 abbrev pub SettleLaw : Type 0
 SettleLaw = (f : DeviceFormat) (h : History) (j j' : JournalCounts) (d : JournaledDisk) (r : JournalRing)
-    → IsJournalOf f h j d r → settle j ≡ Some j' → IsJournalOf f h j' (after_settle d) (with_settle d r)
+    → IsJournalOf f h j d r → settle j ≡ Some j'
+    → IsJournalOf f h j' (after_settle d) (with_settle (placed_count d r) r)
 
 -- Where it is idle the ring keeps all its sections.
 abbrev pub IdleSettleLaw : Type 0
 IdleSettleLaw = (f : DeviceFormat) (h : History) (j : JournalCounts) (d : JournaledDisk) (r : JournalRing)
-    → IsJournalOf f h j d r → settle j ≡ None → with_settle d r ≡ r
+    → IsJournalOf f h j d r → settle j ≡ None → with_settle (placed_count d r) r ≡ r

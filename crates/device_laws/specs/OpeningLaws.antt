@@ -18,8 +18,8 @@ use Rattle.disk_model.specs.Disk.{Image}
 use Rattle.journal_model.specs.Entries.{cell_after}
 use Rattle.journal_model.specs.JournaledDisk.{JournaledDisk, IsSound, Rests}
 use Rattle.journal_model.specs.Recovery.{IsRecovered}
+use Rattle.journal_model.specs.Ring.{empty_ring}
 use Rattle.device_laws.specs.Device.{IsJournalDevice}
-use Rattle.device_laws.specs.Ring.{empty_ring}
 
 -- A device opens on a disk at rest whose entries are all settled and change no cell. The cells at opening are told in any way.
 abbrev pub OpeningLaw : Type 0
@@ -27,14 +27,15 @@ OpeningLaw = (f : DeviceFormat) (d : JournaledDisk) (base : ℕ → Cell) (set_b
     → f ≡ device_format Journal d.format → IsSound d → Rests d → d.settled ≡ length d.entries
     → ((b : ℕ) → b < d.geometry.blocks → cell_after d.geometry d.base d.entries b ≡ d.base b)
     → ((b : ℕ) → b < d.geometry.blocks → d.base b ≡ base b)
-    → IsJournalDevice f (opened_device base d.next set_bits awaiting) d empty_ring
+    → IsJournalDevice f (opened_device base d.next set_bits awaiting) d (empty_ring d.geometry d.next d.number)
 
 -- So it does on what a recovery of an image leaves, where writing goes on by that image's walk.
 abbrev pub RecoveredLaw : Type 0
 RecoveredLaw = (d : DiskFormat) (image : Image) (number : ℕ) (tags : ℕ → List ℕ) (c : Content)
     → has_flag DIRTY_BITMAP d.superblock.flags ≡ false
     → (is : IsRecovered (opened_disk d image) (next_on Journal d image) number tags c)
-    → IsJournalDevice (device_format Journal d) (opened_on Journal d image) is.now empty_ring
+    → IsJournalDevice (device_format Journal d) (opened_on Journal d image) is.now
+    (empty_ring is.now.geometry is.now.next is.now.number)
 
 -- What the walk of an image says of where writing goes on: a journal at rest goes on there, and any other at its start.
 pub record TellsNext (d : DiskFormat) (image : Image) (plan : Plan) : Type 0 where

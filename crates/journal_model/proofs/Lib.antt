@@ -15,6 +15,7 @@ pub mod OpeningLemmas
 pub mod KeepsLemmas
 pub mod FreeLemmas
 pub mod BatchLemmas
-pub mod ViewLemmas
+pub mod JournalRingLemmas
 pub mod Worked
 pub mod WorkedDisk
+pub mod WorkedRing

@@ -8,5 +8,5 @@ pub mod HistoryOf
 pub mod Erasing
 pub mod Opening
 pub mod Batch
-pub mod View
+pub mod Ring
 pub mod Recovery

@@ -10,7 +10,7 @@ ghost use Rattle.journal_model.specs.Erasing.{ErasureBegins, ErasureCut, Erasure
 ghost use Rattle.journal_model.specs.HistoryOf.{HistoryBegins, HistoryCommitted, HistoryFlushed, HistoryPlaced, HistoryPut, LeftLaw};
 ghost use Rattle.journal_model.specs.KeepsLaws.{KeepsBack, KeepsCommitted, KeepsPlaced, KeepsSettled, KeepsTagSectors, PlacedReadLaw};
 ghost use Rattle.journal_model.specs.Opening.{BaseCellsLaw, FirstSyncLaw, OpenedCellsLaw, OpenedLaw, RebasedLaw, RecoveredLaw, RestNewestLaw, StateLaw};
-ghost use Rattle.journal_model.specs.View.{RingLaw};
+ghost use Rattle.journal_model.specs.Ring.{FreeSectionLaw, RingLaw};
 ghost use Rattle.journal_model.specs.StepLaws.{CommittedLaw, CommittingLaw, KeptEntriesLaw, KeptLaw, PlacingLaw, RoomLaw, SettledLaw, StandingLaw, TagsWrittenLaw, WritingBackLaw};
 
 /// At any cut of a commit the walk is a suffix of the ring, and then the first sections of the batch.
@@ -80,9 +80,11 @@ pub fn batch_is_sections()
     ensures { BatchLaw }
 {}
 
-/// The sections that a ring shows are a batch of its disk, and after a commit it is the ring of the disk then.
+/// The opened sections of a ring are a batch of its disk, and after a commit it is the ring of the disk then. It has room
+/// where a section is free.
 pub fn ring_goes_on()
-    ensures { RingLaw }
+    ensures committed { RingLaw }
+    ensures room { FreeSectionLaw }
 {}
 
 /// After each step reads give of the data and the tags what the disk then stands for.
