@@ -1,6 +1,6 @@
 -- What a call of a file may do: a part of what it is asked, nothing as it was interrupted, or fail.
 -- Own: a file is seen by its whole sectors, and a call of it does whole sectors.
-use Rattle.std.specs.Prelude.{◌≡◌, ℕ, ◌*◌, ◌/◌, ◌<◌, ◌≤◌, List, Option, Some, None, Result, Err}
+use Rattle.std.specs.Prelude.{◌≡◌, ℕ, ◌*◌, ◌/◌, ◌<◌, ◌≤◌, List, Option, Some, None, Result, Err, OnOk}
 use Rattle.disk_model.specs.Causes.{Rose}
 use Rattle.std.specs.Option.{ForSome}
 use Rattle.disk_model.specs.Disk.{Content, IsRun}
@@ -20,12 +20,14 @@ pub record IsPart (count bytes : ℕ) : Type 0 where
   pub some : 1 ≤ count / 512
   pub within : count ≤ bytes
 
--- The count of faults never falls, and rose where the call failed. A call can be interrupted so many times more, and
+-- The count of faults rose where the call failed, and else stays. A call can be interrupted so many times more, and
 -- once less where it was.
 pub record HasFileCause {T : Type 0} (faults later_faults times later_times : ℕ) (result : Result T FileFault) : Type 0 where
   pub later : faults ≤ later_faults
   pub fewer : later_times ≤ times
   pub failed : result ≡ Err Failed → Rose faults later_faults
+  pub passed : OnOk result (later_faults ≡ faults)
+  pub no_fault : result ≡ Err Interrupted → later_faults ≡ faults
   pub interrupted : result ≡ Err Interrupted → later_times < times
 
 -- What is told of a file that is open, or else.

@@ -1,5 +1,6 @@
 //! What the calls of a file of the system have answered.
-ghost use Rattle.std.specs.Prelude.{◌≡◌, ◌≤◌, IfOk};
+ghost use Rattle.std.specs.Prelude.{◌≡◌, ◌≤◌, ◌-◌, ◌^◌, IfOk, IsErrAnd};
+ghost use Rattle.std.specs.IoError.{error_kind};
 ghost use Rattle.disk_model.specs.Causes.{Rose};
 ghost use Rattle.file_disk.specs.Files.{HasFileCause};
 
@@ -19,7 +20,7 @@ pub struct Calls {
 impl Calls {
     /// Nothing has failed, and calls can be interrupted 2^64 - 1 times.
     pub fn new() -> Calls
-        ensures { result.faults ≡ 0 }
+        ensures { result ≡ record { faults = 0; interruptions = 2 ^ 64 - 1 } }
     {
         Calls {
             faults: 0,
@@ -36,6 +37,10 @@ impl Calls {
     pub fn judge<T>(&mut self, answer: io::Result<T>) -> Result<T, FileFault>
         ensures value { IfOk result (λ value. answer ≡ Ok value) }
 
+        ensures interrupted { result ≡ Err FileFault.Interrupted
+            → IsErrAnd answer (λ e. error_kind e ≡ ErrorKind.Interrupted) }
+        ensures failed { result ≡ Err FileFault.Failed → IsErrAnd answer (λ e.
+            error_kind e ≡ ErrorKind.Interrupted → self.old.interruptions ≡ 0) }
         ensures cause { HasFileCause self.old.faults self.new.faults
             self.old.interruptions self.new.interruptions result }
     {

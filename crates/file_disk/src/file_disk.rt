@@ -1,11 +1,11 @@
 //! A disk that is the whole sectors of a file.
-ghost use Rattle.std.specs.Prelude.{◌≡◌, ◌⊎◌, ◌+◌, ◌*◌, ◌/◌, ◌^◌, ◌<◌, [], length, IsSome, None, OnErr, OnOk, Some};
+ghost use Rattle.std.specs.Prelude.{◌≡◌, ◌⊎◌, ◌+◌, ◌*◌, ◌/◌, ◌^◌, ◌<◌, [], length, IsOk, IsSome, None, OnErr, OnOk, Some};
 ghost use Rattle.std.proofs.Common.{refl};
 ghost use Rattle.std.proofs.lemmas.Option.{none-some};
 ghost use Rattle.disk_model.specs.Causes.{HasCause, Rose};
-ghost use Rattle.disk_model.specs.Disk.{IsImage, last_image};
-ghost use Rattle.disk_model.specs.Identity.{IsBoundTo};
-ghost use Rattle.disk_model.specs.Moments.{content_now};
+ghost use Rattle.disk_model.specs.Disk.{AddsSome, IsImage, IsRun, Reads, last_image, newest_only, with_run};
+ghost use Rattle.disk_model.specs.Identity.{IsBound, IsBoundTo};
+ghost use Rattle.disk_model.specs.Moments.{EachSince, HasNow, IsChangedBy, content_now};
 ghost use Rattle.file_disk.specs.Files.{TellsSame, named_as, no_disk, of_file};
 
 use crate::transfer::{open_file, read_all, sync_all, write_all};
@@ -48,6 +48,8 @@ impl<O: Folder + Drop> Named for FileDisk<O> {
     fn bind(&mut self, name: &str) -> Result<(), Failed>
         ensures bound { OnOk result
             (IsBoundTo name.now (of_file no_disk O.File.identity self.new.file).name) }
+        ensures again { IsBoundTo name.now (of_file no_disk O.File.identity self.old.file).name
+            → IsOk result × (self.new ≡ self.old) }
 
         ensures fails { OnErr result (IsSome self.old.file
             ⊎ Rose (O.faults self.old.folder) (O.faults self.new.folder)) }
@@ -89,21 +91,79 @@ impl<O: Folder + Drop> Disk for FileDisk<O> {
         }
     }
 
-    fn read_run(&mut self, at: u64, buffer: &mut [u8]) -> Result<(), Failed> {
+    fn read_run(&mut self, at: u64, buffer: &mut [u8]) -> Result<(), Failed>
+        requires bound { IsBound (of_file no_disk O.File.identity self.old.file).name }
+        requires run { IsRun at (length buffer.old) (of_file no_disk O.File.identity self.old.file).sectors }
+
+        ensures read { OnOk result (HasNow (Reads at buffer.new) (of_file [] O.File.moments self.old.file)) }
+
+        ensures fails { OnErr result (Rose (of_file 0 O.File.faults self.old.file)
+            (of_file 0 O.File.faults self.new.file)) }
+        ensures passed { OnOk result (of_file 0 O.File.faults self.new.file
+            ≡ of_file 0 O.File.faults self.old.file) }
+        ensures cause { HasCause
+            (self.old.faults + (O.faults self.old.folder + of_file 0 O.File.faults self.old.file))
+            (self.new.faults + (O.faults self.new.folder + of_file 0 O.File.faults self.new.file)) result }
+
+        ensures identity { of_file no_disk O.File.identity self.new.file
+            ≡ of_file no_disk O.File.identity self.old.file }
+        ensures kept { of_file [] O.File.moments self.new.file ≡ of_file [] O.File.moments self.old.file }
+    {
         match &mut self.file {
             Some(file) => read_all(file, 512 * at, buffer),
             None => unreachable!(),
         }
     }
 
-    fn write_run(&mut self, at: u64, bytes: &[u8]) -> Result<(), Failed> {
+    fn write_run(&mut self, at: u64, bytes: &[u8]) -> Result<(), Failed>
+        requires bound { IsBound (of_file no_disk O.File.identity self.old.file).name }
+        requires run { IsRun at (length bytes.now) (of_file no_disk O.File.identity self.old.file).sectors }
+
+        ensures written { OnOk result (IsChangedBy (with_run at bytes.now)
+            (of_file [] O.File.moments self.old.file) (of_file [] O.File.moments self.new.file)) }
+
+        ensures fails { OnErr result (Rose (of_file 0 O.File.faults self.old.file)
+            (of_file 0 O.File.faults self.new.file)) }
+        ensures passed { OnOk result (of_file 0 O.File.faults self.new.file
+            ≡ of_file 0 O.File.faults self.old.file) }
+        ensures cause { HasCause
+            (self.old.faults + (O.faults self.old.folder + of_file 0 O.File.faults self.old.file))
+            (self.new.faults + (O.faults self.new.folder + of_file 0 O.File.faults self.new.file)) result }
+
+        ensures identity { of_file no_disk O.File.identity self.new.file
+            ≡ of_file no_disk O.File.identity self.old.file }
+
+        ensures moments { EachSince (AddsSome at bytes.now)
+            (of_file [] O.File.moments self.old.file) (of_file [] O.File.moments self.new.file) }
+    {
         match &mut self.file {
             Some(file) => write_all(file, 512 * at, bytes),
             None => unreachable!(),
         }
     }
 
-    fn sync(&mut self) -> Result<(), Failed> {
+    fn sync(&mut self) -> Result<(), Failed>
+        requires { IsBound (of_file no_disk O.File.identity self.old.file).name }
+
+        ensures synced { OnOk result (IsChangedBy newest_only
+            (of_file [] O.File.moments self.old.file) (of_file [] O.File.moments self.new.file)) }
+
+        ensures fails { OnErr result (Rose (of_file 0 O.File.faults self.old.file)
+            (of_file 0 O.File.faults self.new.file)) }
+        ensures passed { OnOk result (of_file 0 O.File.faults self.new.file
+            ≡ of_file 0 O.File.faults self.old.file) }
+        ensures cause { HasCause
+            (self.old.faults + (O.faults self.old.folder + of_file 0 O.File.faults self.old.file))
+            (self.new.faults + (O.faults self.new.folder + of_file 0 O.File.faults self.new.file)) result }
+        ensures err { OnErr result (of_file [] O.File.moments self.new.file
+            ≡ of_file [] O.File.moments self.old.file) }
+
+        ensures identity { of_file no_disk O.File.identity self.new.file
+            ≡ of_file no_disk O.File.identity self.old.file }
+
+        ensures moments { EachSince (λ start c. c ≡ newest_only start)
+            (of_file [] O.File.moments self.old.file) (of_file [] O.File.moments self.new.file) }
+    {
         match &mut self.file {
             Some(file) => sync_all(file),
             None => unreachable!(),

@@ -1,7 +1,7 @@
 //! What is asked of a file, and of the folder that opens it.
 //!
 //! Each call is one call of the system, which may be interrupted by a signal, or do a part of what it is asked.
-ghost use Rattle.std.specs.Prelude.{◌≡◌, ◌≤◌, ◌*◌, ◌/◌, ◌^◌, ◌<◌, List, ℕ, length, take, IsTrue, IfOk, OnOk, OnErr, Some};
+ghost use Rattle.std.specs.Prelude.{◌≡◌, ◌↔◌, ◌≤◌, ◌*◌, ◌/◌, ◌^◌, ◌<◌, List, ℕ, length, take, IsTrue, IfOk, OnOk, OnErr, Some};
 ghost use Rattle.std.specs.List.{Contains};
 ghost use Rattle.disk_model.specs.Disk.{Content, IsImage, Reads, AddsSome, with_run, newest_only, last_image};
 ghost use Rattle.disk_model.specs.Identity.{DiskIdentity, IsBoundTo, IsThere, NamedDisk};
@@ -38,7 +38,7 @@ pub trait SectorFile {
 
     /// Whether it was opened by this name.
     fn has_name(&self, name: &str) -> bool
-        ensures { IsTrue result → IsBoundTo name.now (identity self.now).name };
+        ensures { IsTrue result ↔ IsBoundTo name.now (identity self.now).name };
 
     /// Reads from byte `from` on into the front of the buffer, and tells how many bytes: whole sectors.
     ///

@@ -1,9 +1,9 @@
 //! The files of the system: what is asked of a file, by one call of std each.
 //!
 //! This is what is trusted of the edge: std tells nothing of what a file holds, so these files tell nothing either.
-ghost use Rattle.std.specs.Prelude.{◌≡◌, ◌≤◌, ◌*◌, ◌^◌, ◌<◌, [], length, IfOk};
+ghost use Rattle.std.specs.Prelude.{◌≡◌, ◌↔◌, ◌≤◌, ◌*◌, ◌-◌, ◌^◌, ◌<◌, [], length, take, IfOk, IfSome, IsTrue};
 ghost use Rattle.std.proofs.lemmas.Option.{none-some};
-ghost use Rattle.disk_model.specs.Identity.{AnyName};
+ghost use Rattle.disk_model.specs.Identity.{BoundTo};
 
 use crate::opening::open_apart;
 use crate::{Calls, FileFault, Folder, SectorFile};
@@ -38,7 +38,9 @@ struct Name {
 
 impl Name {
     /// None where it is too long for the name of a file.
-    fn of(name: &str) -> Option<Name> {
+    fn of(name: &str) -> Option<Name>
+        ensures { IfSome result (λ kept. take kept.len kept.bytes ≡ name.now) }
+    {
         let name = name.as_bytes();
         if name.len() > LONGEST_NAME {
             return None;
@@ -52,7 +54,9 @@ impl Name {
     }
 
     /// Whether it is this one.
-    fn is(&self, name: &str) -> bool {
+    fn is(&self, name: &str) -> bool
+        ensures { IsTrue result ↔ take self.now.len self.now.bytes ≡ name.now }
+    {
         &self.bytes[..self.len] == name.as_bytes()
     }
 }
@@ -67,7 +71,10 @@ pub struct StdFile {
 }
 
 impl SectorFile for StdFile {
-    ghost identity = { λ file. record { name = AnyName; sectors = file.length.sectors } };
+    ghost identity = { λ file. record {
+      name = BoundTo (take file.name.len file.name.bytes);
+      sectors = file.length.sectors;
+    } };
 
     ghost moments = { λ file. [] };
 
@@ -142,7 +149,7 @@ pub struct StdFolder<R: Files<File = File> + Drop> {
 impl<R: Files<File = File> + Drop> StdFolder<R> {
     /// The files that the program can reach. It opens none.
     pub fn new(rt: R) -> StdFolder<R>
-        ensures { result.calls.faults ≡ 0 }
+        ensures { result.calls ≡ record { faults = 0; interruptions = 2 ^ 64 - 1 } }
     {
         StdFolder {
             rt,
@@ -174,7 +181,8 @@ impl<R: Files<File = File> + Drop> Folder for StdFolder<R> {
 
 /// Opens a file and locks it, and tells how many whole sectors it has: of a block device its end alone tells that.
 fn open_locked<R: Files<File = File>>(rt: &R, name: &str) -> io::Result<(File, Name, u64)>
-    ensures { IfOk result (λ opened. 512 * opened.2 < 2 ^ 64) }
+    ensures name { IfOk result (λ opened. take opened.1.len opened.1.bytes ≡ name.now) }
+    ensures fits { IfOk result (λ opened. 512 * opened.2 < 2 ^ 64) }
 {
     let Some(kept) = Name::of(name) else {
         return Err(ErrorKind::InvalidInput.into());

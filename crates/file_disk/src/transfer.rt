@@ -22,6 +22,7 @@ pub fn read_all<F: SectorFile>(file: &mut F, from: u64, buffer: &mut [u8]) -> Re
     ensures read { OnOk result (HasNow (Reads (from / 512) buffer.new) (F.moments file.old)) }
 
     ensures cause { HasCause (F.faults file.old) (F.faults file.new) result }
+    ensures passed { OnOk result (F.faults file.new ≡ F.faults file.old) }
 
     ensures identity { F.identity file.new ≡ F.identity file.old }
     ensures kept { F.moments file.new ≡ F.moments file.old }
@@ -43,6 +44,7 @@ fn read_some<F: SectorFile>(file: &mut F, from: u64, buffer: &mut [u8]) -> Resul
     ensures read { IfOk result (λ n. HasNow (Reads (from / 512) (take n buffer.new)) (F.moments file.old)) }
 
     ensures cause { HasCause (F.faults file.old) (F.faults file.new) result }
+    ensures passed { OnOk result (F.faults file.new ≡ F.faults file.old) }
 
     ensures identity { F.identity file.new ≡ F.identity file.old }
     ensures kept { F.moments file.new ≡ F.moments file.old }
@@ -66,6 +68,7 @@ pub fn write_all<F: SectorFile>(file: &mut F, from: u64, bytes: &[u8]) -> Result
         (F.moments file.old) (F.moments file.new)) }
 
     ensures cause { HasCause (F.faults file.old) (F.faults file.new) result }
+    ensures passed { OnOk result (F.faults file.new ≡ F.faults file.old) }
 
     ensures identity { F.identity file.new ≡ F.identity file.old }
 
@@ -89,6 +92,7 @@ fn write_some<F: SectorFile>(file: &mut F, from: u64, bytes: &[u8]) -> Result<us
         (F.moments file.old) (F.moments file.new)) }
 
     ensures cause { HasCause (F.faults file.old) (F.faults file.new) result }
+    ensures passed { OnOk result (F.faults file.new ≡ F.faults file.old) }
 
     ensures identity { F.identity file.new ≡ F.identity file.old }
 
@@ -110,6 +114,7 @@ pub fn sync_all<F: SectorFile>(file: &mut F) -> Result<(), Failed>
     ensures synced { OnOk result (IsChangedBy newest_only (F.moments file.old) (F.moments file.new)) }
 
     ensures cause { HasCause (F.faults file.old) (F.faults file.new) result }
+    ensures passed { OnOk result (F.faults file.new ≡ F.faults file.old) }
     ensures err { OnErr result (F.moments file.new ≡ F.moments file.old) }
 
     ensures identity { F.identity file.new ≡ F.identity file.old }
@@ -136,6 +141,7 @@ pub fn open_file<O: Folder>(folder: &mut O, name: &str) -> Result<O::File, Faile
         (O.File.identity file).sectors (O.File.moments file)) }
 
     ensures cause { HasCause (O.faults folder.old) (O.faults folder.new) result }
+    ensures passed { OnOk result (O.faults folder.new ≡ O.faults folder.old) }
     ensures err { OnErr result ((other : List ℕ) → O.named folder.new other ≡ O.named folder.old other) }
 {
     loop {

@@ -1,10 +1,12 @@
 //! A source that is a file, which is opened by its name.
-ghost use Rattle.std.specs.Prelude.{◌≡◌, ◌⊎◌, ◌+◌, IsSome, None, Some, OnErr, OnOk};
+ghost use Rattle.std.specs.Prelude.{◌≡◌, ◌⊎◌, ◌+◌, ◌≤◌, length, drop, IfOk, IsSome, None, Some, OnErr, OnOk};
+ghost use Rattle.std.specs.Option.{ForSome, option_map};
 ghost use Rattle.std.proofs.Common.{refl};
 ghost use Rattle.disk_model.specs.Causes.{HasCause, Rose};
-ghost use Rattle.disk_model.specs.Identity.{IsBoundTo, Unbound};
+ghost use Rattle.disk_model.specs.Identity.{IsBound, IsBoundTo, Unbound};
 ghost use Rattle.file_disk.specs.Files.{of_file};
 ghost use Rattle.file_stream.specs.Streams.{TellsSame, named_as};
+ghost use Rattle.stream_io.specs.Stream.{Gives};
 
 use crate::transfer::{open_input, read_next};
 use crate::{InputFile, InputFolder};
@@ -71,7 +73,28 @@ impl<O: InputFolder + Drop> NamedSource for FileSource<O> {
 
     ghost named = { λ source name. named_as O.File.left (O.named source.folder name) source.file };
 
-    fn read(&mut self, buffer: &mut [u8]) -> Result<usize, Failed> {
+    fn read(&mut self, buffer: &mut [u8]) -> Result<usize, Failed>
+        requires { IsBound (of_file Unbound O.File.name self.old.file) }
+
+        ensures count { IfOk result (λ n. n ≤ length buffer.new) }
+        ensures read { IfOk result (λ n. ForSome (of_file None O.File.left self.old.file)
+            (Gives n buffer.new)) }
+        ensures left { IfOk result (λ n. of_file None O.File.left self.new.file
+            ≡ option_map (drop n) (of_file None O.File.left self.old.file)) }
+
+        ensures fails { OnErr result (Rose (of_file 0 O.File.faults self.old.file)
+            (of_file 0 O.File.faults self.new.file)) }
+        ensures passed { OnOk result (of_file 0 O.File.faults self.new.file
+            ≡ of_file 0 O.File.faults self.old.file) }
+        ensures cause { HasCause
+            (self.old.faults + (O.faults self.old.folder + of_file 0 O.File.faults self.old.file))
+            (self.new.faults + (O.faults self.new.folder + of_file 0 O.File.faults self.new.file)) result }
+        ensures err { OnErr result (of_file None O.File.left self.new.file
+            ≡ of_file None O.File.left self.old.file) }
+
+        ensures binding { of_file Unbound O.File.name self.new.file
+            ≡ of_file Unbound O.File.name self.old.file }
+    {
         match &mut self.file {
             Some(file) => read_next(file, buffer),
             None => unreachable!(),

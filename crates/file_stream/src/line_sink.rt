@@ -1,5 +1,5 @@
 //! A sink that writes whole lines to a file.
-ghost use Rattle.std.specs.Prelude.{◌≡◌, ◌⊎◌, ◌+◌, ◌-◌, ◌<◌, ◌≤◌, ◌++◌, [], length, min, take, IfOk, IsNone, IsSome, None, OnErr};
+ghost use Rattle.std.specs.Prelude.{◌≡◌, ◌↔◌, ◌⊎◌, ◌+◌, ◌-◌, ◌<◌, ◌≤◌, ◌++◌, [], length, min, take, IfOk, IsErr, IsNone, IsOk, IsSome, IsTrue, None, OnErr};
 ghost use Rattle.std.specs.List.{Contains};
 ghost use Rattle.std.specs.Option.{option_map};
 ghost use Rattle.arrayvec.specs.ArrayVec.{array_vec_len};
@@ -87,23 +87,29 @@ impl<F: OutputFile + Drop> Sink for LineSink<F> {
         ensures whole { IfOk result (λ n. IsNone self.new.untold
             → n ≡ min (length bytes.now) (most_held - array_vec_len self.old.held_back)) }
 
+        ensures waits { ¬ Contains bytes.now 10
+            → length bytes.now < most_held - array_vec_len self.old.held_back
+            → self.new.file ≡ self.old.file }
+
+        ensures told { IsSome self.old.untold → IsErr result }
         ensures fails { OnErr result (IsSome self.old.untold
             ⊎ Rose (F.faults self.old.file) (F.faults self.new.file)) }
         ensures cause { HasCause self.old.faults self.new.faults result }
         ensures err { OnErr result (option_map (with_bytes self.new.held_back.items) (F.held self.new.file)
             ≡ option_map (with_bytes self.old.held_back.items) (F.held self.old.file)) }
 
-        ensures untold { IsSome self.new.untold → Rose (F.faults self.old.file) (F.faults self.new.file) }
+        ensures untold { IsSome self.new.untold
+            → IsOk result × Rose (F.faults self.old.file) (F.faults self.new.file) }
     {
         if self.untold.is_some() {
             return Err(self.tell());
         }
         let room = self.held_back.remaining_capacity();
-        let piece = &bytes[..bytes.len().min(room)];
-        if piece.len() < room && !piece.contains(&b'\n') {
-            hold_back(&mut self.held_back, piece);
-            return Ok(piece.len());
+        if is_part_of_line(bytes, room) {
+            hold_back(&mut self.held_back, bytes);
+            return Ok(bytes.len());
         }
+        let piece = &bytes[..bytes.len().min(room)];
         let count = write_out(&mut self.file, &mut self.held_back, piece);
         if count == 0 {
             return Err(self.tell());
@@ -113,6 +119,13 @@ impl<F: OutputFile + Drop> Sink for LineSink<F> {
         }
         Ok(count)
     }
+}
+
+/// Whether these bytes end no line, and leave some of this room.
+fn is_part_of_line(bytes: &[u8], room: usize) -> bool
+    ensures { IsTrue result ↔ ((length bytes.now < room) × ¬ Contains bytes.now 10) }
+{
+    bytes.len() < room && !bytes.contains(&b'\n')
 }
 
 /// Holds back a piece of a line too.

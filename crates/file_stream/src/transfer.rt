@@ -1,7 +1,7 @@
 //! Reads once, opens once, or writes all, by as many calls as the system asks for.
 //!
 //! A call that was interrupted is made again, and what was done is not done again.
-ghost use Rattle.std.specs.Prelude.{◌≡◌, ◌<◌, ◌≤◌, ◌+◌, ℕ, List, length, take, drop, IfOk, OnErr};
+ghost use Rattle.std.specs.Prelude.{◌≡◌, ◌<◌, ◌≤◌, ◌+◌, ℕ, List, length, take, drop, IfOk, OnErr, OnOk};
 ghost use Rattle.std.specs.Option.{ForSome, option_map};
 ghost use Rattle.disk_model.specs.Causes.{HasCause, Rose};
 ghost use Rattle.disk_model.specs.Identity.{IsBoundTo};
@@ -23,6 +23,7 @@ pub fn read_next<F: InputFile>(file: &mut F, buffer: &mut [u8]) -> Result<usize,
     ensures left { IfOk result (λ n. F.left file.new ≡ option_map (drop n) (F.left file.old)) }
 
     ensures cause { HasCause (F.faults file.old) (F.faults file.new) result }
+    ensures passed { OnOk result (F.faults file.new ≡ F.faults file.old) }
     ensures err { OnErr result (F.left file.new ≡ F.left file.old) }
 
     ensures name { F.name file.new ≡ F.name file.old }
@@ -46,6 +47,7 @@ pub fn open_input<O: InputFolder>(folder: &mut O, name: &str) -> Result<O::File,
     ensures found { IfOk result (λ file. TellsSame (O.named folder.old name.now) (O.File.left file)) }
 
     ensures cause { HasCause (O.faults folder.old) (O.faults folder.new) result }
+    ensures passed { OnOk result (O.faults folder.new ≡ O.faults folder.old) }
     ensures err { OnErr result ((other : List ℕ) → O.named folder.new other ≡ O.named folder.old other) }
 {
     loop {
@@ -62,6 +64,7 @@ pub fn write_most<F: OutputFile>(file: &mut F, bytes: &[u8]) -> usize
     ensures within { result ≤ length bytes.now }
     ensures written { F.held file.new ≡ option_map (with_bytes (take result bytes.now)) (F.held file.old) }
 
+    ensures whole { result ≡ length bytes.now → F.faults file.new ≡ F.faults file.old }
     ensures short { result < length bytes.now → Rose (F.faults file.old) (F.faults file.new) }
     ensures later { F.faults file.old ≤ F.faults file.new }
 {
@@ -85,6 +88,7 @@ fn write_some<F: OutputFile>(file: &mut F, bytes: &[u8]) -> Result<usize, Failed
         ≡ option_map (with_bytes (take n bytes.now)) (F.held file.old)) }
 
     ensures cause { HasCause (F.faults file.old) (F.faults file.new) result }
+    ensures passed { OnOk result (F.faults file.new ≡ F.faults file.old) }
     ensures err { OnErr result (F.held file.new ≡ F.held file.old) }
 {
     match file.write(bytes) {

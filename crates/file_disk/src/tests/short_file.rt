@@ -1,6 +1,6 @@
 //! A file in memory that does few sectors at a time and is interrupted, and a folder that has it.
 ghost use Rattle.std.specs.Prelude.{◌≡◌, ◌≤◌, ◌+◌, ◌*◌, ◌/◌, ◌^◌, ◌<◌, IsTrue, [], length};
-ghost use Rattle.disk_model.specs.Identity.{AnyName};
+ghost use Rattle.disk_model.specs.Identity.{BoundTo};
 ghost use Rattle.file_disk.specs.Files.{named_as};
 ghost use Rattle.sector_disk.specs.MemDisk.{record_of, moments_told};
 ghost use Rattle.sector_disk.specs.ReadsAnImage.{candidates_are_whole, last_image_is_image};
@@ -43,7 +43,7 @@ impl Interrupts {
 }
 
 impl SectorFile for ShortFile {
-    ghost identity = { λ file. record { name = AnyName; sectors = (record_of file.disk).sectors } };
+    ghost identity = { λ file. record { name = BoundTo (codes "image"); sectors = (record_of file.disk).sectors } };
 
     ghost moments = { λ file. moments_told (record_of file.disk) };
 
@@ -117,7 +117,7 @@ impl Folder for ShortFolder {
     ghost interruptions = { λ folder. folder.interrupts.left };
 
     ghost named = { λ folder name. named_as
-        (λ file. record { name = AnyName; sectors = (record_of file.disk).sectors })
+        (λ file. record { name = BoundTo (codes "image"); sectors = (record_of file.disk).sectors })
         (λ file. moments_told (record_of file.disk))
         (record { sectors = 0; moments = [] }) folder.file };
 

@@ -13,5 +13,5 @@ loop-done-preserved g c =
           (before.read content told) (c.in_ok-done.ensures.read content (ap content_now before.kept ∙ told));
       identity = search rules;
       kept = search rules;
-      later = search rules;
+      no_fault = search rules;
     }

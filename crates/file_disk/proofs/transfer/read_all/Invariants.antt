@@ -12,7 +12,7 @@ invariant-loop-done g l = record {
       (k : ℕ) → k < l.done / 512 → sector_in l.buffer k ≡ last_image c (l.fn.from / 512 + k));
   identity : g.F.SectorFile.identity l.file ≡ g.F.SectorFile.identity l.fn.file;
   kept : g.F.SectorFile.moments l.file ≡ g.F.SectorFile.moments l.fn.file;
-  later : g.F.SectorFile.faults l.fn.file ≤ g.F.SectorFile.faults l.file;
+  no_fault : g.F.SectorFile.faults l.file ≡ g.F.SectorFile.faults l.fn.file;
 }
 
 abbrev pub decreases-loop-done : goal.decreases-loop-done

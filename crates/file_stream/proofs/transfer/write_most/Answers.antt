@@ -16,5 +16,5 @@ loop-done-preserved g c =
           ∙ ap (λ (bytes : List ℕ). option_map (with_bytes (take n bytes)) (g.F.OutputFile.held c.loop-done.file)) (take_rest c.args.bytes.now done)
           ∙ ap (option_map (with_bytes (take n (drop done c.args.bytes.now)))) c.loop-done.invariant.written
           ∙ with_bytes-take c.args.bytes.now done n (g.F.OutputFile.held c.args.file.now);
-      later = search rules;
+      no_fault = search rules;
     }

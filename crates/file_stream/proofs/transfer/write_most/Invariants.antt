@@ -7,7 +7,7 @@ abbrev pub invariant-loop-done : goal.invariant-loop-done
 invariant-loop-done g l = record {
   within : l.done ≤ length l.bytes;
   written : g.F.OutputFile.held l.file ≡ option_map (with_bytes (take l.done l.bytes)) (g.F.OutputFile.held l.fn.file);
-  later : g.F.OutputFile.faults l.fn.file ≤ g.F.OutputFile.faults l.file;
+  no_fault : g.F.OutputFile.faults l.file ≡ g.F.OutputFile.faults l.fn.file;
 }
 
 abbrev pub decreases-loop-done : goal.decreases-loop-done
