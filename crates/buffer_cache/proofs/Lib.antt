@@ -1,0 +1,2 @@
+pub mod CachedLemmas
+pub mod HeldLemmas
