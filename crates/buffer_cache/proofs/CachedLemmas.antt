@@ -1,9 +1,10 @@
 -- What a cache and a disk give together, after each step.
-use Rattle.std.proofs.Common.{◌≡◌, ◌≢◌, ◌⊎◌, inl, inr, ⊎_elim, ℕ, ◌+◌, ◌/◌, ◌<◌, ◌≤◌, Bool, true, false, nat_eq, if◌then◌else◌, List, [], ◌∷◌, ◌++◌, length, refl, sym, ◌∙◌, ap, subst, arith, Option, Some, None}
-use Rattle.std.specs.List.{Contains, AllByRecursion}
-use Rattle.std.specs.Map.{lookup}
+use Rattle.std.proofs.Common.{◌≡◌, ◌≢◌, ◌⊎◌, inl, inr, ⊎_elim, ℕ, ◌+◌, ◌-◌, ◌/◌, ◌<◌, ◌≤◌, Bool, true, false, nat_eq, if◌then◌else◌, List, [], ◌∷◌, ◌++◌, length, take, refl, sym, ◌∙◌, ap, subst, arith, Option, Some, None}
+use Rattle.std.specs.List.{Contains, AllByRecursion, IsDistinct, slice_get}
+use Rattle.std.specs.Map.{keys_of, lookup}
+use Rattle.lru.specs.LruCache.{IsValid, last_entry}
 use Rattle.std.specs.Option.{ForSome, option_map, option_or}
-use Rattle.std.proofs.lemmas.Bool.{cases_Bool, cases_eq, eqb-true, ne_eqb, false≢true}
+use Rattle.std.proofs.lemmas.Bool.{cases_Bool, cases_eq, eq-eqb, ne_eqb, false≢true}
 use Rattle.std.proofs.lemmas.List.Elements.{Contains-push_cases}
 use Rattle.std.proofs.lemmas.Option.{none-some, same_Some}
 use Rattle.disk_model.specs.Disk.{Content, OnlyAdds, AddsSome, last_image, last_candidate, sector_in, with_run}
@@ -14,9 +15,9 @@ use Rattle.disk_model.proofs.MomentsLemmas.{EachMoment-weaker, FromStart-weaker}
 use Rattle.buffer_cache.specs.declared.held.Held.{Held}
 use Rattle.buffer_cache.specs.declared.held.HeldSectors.{HeldSectors}
 use Rattle.buffer_cache.specs.declared.held.Scratch.{Scratch}
-use Rattle.buffer_cache.specs.HeldSectors.{held_in, in_scratch, changed_scratch, with_change, unmarked}
-use Rattle.buffer_cache.specs.Cached.{held_or, cached, marked_of, is_marked, Agrees, IsOfDisk, Keeps, with_marked, IsOfMarked, IsAmidMarked}
-use Rattle.buffer_cache.proofs.HeldLemmas.{held_in-with_change, held_in-with_change_other, lookup-changed_at, lookup-changed_other}
+use Rattle.buffer_cache.specs.HeldSectors.{held_in, in_scratch, changed_scratch, in_front, with_change, with_recent, unmarked, CanPutOut, HoldsNoMore, IsFree, IsLast}
+use Rattle.buffer_cache.specs.Cached.{held_or, cached, marked_of, is_marked, Agrees, IsOfDisk, Keeps, with_marked, IsOfMarked, IsAmidMarked, IsLeastRecent, IsMarkedSector, IsPutOut, IsRead, IsScratch}
+use Rattle.buffer_cache.proofs.HeldLemmas.{held_in-with_change, held_in-with_change_other, held_in-in_front, held_in-recent, held_in-scratch, in_front-missed, in_scratch-here, in_scratch-other, last_goes_out, lookup-changed_at, lookup-changed_other, lookup-last, lookup-promoted, lookup-take, lookup-with_recent, lookup-with_recent_other, missed_in_both}
 
 -- ---- moments
 
@@ -227,3 +228,240 @@ write_amid {a} at held size marked moments = EachMoment-weaker (FromStart-weaker
     ]
   ];
 })) moments
+
+-- ---- another sector comes in
+
+-- One sector comes in, and each other one stays as it is held, or goes, where it is not marked.
+pub record Replaces (at : ℕ) (held : Held) (old new : HeldSectors) : Type 0 where
+  pub in_ : held_in new at ≡ Some held
+  pub others : (s : ℕ) → s ≢ at → (held_in new s ≡ held_in old s) ⊎ ((held_in new s ≡ None) × (is_marked old s ≡ false))
+
+each-replaced : (P : ℕ → Held → Type 0) (at : ℕ) (held : Held) (old new : HeldSectors) → Replaces at held old new → P at held
+    → ((s : ℕ) (h : Held) → held_in old s ≡ Some h → P s h) → (s : ℕ) (h : Held) → held_in new s ≡ Some h → P s h
+each-replaced P at held old new replaces one each s h e = elim (cases_eq s at) [
+  | inl same ↦
+      let is : held ≡ h = same_Some _ _ (sym replaces.in_ ∙ ap (held_in new) (sym same) ∙ e) in
+      subst (λ (k : ℕ). P k h) (sym same) (subst (P at) is one)
+  | inr ne ↦ elim (replaces.others s ne) [
+    | inl stays ↦ each s h (sym stays ∙ e)
+    | inr goes ↦ absurd (none-some h (sym goes.0 ∙ e))
+  ]
+]
+
+cached-replaced : (at : ℕ) (held : Held) (old new : HeldSectors) (c : Content) → Replaces at held old new → held_in old at ≡ None → held.bytes ≡ last_image c at → Agrees old c
+    → (s : ℕ) → cached new c s ≡ cached old c s
+cached-replaced at held old new c replaces missed read agrees s = elim (cases_eq s at) [
+  | inl same ↦ subst (λ (k : ℕ). cached new c k ≡ cached old c k) (sym same)
+      (ap (λ (o : Option Held). held_or o (last_image c at)) replaces.in_ ∙ read ∙ sym (ap (λ (o : Option Held). held_or o (last_image c at)) missed))
+  | inr ne ↦ elim (replaces.others s ne) [
+    | inl stays ↦ ap (λ (o : Option Held). held_or o (last_image c s)) stays
+    | inr goes ↦ ap (λ (o : Option Held). held_or o (last_image c s)) goes.0 ∙ sym (agrees.each s goes.1)
+  ]
+]
+
+Agrees-replaced : (at : ℕ) (held : Held) (old new : HeldSectors) (c : Content) → Replaces at held old new → held_in old at ≡ None → held.bytes ≡ last_image c at → Agrees old c → Agrees new c
+Agrees-replaced at held old new c replaces missed read agrees = record {
+  each = λ s clear. cached-replaced at held old new c replaces missed read agrees s ∙ elim (cases_eq s at) [
+    | inl same ↦ agrees.each s (ap (is_marked old) same ∙ ap marked_of missed)
+    | inr ne ↦ elim (replaces.others s ne) [
+      | inl stays ↦ agrees.each s (ap marked_of (sym stays) ∙ clear)
+      | inr goes ↦ agrees.each s goes.1
+    ]
+  ];
+}
+
+pub IsOfDisk-replaced : (disk : DiskIdentity) (m : List Content) (at : ℕ) (held : Held) (old new : HeldSectors) → IsOfDisk old disk m → at < disk.sectors → held_in old at ≡ None → IsRead at held m → Replaces at held old new
+    → ((scratch : Scratch) → new.scratch ≡ Some scratch → lookup (nat_eq scratch.at) new.recent.entries ≡ None) → IsOfDisk new disk m
+IsOfDisk-replaced disk m at held old new is low missed read replaces apart = record {
+  within = each-replaced (λ s h. s < disk.sectors) at held old new replaces low is.within;
+  whole = each-replaced (λ s h. length h.bytes ≡ 512) at held old new replaces read.whole is.whole;
+  apart = apart;
+  agrees = λ c told. Agrees-replaced at held old new c replaces missed (read.read c told) (is.agrees c told);
+}
+
+pub Keeps-replaced : (disk : DiskIdentity) (m : List Content) (at : ℕ) (held : Held) (old new : HeldSectors) → IsOfDisk old disk m → held_in old at ≡ None → IsRead at held m → Replaces at held old new → Keeps old new m m
+Keeps-replaced disk m at held old new is missed read replaces = record {
+  given = λ c told d told_end s.
+      let same : d ≡ c = same_Some _ _ (sym told_end ∙ told) in
+      ap (λ (x : Content). cached new x s) same ∙ cached-replaced at held old new c replaces missed (read.read c told) (is.agrees c told) s;
+  marked = λ s marked. elim (cases_eq s at) [
+    | inl same ↦ absurd (false≢true (sym read.marked ∙ sym (ap marked_of replaces.in_) ∙ ap (is_marked new) (sym same) ∙ marked))
+    | inr ne ↦ elim (replaces.others s ne) [
+      | inl stays ↦ stays
+      | inr goes ↦ absurd (false≢true (sym (ap marked_of goes.0) ∙ marked))
+    ]
+  ];
+}
+
+-- A sector comes in among the recent ones.
+pub Replaces-recent : (at : ℕ) (held : Held) (sectors : HeldSectors) → CanPutOut sectors → held_in sectors at ≡ None
+    → ((scratch : Scratch) → sectors.scratch ≡ Some scratch → lookup (nat_eq scratch.at) sectors.recent.entries ≡ None) → Replaces at held sectors (with_recent at held sectors)
+Replaces-recent at held sectors can missed apart = record {
+  in_ = held_in-recent (with_recent at held sectors) at held (lookup-with_recent at held sectors missed);
+  others = λ s ne.
+      let now : held_in (with_recent at held sectors) s ≡ option_or (lookup (nat_eq s) (take (sectors.recent.cap - 1) sectors.recent.entries)) (in_scratch sectors.scratch s) =
+        ap (λ (o : Option Held). option_or o (in_scratch sectors.scratch s)) (lookup-with_recent_other at s held sectors missed ne) in
+      elim (lookup-take s (sectors.recent.cap - 1) sectors.recent.entries) [
+        | inl same ↦ inl (now ∙ ap (λ (o : Option Held). option_or o (in_scratch sectors.scratch s)) same)
+        | inr behind ↦ inr (
+            now ∙ ap (λ (o : Option Held). option_or o (in_scratch sectors.scratch s)) behind.4 ∙ out_of_scratch sectors.scratch s behind.1 apart behind.5,
+            ap marked_of (held_in-recent sectors s behind.1 behind.5) ∙ last_goes_out sectors s behind.0 behind.1 can behind.2 behind.3)
+      ];
+}
+  where
+    out_of_scratch : (o : Option Scratch) (s : ℕ) (h : Held) → ((scratch : Scratch) → o ≡ Some scratch → lookup (nat_eq scratch.at) sectors.recent.entries ≡ None)
+        → lookup (nat_eq s) sectors.recent.entries ≡ Some h → in_scratch o s ≡ None
+    out_of_scratch None s h apart found = refl
+    out_of_scratch (Some scratch) s h apart found = in_scratch-other scratch s (λ same. none-some h (sym (apart scratch refl) ∙ ap (λ (k : ℕ). lookup (nat_eq k) sectors.recent.entries) (sym same) ∙ found))
+
+pub apart-recent : (at : ℕ) (held : Held) (sectors : HeldSectors) → held_in sectors at ≡ None
+    → ((scratch : Scratch) → sectors.scratch ≡ Some scratch → lookup (nat_eq scratch.at) sectors.recent.entries ≡ None)
+    → (scratch : Scratch) → sectors.scratch ≡ Some scratch → lookup (nat_eq scratch.at) (with_recent at held sectors).recent.entries ≡ None
+apart-recent at held sectors missed apart scratch is =
+    let ne : scratch.at ≢ at = λ same. none-some scratch.held (
+      sym (missed_in_both sectors at missed).1 ∙ ap (λ (o : Option Scratch). in_scratch o at) is ∙ ap (in_scratch (Some scratch)) (sym same) ∙ in_scratch-here scratch) in
+    lookup-with_recent_other at scratch.at held sectors missed ne ∙ elim (lookup-take scratch.at (sectors.recent.cap - 1) sectors.recent.entries) [
+      | inl same ↦ same ∙ apart scratch is
+      | inr behind ↦ behind.4
+    ]
+
+-- A sector comes into the scratch buffer.
+pub Replaces-scratch : (at : ℕ) (held : Held) (sectors : HeldSectors) → IsFree sectors → held_in sectors at ≡ None → Replaces at held sectors (record { recent = sectors.recent; scratch = Some (record { at = at; held = held }) })
+Replaces-scratch at held sectors free missed = record {
+  in_ = held_in-scratch (record { recent = sectors.recent; scratch = Some (record { at = at; held = held }) }) at (missed_in_both sectors at missed).0 ∙ in_scratch-here (record { at = at; held = held });
+  others = λ s ne.
+      let off : in_scratch (Some (record { at = at; held = held })) s ≡ None = in_scratch-other (record { at = at; held = held }) s ne in
+      others_of s (lookup (nat_eq s) sectors.recent.entries) sectors.scratch (in_scratch (Some (record { at = at; held = held })) s) off free.free;
+}
+  where
+    others_of : (s : ℕ) (a : Option Held) (o : Option Scratch) (now : Option Held) → now ≡ None → ((scratch : Scratch) → o ≡ Some scratch → scratch.held.marked ≡ false)
+        → (option_or a now ≡ option_or a (in_scratch o s)) ⊎ ((option_or a now ≡ None) × (marked_of (option_or a (in_scratch o s)) ≡ false))
+    others_of s (Some h) o now off free = inl refl
+    others_of s None None now off free = inl off
+    others_of s None (Some scratch) now off free = elim (cases_Bool (nat_eq scratch.at s)) [
+      | inl y ↦ inr (off, ap (λ (b : Bool). marked_of (if b then Some scratch.held else None)) y ∙ free scratch refl)
+      | inr n ↦ inl (off ∙ sym (ap (λ (b : Bool). if b then Some scratch.held else None) n))
+    ]
+
+pub apart-scratch : (at : ℕ) (held : Held) (sectors : HeldSectors) → held_in sectors at ≡ None
+    → (scratch : Scratch) → Some (record { at = at; held = held }) ≡ Some scratch → lookup (nat_eq scratch.at) sectors.recent.entries ≡ None
+apart-scratch at held sectors missed scratch is =
+    ap (λ (s : Scratch). lookup (nat_eq s.at) sectors.recent.entries) (sym (same_Some _ _ is)) ∙ (missed_in_both sectors at missed).0
+
+-- What was read of a sector that is not held, a later read gives too.
+pub IsRead-later : {a b : List Content} (P : Content → Content → Type 0) (at : ℕ) (held : Held) (old new : HeldSectors) → ((c : Content) → P c c) → EachMoment a b (FromStart a P)
+    → Keeps old new a b → held_in old at ≡ None → held_in new at ≡ None → IsRead at held a → IsRead at held b
+IsRead-later P at held old new same moments keeps missed missed_now read = record {
+  whole = read.whole;
+  marked = read.marked;
+  read = λ d told.
+      let start = (told_at_end P same moments).each d told in
+      read.read start.0 start.1
+      ∙ sym (ap (λ (o : Option Held). held_or o (last_image start.0 at)) missed)
+      ∙ sym (keeps.given start.0 start.1 d told at)
+      ∙ ap (λ (o : Option Held). held_or o (last_image d at)) missed_now;
+}
+
+-- ---- steps in a row
+
+pub Keeps-same : (sectors : HeldSectors) (m : List Content) → Keeps sectors sectors m m
+Keeps-same sectors m = record {
+  given = λ c told d told_end s. ap (λ (x : Content). cached sectors x s) (same_Some _ _ (sym told_end ∙ told));
+  marked = λ s marked. refl;
+}
+
+pub Keeps-then : {a b c : List Content} (P : Content → Content → Type 0) (r s t : HeldSectors) → ((x : Content) → P x x) → EachMoment b c (FromStart b P) → Keeps r s a b → Keeps s t b c → Keeps r t a c
+Keeps-then P r s t same moments first second = record {
+  given = λ x told z told_end sector.
+      let middle = (told_at_end P same moments).each z told_end in
+      second.given middle.0 middle.1 z told_end sector ∙ first.given x told middle.0 middle.1 sector;
+  marked = λ sector marked.
+      let before = second.marked sector marked in
+      before ∙ first.marked sector (ap marked_of (sym before) ∙ marked);
+}
+
+-- What is held is the same in each sector.
+pub IsOfDisk-in_front : (disk : DiskIdentity) (m : List Content) (at : ℕ) (sectors : HeldSectors) → IsOfDisk sectors disk m → IsOfDisk (in_front at sectors) disk m
+IsOfDisk-in_front disk m at sectors is = record {
+  within = λ s held e. is.within s held (sym (held_in-in_front at s sectors) ∙ e);
+  whole = λ s held e. is.whole s held (sym (held_in-in_front at s sectors) ∙ e);
+  apart = λ scratch e. lookup-promoted at scratch.at sectors.recent.entries ∙ is.apart scratch e;
+  agrees = λ c told. record {
+    each = λ s clear.
+        ap (λ (o : Option Held). held_or o (last_image c s)) (held_in-in_front at s sectors)
+        ∙ (is.agrees c told).each s (ap marked_of (sym (held_in-in_front at s sectors)) ∙ clear);
+  };
+}
+
+pub Keeps-in_front : (m : List Content) (at : ℕ) (sectors : HeldSectors) → Keeps sectors (in_front at sectors) m m
+Keeps-in_front m at sectors = record {
+  given = λ c told d told_end s.
+      ap (λ (o : Option Held). held_or o (last_image d s)) (held_in-in_front at s sectors)
+      ∙ ap (λ (x : Content). cached sectors x s) (same_Some _ _ (sym told_end ∙ told));
+  marked = λ s marked. held_in-in_front at s sectors;
+}
+
+-- ---- the sectors that go out
+
+-- The least recently used sector is found.
+pub last_is_held : (sectors : HeldSectors) (at : ℕ) → IsValid nat_eq sectors.recent → (last : IsLast sectors.recent at) → held_in sectors at ≡ Some last.held
+last_is_held sectors at valid last = held_in-recent sectors at last.held (lookup-last sectors.recent at last.held valid.0 last.is)
+
+-- Where it goes out, the scratch buffer stays.
+pub scratch_stays : (sectors : HeldSectors) (at : ℕ) → ((scratch : Scratch) → sectors.scratch ≡ Some scratch → lookup (nat_eq scratch.at) sectors.recent.entries ≡ None)
+    → IsValid nat_eq sectors.recent → IsLast sectors.recent at → changed_scratch at unmarked sectors.scratch ≡ sectors.scratch
+scratch_stays sectors at apart valid last = stays sectors.scratch apart
+  where
+    stays : (o : Option Scratch) → ((scratch : Scratch) → o ≡ Some scratch → lookup (nat_eq scratch.at) sectors.recent.entries ≡ None) → changed_scratch at unmarked o ≡ o
+    stays None apart = refl
+    stays (Some scratch) apart =
+        let off : nat_eq scratch.at at ≡ false = ne_eqb scratch.at at (λ same. none-some last.held (sym (apart scratch refl) ∙ ap (λ (k : ℕ). lookup (nat_eq k) sectors.recent.entries) same ∙ lookup-last sectors.recent at last.held valid.0 last.is)) in
+        ap (λ (b : Bool). if b then Some (record scratch { held = unmarked scratch.held }) else Some scratch) off
+
+pub adds_least_recent : {a b : List Content} (sectors : HeldSectors) (at : ℕ) → IsValid nat_eq sectors.recent → IsLast sectors.recent at → EachSince (IsAmidMarked at (held_in sectors at)) a b → EachSince (OnlyAdds (IsLeastRecent sectors)) a b
+adds_least_recent sectors at valid last moments =
+    amid_adds (IsLeastRecent sectors) at (held_in sectors at)
+    (λ x of.
+    let same : of.held ≡ last.held = same_Some _ _ (sym of.is ∙ last_is_held sectors at valid last) in
+    record { held = last.held; is = last.is; full = last.full; marked = ap (λ (h : Held). h.marked) (sym same) ∙ of.marked; bytes = of.bytes ∙ ap (λ (h : Held). h.bytes) same }) moments
+
+-- Which sector stands in the scratch buffer.
+pub scratch_told : (at : ℕ) (o : Option Scratch) → Some at ≡ option_map (λ (s : Scratch). s.at) o → (scratch : Scratch) × (o ≡ Some scratch) × (scratch.at ≡ at)
+scratch_told at None e = absurd (none-some at (sym e))
+scratch_told at (Some scratch) e = (scratch, refl, sym (same_Some _ _ e))
+
+pub no_scratch : (sectors : HeldSectors) → None ≡ option_map (λ (s : Scratch). s.at) sectors.scratch → IsFree sectors
+no_scratch sectors e = record { free = λ scratch is. absurd (none-some scratch.at (e ∙ ap (option_map (λ (s : Scratch). s.at)) is)) }
+
+pub scratch_is_held : (sectors : HeldSectors) (scratch : Scratch) → sectors.scratch ≡ Some scratch → lookup (nat_eq scratch.at) sectors.recent.entries ≡ None → held_in sectors scratch.at ≡ Some scratch.held
+scratch_is_held sectors scratch is apart = held_in-scratch sectors scratch.at apart ∙ ap (λ (o : Option Scratch). in_scratch o scratch.at) is ∙ in_scratch-here scratch
+
+pub IsFree-unmarked : (sectors : HeldSectors) (at : ℕ) (scratch : Scratch) → sectors.scratch ≡ Some scratch → scratch.at ≡ at → IsFree (with_change at unmarked sectors)
+IsFree-unmarked sectors at scratch is place = record {
+  free = λ now e.
+      let test : nat_eq scratch.at at ≡ true = eq-eqb scratch.at at place in
+      let cleared : Some (record scratch { held = unmarked scratch.held }) ≡ Some now =
+        sym (ap (changed_scratch at unmarked) is ∙ ap (λ (b : Bool). if b then Some (record scratch { held = unmarked scratch.held }) else Some scratch) test) ∙ e in
+      ap (λ (s : Scratch). s.held.marked) (sym (same_Some _ _ cleared));
+}
+
+pub adds_scratch : {a b : List Content} (sectors : HeldSectors) (at : ℕ) (scratch : Scratch) → sectors.scratch ≡ Some scratch → scratch.at ≡ at → lookup (nat_eq scratch.at) sectors.recent.entries ≡ None
+    → EachSince (IsAmidMarked at (held_in sectors at)) a b → EachSince (OnlyAdds (IsScratch sectors)) a b
+adds_scratch sectors at scratch is place apart moments =
+    amid_adds (IsScratch sectors) at (held_in sectors at)
+    (λ x of.
+    let same : of.held ≡ scratch.held = same_Some _ _ (sym of.is ∙ ap (held_in sectors) (sym place) ∙ scratch_is_held sectors scratch is apart) in
+    record { scratch = scratch; is = is; place = sym place; marked = ap (λ (h : Held). h.marked) (sym same) ∙ of.marked; bytes = of.bytes ∙ ap (λ (h : Held). h.bytes) same }) moments
+
+-- A step that leaves the disk as it is, after one that may not.
+pub Keeps-after : {a b : List Content} (r s t : HeldSectors) → Keeps r s a b → Keeps s t b b → Keeps r t a b
+Keeps-after {a} {b} r s t first second = Keeps-then (λ c d. d ≡ c) r s t (λ c. refl) (record { since = []; grows = refl; each = tt }) first second
+
+-- A step before it that leaves the disk as it is.
+pub Keeps-before : {a b : List Content} (r s t : HeldSectors) → Keeps r s a a → Keeps s t a b → Keeps r t a b
+Keeps-before {a} {b} r s t first second = record {
+  given = λ x told z told_end sector. second.given x told z told_end sector ∙ first.given x told x told sector;
+  marked = λ sector marked.
+      let before = second.marked sector marked in
+      before ∙ first.marked sector (ap marked_of (sym before) ∙ marked);
+}

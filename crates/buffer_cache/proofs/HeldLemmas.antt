@@ -14,7 +14,7 @@ use Rattle.lru.proofs.CallerLemmas.{Contains-lookup_entry}
 use Rattle.buffer_cache.specs.declared.held.Held.{Held}
 use Rattle.buffer_cache.specs.declared.held.HeldSectors.{HeldSectors}
 use Rattle.buffer_cache.specs.declared.held.Scratch.{Scratch}
-use Rattle.buffer_cache.specs.HeldSectors.{held_in, in_scratch, changed_at, changed_scratch, with_change, in_front, with_recent, unmarked, IsLast, CanPutOut}
+use Rattle.buffer_cache.specs.HeldSectors.{held_in, in_scratch, changed_at, changed_scratch, with_change, in_front, with_recent, unmarked, IsLast, CanPutOut, HoldsNoMore}
 
 -- ---- look-ups
 
@@ -107,11 +107,14 @@ held_in-with_change_other at s f sectors ne =
     ∙ ap (λ (o : Option Held). option_or (lookup (nat_eq s) sectors.recent.entries) o) (in_scratch-changed_other at s f sectors.scratch ne)
 
 -- What is not held is not held after a change.
-pub missed-with_change : (at s : ℕ) (f : Held → Held) (sectors : HeldSectors) → held_in sectors s ≡ None → held_in (with_change at f sectors) s ≡ None
+missed-with_change : (at s : ℕ) (f : Held → Held) (sectors : HeldSectors) → held_in sectors s ≡ None → held_in (with_change at f sectors) s ≡ None
 missed-with_change at s f sectors missed = elim (cases_eq s at) [
   | inl same ↦ ap (held_in (with_change at f sectors)) same ∙ held_in-with_change at f sectors ∙ ap (option_map f) (ap (held_in sectors) (sym same) ∙ missed)
   | inr ne ↦ held_in-with_change_other at s f sectors ne ∙ missed
 ]
+
+pub HoldsNoMore-with_change : (at : ℕ) (f : Held → Held) (sectors : HeldSectors) → HoldsNoMore sectors (with_change at f sectors)
+HoldsNoMore-with_change at f sectors = record { each = λ s missed. missed-with_change at s f sectors missed }
 
 -- A sector that is among the recent ones.
 pub held_in-recent : (sectors : HeldSectors) (s : ℕ) (held : Held) → lookup (nat_eq s) sectors.recent.entries ≡ Some held → held_in sectors s ≡ Some held
@@ -230,3 +233,28 @@ lookup-take s (suc n) (e ∷ es) = elim (cases_Bool (nat_eq s e.0)) [
     | inr behind ↦ inr (suc behind.0, behind.1, omega (arith, behind.2), behind.3, rw off behind.4, rw off behind.5)
   ]
 ]
+
+-- The entries once a sector came in.
+pub entries-with_recent : (at : ℕ) (held : Held) (sectors : HeldSectors) → held_in sectors at ≡ None
+    → (with_recent at held sectors).recent.entries ≡ (at, held) ∷ take (sectors.recent.cap - 1) sectors.recent.entries
+entries-with_recent at held sectors missed =
+    ap (λ (o : Option (ℕ × Held)). option_map_or (λ (e : ℕ × Held). (e.0, held) ∷ remove_entry (nat_eq at) sectors.recent.entries) o ((at, held) ∷ take (sectors.recent.cap - 1) sectors.recent.entries))
+    (lookup_entry-missed at sectors.recent.entries (missed_in_both sectors at missed).0)
+
+pub lookup-with_recent : (at : ℕ) (held : Held) (sectors : HeldSectors) → held_in sectors at ≡ None → lookup (nat_eq at) (with_recent at held sectors).recent.entries ≡ Some held
+lookup-with_recent at held sectors missed =
+    ap (lookup (nat_eq at)) (entries-with_recent at held sectors missed)
+    ∙ ap (λ (b : Bool). cond b (Some held) (lookup (nat_eq at) (take (sectors.recent.cap - 1) sectors.recent.entries))) (here at)
+
+pub lookup-with_recent_other : (at s : ℕ) (held : Held) (sectors : HeldSectors) → held_in sectors at ≡ None → s ≢ at
+    → lookup (nat_eq s) (with_recent at held sectors).recent.entries ≡ lookup (nat_eq s) (take (sectors.recent.cap - 1) sectors.recent.entries)
+lookup-with_recent_other at s held sectors missed ne =
+    ap (lookup (nat_eq s)) (entries-with_recent at held sectors missed)
+    ∙ ap (λ (b : Bool). cond b (Some held) (lookup (nat_eq s) (take (sectors.recent.cap - 1) sectors.recent.entries))) (ne_eqb s at ne)
+
+-- Of a recent sector that is missed afterwards, the entry was the last one.
+pub last_goes_out : (sectors : HeldSectors) (s i : ℕ) (held : Held) → CanPutOut sectors → sectors.recent.cap - 1 ≤ i → slice_get sectors.recent.entries i ≡ Some (s, held) → held.marked ≡ false
+last_goes_out sectors s i held can behind at =
+    let low = slice_get_within sectors.recent.entries i (s, held) at in
+    let is_last : i ≡ length sectors.recent.entries - 1 = omega (arith, low, behind, can.fits, can.some) in
+    can.last s held (omega (arith, low, behind, can.fits, can.some)) (ap (slice_get sectors.recent.entries) (sym is_last) ∙ at)

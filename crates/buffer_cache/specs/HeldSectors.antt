@@ -76,3 +76,7 @@ with_recent at held sectors = record sectors {
 -- What the scratch buffer holds is not marked.
 pub record IsFree (sectors : HeldSectors) : Type 0 where
   pub free : (scratch : Scratch) → sectors.scratch ≡ Some scratch → scratch.held.marked ≡ false
+
+-- Each sector that was not held is not held.
+pub record HoldsNoMore (old new : HeldSectors) : Type 0 where
+  pub each : (sector : ℕ) → held_in old sector ≡ None → held_in new sector ≡ None

@@ -2,13 +2,13 @@
 //!
 //! It is read first. Then the one that goes out for it is written, where it is marked, so that a fault of the disk
 //! leaves all that was held.
-ghost use Rattle.std.specs.Prelude.{◌≡◌, ◌<◌, ℕ, None, IfErr, OnErr, OnOk, IsSome, option_map, length};
+ghost use Rattle.std.specs.Prelude.{◌≡◌, ◌<◌, None, IfErr, OnErr, OnOk, IsSome, option_map, length};
 ghost use Rattle.disk_model.specs.Causes.{HasCause};
 ghost use Rattle.disk_model.specs.Disk.{OnlyAdds, last_image};
 ghost use Rattle.disk_model.specs.Identity.{IsBound};
 ghost use Rattle.disk_model.specs.Moments.{EachSince, HasNow};
 ghost use Rattle.buffer_cache.specs.Cached.{IsOfDisk, IsPutOut, IsRead, IsScratch, Keeps};
-ghost use Rattle.buffer_cache.specs.HeldSectors.{CanPutOut, IsFree, held_in, with_recent};
+ghost use Rattle.buffer_cache.specs.HeldSectors.{CanPutOut, HoldsNoMore, IsFree, held_in, with_recent};
 
 use crate::write_out::{make_room, write_held};
 use crate::{Held, HeldSectors, Scratch};
@@ -106,7 +106,7 @@ fn free_scratch<D: Disk>(disk: &mut D, held: &mut HeldSectors) -> Result<(), Fai
     requires cache { IsOfDisk held.old (D.identity disk.old) (D.moments disk.old) }
 
     ensures free { OnOk result (IsFree held.new) }
-    ensures missed { OnOk result ((sector : ℕ) → held_in held.old sector ≡ None → held_in held.new sector ≡ None) }
+    ensures missed { OnOk result (HoldsNoMore held.old held.new) }
 
     ensures cause { HasCause (D.faults disk.old) (D.faults disk.new) result }
 

@@ -6,7 +6,7 @@ ghost use Rattle.disk_model.specs.Identity.{IsBound};
 ghost use Rattle.disk_model.specs.Moments.{EachSince, IsChangedBy};
 ghost use Rattle.lru.specs.LruCache.{IsValid, last_entry};
 ghost use Rattle.buffer_cache.specs.Cached.{IsAmidMarked, IsLeastRecent, IsOfDisk, Keeps, with_marked};
-ghost use Rattle.buffer_cache.specs.HeldSectors.{CanPutOut, IsLast, held_in, unmarked, with_change};
+ghost use Rattle.buffer_cache.specs.HeldSectors.{CanPutOut, HoldsNoMore, IsLast, held_in, unmarked, with_change};
 
 use crate::{Held, HeldSectors};
 use lru::LruCache;
@@ -60,6 +60,7 @@ pub(crate) fn make_room<D: Disk>(disk: &mut D, held: &mut HeldSectors) -> Result
 
     ensures room { OnOk result (CanPutOut held.new) }
     ensures scratch { OnOk result (held.new.scratch ≡ held.old.scratch) }
+    ensures missed { OnOk result (HoldsNoMore held.old held.new) }
 
     ensures cause { HasCause (D.faults disk.old) (D.faults disk.new) result }
 
