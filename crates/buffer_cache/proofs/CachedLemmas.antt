@@ -349,18 +349,26 @@ apart-scratch at held sectors missed scratch is =
     ap (λ (s : Scratch). lookup (nat_eq s.at) sectors.recent.entries) (sym (same_Some _ _ is)) ∙ (missed_in_both sectors at missed).0
 
 -- What was read of a sector that is not held, a later read gives too.
+pub read_later : {a b : List Content} (P : Content → Content → Type 0) (at : ℕ) (bytes : List ℕ) (old new : HeldSectors) → ((c : Content) → P c c) → EachMoment a b (FromStart a P)
+    → Keeps old new a b → held_in old at ≡ None → held_in new at ≡ None → HasNow (λ c. bytes ≡ last_image c at) a → HasNow (λ c. bytes ≡ last_image c at) b
+read_later P at bytes old new same moments keeps missed missed_now read d told =
+    let start = (told_at_end P same moments).each d told in
+    read start.0 start.1
+    ∙ sym (ap (λ (o : Option Held). held_or o (last_image start.0 at)) missed)
+    ∙ sym (keeps.given start.0 start.1 d told at)
+    ∙ ap (λ (o : Option Held). held_or o (last_image d at)) missed_now
+
 pub IsRead-later : {a b : List Content} (P : Content → Content → Type 0) (at : ℕ) (held : Held) (old new : HeldSectors) → ((c : Content) → P c c) → EachMoment a b (FromStart a P)
     → Keeps old new a b → held_in old at ≡ None → held_in new at ≡ None → IsRead at held a → IsRead at held b
 IsRead-later P at held old new same moments keeps missed missed_now read = record {
   whole = read.whole;
   marked = read.marked;
-  read = λ d told.
-      let start = (told_at_end P same moments).each d told in
-      read.read start.0 start.1
-      ∙ sym (ap (λ (o : Option Held). held_or o (last_image start.0 at)) missed)
-      ∙ sym (keeps.given start.0 start.1 d told at)
-      ∙ ap (λ (o : Option Held). held_or o (last_image d at)) missed_now;
+  read = read_later P at held.bytes old new same moments keeps missed missed_now read.read;
 }
+
+-- The scratch buffer is as it was.
+pub scratch_of_before : (old new : HeldSectors) (s : ℕ) (x : List ℕ) → new.scratch ≡ old.scratch → IsScratch new s x → IsScratch old s x
+scratch_of_before old new s x same out = record { scratch = out.scratch; is = sym same ∙ out.is; place = out.place; marked = out.marked; bytes = out.bytes }
 
 -- ---- steps in a row
 

@@ -1,5 +1,6 @@
 -- What is held of each sector after a change, after a use, and once another one came in.
 use Rattle.std.proofs.Common.{◌≡◌, ◌≢◌, ◌⊎◌, inl, inr, ⊎_elim, ℕ, zero, suc, ◌+◌, ◌-◌, ◌<◌, ◌≤◌, Bool, true, false, nat_eq, cond, if◌then◌else◌, List, [], ◌∷◌, length, take, refl, sym, ◌∙◌, ap, subst, arith, Option, Some, None}
+use Rattle.std.specs.Bool.{OnFalse}
 use Rattle.std.specs.Cmp.{nat_eq_equiv}
 use Rattle.std.specs.List.{IsDistinct, slice_get}
 use Rattle.std.specs.Map.{keys_of, lookup, lookup_entry, remove_entry, set_value}
@@ -148,14 +149,23 @@ no_entry at es (Some f) e missed = absurd (none-some f.1 (sym missed ∙ sym (lo
 pub lookup_entry-missed : (at : ℕ) (es : List (ℕ × Held)) → lookup (nat_eq at) es ≡ None → lookup_entry (nat_eq at) es ≡ None
 lookup_entry-missed at es missed = no_entry at es (lookup_entry (nat_eq at) es) refl missed
 
--- A use of a sector that is not held changes nothing.
-pub in_front-missed : (at : ℕ) (sectors : HeldSectors) → held_in sectors at ≡ None → in_front at sectors ≡ sectors
+-- A use of a sector that is not among the recent ones changes nothing.
+pub in_front-missed : (at : ℕ) (sectors : HeldSectors) → is_some (lookup (nat_eq at) sectors.recent.entries) ≡ false → in_front at sectors ≡ sectors
 in_front-missed at sectors missed =
-    let absent = lookup_entry-missed at sectors.recent.entries (missed_in_both sectors at missed).0 in
+    let absent = lookup_entry-missed at sectors.recent.entries (none_of (lookup (nat_eq at) sectors.recent.entries) missed) in
     ap (λ (o : Option (ℕ × Held)). record {
       recent = record { entries = option_map_or (λ (e : ℕ × Held). e ∷ remove_entry (nat_eq at) sectors.recent.entries) o sectors.recent.entries; cap = sectors.recent.cap };
       scratch = sectors.scratch;
     }) absent
+  where
+    none_of : (o : Option Held) → is_some o ≡ false → o ≡ None
+    none_of None e = refl
+    none_of (Some held) e = absurd (cc)
+
+-- A fact that holds in any case.
+pub on_false : (b : Bool) {P : Type 0} → P → OnFalse b P
+on_false true p = tt
+on_false false p = p
 
 to_front : (at s : ℕ) (es : List (ℕ × Held)) (o : Option (ℕ × Held)) → lookup_entry (nat_eq at) es ≡ o
     → lookup (nat_eq s) (option_map_or (λ e. e ∷ remove_entry (nat_eq at) es) o es) ≡ lookup (nat_eq s) es

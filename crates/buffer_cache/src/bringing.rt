@@ -33,6 +33,26 @@ pub(crate) fn bring<D: Disk>(disk: &mut D, held: &mut HeldSectors, at: u64) -> R
     if held.touch(at) {
         return Ok(());
     }
+    fetch(disk, held, at)
+}
+
+// Reads a sector that is not held, and holds it.
+fn fetch<D: Disk>(disk: &mut D, held: &mut HeldSectors, at: u64) -> Result<(), Failed>
+    requires bound { IsBound (D.identity disk.old).name }
+    requires at { at < (D.identity disk.old).sectors }
+    requires cache { IsOfDisk held.old (D.identity disk.old) (D.moments disk.old) }
+    requires missed { held_in held.old at ≡ None }
+
+    ensures found { OnOk result (IsSome (held_in held.new at)) }
+
+    ensures cause { HasCause (D.faults disk.old) (D.faults disk.new) result }
+
+    ensures cache { IsOfDisk held.new (D.identity disk.new) (D.moments disk.new) }
+    ensures keeps { Keeps held.old held.new (D.moments disk.old) (D.moments disk.new) }
+    ensures identity { D.identity disk.new ≡ D.identity disk.old }
+
+    ensures moments { EachSince (OnlyAdds (IsPutOut at held.old)) (D.moments disk.old) (D.moments disk.new) }
+{
     let mut bytes = [0; 512];
     disk.read_run(at, &mut bytes)?;
     make_room(disk, held)?;

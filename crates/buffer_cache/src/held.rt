@@ -1,5 +1,6 @@
 //! The sectors that a cache holds.
-ghost use Rattle.std.specs.Prelude.{◌≡◌, ◌+◌, ◌<◌, ◌≤◌, ◌↔◌, nat_eq, IsTrue, IsSome, length, option_copied};
+ghost use Rattle.std.specs.Bool.{OnFalse};
+ghost use Rattle.std.specs.Prelude.{◌≡◌, None, ◌+◌, ◌<◌, ◌≤◌, ◌↔◌, nat_eq, IsTrue, IsSome, length, option_copied};
 ghost use Rattle.lru.specs.LruCache.{lru_cache};
 
 use crate::scratch::{find_scratch, put_recent_piece, put_scratch_piece, unmark_recent, unmark_scratch};
@@ -44,6 +45,8 @@ impl HeldSectors {
     pub(crate) fn touch(&mut self, at: u64) -> bool
         ensures held { IsTrue result ↔ IsSome (held_in self.old at) }
         ensures front { self.new ≡ in_front at self.old }
+        ensures missed { OnFalse result (held_in self.old at ≡ None) }
+        ensures kept { OnFalse result (self.new ≡ self.old) }
     {
         let found = self.recent.promote(&at);
         found || find_scratch(&self.scratch, at).is_some()
