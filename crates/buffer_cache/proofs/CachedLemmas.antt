@@ -1,10 +1,10 @@
 -- What a cache and a disk give together, after each step.
-use Rattle.std.proofs.Common.{◌≡◌, ◌≢◌, ◌⊎◌, inl, inr, ⊎_elim, ℕ, ◌+◌, ◌-◌, ◌/◌, ◌<◌, ◌≤◌, Bool, true, false, nat_eq, if◌then◌else◌, List, [], ◌∷◌, ◌++◌, length, take, refl, sym, ◌∙◌, ap, subst, arith, Option, Some, None}
+use Rattle.std.proofs.Common.{◌≡◌, ◌≢◌, ◌⊎◌, inl, inr, ⊎_elim, ℕ, ◌+◌, ◌-◌, ◌/◌, ◌<◌, ◌≤◌, Bool, true, false, nat_eq, if◌then◌else◌, List, [], ◌∷◌, ◌++◌, length, take, refl, sym, ◌∙◌, ap, subst, arith, length-append, length-take, length-drop, Option, Some, None}
 use Rattle.std.specs.List.{Contains, AllByRecursion, IsDistinct, slice_get}
 use Rattle.std.specs.Map.{keys_of, lookup}
 use Rattle.lru.specs.LruCache.{IsValid, last_entry}
-use Rattle.std.specs.Option.{ForSome, option_map, option_or}
-use Rattle.std.proofs.lemmas.Bool.{cases_Bool, cases_eq, eq-eqb, ne_eqb, false≢true}
+use Rattle.std.specs.Option.{ForSome, IfSome, is_some, option_map, option_or}
+use Rattle.std.proofs.lemmas.Bool.{cases_Bool, cases_eq, eq-eqb, ne_eqb, false≢true, true≢false}
 use Rattle.std.proofs.lemmas.List.Elements.{Contains-push_cases}
 use Rattle.std.proofs.lemmas.Option.{none-some, same_Some}
 use Rattle.disk_model.specs.Disk.{Content, OnlyAdds, AddsSome, last_image, last_candidate, sector_in, with_run}
@@ -15,8 +15,8 @@ use Rattle.disk_model.proofs.MomentsLemmas.{EachMoment-weaker, FromStart-weaker}
 use Rattle.buffer_cache.specs.declared.held.Held.{Held}
 use Rattle.buffer_cache.specs.declared.held.HeldSectors.{HeldSectors}
 use Rattle.buffer_cache.specs.declared.held.Scratch.{Scratch}
-use Rattle.buffer_cache.specs.HeldSectors.{held_in, in_scratch, changed_scratch, in_front, with_change, with_recent, unmarked, CanPutOut, HoldsNoMore, IsFree, IsLast}
-use Rattle.buffer_cache.specs.Cached.{held_or, cached, marked_of, is_marked, Agrees, IsOfDisk, Keeps, with_marked, IsOfMarked, IsAmidMarked, IsLeastRecent, IsMarkedSector, IsPutOut, IsRead, IsScratch}
+use Rattle.buffer_cache.specs.HeldSectors.{held_in, in_scratch, changed_scratch, in_front, with_change, with_held_piece, with_piece, with_recent, no_sectors, unmarked, CanPutOut, HoldsNoMore, IsFree, IsLast}
+use Rattle.buffer_cache.specs.Cached.{Changes, ReadsGiven, held_or, cached, piece_of, with_given_piece, marked_of, is_marked, Agrees, IsOfDisk, Keeps, with_marked, IsOfMarked, IsAmidMarked, IsLeastRecent, IsMarkedSector, IsPutOut, IsRead, IsScratch}
 use Rattle.buffer_cache.proofs.HeldLemmas.{held_in-with_change, held_in-with_change_other, held_in-in_front, held_in-recent, held_in-scratch, in_front-missed, in_scratch-here, in_scratch-other, last_goes_out, lookup-changed_at, lookup-changed_other, lookup-last, lookup-promoted, lookup-take, lookup-with_recent, lookup-with_recent_other, missed_in_both}
 
 -- ---- moments
@@ -160,10 +160,11 @@ Keeps-written disk {a} {b} sectors at is written = record {
     | inl same ↦ absurd (false≢true (sym (ap marked_of (held_in-with_change at unmarked sectors) ∙ unmarked_mark (held_in sectors at)) ∙ ap (is_marked (with_change at unmarked sectors)) (sym same) ∙ marked))
     | inr ne ↦ held_in-with_change_other at s unmarked sectors ne
   ];
+  slots = refl;
 }
 
 -- The write failed: the sector has its bytes as one more candidate, or not.
-amid_same : (at : ℕ) (o : Option Held) (c : Content) → IsAmidMarked at o c c
+pub amid_same : (at : ℕ) (o : Option Held) (c : Content) → IsAmidMarked at o c c
 amid_same at o c = record { each = λ s. inl refl }
 
 pub Agrees-amid : (sectors : HeldSectors) (at : ℕ) (c d : Content) → Agrees sectors c → IsAmidMarked at (held_in sectors at) c d → Agrees sectors d
@@ -199,6 +200,7 @@ Keeps-amid sectors at moments = record {
       let same : start.0 ≡ c = same_Some _ _ (sym start.1 ∙ told) in
       cached-amid sectors at c d (subst (λ (x : Content). IsAmidMarked at (held_in sectors at) x d) same start.2) s;
   marked = λ s marked. refl;
+  slots = refl;
 }
 
 -- What is written of a marked sector, told by the candidates.
@@ -235,6 +237,7 @@ write_amid {a} at held size marked moments = EachMoment-weaker (FromStart-weaker
 pub record Replaces (at : ℕ) (held : Held) (old new : HeldSectors) : Type 0 where
   pub in_ : held_in new at ≡ Some held
   pub others : (s : ℕ) → s ≢ at → (held_in new s ≡ held_in old s) ⊎ ((held_in new s ≡ None) × (is_marked old s ≡ false))
+  pub slots : new.recent.cap ≡ old.recent.cap
 
 each-replaced : (P : ℕ → Held → Type 0) (at : ℕ) (held : Held) (old new : HeldSectors) → Replaces at held old new → P at held
     → ((s : ℕ) (h : Held) → held_in old s ≡ Some h → P s h) → (s : ℕ) (h : Held) → held_in new s ≡ Some h → P s h
@@ -291,6 +294,7 @@ Keeps-replaced disk m at held old new is missed read replaces = record {
       | inr goes ↦ absurd (false≢true (sym (ap marked_of goes.0) ∙ marked))
     ]
   ];
+  slots = replaces.slots;
 }
 
 -- A sector comes in among the recent ones.
@@ -307,6 +311,7 @@ Replaces-recent at held sectors can missed apart = record {
             now ∙ ap (λ (o : Option Held). option_or o (in_scratch sectors.scratch s)) behind.4 ∙ out_of_scratch sectors.scratch s behind.1 apart behind.5,
             ap marked_of (held_in-recent sectors s behind.1 behind.5) ∙ last_goes_out sectors s behind.0 behind.1 can behind.2 behind.3)
       ];
+  slots = refl;
 }
   where
     out_of_scratch : (o : Option Scratch) (s : ℕ) (h : Held) → ((scratch : Scratch) → o ≡ Some scratch → lookup (nat_eq scratch.at) sectors.recent.entries ≡ None)
@@ -332,6 +337,7 @@ Replaces-scratch at held sectors free missed = record {
   others = λ s ne.
       let off : in_scratch (Some (record { at = at; held = held })) s ≡ None = in_scratch-other (record { at = at; held = held }) s ne in
       others_of s (lookup (nat_eq s) sectors.recent.entries) sectors.scratch (in_scratch (Some (record { at = at; held = held })) s) off free.free;
+  slots = refl;
 }
   where
     others_of : (s : ℕ) (a : Option Held) (o : Option Scratch) (now : Option Held) → now ≡ None → ((scratch : Scratch) → o ≡ Some scratch → scratch.held.marked ≡ false)
@@ -376,6 +382,7 @@ pub Keeps-same : (sectors : HeldSectors) (m : List Content) → Keeps sectors se
 Keeps-same sectors m = record {
   given = λ c told d told_end s. ap (λ (x : Content). cached sectors x s) (same_Some _ _ (sym told_end ∙ told));
   marked = λ s marked. refl;
+  slots = refl;
 }
 
 pub Keeps-then : {a b c : List Content} (P : Content → Content → Type 0) (r s t : HeldSectors) → ((x : Content) → P x x) → EachMoment b c (FromStart b P) → Keeps r s a b → Keeps s t b c → Keeps r t a c
@@ -386,6 +393,7 @@ Keeps-then P r s t same moments first second = record {
   marked = λ sector marked.
       let before = second.marked sector marked in
       before ∙ first.marked sector (ap marked_of (sym before) ∙ marked);
+  slots = second.slots ∙ first.slots;
 }
 
 -- What is held is the same in each sector.
@@ -407,6 +415,7 @@ Keeps-in_front m at sectors = record {
       ap (λ (o : Option Held). held_or o (last_image d s)) (held_in-in_front at s sectors)
       ∙ ap (λ (x : Content). cached sectors x s) (same_Some _ _ (sym told_end ∙ told));
   marked = λ s marked. held_in-in_front at s sectors;
+  slots = refl;
 }
 
 -- ---- the sectors that go out
@@ -472,4 +481,131 @@ Keeps-before {a} {b} r s t first second = record {
   marked = λ sector marked.
       let before = second.marked sector marked in
       before ∙ first.marked sector (ap marked_of (sym before) ∙ marked);
+  slots = second.slots ∙ first.slots;
 }
+
+-- ---- marks
+
+-- What is not marked is not marked after a step.
+pub stays_unmarked : {a b : List Content} (old new : HeldSectors) (s : ℕ) → Keeps old new a b → is_marked old s ≡ false → is_marked new s ≡ false
+stays_unmarked old new s keeps clear = elim (cases_Bool (is_marked new s)) [
+  | inl y ↦ absurd (false≢true (sym clear ∙ ap marked_of (sym (keeps.marked s y)) ∙ y))
+  | inr n ↦ n
+]
+
+-- A sector that is written is not marked.
+pub written_unmarked : (sectors : HeldSectors) (at : ℕ) → is_marked (with_change at unmarked sectors) at ≡ false
+written_unmarked sectors at = ap marked_of (held_in-with_change at unmarked sectors) ∙ unmarked_mark (held_in sectors at)
+
+-- What a later write brings, was marked at the start.
+pub adds_marked : {a b c : List Content} (start sectors : HeldSectors) (at : ℕ) → Keeps start sectors a b → EachSince (IsAmidMarked at (held_in sectors at)) b c → EachSince (OnlyAdds (IsMarkedSector start)) b c
+adds_marked start sectors at keeps moments =
+    amid_adds (IsMarkedSector start) at (held_in sectors at)
+    (λ x of. record { held = of.held; is = sym (keeps.marked at (ap marked_of of.is ∙ of.marked)) ∙ of.is; marked = of.marked; bytes = of.bytes }) moments
+
+-- ---- for the calls of a cache
+
+-- The content at the end is told where that at the start is.
+told_on : {a b : List Content} {P : Content → Type 0} → EachMoment a b P → (c : Content) → content_now a ≡ Some c → (d : Content) × (content_now b ≡ Some d)
+told_on {a} {b} m c told = at_end m.since m.grows
+  where
+    at_end : (since : List Content) → b ≡ since ++ a → (d : Content) × (content_now b ≡ Some d)
+    at_end [] grows = (c, ap content_now grows ∙ told)
+    at_end (x ∷ since) grows = (x, ap content_now grows)
+
+-- What is copied of a sector that is held is what the cache gave before.
+pub read_is_given : {a b : List Content} {P : Content → Type 0} (at from size : ℕ) (out : List ℕ) (old new : HeldSectors) → EachMoment a b P → Keeps old new a b → is_some (held_in new at) ≡ true
+    → IfSome (held_in new at) (λ held. out ≡ piece_of from size held.bytes) → HasNow (λ c. out ≡ piece_of from size (cached old c at)) a
+read_is_given at from size out old new moments keeps found copied c told =
+    let end = told_on moments c told in
+    by_held (held_in new at) found copied end.0 ∙ ap (piece_of from size) (keeps.given c told end.0 end.1 at)
+  where
+    by_held : (o : Option Held) → is_some o ≡ true → IfSome o (λ held. out ≡ piece_of from size held.bytes) → (d : Content) → out ≡ piece_of from size (held_or o (last_image d at))
+    by_held None found copied d = absurd (false≢true found)
+    by_held (Some held) found copied d = copied
+
+some_of : (o : Option Held) → is_some o ≡ true → (held : Held) × (o ≡ Some held)
+some_of None found = absurd (false≢true found)
+some_of (Some held) found = (held, refl)
+
+-- A piece of a sector that was brought is changed.
+pub changes_piece : {a b : List Content} (at from : ℕ) (piece : List ℕ) (old new : HeldSectors) → Keeps old new a b → is_some (held_in new at) ≡ true
+    → Changes at from piece old (with_change at (with_held_piece from piece) new) a b
+changes_piece at from piece old new keeps found =
+    let held = some_of (held_in new at) found in
+    let now : held_in (with_change at (with_held_piece from piece) new) at ≡ Some (with_held_piece from piece held.0) = held_in-with_change at (with_held_piece from piece) new ∙ ap (option_map (with_held_piece from piece)) held.1 in
+    record {
+      given = λ c told d told_end s. elim (cases_eq s at) [
+        | inl same ↦ subst (λ (k : ℕ). cached (with_change at (with_held_piece from piece) new) d k ≡ with_given_piece at from piece (cached old c) k) (sym same) (
+            ap (λ (o : Option Held). held_or o (last_image d at)) now
+            ∙ ap (with_piece from piece) (sym (ap (λ (o : Option Held). held_or o (last_image d at)) held.1) ∙ keeps.given c told d told_end at)
+            ∙ sym (ap (λ (t : Bool). if t then with_piece from piece (cached old c at) else cached old c at) (eq-eqb at at refl)))
+        | inr ne ↦
+            ap (λ (o : Option Held). held_or o (last_image d s)) (held_in-with_change_other at s (with_held_piece from piece) new ne)
+            ∙ keeps.given c told d told_end s
+            ∙ sym (ap (λ (t : Bool). if t then with_piece from piece (cached old c s) else cached old c s) (ne_eqb at s (λ e. ne (sym e))))
+      ];
+      marked = ap marked_of now;
+      others = λ s ne marked.
+          let same = held_in-with_change_other at s (with_held_piece from piece) new ne in
+          same ∙ keeps.marked s (ap marked_of (sym same) ∙ marked);
+      slots = keeps.slots;
+    }
+
+length-with_piece : (from : ℕ) (piece bytes : List ℕ) → from + length piece ≤ 512 → length bytes ≡ 512 → length (with_piece from piece bytes) ≡ 512
+length-with_piece from piece bytes fits size = simp (length-append, length-take, length-drop) (omega arith)
+
+pub IsOfDisk-piece : (disk : DiskIdentity) (m : List Content) (at from : ℕ) (piece : List ℕ) (sectors : HeldSectors) → from + length piece ≤ 512 → is_some (held_in sectors at) ≡ true
+    → IsOfDisk sectors disk m → IsOfDisk (with_change at (with_held_piece from piece) sectors) disk m
+IsOfDisk-piece disk m at from piece sectors fits found is = record {
+  within = each-with_change (λ s held. s < disk.sectors) sectors at (with_held_piece from piece) (λ held low. low) is.within;
+  whole = each-with_change (λ s held. length held.bytes ≡ 512) sectors at (with_held_piece from piece) (λ held size. length-with_piece from piece held.bytes fits size) is.whole;
+  apart = apart-with_change sectors at (with_held_piece from piece) is.apart;
+  agrees = λ c told. record {
+    each = λ s clear. elim (cases_eq s at) [
+      | inl same ↦
+          let held = some_of (held_in sectors at) found in
+          let now : held_in (with_change at (with_held_piece from piece) sectors) at ≡ Some (with_held_piece from piece held.0) = held_in-with_change at (with_held_piece from piece) sectors ∙ ap (option_map (with_held_piece from piece)) held.1 in
+          absurd (true≢false (sym (ap marked_of now) ∙ ap (is_marked (with_change at (with_held_piece from piece) sectors)) (sym same) ∙ clear))
+      | inr ne ↦
+          let same = held_in-with_change_other at s (with_held_piece from piece) sectors ne in
+          ap (λ (o : Option Held). held_or o (last_image c s)) same ∙ (is.agrees c told).each s (ap marked_of (sym same) ∙ clear)
+    ];
+  };
+}
+
+-- Where no sector is marked, the disk reads what the cache gave.
+pub reads_given : (disk : DiskIdentity) {a b : List Content} (old new : HeldSectors) → IsOfDisk new disk b → Keeps old new a b → ((s : ℕ) → is_marked new s ≡ false) → HasNow (λ c. HasNow (ReadsGiven old c) b) a
+reads_given disk old new is keeps clear c told d told_end s = sym ((is.agrees d told_end).each s (clear s)) ∙ keeps.given c told d told_end s
+
+-- A cache that holds none is of any disk.
+pub IsOfDisk-none : (disk : DiskIdentity) (m : List Content) (slots : ℕ) → IsOfDisk (no_sectors slots) disk m
+IsOfDisk-none disk m slots = record {
+  within = λ s held e. absurd (none-some held e);
+  whole = λ s held e. absurd (none-some held e);
+  apart = λ scratch e. refl;
+  agrees = λ c told. record { each = λ s clear. refl };
+}
+
+-- Another call wrote to the disk no sector that is held.
+pub IsOfDisk-elsewhere : (disk : DiskIdentity) {a b : List Content} (sectors : HeldSectors) → IsOfDisk sectors disk a
+    → ((d : Content) → content_now b ≡ Some d → (c : Content) × (content_now a ≡ Some c) × ((s : ℕ) (held : Held) → held_in sectors s ≡ Some held → last_image d s ≡ last_image c s)) → IsOfDisk sectors disk b
+IsOfDisk-elsewhere disk {a} {b} sectors is elsewhere = record {
+  within = is.within;
+  whole = is.whole;
+  apart = is.apart;
+  agrees = λ d told.
+      let start = elsewhere d told in
+      record { each = λ s clear. by_held d start.0 s (held_in sectors s) (start.2 s) ((is.agrees start.0 start.1).each s clear) };
+}
+  where
+    by_held : (d c : Content) (s : ℕ) (o : Option Held) → ((held : Held) → o ≡ Some held → last_image d s ≡ last_image c s) → held_or o (last_image c s) ≡ last_image c s → held_or o (last_image d s) ≡ last_image d s
+    by_held d c s None same agrees = refl
+    by_held d c s (Some held) same agrees = agrees ∙ sym (same held refl)
+
+-- Once each sector that was marked is unmarked, none is marked.
+pub none_is_marked : {a b : List Content} (old new : HeldSectors) (xs ys : List ℕ) → Keeps old new a b → ((s : ℕ) → is_marked old s ≡ true → Contains xs s) → ys ≡ xs → ((s : ℕ) → Contains ys s → is_marked new s ≡ false) → (s : ℕ) → is_marked new s ≡ false
+none_is_marked old new xs ys keeps listed same written s = elim (cases_Bool (is_marked new s)) [
+  | inl y ↦ written s (subst (λ (zs : List ℕ). Contains zs s) (sym same) (listed s (ap marked_of (sym (keeps.marked s y)) ∙ y)))
+  | inr n ↦ n
+]

@@ -1,5 +1,5 @@
 -- What a cache and a disk give together: one content of each sector, whether it is held or not.
-use Rattle.std.specs.Prelude.{◌≡◌, ◌⊎◌, ℕ, ◌<◌, ◌≤◌, Bool, true, false, nat_eq, if◌then◌else◌, List, [], ◌∷◌, ◌++◌, length, Option, Some, None}
+use Rattle.std.specs.Prelude.{◌≡◌, ◌≢◌, ◌⊎◌, ℕ, ◌+◌, ◌<◌, ◌≤◌, Bool, true, false, nat_eq, if◌then◌else◌, List, [], ◌∷◌, ◌++◌, length, take, drop, Option, Some, None}
 use Rattle.std.specs.Map.{lookup}
 use Rattle.disk_model.specs.Disk.{Content, Image, last_image, with_run}
 use Rattle.disk_model.specs.Identity.{DiskIdentity}
@@ -43,6 +43,7 @@ pub record IsOfDisk (sectors : HeldSectors) (disk : DiskIdentity) (moments : Lis
 pub record Keeps (old new : HeldSectors) (before after : List Content) : Type 0 where
   pub given : HasNow (λ c. HasNow (λ d. (sector : ℕ) → cached new d sector ≡ cached old c sector) after) before
   pub marked : (sector : ℕ) → is_marked new sector ≡ true → held_in new sector ≡ held_in old sector
+  pub slots : new.recent.cap ≡ old.recent.cap
 
 -- The content once a sector is written, where it is held and marked.
 abbrev pub with_marked : ℕ → Option Held → Content → Content
@@ -91,3 +92,32 @@ pub record IsRead (at : ℕ) (held : Held) (moments : List Content) : Type 0 whe
   pub whole : length held.bytes ≡ 512
   pub marked : held.marked ≡ false
   pub read : HasNow (λ c. held.bytes ≡ last_image c at) moments
+
+-- A piece of a sector that a disk of so many sectors has.
+pub record IsPiece (at from size sectors : ℕ) : Type 0 where
+  pub at_ : at < sectors
+  pub fits : from + size ≤ 512
+
+-- So many bytes from byte `from` on.
+abbrev pub piece_of : ℕ → ℕ → List ℕ → List ℕ
+piece_of from size bytes = take size (drop from bytes)
+
+-- What was given of each sector, with a piece of one that was changed.
+abbrev pub with_given_piece : ℕ → ℕ → List ℕ → Image → Image
+with_given_piece at from piece image sector =
+    if nat_eq at sector then with_piece from piece (image sector) else image sector
+
+-- The cache gives what it gave before, but for a piece of a sector that is marked now; no other sector has been marked.
+pub record Changes (at from : ℕ) (piece : List ℕ) (old new : HeldSectors) (before after : List Content) : Type 0 where
+  pub given : HasNow (λ c. HasNow (λ d. (sector : ℕ) → cached new d sector ≡ with_given_piece at from piece (cached old c) sector) after) before
+  pub marked : is_marked new at ≡ true
+  pub others : (sector : ℕ) → sector ≢ at → is_marked new sector ≡ true → held_in new sector ≡ held_in old sector
+  pub slots : new.recent.cap ≡ old.recent.cap
+
+-- No sector is marked.
+pub record HasNoMark (sectors : HeldSectors) : Type 0 where
+  pub none : (sector : ℕ) → is_marked sectors sector ≡ false
+
+-- The disk reads what the cache gave.
+abbrev pub ReadsGiven : HeldSectors → Content → Content → Type 0
+ReadsGiven old c d = (sector : ℕ) → last_image d sector ≡ cached old c sector

@@ -1,6 +1,6 @@
 -- What a cache holds of each sector, and how its steps change that.
 -- Own: a sector is held among the recent ones, or in the scratch buffer where there was no memory for it.
-use Rattle.std.specs.Prelude.{ℕ, ◌+◌, ◌-◌, ◌<◌, ◌≤◌, ◌≡◌, ◌==◌, true, false, nat_eq, if◌then◌else◌, List, ◌∷◌, length, Option, Some, None}
+use Rattle.std.specs.Prelude.{ℕ, ◌+◌, ◌-◌, ◌<◌, ◌≤◌, ◌≡◌, ◌==◌, true, false, nat_eq, if◌then◌else◌, List, [], ◌∷◌, length, Option, Some, None}
 use Rattle.std.specs.List.{replace_range}
 use Rattle.std.specs.Map.{lookup, set_value}
 use Rattle.std.specs.Option.{option_map, option_map_or, option_or}
@@ -80,3 +80,17 @@ pub record IsFree (sectors : HeldSectors) : Type 0 where
 -- Each sector that was not held is not held.
 pub record HoldsNoMore (old new : HeldSectors) : Type 0 where
   pub each : (sector : ℕ) → held_in old sector ≡ None → held_in new sector ≡ None
+
+-- None is held, and there may be so many recent ones.
+abbrev pub no_sectors : ℕ → HeldSectors
+no_sectors slots = record { recent = lru_cache [] slots; scratch = None }
+
+-- The sectors of the entries that are marked.
+abbrev pub marked_keys : List (ℕ × Held) → List ℕ
+marked_keys [] = []
+marked_keys (e ∷ es) = if e.1.marked then e.0 ∷ marked_keys es else marked_keys es
+
+-- The sector of the scratch buffer, where it is marked.
+abbrev pub marked_scratch : Option Scratch → List ℕ
+marked_scratch None = []
+marked_scratch (Some scratch) = if scratch.held.marked then scratch.at ∷ [] else []

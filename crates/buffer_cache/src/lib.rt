@@ -6,8 +6,12 @@
 #![tactic(auto)]
 
 mod bringing;
+mod cache;
+mod copying;
 mod held;
 mod scratch;
 mod write_out;
+mod written_back;
 
+pub use cache::Cache;
 pub use held::{Held, HeldSectors, Scratch};
