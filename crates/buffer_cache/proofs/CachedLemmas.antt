@@ -1,23 +1,23 @@
 -- What a cache and a disk give together, after each step.
 use Rattle.std.proofs.Common.{◌≡◌, ◌≢◌, ◌⊎◌, inl, inr, ⊎_elim, ℕ, ◌+◌, ◌-◌, ◌/◌, ◌<◌, ◌≤◌, Bool, true, false, nat_eq, if◌then◌else◌, List, [], ◌∷◌, ◌++◌, length, take, refl, sym, ◌∙◌, ap, subst, arith, length-append, length-take, length-drop, Option, Some, None}
-use Rattle.std.specs.List.{Contains, AllByRecursion, IsDistinct, slice_get}
-use Rattle.std.specs.Map.{keys_of, lookup}
-use Rattle.lru.specs.LruCache.{IsValid, last_entry}
-use Rattle.std.specs.Option.{ForSome, IfSome, is_some, option_map, option_or}
+use Rattle.std.specs.List.{Contains, AllByRecursion}
+use Rattle.std.specs.Map.{lookup}
+use Rattle.lru.specs.LruCache.{IsValid}
+use Rattle.std.specs.Option.{IfSome, is_some, option_map, option_or}
 use Rattle.std.proofs.lemmas.Bool.{cases_Bool, cases_eq, eq-eqb, ne_eqb, false≢true, true≢false}
 use Rattle.std.proofs.lemmas.List.Elements.{Contains-push_cases}
 use Rattle.std.proofs.lemmas.Option.{none-some, same_Some}
-use Rattle.disk_model.specs.Disk.{Content, OnlyAdds, AddsSome, last_image, last_candidate, sector_in, with_run}
+use Rattle.disk_model.specs.Disk.{Content, OnlyAdds, AddsSome, last_image, last_candidate, with_run}
 use Rattle.disk_model.specs.Identity.{DiskIdentity}
 use Rattle.disk_model.specs.Moments.{EachMoment, EachSince, FromStart, HasNow, IsChangedBy, content_now}
-use Rattle.disk_model.proofs.DiskLemmas.{last_candidate-push, last_image-with_one, last_image-with_other, sector_in-one, with_run-other, with_sectors-in}
+use Rattle.disk_model.proofs.DiskLemmas.{last_image-with_one, last_image-with_other, sector_in-one, with_run-other, with_sectors-in}
 use Rattle.disk_model.proofs.MomentsLemmas.{EachMoment-weaker, FromStart-weaker}
 use Rattle.buffer_cache.specs.declared.held.Held.{Held}
 use Rattle.buffer_cache.specs.declared.held.HeldSectors.{HeldSectors}
 use Rattle.buffer_cache.specs.declared.held.Scratch.{Scratch}
-use Rattle.buffer_cache.specs.HeldSectors.{held_in, in_scratch, changed_scratch, in_front, with_change, with_held_piece, with_piece, with_recent, no_sectors, unmarked, CanPutOut, HoldsNoMore, IsFree, IsLast}
-use Rattle.buffer_cache.specs.Cached.{Changes, ReadsGiven, held_or, cached, piece_of, with_given_piece, marked_of, is_marked, Agrees, IsOfDisk, Keeps, with_marked, IsOfMarked, IsAmidMarked, IsLeastRecent, IsMarkedSector, IsPutOut, IsRead, IsScratch}
-use Rattle.buffer_cache.proofs.HeldLemmas.{held_in-with_change, held_in-with_change_other, held_in-in_front, held_in-recent, held_in-scratch, in_front-missed, in_scratch-here, in_scratch-other, last_goes_out, lookup-changed_at, lookup-changed_other, lookup-last, lookup-promoted, lookup-take, lookup-with_recent, lookup-with_recent_other, missed_in_both}
+use Rattle.buffer_cache.specs.HeldSectors.{held_in, in_scratch, changed_scratch, in_front, with_change, with_held_piece, with_piece, with_recent, no_sectors, unmarked, CanPutOut, IsFree, IsLast}
+use Rattle.buffer_cache.specs.Cached.{Changes, ReadsGiven, held_or, cached, piece_of, with_given_piece, marked_of, is_marked, Agrees, IsOfDisk, Keeps, with_marked, IsOfMarked, IsAmidMarked, IsLeastRecent, IsMarkedSector, IsRead, IsScratch}
+use Rattle.buffer_cache.proofs.HeldLemmas.{held_in-with_change, held_in-with_change_other, held_in-in_front, held_in-recent, held_in-scratch, in_scratch-here, in_scratch-other, last_goes_out, lookup-changed_at, lookup-changed_other, lookup-last, lookup-promoted, lookup-take, lookup-with_recent, lookup-with_recent_other, missed_in_both}
 
 -- ---- moments
 
@@ -222,10 +222,14 @@ write_amid {a} at held size marked moments = EachMoment-weaker (FromStart-weaker
     | inr more ↦ elim (cases_eq s at) [
       | inl here ↦
           let grown : with_run at held.bytes start at ≡ start at ++ held.bytes ∷ [] =
-            with_sectors-in (length held.bytes / 512) at held.bytes start at (omega arith) (omega (arith, size))
-            ∙ ap (λ (x : List ℕ). start at ++ x ∷ []) (sector_in-one held.bytes at size) in
-          inr (here, held.bytes, record { held = held; is = refl; marked = marked; bytes = refl },
-          more ∙ ap (with_run at held.bytes start) here ∙ grown ∙ ap (λ (k : ℕ). start k ++ held.bytes ∷ []) (sym here))
+          with_sectors-in (length held.bytes / 512) at held.bytes start at (omega arith) (omega (arith, size))
+          ∙ ap (λ (x : List ℕ). start at ++ x ∷ []) (sector_in-one held.bytes at size) in
+          inr (
+            here,
+            held.bytes,
+            record { held = held; is = refl; marked = marked; bytes = refl },
+            more ∙ ap (with_run at held.bytes start) here ∙ grown ∙ ap (λ (k : ℕ). start k ++ held.bytes ∷ []) (sym here),
+          )
       | inr ne ↦ inl (more ∙ with_run-other at held.bytes start s size ne)
     ]
   ];
@@ -304,12 +308,13 @@ Replaces-recent at held sectors can missed apart = record {
   in_ = held_in-recent (with_recent at held sectors) at held (lookup-with_recent at held sectors missed);
   others = λ s ne.
       let now : held_in (with_recent at held sectors) s ≡ option_or (lookup (nat_eq s) (take (sectors.recent.cap - 1) sectors.recent.entries)) (in_scratch sectors.scratch s) =
-        ap (λ (o : Option Held). option_or o (in_scratch sectors.scratch s)) (lookup-with_recent_other at s held sectors missed ne) in
+      ap (λ (o : Option Held). option_or o (in_scratch sectors.scratch s)) (lookup-with_recent_other at s held sectors missed ne) in
       elim (lookup-take s (sectors.recent.cap - 1) sectors.recent.entries) [
         | inl same ↦ inl (now ∙ ap (λ (o : Option Held). option_or o (in_scratch sectors.scratch s)) same)
         | inr behind ↦ inr (
-            now ∙ ap (λ (o : Option Held). option_or o (in_scratch sectors.scratch s)) behind.4 ∙ out_of_scratch sectors.scratch s behind.1 apart behind.5,
-            ap marked_of (held_in-recent sectors s behind.1 behind.5) ∙ last_goes_out sectors s behind.0 behind.1 can behind.2 behind.3)
+          now ∙ ap (λ (o : Option Held). option_or o (in_scratch sectors.scratch s)) behind.4 ∙ out_of_scratch sectors.scratch s behind.1 apart behind.5,
+          ap marked_of (held_in-recent sectors s behind.1 behind.5) ∙ last_goes_out sectors s behind.0 behind.1 can behind.2 behind.3,
+        )
       ];
   slots = refl;
 }
@@ -324,7 +329,7 @@ pub apart-recent : (at : ℕ) (held : Held) (sectors : HeldSectors) → held_in 
     → (scratch : Scratch) → sectors.scratch ≡ Some scratch → lookup (nat_eq scratch.at) (with_recent at held sectors).recent.entries ≡ None
 apart-recent at held sectors missed apart scratch is =
     let ne : scratch.at ≢ at = λ same. none-some scratch.held (
-      sym (missed_in_both sectors at missed).1 ∙ ap (λ (o : Option Scratch). in_scratch o at) is ∙ ap (in_scratch (Some scratch)) (sym same) ∙ in_scratch-here scratch) in
+    sym (missed_in_both sectors at missed).1 ∙ ap (λ (o : Option Scratch). in_scratch o at) is ∙ ap (in_scratch (Some scratch)) (sym same) ∙ in_scratch-here scratch) in
     lookup-with_recent_other at scratch.at held sectors missed ne ∙ elim (lookup-take scratch.at (sectors.recent.cap - 1) sectors.recent.entries) [
       | inl same ↦ same ∙ apart scratch is
       | inr behind ↦ behind.4
@@ -458,7 +463,7 @@ IsFree-unmarked sectors at scratch is place = record {
   free = λ now e.
       let test : nat_eq scratch.at at ≡ true = eq-eqb scratch.at at place in
       let cleared : Some (record scratch { held = unmarked scratch.held }) ≡ Some now =
-        sym (ap (changed_scratch at unmarked) is ∙ ap (λ (b : Bool). if b then Some (record scratch { held = unmarked scratch.held }) else Some scratch) test) ∙ e in
+      sym (ap (changed_scratch at unmarked) is ∙ ap (λ (b : Bool). if b then Some (record scratch { held = unmarked scratch.held }) else Some scratch) test) ∙ e in
       ap (λ (s : Scratch). s.held.marked) (sym (same_Some _ _ cleared));
 }
 

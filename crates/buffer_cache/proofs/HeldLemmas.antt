@@ -1,5 +1,5 @@
 -- What is held of each sector after a change, after a use, and once another one came in.
-use Rattle.std.proofs.Common.{◌≡◌, ◌≢◌, ◌⊎◌, inl, inr, ⊎_elim, ℕ, zero, suc, ◌+◌, ◌-◌, ◌<◌, ◌≤◌, Bool, true, false, nat_eq, cond, if◌then◌else◌, List, [], ◌∷◌, length, take, refl, sym, ◌∙◌, ap, subst, arith, Option, Some, None}
+use Rattle.std.proofs.Common.{◌≡◌, ◌≢◌, ◌⊎◌, inl, inr, ℕ, zero, suc, ◌-◌, ◌≤◌, Bool, true, false, nat_eq, cond, List, [], ◌∷◌, length, take, refl, sym, ◌∙◌, ap, subst, arith, Option, Some, None}
 use Rattle.std.specs.Bool.{OnFalse}
 use Rattle.std.specs.Cmp.{nat_eq_equiv}
 use Rattle.std.specs.List.{IsDistinct, slice_get}
@@ -9,7 +9,7 @@ use Rattle.std.proofs.lemmas.Bool.{cases_Bool, cases_eq, eqb-true, eq-eqb, ne_eq
 use Rattle.std.proofs.lemmas.Map.{keys-set_value, lookup-set_value}
 use Rattle.std.proofs.lemmas.Map.Entries.{length-keys_of, lookup_from_place, place_from_lookup}
 use Rattle.std.proofs.lemmas.Option.{none-some, same_Some, slice_get-map, slice_get_within}
-use Rattle.lru.specs.LruCache.{LruCache, IsValid, last_entry, promoted, put_entries}
+use Rattle.lru.specs.LruCache.{LruCache, IsValid, last_entry, promoted}
 use Rattle.lru.proofs.Pairs.{lookup-lookup_entry}
 use Rattle.lru.proofs.CallerLemmas.{Contains-lookup_entry}
 use Rattle.buffer_cache.specs.declared.held.Held.{Held}
@@ -207,17 +207,17 @@ CanPutOut-unmarked sectors at valid is_last =
       last = λ s held full e.
           let at_end : slice_get fs (length es - 1) ≡ Some (s, held) = ap (λ (n : ℕ). slice_get fs (n - 1)) (sym size) ∙ e in
           let key : Some s ≡ Some at =
-            ap (option_map (λ (p : ℕ × Held). p.0)) (sym at_end)
-            ∙ sym (slice_get-map (λ (p : ℕ × Held). p.0) fs (length es - 1))
-            ∙ ap (λ (ks : List ℕ). slice_get ks (length es - 1)) (keys-changed_at at unmarked es)
-            ∙ slice_get-map (λ (p : ℕ × Held). p.0) es (length es - 1)
-            ∙ ap (option_map (λ (p : ℕ × Held). p.0)) is_last.is in
+          ap (option_map (λ (p : ℕ × Held). p.0)) (sym at_end)
+          ∙ sym (slice_get-map (λ (p : ℕ × Held). p.0) fs (length es - 1))
+          ∙ ap (λ (ks : List ℕ). slice_get ks (length es - 1)) (keys-changed_at at unmarked es)
+          ∙ slice_get-map (λ (p : ℕ × Held). p.0) es (length es - 1)
+          ∙ ap (option_map (λ (p : ℕ × Held). p.0)) is_last.is in
           let distinct : IsDistinct nat_eq (keys_of fs) = subst (IsDistinct nat_eq) (sym (keys-changed_at at unmarked es)) valid.0 in
           let found : lookup (nat_eq s) fs ≡ Some held = lookup_from_place nat_eq_equiv fs (length es - 1) s held distinct at_end in
           let same : s ≡ at = same_Some _ _ key in
           let of_last : lookup (nat_eq at) es ≡ Some is_last.held = lookup-last sectors.recent at is_last.held valid.0 is_last.is in
           let now : Some held ≡ Some (unmarked is_last.held) =
-            sym found ∙ ap (λ (k : ℕ). lookup (nat_eq k) fs) same ∙ lookup-changed_at at unmarked es ∙ ap (option_map unmarked) of_last in
+          sym found ∙ ap (λ (k : ℕ). lookup (nat_eq k) fs) same ∙ lookup-changed_at at unmarked es ∙ ap (option_map unmarked) of_last in
           ap (λ (h : Held). h.marked) (same_Some _ _ now);
       fits = omega (arith, size, valid.1);
       some = valid.2;

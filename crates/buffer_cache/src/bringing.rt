@@ -60,7 +60,12 @@ fn fetch<D: Disk>(disk: &mut D, held: &mut HeldSectors, at: u64) -> Result<(), F
 }
 
 // Holds a sector that was read: among the recent ones, and where there is no memory for it in the scratch buffer.
-fn hold<D: Disk>(disk: &mut D, held: &mut HeldSectors, at: u64, bytes: [u8; 512]) -> Result<(), Failed>
+fn hold<D: Disk>(
+    disk: &mut D,
+    held: &mut HeldSectors,
+    at: u64,
+    bytes: [u8; 512],
+) -> Result<(), Failed>
     requires bound { IsBound (D.identity disk.old).name }
     requires at { at < (D.identity disk.old).sectors }
     requires cache { IsOfDisk held.old (D.identity disk.old) (D.moments disk.old) }
@@ -78,7 +83,14 @@ fn hold<D: Disk>(disk: &mut D, held: &mut HeldSectors, at: u64, bytes: [u8; 512]
 
     ensures moments { EachSince (OnlyAdds (IsScratch held.old)) (D.moments disk.old) (D.moments disk.new) }
 {
-    match put_recent(held, at, Held { bytes, marked: false }) {
+    match put_recent(
+        held,
+        at,
+        Held {
+            bytes,
+            marked: false,
+        },
+    ) {
         Ok(()) => Ok(()),
         Err(sector) => hold_in_scratch(disk, held, at, sector),
     }
@@ -98,7 +110,12 @@ fn put_recent(held: &mut HeldSectors, at: u64, sector: Held) -> Result<(), Held>
 }
 
 // Holds a sector in the scratch buffer. What that holds marked is written before.
-fn hold_in_scratch<D: Disk>(disk: &mut D, held: &mut HeldSectors, at: u64, sector: Held) -> Result<(), Failed>
+fn hold_in_scratch<D: Disk>(
+    disk: &mut D,
+    held: &mut HeldSectors,
+    at: u64,
+    sector: Held,
+) -> Result<(), Failed>
     requires bound { IsBound (D.identity disk.old).name }
     requires at { at < (D.identity disk.old).sectors }
     requires cache { IsOfDisk held.old (D.identity disk.old) (D.moments disk.old) }

@@ -65,7 +65,13 @@ impl Cache {
     /// # Errors
     ///
     /// - `Failed`: the disk failed. The cache gives what it gave before, and what was not written is still marked.
-    pub fn read_at<D: Disk>(&mut self, disk: &mut D, at: u64, from: usize, out: &mut [u8]) -> Result<(), Failed>
+    pub fn read_at<D: Disk>(
+        &mut self,
+        disk: &mut D,
+        at: u64,
+        from: usize,
+        out: &mut [u8],
+    ) -> Result<(), Failed>
         requires bound { IsBound (D.identity disk.old).name }
         requires piece { IsPiece at from (length out.old) (D.identity disk.old).sectors }
         requires cache { IsOfDisk (sectors_of self.old) (D.identity disk.old) (D.moments disk.old) }
@@ -95,7 +101,13 @@ impl Cache {
     /// # Errors
     ///
     /// - `Failed`: the disk failed. The cache gives what it gave before, and what was not written is still marked.
-    pub fn write_at<D: Disk>(&mut self, disk: &mut D, at: u64, from: usize, bytes: &[u8]) -> Result<(), Failed>
+    pub fn write_at<D: Disk>(
+        &mut self,
+        disk: &mut D,
+        at: u64,
+        from: usize,
+        bytes: &[u8],
+    ) -> Result<(), Failed>
         requires bound { IsBound (D.identity disk.old).name }
         requires piece { IsPiece at from (length bytes.now) (D.identity disk.old).sectors }
         requires cache { IsOfDisk (sectors_of self.old) (D.identity disk.old) (D.moments disk.old) }

@@ -3,7 +3,9 @@ ghost use Rattle.std.specs.Bool.{OnFalse};
 ghost use Rattle.std.specs.Prelude.{◌≡◌, None, ◌+◌, ◌<◌, ◌≤◌, ◌↔◌, nat_eq, IsTrue, IsSome, length, option_copied};
 ghost use Rattle.lru.specs.LruCache.{lru_cache};
 
-use crate::scratch::{find_scratch, put_recent_piece, put_scratch_piece, unmark_recent, unmark_scratch};
+use crate::scratch::{
+    find_scratch, put_recent_piece, put_scratch_piece, unmark_recent, unmark_scratch,
+};
 use lru::LruCache;
 
 /// A sector that is held.

@@ -29,7 +29,9 @@ pub(crate) fn unmark_recent(recent: &mut LruCache<u64, Held>, at: u64)
 pub(crate) fn unmark_scratch(scratch: &mut Option<Scratch>, at: u64)
     ensures { scratch.new ≡ changed_scratch at unmarked scratch.old }
 {
-    if let Some(scratch) = scratch && scratch.at == at {
+    if let Some(scratch) = scratch
+        && scratch.at == at
+    {
         scratch.held.marked = false;
     }
 }
@@ -52,7 +54,9 @@ pub(crate) fn put_scratch_piece(scratch: &mut Option<Scratch>, at: u64, from: us
 
     ensures { scratch.new ≡ changed_scratch at (with_held_piece from piece.now) scratch.old }
 {
-    if let Some(scratch) = scratch && scratch.at == at {
+    if let Some(scratch) = scratch
+        && scratch.at == at
+    {
         scratch.held.bytes[from..from + piece.len()].copy_from_slice(piece);
         scratch.held.marked = true;
     }

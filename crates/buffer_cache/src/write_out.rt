@@ -13,7 +13,11 @@ use lru::LruCache;
 use sector_disk::{Disk, Failed};
 
 /// Writes what is held of a sector, where it is marked, and clears its mark.
-pub(crate) fn write_held<D: Disk>(disk: &mut D, held: &mut HeldSectors, at: u64) -> Result<(), Failed>
+pub(crate) fn write_held<D: Disk>(
+    disk: &mut D,
+    held: &mut HeldSectors,
+    at: u64,
+) -> Result<(), Failed>
     requires bound { IsBound (D.identity disk.old).name }
     requires at { at < (D.identity disk.old).sectors }
     requires cache { IsOfDisk held.old (D.identity disk.old) (D.moments disk.old) }

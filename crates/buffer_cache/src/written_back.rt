@@ -55,13 +55,19 @@ fn list_scratch(scratch: &Option<Scratch>, ascending: &mut Vec<u64>)
     ensures listed { ascending.new.items ≡ ascending.old.items ++ marked_scratch scratch.now }
     ensures capacity { vec_capacity ascending.new ≡ vec_capacity ascending.old }
 {
-    if let Some(scratch) = scratch && scratch.held.marked {
+    if let Some(scratch) = scratch
+        && scratch.held.marked
+    {
         ascending.push_reserved(scratch.at);
     }
 }
 
 /// Writes these sectors, where they are marked.
-pub(crate) fn write_each<D: Disk>(disk: &mut D, held: &mut HeldSectors, sectors: &[u64]) -> Result<(), Failed>
+pub(crate) fn write_each<D: Disk>(
+    disk: &mut D,
+    held: &mut HeldSectors,
+    sectors: &[u64],
+) -> Result<(), Failed>
     requires bound { IsBound (D.identity disk.old).name }
     requires cache { IsOfDisk held.old (D.identity disk.old) (D.moments disk.old) }
     requires sectors { All (λ sector. sector < (D.identity disk.old).sectors) sectors.now }

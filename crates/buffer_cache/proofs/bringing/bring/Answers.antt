@@ -1,7 +1,5 @@
-use Rattle.std.proofs.Common.{ap, sym, ◌∙◌, Option}
+use Rattle.std.proofs.Common.{ap, ◌∙◌}
 use Rattle.std.specs.Option.{is_some}
-use Rattle.buffer_cache.specs.declared.held.Held.{Held}
-use Rattle.buffer_cache.specs.HeldSectors.{held_in}
 use Rattle.buffer_cache.proofs.HeldLemmas.{held_in-in_front}
 use Rattle.buffer_cache.proofs.CachedLemmas.{IsOfDisk-in_front, Keeps-in_front}
 use Rattle.buffer_cache.proofs.bringing.bring.Goals as goal

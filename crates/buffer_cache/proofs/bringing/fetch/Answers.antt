@@ -1,10 +1,8 @@
-use Rattle.std.proofs.Common.{◌≡◌, ap, inl, inr, sym, subst, ◌∙◌, rules, ℕ, List, Some}
-use Rattle.disk_model.specs.Disk.{OnlyAdds, Reads}
-use Rattle.disk_model.specs.Moments.{HasNow, EachSince}
+use Rattle.std.proofs.Common.{inl, inr, rules}
+use Rattle.disk_model.specs.Disk.{OnlyAdds}
 use Rattle.disk_model.proofs.DiskLemmas.{OnlyAdds-none, Reads-one}
 use Rattle.disk_model.proofs.MomentsLemmas.{adds_then, adds_wider}
-use Rattle.buffer_cache.specs.declared.held.Held.{Held}
-use Rattle.buffer_cache.specs.Cached.{IsLeastRecent, IsPutOut, IsScratch, Keeps}
+use Rattle.buffer_cache.specs.Cached.{IsLeastRecent, IsPutOut, IsScratch}
 use Rattle.buffer_cache.proofs.CachedLemmas.{Keeps-then, read_later, scratch_of_before}
 use Rattle.buffer_cache.proofs.bringing.fetch.Goals as goal
 

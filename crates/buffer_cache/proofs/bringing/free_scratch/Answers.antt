@@ -1,4 +1,3 @@
-use Rattle.std.proofs.Common.{ap, sym, ◌∙◌, subst, ℕ, ◌<◌}
 use Rattle.std.proofs.lemmas.Result.{on_ok_weaker}
 use Rattle.buffer_cache.specs.HeldSectors.{unmarked}
 use Rattle.buffer_cache.proofs.HeldLemmas.{HoldsNoMore-with_change}

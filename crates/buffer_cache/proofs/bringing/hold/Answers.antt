@@ -1,7 +1,7 @@
-use Rattle.std.proofs.Common.{◌≡◌, ap, sym, subst, ◌∙◌, refl, rules, false, Some}
+use Rattle.std.proofs.Common.{ap, refl, rules, false}
 use Rattle.std.specs.Option.{is_some}
 use Rattle.buffer_cache.specs.declared.held.Held.{Held}
-use Rattle.buffer_cache.specs.Cached.{IsRead, IsOfDisk, Keeps}
+use Rattle.buffer_cache.specs.Cached.{IsRead}
 use Rattle.buffer_cache.specs.HeldSectors.{with_recent}
 use Rattle.buffer_cache.proofs.CachedLemmas.{Replaces-recent, apart-recent, IsOfDisk-replaced, Keeps-replaced}
 use Rattle.buffer_cache.proofs.bringing.hold.Goals as goal

@@ -1,8 +1,7 @@
-use Rattle.std.proofs.Common.{ap, sym, ◌∙◌, rules}
 use Rattle.disk_model.specs.Disk.{OnlyAdds}
 use Rattle.disk_model.proofs.DiskLemmas.{OnlyAdds-none}
-use Rattle.buffer_cache.specs.Cached.{IsRead, IsScratch}
-use Rattle.buffer_cache.proofs.CachedLemmas.{IsRead-later, Replaces-scratch, apart-scratch, IsOfDisk-replaced, Keeps-replaced, Keeps-then, Keeps-after}
+use Rattle.buffer_cache.specs.Cached.{IsScratch}
+use Rattle.buffer_cache.proofs.CachedLemmas.{IsRead-later, Replaces-scratch, apart-scratch, IsOfDisk-replaced, Keeps-replaced, Keeps-after}
 use Rattle.buffer_cache.proofs.bringing.hold_in_scratch.Goals as goal
 
 pub returns-clause-cache : goal.returns-clause-cache

@@ -1,7 +1,7 @@
-use Rattle.std.proofs.Common.{ap, sym, ◌∙◌, arith}
+use Rattle.std.proofs.Common.{ap, ◌∙◌}
 use Rattle.std.proofs.lemmas.Result.{on_ok_weaker}
 use Rattle.buffer_cache.specs.declared.held.HeldSectors.{HeldSectors}
-use Rattle.buffer_cache.specs.HeldSectors.{CanPutOut, unmarked}
+use Rattle.buffer_cache.specs.HeldSectors.{unmarked}
 use Rattle.buffer_cache.proofs.HeldLemmas.{CanPutOut-unmarked, HoldsNoMore-with_change}
 use Rattle.buffer_cache.proofs.CachedLemmas.{last_is_held, scratch_stays, adds_least_recent}
 use Rattle.buffer_cache.proofs.write_out.make_room.Goals as goal

@@ -1,8 +1,4 @@
-use Rattle.std.proofs.Common.{sym, subst}
-use Rattle.disk_model.specs.Identity.{DiskIdentity}
 use Rattle.buffer_cache.proofs.CachedLemmas.{IsOfDisk-written, Keeps-written, IsOfDisk-amid, Keeps-amid}
-use Rattle.buffer_cache.specs.Cached.{IsOfDisk, Keeps}
-use Rattle.buffer_cache.specs.declared.held.HeldSectors.{HeldSectors}
 use Rattle.buffer_cache.proofs.write_out.write_held.Goals as goal
 
 pub returns-in_err-write_marked-clause-cache : goal.returns-in_err-write_marked-clause-cache

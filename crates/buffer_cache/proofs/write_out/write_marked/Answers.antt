@@ -1,4 +1,4 @@
-use Rattle.std.proofs.Common.{◌≡◌, ap, sym, ◌∙◌, rules, Option, Some}
+use Rattle.std.proofs.Common.{◌≡◌, ap, sym, ◌∙◌, rules, Some}
 use Rattle.std.specs.Option.{option_copied}
 use Rattle.buffer_cache.specs.HeldSectors.{held_in}
 use Rattle.buffer_cache.proofs.CachedLemmas.{write_amid}

@@ -1,4 +1,4 @@
-use Rattle.std.proofs.Common.{◌≡◌, ◌+◌, ◌<◌, ◌≤◌, ◌++◌, length, vec_capacity, vec_len}
+use Rattle.std.proofs.Common.{◌≡◌, ◌+◌, ◌<◌, ◌++◌, length, vec_capacity, vec_len}
 use Rattle.buffer_cache.specs.HeldSectors.{marked_keys}
 use Rattle.buffer_cache.proofs.written_back.list_recent.Given as goal
 

@@ -1,8 +1,7 @@
-use Rattle.std.proofs.Common.{◌≡◌, ◌<◌, ◌+◌, ℕ, List, false, true, ap, sym, subst, ◌∙◌, arith, rules, get_or, below_more}
-use Rattle.disk_model.specs.Disk.{OnlyAdds}
+use Rattle.std.proofs.Common.{◌≡◌, ℕ, false, arith, rules, get_or, below_more}
 use Rattle.disk_model.proofs.MomentsLemmas.{adds_then}
-use Rattle.buffer_cache.specs.Cached.{IsMarkedSector, IsAmidMarked, Keeps, is_marked}
-use Rattle.buffer_cache.specs.HeldSectors.{held_in, unmarked}
+use Rattle.buffer_cache.specs.Cached.{IsMarkedSector, IsAmidMarked, is_marked}
+use Rattle.buffer_cache.specs.HeldSectors.{held_in}
 use Rattle.buffer_cache.proofs.CachedLemmas.{Keeps-then, adds_marked, amid_same, stays_unmarked, written_unmarked}
 use Rattle.buffer_cache.proofs.WriteBackLemmas.{each_contained}
 use Rattle.buffer_cache.proofs.written_back.write_each.Goals as goal

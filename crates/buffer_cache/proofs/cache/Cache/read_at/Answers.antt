@@ -1,4 +1,3 @@
-use Rattle.std.proofs.Common.{arith}
 use Rattle.buffer_cache.proofs.CachedLemmas.{read_is_given}
 use Rattle.buffer_cache.proofs.cache.Cache.read_at.Goals as goal
 

@@ -1,9 +1,6 @@
-use Rattle.std.proofs.Common.{ap, sym, ◌∙◌, false, nat_eq, ◌≡◌}
+use Rattle.std.proofs.Common.{sym, ◌∙◌, false, nat_eq, ◌≡◌}
 use Rattle.std.specs.Map.{lookup}
 use Rattle.std.specs.Option.{is_some}
-use Rattle.lru.specs.LruCache.{LruCache}
-use Rattle.buffer_cache.specs.declared.held.Held.{Held}
-use Rattle.buffer_cache.specs.declared.held.HeldSectors.{HeldSectors}
 use Rattle.buffer_cache.proofs.HeldLemmas.{in_front-missed, on_false}
 use Rattle.buffer_cache.proofs.held.HeldSectors.touch.Goals as goal
 
