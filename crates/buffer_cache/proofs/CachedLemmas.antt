@@ -134,7 +134,7 @@ apart-with_change sectors at f apart scratch e =
 -- ---- writing what is held of a sector
 
 -- The content now is that after the write of the content before.
-changed_now : (f : Content → Content) (old new : Option Content) → new ≡ option_map f old → (d : Content) → new ≡ Some d → (c : Content) × (old ≡ Some c) × (d ≡ f c)
+pub changed_now : (f : Content → Content) (old new : Option Content) → new ≡ option_map f old → (d : Content) → new ≡ Some d → (c : Content) × (old ≡ Some c) × (d ≡ f c)
 changed_now f None new e d told = absurd (none-some d (sym e ∙ told))
 changed_now f (Some c) new e d told = (c, refl, sym (same_Some _ _ (sym e ∙ told)))
 
@@ -511,7 +511,7 @@ adds_marked start sectors at keeps moments =
 -- ---- for the calls of a cache
 
 -- The content at the end is told where that at the start is.
-told_on : {a b : List Content} {P : Content → Type 0} → EachMoment a b P → (c : Content) → content_now a ≡ Some c → (d : Content) × (content_now b ≡ Some d)
+pub told_on : {a b : List Content} {P : Content → Type 0} → EachMoment a b P → (c : Content) → content_now a ≡ Some c → (d : Content) × (content_now b ≡ Some d)
 told_on {a} {b} m c told = at_end m.since m.grows
   where
     at_end : (since : List Content) → b ≡ since ++ a → (d : Content) × (content_now b ≡ Some d)

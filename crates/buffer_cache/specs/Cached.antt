@@ -121,3 +121,14 @@ pub record HasNoMark (sectors : HeldSectors) : Type 0 where
 -- The disk reads what the cache gave.
 abbrev pub ReadsGiven : HeldSectors → Content → Content → Type 0
 ReadsGiven old c d = (sector : ℕ) → last_image d sector ≡ cached old c sector
+
+-- The content once each marked sector is written.
+abbrev pub written_back : HeldSectors → Content → Content
+written_back sectors content sector =
+    if is_marked sectors sector then content sector ++ cached sectors content sector ∷ [] else content sector
+
+-- The content while the marked sectors are written in ascending order: those below some sector are, and no other one.
+pub record IsAmidWriteBack (sectors : HeldSectors) (old new : Content) : Type 0 where
+  pub end : ℕ
+  pub below : (sector : ℕ) → sector < end → new sector ≡ written_back sectors old sector
+  pub above : (sector : ℕ) → end ≤ sector → new sector ≡ old sector

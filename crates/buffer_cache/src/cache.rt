@@ -3,8 +3,8 @@ ghost use Rattle.std.specs.Prelude.{◌≡◌, ◌+◌, ◌≤◌, length, vec_c
 ghost use Rattle.disk_model.specs.Causes.{HasCause};
 ghost use Rattle.disk_model.specs.Disk.{OnlyAdds};
 ghost use Rattle.disk_model.specs.Identity.{IsBound};
-ghost use Rattle.disk_model.specs.Moments.{EachSince, HasNow};
-ghost use Rattle.buffer_cache.specs.Cached.{Changes, HasNoMark, IsMarkedSector, IsOfDisk, IsPiece, IsPutOut, Keeps, ReadsGiven, cached, piece_of};
+ghost use Rattle.disk_model.specs.Moments.{EachSince, HasNow, IsChangedBy};
+ghost use Rattle.buffer_cache.specs.Cached.{Changes, HasNoMark, IsAmidWriteBack, IsOfDisk, IsPiece, IsPutOut, Keeps, ReadsGiven, cached, piece_of, written_back};
 ghost use Rattle.buffer_cache.specs.HeldSectors.{no_sectors};
 
 use crate::HeldSectors;
@@ -139,8 +139,10 @@ impl Cache {
         requires bound { IsBound (D.identity disk.old).name }
         requires cache { IsOfDisk (sectors_of self.old) (D.identity disk.old) (D.moments disk.old) }
 
-        ensures written { OnOk result (HasNow (λ c. HasNow (ReadsGiven (sectors_of self.old) c)
+        ensures read { OnOk result (HasNow (λ c. HasNow (ReadsGiven (sectors_of self.old) c)
             (D.moments disk.new)) (D.moments disk.old)) }
+        ensures written { OnOk result (IsChangedBy (written_back (sectors_of self.old))
+            (D.moments disk.old) (D.moments disk.new)) }
         ensures unmarked { OnOk result (HasNoMark (sectors_of self.new)) }
 
         ensures cause { HasCause (D.faults disk.old) (D.faults disk.new) result }
@@ -150,7 +152,7 @@ impl Cache {
             (D.moments disk.old) (D.moments disk.new) }
         ensures identity { D.identity disk.new ≡ D.identity disk.old }
 
-        ensures moments { EachSince (OnlyAdds (IsMarkedSector (sectors_of self.old)))
+        ensures moments { EachSince (IsAmidWriteBack (sectors_of self.old))
             (D.moments disk.old) (D.moments disk.new) }
     {
         list_marked(&self.sectors, &mut self.ascending);

@@ -23,6 +23,8 @@ pub(crate) fn write_held<D: Disk>(
     requires cache { IsOfDisk held.old (D.identity disk.old) (D.moments disk.old) }
 
     ensures written { OnOk result (held.new ≡ with_change at unmarked held.old) }
+    ensures changed { OnOk result (IsChangedBy (with_marked at (held_in held.old at))
+        (D.moments disk.old) (D.moments disk.new)) }
 
     ensures cause { HasCause (D.faults disk.old) (D.faults disk.new) result }
     ensures err { OnErr result (held.new ≡ held.old) }

@@ -4,10 +4,9 @@ ghost use Rattle.std.specs.List.{All, Contains};
 ghost use Rattle.std.specs.List.Sorted.{IsSorted};
 ghost use Rattle.std.specs.Ordering.{nat_cmp};
 ghost use Rattle.disk_model.specs.Causes.{HasCause};
-ghost use Rattle.disk_model.specs.Disk.{OnlyAdds};
 ghost use Rattle.disk_model.specs.Identity.{IsBound};
-ghost use Rattle.disk_model.specs.Moments.{EachSince};
-ghost use Rattle.buffer_cache.specs.Cached.{IsMarkedSector, IsOfDisk, Keeps, is_marked};
+ghost use Rattle.disk_model.specs.Moments.{EachSince, IsChangedBy};
+ghost use Rattle.buffer_cache.specs.Cached.{HasNoMark, IsAmidWriteBack, IsOfDisk, Keeps, is_marked, written_back};
 ghost use Rattle.buffer_cache.specs.HeldSectors.{held_in, marked_keys, marked_scratch};
 
 use crate::write_out::write_held;
@@ -62,7 +61,7 @@ fn list_scratch(scratch: &Option<Scratch>, ascending: &mut Vec<u64>)
     }
 }
 
-/// Writes these sectors, where they are marked.
+/// Writes the marked ones of these sectors, the lowest first.
 pub(crate) fn write_each<D: Disk>(
     disk: &mut D,
     held: &mut HeldSectors,
@@ -71,8 +70,11 @@ pub(crate) fn write_each<D: Disk>(
     requires bound { IsBound (D.identity disk.old).name }
     requires cache { IsOfDisk held.old (D.identity disk.old) (D.moments disk.old) }
     requires sectors { All (λ sector. sector < (D.identity disk.old).sectors) sectors.now }
+    requires each { (sector : ℕ) → is_marked held.old sector ≡ true → Contains sectors.now sector }
+    requires sorted { IsSorted nat_cmp sectors.now }
 
-    ensures unmarked { OnOk result ((sector : ℕ) → Contains sectors.now sector → is_marked held.new sector ≡ false) }
+    ensures written { OnOk result (IsChangedBy (written_back held.old) (D.moments disk.old) (D.moments disk.new)) }
+    ensures unmarked { OnOk result (HasNoMark held.new) }
 
     ensures cause { HasCause (D.faults disk.old) (D.faults disk.new) result }
 
@@ -80,7 +82,7 @@ pub(crate) fn write_each<D: Disk>(
     ensures keeps { Keeps held.old held.new (D.moments disk.old) (D.moments disk.new) }
     ensures identity { D.identity disk.new ≡ D.identity disk.old }
 
-    ensures moments { EachSince (OnlyAdds (IsMarkedSector held.old)) (D.moments disk.old) (D.moments disk.new) }
+    ensures moments { EachSince (IsAmidWriteBack held.old) (D.moments disk.old) (D.moments disk.new) }
 {
     for at in sectors {
         write_held(disk, held, *at)?;

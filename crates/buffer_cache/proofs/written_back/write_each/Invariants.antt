@@ -1,7 +1,7 @@
-use Rattle.std.proofs.Common.{◌≡◌, ◌<◌, ◌≤◌, ℕ, false, get_or}
-use Rattle.disk_model.specs.Disk.{OnlyAdds}
-use Rattle.disk_model.specs.Moments.{EachMoment, FromStart}
-use Rattle.buffer_cache.specs.Cached.{IsMarkedSector, IsOfDisk, Keeps, is_marked}
+use Rattle.std.proofs.Common.{◌≡◌, ◌<◌, ◌≤◌, ℕ, true, false, get_or}
+use Rattle.disk_model.specs.Moments.{EachMoment, FromStart, HasNow}
+use Rattle.buffer_cache.specs.Cached.{IsAmidWriteBack, IsOfDisk, Keeps, is_marked}
+use Rattle.buffer_cache.proofs.WriteBackLemmas.{HasWritten}
 use Rattle.buffer_cache.proofs.written_back.write_each.Given as goal
 
 abbrev pub invariant-loop-at : goal.invariant-loop-at
@@ -13,5 +13,7 @@ invariant-loop-at g l =
       cache : IsOfDisk l.held (g.D.Disk.identity l.disk) (moments_of l.disk);
       keeps : Keeps l.fn.held l.held (moments_of l.fn.disk) (moments_of l.disk);
       unmarked : (k : ℕ) → k < l.at-index → is_marked l.held (get_or l.sectors k 0) ≡ false;
-      moments : EachMoment (moments_of l.fn.disk) (moments_of l.disk) (FromStart (moments_of l.fn.disk) (OnlyAdds (IsMarkedSector l.fn.held)));
+      gone : (s : ℕ) → is_marked l.fn.held s ≡ true → is_marked l.held s ≡ false → (k : ℕ) × (k < l.at-index) × (get_or l.sectors k 0 ≡ s);
+      written : HasNow (λ c. HasNow (HasWritten l.fn.held l.held c) (moments_of l.disk)) (moments_of l.fn.disk);
+      moments : EachMoment (moments_of l.fn.disk) (moments_of l.disk) (FromStart (moments_of l.fn.disk) (IsAmidWriteBack l.fn.held));
     }
