@@ -4,19 +4,19 @@ use Rattle.std.specs.List.{Contains, AllByRecursion}
 use Rattle.std.specs.Map.{lookup}
 use Rattle.lru.specs.LruCache.{IsValid}
 use Rattle.std.specs.Option.{IfSome, is_some, option_map, option_or}
-use Rattle.std.proofs.lemmas.Bool.{cases_Bool, cases_eq, eq-eqb, ne_eqb, false≢true, true≢false}
+use Rattle.std.proofs.lemmas.Bool.{cases_Bool, cases_eq, cases_lt, eq-eqb, ne_eqb, false≢true, true≢false}
 use Rattle.std.proofs.lemmas.List.Elements.{Contains-push_cases}
 use Rattle.std.proofs.lemmas.Option.{none-some, same_Some}
 use Rattle.disk_model.specs.Disk.{Content, OnlyAdds, AddsSome, last_image, last_candidate, with_run}
 use Rattle.disk_model.specs.Identity.{DiskIdentity}
 use Rattle.disk_model.specs.Moments.{EachMoment, EachSince, FromStart, HasNow, IsChangedBy, content_now}
 use Rattle.disk_model.proofs.DiskLemmas.{last_image-with_one, last_image-with_other, sector_in-one, with_run-other, with_sectors-in}
-use Rattle.disk_model.proofs.MomentsLemmas.{EachMoment-weaker, FromStart-weaker}
+use Rattle.disk_model.proofs.MomentsLemmas.{EachMoment-weaker, FromStart-weaker, adds_wider}
 use Rattle.buffer_cache.specs.declared.held.Held.{Held}
 use Rattle.buffer_cache.specs.declared.held.HeldSectors.{HeldSectors}
 use Rattle.buffer_cache.specs.declared.held.Scratch.{Scratch}
 use Rattle.buffer_cache.specs.HeldSectors.{held_in, in_scratch, changed_scratch, in_front, with_change, with_held_piece, with_piece, with_recent, no_sectors, unmarked, CanPutOut, IsFree, IsLast}
-use Rattle.buffer_cache.specs.Cached.{Changes, ReadsGiven, held_or, cached, piece_of, with_given_piece, marked_of, is_marked, Agrees, IsOfDisk, Keeps, with_marked, IsOfMarked, IsAmidMarked, IsLeastRecent, IsMarkedSector, IsRead, IsScratch}
+use Rattle.buffer_cache.specs.Cached.{Changes, IsAmidWriteBack, ReadsGiven, held_or, cached, piece_of, with_given_piece, marked_of, is_marked, Agrees, IsOfDisk, Keeps, with_marked, IsOfMarked, IsAmidMarked, IsLeastRecent, IsMarkedSector, IsPutOut, IsRead, IsScratch}
 use Rattle.buffer_cache.proofs.HeldLemmas.{held_in-with_change, held_in-with_change_other, held_in-in_front, held_in-recent, held_in-scratch, in_scratch-here, in_scratch-other, last_goes_out, lookup-changed_at, lookup-changed_other, lookup-last, lookup-promoted, lookup-take, lookup-with_recent, lookup-with_recent_other, missed_in_both}
 
 -- ---- moments
@@ -359,6 +359,10 @@ pub apart-scratch : (at : ℕ) (held : Held) (sectors : HeldSectors) → held_in
 apart-scratch at held sectors missed scratch is =
     ap (λ (s : Scratch). lookup (nat_eq s.at) sectors.recent.entries) (sym (same_Some _ _ is)) ∙ (missed_in_both sectors at missed).0
 
+-- What is marked now was so before.
+marked_of_before : {a b : List Content} (old new : HeldSectors) (s : ℕ) (x : List ℕ) → Keeps old new a b → IsMarkedSector new s x → IsMarkedSector old s x
+marked_of_before old new s x keeps of = record { held = of.held; is = sym (keeps.marked s (ap marked_of of.is ∙ of.marked)) ∙ of.is; marked = of.marked; bytes = of.bytes }
+
 -- What was read of a sector that is not held, a later read gives too.
 pub read_later : {a b : List Content} (P : Content → Content → Type 0) (at : ℕ) (bytes : List ℕ) (old new : HeldSectors) → ((c : Content) → P c c) → EachMoment a b (FromStart a P)
     → Keeps old new a b → held_in old at ≡ None → held_in new at ≡ None → HasNow (λ c. bytes ≡ last_image c at) a → HasNow (λ c. bytes ≡ last_image c at) b
@@ -378,8 +382,11 @@ IsRead-later P at held old new same moments keeps missed missed_now read = recor
 }
 
 -- The scratch buffer is as it was.
-pub scratch_of_before : (old new : HeldSectors) (s : ℕ) (x : List ℕ) → new.scratch ≡ old.scratch → IsScratch new s x → IsScratch old s x
-scratch_of_before old new s x same out = record { scratch = out.scratch; is = sym same ∙ out.is; place = out.place; marked = out.marked; bytes = out.bytes }
+pub scratch_of_before : {a b : List Content} (old new : HeldSectors) (s : ℕ) (x : List ℕ) → Keeps old new a b → new.scratch ≡ old.scratch → IsScratch new s x → IsScratch old s x
+scratch_of_before old new s x keeps same out = record {
+  there = ap (λ (o : Option Scratch). is_some (in_scratch o s)) (sym same) ∙ out.there;
+  marked = marked_of_before old new s x keeps out.marked;
+}
 
 -- ---- steps in a row
 
@@ -440,12 +447,8 @@ scratch_stays sectors at apart valid last = stays sectors.scratch apart
         let off : nat_eq scratch.at at ≡ false = ne_eqb scratch.at at (λ same. none-some last.held (sym (apart scratch refl) ∙ ap (λ (k : ℕ). lookup (nat_eq k) sectors.recent.entries) same ∙ lookup-last sectors.recent at last.held valid.0 last.is)) in
         ap (λ (b : Bool). if b then Some (record scratch { held = unmarked scratch.held }) else Some scratch) off
 
-pub adds_least_recent : {a b : List Content} (sectors : HeldSectors) (at : ℕ) → IsValid nat_eq sectors.recent → IsLast sectors.recent at → EachSince (IsAmidMarked at (held_in sectors at)) a b → EachSince (OnlyAdds (IsLeastRecent sectors)) a b
-adds_least_recent sectors at valid last moments =
-    amid_adds (IsLeastRecent sectors) at (held_in sectors at)
-    (λ x of.
-    let same : of.held ≡ last.held = same_Some _ _ (sym of.is ∙ last_is_held sectors at valid last) in
-    record { held = last.held; is = last.is; full = last.full; marked = ap (λ (h : Held). h.marked) (sym same) ∙ of.marked; bytes = of.bytes ∙ ap (λ (h : Held). h.bytes) same }) moments
+pub adds_least_recent : {a b : List Content} (sectors : HeldSectors) (at : ℕ) → IsLast sectors.recent at → EachSince (IsAmidMarked at (held_in sectors at)) a b → EachSince (OnlyAdds (IsLeastRecent sectors)) a b
+adds_least_recent sectors at last moments = amid_adds (IsLeastRecent sectors) at (held_in sectors at) (λ x of. record { last = last; marked = of }) moments
 
 -- Which sector stands in the scratch buffer.
 pub scratch_told : (at : ℕ) (o : Option Scratch) → Some at ≡ option_map (λ (s : Scratch). s.at) o → (scratch : Scratch) × (o ≡ Some scratch) × (scratch.at ≡ at)
@@ -467,13 +470,12 @@ IsFree-unmarked sectors at scratch is place = record {
       ap (λ (s : Scratch). s.held.marked) (sym (same_Some _ _ cleared));
 }
 
-pub adds_scratch : {a b : List Content} (sectors : HeldSectors) (at : ℕ) (scratch : Scratch) → sectors.scratch ≡ Some scratch → scratch.at ≡ at → lookup (nat_eq scratch.at) sectors.recent.entries ≡ None
+pub adds_scratch : {a b : List Content} (sectors : HeldSectors) (at : ℕ) (scratch : Scratch) → sectors.scratch ≡ Some scratch → scratch.at ≡ at
     → EachSince (IsAmidMarked at (held_in sectors at)) a b → EachSince (OnlyAdds (IsScratch sectors)) a b
-adds_scratch sectors at scratch is place apart moments =
-    amid_adds (IsScratch sectors) at (held_in sectors at)
-    (λ x of.
-    let same : of.held ≡ scratch.held = same_Some _ _ (sym of.is ∙ ap (held_in sectors) (sym place) ∙ scratch_is_held sectors scratch is apart) in
-    record { scratch = scratch; is = is; place = sym place; marked = ap (λ (h : Held). h.marked) (sym same) ∙ of.marked; bytes = of.bytes ∙ ap (λ (h : Held). h.bytes) same }) moments
+adds_scratch sectors at scratch is place moments =
+    let there : is_some (in_scratch sectors.scratch at) ≡ true =
+    ap (λ (o : Option Scratch). is_some (in_scratch o at)) is ∙ ap (λ (k : ℕ). is_some (in_scratch (Some scratch) k)) (sym place) ∙ ap is_some (in_scratch-here scratch) in
+    amid_adds (IsScratch sectors) at (held_in sectors at) (λ x of. record { there = there; marked = of }) moments
 
 -- A step that leaves the disk as it is, after one that may not.
 pub Keeps-after : {a b : List Content} (r s t : HeldSectors) → Keeps r s a b → Keeps s t b b → Keeps r t a b
@@ -501,12 +503,6 @@ stays_unmarked old new s keeps clear = elim (cases_Bool (is_marked new s)) [
 -- A sector that is written is not marked.
 pub written_unmarked : (sectors : HeldSectors) (at : ℕ) → is_marked (with_change at unmarked sectors) at ≡ false
 written_unmarked sectors at = ap marked_of (held_in-with_change at unmarked sectors) ∙ unmarked_mark (held_in sectors at)
-
--- What a later write brings, was marked at the start.
-pub adds_marked : {a b c : List Content} (start sectors : HeldSectors) (at : ℕ) → Keeps start sectors a b → EachSince (IsAmidMarked at (held_in sectors at)) b c → EachSince (OnlyAdds (IsMarkedSector start)) b c
-adds_marked start sectors at keeps moments =
-    amid_adds (IsMarkedSector start) at (held_in sectors at)
-    (λ x of. record { held = of.held; is = sym (keeps.marked at (ap marked_of of.is ∙ of.marked)) ∙ of.is; marked = of.marked; bytes = of.bytes }) moments
 
 -- ---- for the calls of a cache
 
@@ -614,3 +610,32 @@ none_is_marked old new xs ys keeps listed same written s = elim (cases_Bool (is_
   | inl y ↦ written s (subst (λ (zs : List ℕ). Contains zs s) (sym same) (listed s (ap marked_of (sym (keeps.marked s y)) ∙ y)))
   | inr n ↦ n
 ]
+
+-- ---- for callers
+
+-- What a use of a sector brings, is what was marked.
+pub IsMarkedSector-put_out : (at : ℕ) (sectors : HeldSectors) (s : ℕ) (x : List ℕ) → IsPutOut at sectors s x → IsMarkedSector sectors s x
+IsMarkedSector-put_out at sectors s x out = ⊎_elim (λ recent. recent.marked) (λ scratch. scratch.marked) out.out
+
+pub adds_marked : {a b : List Content} (at : ℕ) (sectors : HeldSectors) → EachSince (OnlyAdds (IsPutOut at sectors)) a b → EachSince (OnlyAdds (IsMarkedSector sectors)) a b
+adds_marked at sectors moments = adds_wider (IsPutOut at sectors) (IsMarkedSector sectors) (IsMarkedSector-put_out at sectors) moments
+
+-- So is what a write-back brings.
+OnlyAdds-write_back : (sectors : HeldSectors) (c d : Content) → IsAmidWriteBack sectors c d → OnlyAdds (IsMarkedSector sectors) c d
+OnlyAdds-write_back sectors c d amid = record {
+  among = λ s x has. elim (cases_lt s amid.end) [
+    | inl low ↦ of_written s x (held_in sectors s) refl (subst (λ (xs : List (List ℕ)). Contains xs x) (amid.below s low) has)
+    | inr high ↦ inl (subst (λ (xs : List (List ℕ)). Contains xs x) (amid.above s high) has)
+  ];
+}
+  where
+    of_written : (s : ℕ) (x : List ℕ) (o : Option Held) → held_in sectors s ≡ o → Contains (if marked_of o then c s ++ held_or o (last_image c s) ∷ [] else c s) x → Contains (c s) x ⊎ IsMarkedSector sectors s x
+    of_written s x None is has = inl has
+    of_written s x (Some held) is has = elim (cases_Bool held.marked) [
+      | inl y ↦ ⊎_elim inl (λ e. inr (record { held = held; is = is; marked = y; bytes = sym e }))
+          (Contains-push_cases (c s) held.bytes x (subst (λ (xs : List (List ℕ)). Contains xs x) (ap (λ (b : Bool). if b then c s ++ held.bytes ∷ [] else c s) y) has))
+      | inr n ↦ inl (subst (λ (xs : List (List ℕ)). Contains xs x) (ap (λ (b : Bool). if b then c s ++ held.bytes ∷ [] else c s) n) has)
+    ]
+
+pub write_back_adds : {a b : List Content} (sectors : HeldSectors) → EachSince (IsAmidWriteBack sectors) a b → EachSince (OnlyAdds (IsMarkedSector sectors)) a b
+write_back_adds {a} sectors moments = EachMoment-weaker (FromStart-weaker a (IsAmidWriteBack sectors) (OnlyAdds (IsMarkedSector sectors)) (λ start c told amid. OnlyAdds-write_back sectors start c amid)) moments

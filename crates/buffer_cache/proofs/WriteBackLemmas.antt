@@ -1,5 +1,5 @@
 -- The marked sectors are those that are listed; once each of them is written none is marked.
-use Rattle.std.proofs.Common.{◌≡◌, ◌⊎◌, inl, inr, ⊎_elim, ℕ, zero, suc, ◌+◌, ◌-◌, ◌/◌, ◌<◌, ◌≤◌, ◌≢◌, Bool, true, false, nat_eq, cond, if◌then◌else◌, List, [], ◌∷◌, ◌++◌, length, get_or, refl, sym, ◌∙◌, ap, subst, arith, Option, Some, None}
+use Rattle.std.proofs.Common.{◌≡◌, ◌⊎◌, inl, inr, ⊎_elim, ℕ, zero, suc, ◌+◌, ◌/◌, ◌<◌, ◌≢◌, Bool, true, false, nat_eq, cond, if◌then◌else◌, List, [], ◌∷◌, ◌++◌, length, get_or, refl, sym, ◌∙◌, ap, subst, arith, Option, Some, None}
 use Rattle.std.specs.List.{Contains}
 use Rattle.std.specs.List.Sorted.{IsNonDecreasing}
 use Rattle.std.specs.Map.{lookup}
@@ -11,7 +11,7 @@ use Rattle.buffer_cache.specs.declared.held.Held.{Held}
 use Rattle.buffer_cache.specs.declared.held.HeldSectors.{HeldSectors}
 use Rattle.buffer_cache.specs.declared.held.Scratch.{Scratch}
 use Rattle.buffer_cache.specs.HeldSectors.{held_in, in_scratch, marked_keys, marked_scratch, unmarked, with_change}
-use Rattle.buffer_cache.specs.Cached.{IsAmidMarked, IsAmidWriteBack, IsOfMarked, cached, held_or, is_marked, marked_of, with_marked, written_back}
+use Rattle.buffer_cache.specs.Cached.{IsAmidMarked, IsAmidWriteBack, cached, held_or, is_marked, marked_of, with_marked, written_back}
 use Rattle.disk_model.specs.Disk.{Content, last_image, with_run}
 use Rattle.disk_model.specs.Moments.{EachMoment, FromStart, HasNow, IsChangedBy, content_now}
 use Rattle.disk_model.proofs.DiskLemmas.{sector_in-one, with_run-other, with_sectors-in}
@@ -213,19 +213,19 @@ pub amid_write_back : (start sectors : HeldSectors) (at : ℕ) (c m d : Content)
 amid_write_back start sectors at c m d from has below above amid = elim (cases_Bool (is_marked sectors at)) [
   | inl y ↦ elim (amid.each at) [
     | inl same ↦ record {
-        end = at;
-        below = λ s low. elsewhere s (λ e. omega (arith, low, e)) ∙ before s low;
-        above = λ s high. elim (cases_eq s at) [
-          | inl here ↦ subst (λ (k : ℕ). d k ≡ c k) (sym here) (same ∙ has.waits at (y ∙ sym (marked_before start sectors at from y)))
-          | inr ne ↦ elsewhere s ne ∙ has.waits s (above s (omega (arith, high, ne)))
-        ];
-      }
+      end = at;
+      below = λ s low. elsewhere s (λ e. omega (arith, low, e)) ∙ before s low;
+      above = λ s high. elim (cases_eq s at) [
+        | inl here ↦ subst (λ (k : ℕ). d k ≡ c k) (sym here) (same ∙ has.waits at (y ∙ sym (marked_before start sectors at from y)))
+        | inr ne ↦ elsewhere s ne ∙ has.waits s (above s (omega (arith, high, ne)))
+      ];
+    }
     | inr more ↦
         let bytes : more.1 ≡ cached start c at =
-          more.2.bytes ∙ ap (λ (o : Option Held). held_or o (last_image c at)) (sym more.2.is ∙ from at y) in
+        more.2.bytes ∙ ap (λ (o : Option Held). held_or o (last_image c at)) (sym more.2.is ∙ from at y) in
         let here_is : d at ≡ written_back start c at =
-          more.3 ∙ ap (λ (xs : List (List ℕ)). xs ++ more.1 ∷ []) (has.waits at (y ∙ sym (marked_before start sectors at from y))) ∙ ap (λ (x : List ℕ). c at ++ x ∷ []) bytes
-          ∙ sym (ap (λ (b : Bool). if b then c at ++ cached start c at ∷ [] else c at) (marked_before start sectors at from y)) in
+        more.3 ∙ ap (λ (xs : List (List ℕ)). xs ++ more.1 ∷ []) (has.waits at (y ∙ sym (marked_before start sectors at from y))) ∙ ap (λ (x : List ℕ). c at ++ x ∷ []) bytes
+        ∙ sym (ap (λ (b : Bool). if b then c at ++ cached start c at ∷ [] else c at) (marked_before start sectors at from y)) in
         up_to here_is
   ]
   | inr n ↦ up_to (unwritten n ∙ written_is start c m at (λ marked. has.done at marked n) (λ off. has.waits at (n ∙ sym off)))

@@ -1,14 +1,14 @@
 -- What a cache and a disk give together: one content of each sector, whether it is held or not.
 use Rattle.std.specs.Prelude.{◌≡◌, ◌≢◌, ◌⊎◌, ℕ, ◌+◌, ◌<◌, ◌≤◌, Bool, true, false, nat_eq, if◌then◌else◌, List, [], ◌∷◌, ◌++◌, length, take, drop, Option, Some, None}
 use Rattle.std.specs.Map.{lookup}
+use Rattle.std.specs.Option.{is_some}
 use Rattle.disk_model.specs.Disk.{Content, Image, last_image, with_run}
 use Rattle.disk_model.specs.Identity.{DiskIdentity}
 use Rattle.disk_model.specs.Moments.{HasNow}
-use Rattle.lru.specs.LruCache.{last_entry}
 use Rattle.buffer_cache.specs.declared.held.Held.{Held}
 use Rattle.buffer_cache.specs.declared.held.HeldSectors.{HeldSectors}
 use Rattle.buffer_cache.specs.declared.held.Scratch.{Scratch}
-use Rattle.buffer_cache.specs.HeldSectors.{held_in, with_piece}
+use Rattle.buffer_cache.specs.HeldSectors.{held_in, in_scratch, with_piece, IsLast}
 
 -- The bytes that are held, and else those that a read gives.
 abbrev pub held_or : Option Held → List ℕ → List ℕ
@@ -68,19 +68,13 @@ IsMarkedSector sectors sector x = IsOfMarked (held_in sectors sector) x
 
 -- The candidate that the least recently used sector brings, where it has to go out for another one.
 pub record IsLeastRecent (sectors : HeldSectors) (sector : ℕ) (x : List ℕ) : Type 0 where
-  pub held : Held
-  pub is : last_entry sectors.recent.entries ≡ Some (sector, held)
-  pub full : sectors.recent.cap ≤ length sectors.recent.entries
-  pub marked : held.marked ≡ true
-  pub bytes : x ≡ held.bytes
+  pub last : IsLast sectors.recent sector
+  pub marked : IsMarkedSector sectors sector x
 
 -- The candidate that the sector in the scratch buffer brings.
 pub record IsScratch (sectors : HeldSectors) (sector : ℕ) (x : List ℕ) : Type 0 where
-  pub scratch : Scratch
-  pub is : sectors.scratch ≡ Some scratch
-  pub place : sector ≡ scratch.at
-  pub marked : scratch.held.marked ≡ true
-  pub bytes : x ≡ scratch.held.bytes
+  pub there : is_some (in_scratch sectors.scratch sector) ≡ true
+  pub marked : IsMarkedSector sectors sector x
 
 -- The candidates that a use of a sector may bring: where it is not held, those of the sectors that go out for it.
 pub record IsPutOut (at : ℕ) (sectors : HeldSectors) (sector : ℕ) (x : List ℕ) : Type 0 where

@@ -30,4 +30,4 @@ returns-clause-moments g c =
     adds_then V
     (adds_wider (IsLeastRecent c.args.held.now) V (λ s x out. record { missed = c.requires.missed; out = inl out }) (rw c.read_run.ensures.kept at c.make_room.ensures.moments))
     (adds_wider (IsScratch c.make_room.new.held) V
-    (λ s x out. record { missed = c.requires.missed; out = inr (scratch_of_before c.args.held.now c.make_room.new.held s x c.in_ok-make_room.ensures.scratch out) }) c.hold.ensures.moments)
+    (λ s x out. record { missed = c.requires.missed; out = inr (scratch_of_before c.args.held.now c.make_room.new.held s x c.make_room.ensures.keeps c.in_ok-make_room.ensures.scratch out) }) c.hold.ensures.moments)

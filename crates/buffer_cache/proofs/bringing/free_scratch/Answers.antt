@@ -21,7 +21,7 @@ returns-in-Some-clause-missed g c =
 pub returns-in-Some-clause-moments : goal.returns-in-Some-clause-moments
 returns-in-Some-clause-moments g c =
     let told = scratch_told c.in-Some.at c.args.held.now.scratch c.in-Some.ensures in
-    adds_scratch c.args.held.now c.in-Some.at told.0 told.1 told.2 (c.requires.cache.apart told.0 told.1) c.write_held.ensures.moments
+    adds_scratch c.args.held.now c.in-Some.at told.0 told.1 told.2 c.write_held.ensures.moments
 
 pub returns-in-None-clause-free : goal.returns-in-None-clause-free
 returns-in-None-clause-free g c = no_scratch c.args.held.now c.in-None.ensures

@@ -24,4 +24,4 @@ returns-in-Some-clause-missed g c =
 
 pub returns-in-Some-clause-moments : goal.returns-in-Some-clause-moments
 returns-in-Some-clause-moments g c =
-    adds_least_recent c.args.held.now c.in-Some.at c.next_out.ensures.valid c.in-Some.ensures.last c.write_held.ensures.moments
+    adds_least_recent c.args.held.now c.in-Some.at c.in-Some.ensures.last c.write_held.ensures.moments

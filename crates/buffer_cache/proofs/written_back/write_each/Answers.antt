@@ -1,11 +1,9 @@
-use Rattle.std.proofs.Common.{◌≡◌, ◌<◌, ◌≤◌, ◌+◌, ℕ, List, false, true, ap, sym, subst, ◌∙◌, arith, rules, length, get_or, below_more, Some, OnOk}
+use Rattle.std.proofs.Common.{◌≡◌, ◌<◌, ℕ, false, arith, rules, length, get_or, below_more}
 use Rattle.std.specs.List.Sorted.{IsNonDecreasing}
 use Rattle.std.proofs.lemmas.List.Sorted.{IsNonDecreasingBy-from_sort}
-use Rattle.disk_model.specs.Disk.{Content}
-use Rattle.disk_model.specs.Moments.{content_now}
 use Rattle.disk_model.proofs.MomentsLemmas.{EachMoment-join}
-use Rattle.buffer_cache.specs.Cached.{IsAmidMarked, IsAmidWriteBack, Keeps, is_marked, with_marked, written_back}
-use Rattle.buffer_cache.specs.HeldSectors.{held_in, unmarked}
+use Rattle.buffer_cache.specs.Cached.{IsAmidMarked, IsAmidWriteBack, is_marked, written_back}
+use Rattle.buffer_cache.specs.HeldSectors.{held_in}
 use Rattle.buffer_cache.proofs.CachedLemmas.{Keeps-then, amid_same, none_is_marked, stays_unmarked, written_unmarked}
 use Rattle.buffer_cache.proofs.WriteBackLemmas.{above_waits, all_written, amid_write_back, below_is_clear, changed_from, each_contained, gone_more, write_back_none, written_more}
 use Rattle.buffer_cache.proofs.written_back.write_each.Goals as goal

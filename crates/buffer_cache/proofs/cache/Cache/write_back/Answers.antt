@@ -1,4 +1,3 @@
-use Rattle.std.proofs.Common.{arith}
 use Rattle.std.proofs.lemmas.Result.{on_ok_weaker}
 use Rattle.buffer_cache.proofs.CachedLemmas.{reads_given}
 use Rattle.buffer_cache.proofs.cache.Cache.write_back.Goals as goal
