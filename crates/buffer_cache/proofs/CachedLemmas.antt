@@ -15,8 +15,8 @@ use Rattle.disk_model.proofs.MomentsLemmas.{EachMoment-weaker, FromStart-weaker,
 use Rattle.buffer_cache.specs.declared.held.Held.{Held}
 use Rattle.buffer_cache.specs.declared.held.HeldSectors.{HeldSectors}
 use Rattle.buffer_cache.specs.declared.held.Scratch.{Scratch}
-use Rattle.buffer_cache.specs.HeldSectors.{held_in, in_scratch, changed_scratch, in_front, with_change, with_held_piece, with_piece, with_recent, no_sectors, unmarked, CanPutOut, IsFree, IsLast}
-use Rattle.buffer_cache.specs.Cached.{Changes, IsAmidWriteBack, ReadsGiven, held_or, cached, piece_of, with_given_piece, marked_of, is_marked, Agrees, IsOfDisk, Keeps, with_marked, IsOfMarked, IsAmidMarked, IsLeastRecent, IsMarkedSector, IsPutOut, IsRead, IsScratch}
+use Rattle.buffer_cache.specs.HeldSectors.{held_in, in_scratch, changed_scratch, in_front, with_change, with_held_piece, with_piece, with_recent, no_sectors, unmarked, CanPutOut, HoldsAlso, IsFree, IsLast}
+use Rattle.buffer_cache.specs.Cached.{Changes, IsAmidWriteBack, IsWrittenBack, held_or, cached, piece_of, with_given_piece, marked_of, is_marked, Agrees, IsOfDisk, Keeps, with_marked, IsOfMarked, IsAmidMarked, IsLeastRecent, IsMarkedSector, IsPutOut, IsRead, IsScratch}
 use Rattle.buffer_cache.proofs.HeldLemmas.{held_in-with_change, held_in-with_change_other, held_in-in_front, held_in-recent, held_in-scratch, in_scratch-here, in_scratch-other, last_goes_out, lookup-changed_at, lookup-changed_other, lookup-last, lookup-promoted, lookup-take, lookup-with_recent, lookup-with_recent_other, missed_in_both}
 
 -- ---- moments
@@ -301,6 +301,9 @@ Keeps-replaced disk m at held old new is missed read replaces = record {
   slots = replaces.slots;
 }
 
+pub HoldsAlso-replaced : (at : ℕ) (held : Held) (old new : HeldSectors) → Replaces at held old new → HoldsAlso at old new
+HoldsAlso-replaced at held old new replaces = record { each = λ s ne missed. ⊎_elim (λ stays. stays ∙ missed) (λ goes. goes.0) (replaces.others s ne) }
+
 -- A sector comes in among the recent ones.
 pub Replaces-recent : (at : ℕ) (held : Held) (sectors : HeldSectors) → CanPutOut sectors → held_in sectors at ≡ None
     → ((scratch : Scratch) → sectors.scratch ≡ Some scratch → lookup (nat_eq scratch.at) sectors.recent.entries ≡ None) → Replaces at held sectors (with_recent at held sectors)
@@ -576,8 +579,11 @@ IsOfDisk-piece disk m at from piece sectors fits found is = record {
 }
 
 -- Where no sector is marked, the disk reads what the cache gave.
-pub reads_given : (disk : DiskIdentity) {a b : List Content} (old new : HeldSectors) → IsOfDisk new disk b → Keeps old new a b → ((s : ℕ) → is_marked new s ≡ false) → HasNow (λ c. HasNow (ReadsGiven old c) b) a
-reads_given disk old new is keeps clear c told d told_end s = sym ((is.agrees d told_end).each s (clear s)) ∙ keeps.given c told d told_end s
+pub IsWrittenBack-none : (disk : DiskIdentity) {a b : List Content} (old new : HeldSectors) → IsOfDisk new disk b → Keeps old new a b → ((s : ℕ) → is_marked new s ≡ false) → IsWrittenBack old new a b
+IsWrittenBack-none disk old new is keeps clear = record {
+  read = λ c told d told_end s. sym ((is.agrees d told_end).each s (clear s)) ∙ keeps.given c told d told_end s;
+  unmarked = clear;
+}
 
 -- A cache that holds none is of any disk.
 pub IsOfDisk-none : (disk : DiskIdentity) (m : List Content) (slots : ℕ) → IsOfDisk (no_sectors slots) disk m

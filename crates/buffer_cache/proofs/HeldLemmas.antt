@@ -15,7 +15,7 @@ use Rattle.lru.proofs.CallerLemmas.{Contains-lookup_entry}
 use Rattle.buffer_cache.specs.declared.held.Held.{Held}
 use Rattle.buffer_cache.specs.declared.held.HeldSectors.{HeldSectors}
 use Rattle.buffer_cache.specs.declared.held.Scratch.{Scratch}
-use Rattle.buffer_cache.specs.HeldSectors.{held_in, in_scratch, changed_at, changed_scratch, with_change, in_front, with_recent, unmarked, IsLast, CanPutOut, HoldsNoMore}
+use Rattle.buffer_cache.specs.HeldSectors.{held_in, in_scratch, changed_at, changed_scratch, with_change, in_front, with_recent, unmarked, IsLast, CanPutOut, HoldsAlso, HoldsNoMore}
 
 -- ---- look-ups
 
@@ -268,3 +268,23 @@ last_goes_out sectors s i held can behind at =
     let low = slice_get_within sectors.recent.entries i (s, held) at in
     let is_last : i ≡ length sectors.recent.entries - 1 = omega (arith, low, behind, can.fits, can.some) in
     can.last s held (omega (arith, low, behind, can.fits, can.some)) (ap (slice_get sectors.recent.entries) (sym is_last) ∙ at)
+
+-- ---- what is not held
+
+pub HoldsNoMore-same : (sectors : HeldSectors) → HoldsNoMore sectors sectors
+HoldsNoMore-same sectors = record { each = λ s missed. missed }
+
+pub HoldsNoMore-then : (r s t : HeldSectors) → HoldsNoMore r s → HoldsNoMore s t → HoldsNoMore r t
+HoldsNoMore-then r s t first second = record { each = λ sector missed. second.each sector (first.each sector missed) }
+
+pub HoldsAlso-after : (at : ℕ) (r s t : HeldSectors) → HoldsNoMore r s → HoldsAlso at s t → HoldsAlso at r t
+HoldsAlso-after at r s t first second = record { each = λ sector ne missed. second.each sector ne (first.each sector missed) }
+
+pub HoldsAlso-before : (at : ℕ) (r s t : HeldSectors) → HoldsAlso at r s → HoldsNoMore s t → HoldsAlso at r t
+HoldsAlso-before at r s t first second = record { each = λ sector ne missed. second.each sector (first.each sector ne missed) }
+
+pub HoldsAlso-no_more : (at : ℕ) (r s : HeldSectors) → HoldsNoMore r s → HoldsAlso at r s
+HoldsAlso-no_more at r s first = record { each = λ sector ne missed. first.each sector missed }
+
+pub HoldsAlso-in_front : (at : ℕ) (sectors : HeldSectors) → HoldsAlso at sectors (in_front at sectors)
+HoldsAlso-in_front at sectors = record { each = λ s ne missed. held_in-in_front at s sectors ∙ missed }

@@ -108,13 +108,14 @@ pub record Changes (at from : ℕ) (piece : List ℕ) (old new : HeldSectors) (b
   pub others : (sector : ℕ) → sector ≢ at → is_marked new sector ≡ true → held_in new sector ≡ held_in old sector
   pub slots : new.recent.cap ≡ old.recent.cap
 
+-- The disk reads what the cache gave, and no sector is marked.
+pub record IsWrittenBack (old new : HeldSectors) (before after : List Content) : Type 0 where
+  pub read : HasNow (λ c. HasNow (λ d. (sector : ℕ) → last_image d sector ≡ cached old c sector) after) before
+  pub unmarked : (sector : ℕ) → is_marked new sector ≡ false
+
 -- No sector is marked.
 pub record HasNoMark (sectors : HeldSectors) : Type 0 where
   pub none : (sector : ℕ) → is_marked sectors sector ≡ false
-
--- The disk reads what the cache gave.
-abbrev pub ReadsGiven : HeldSectors → Content → Content → Type 0
-ReadsGiven old c d = (sector : ℕ) → last_image d sector ≡ cached old c sector
 
 -- The content once each marked sector is written.
 abbrev pub written_back : HeldSectors → Content → Content

@@ -1,6 +1,6 @@
 -- What a cache holds of each sector, and how its steps change that.
 -- Own: a sector is held among the recent ones, or in the scratch buffer where there was no memory for it.
-use Rattle.std.specs.Prelude.{ℕ, ◌+◌, ◌<◌, ◌≤◌, ◌≡◌, ◌==◌, true, false, nat_eq, if◌then◌else◌, List, [], ◌∷◌, length, Option, Some, None}
+use Rattle.std.specs.Prelude.{ℕ, ◌+◌, ◌<◌, ◌≤◌, ◌≡◌, ◌≢◌, ◌==◌, true, false, nat_eq, if◌then◌else◌, List, [], ◌∷◌, length, Option, Some, None}
 use Rattle.std.specs.List.{replace_range}
 use Rattle.std.specs.Map.{lookup, set_value}
 use Rattle.std.specs.Option.{option_map_or, option_or}
@@ -80,6 +80,10 @@ pub record IsFree (sectors : HeldSectors) : Type 0 where
 -- Each sector that was not held is not held.
 pub record HoldsNoMore (old new : HeldSectors) : Type 0 where
   pub each : (sector : ℕ) → held_in old sector ≡ None → held_in new sector ≡ None
+
+-- Each sector that was not held is not held, but for one.
+pub record HoldsAlso (at : ℕ) (old new : HeldSectors) : Type 0 where
+  pub each : (sector : ℕ) → sector ≢ at → held_in old sector ≡ None → held_in new sector ≡ None
 
 -- None is held, and there may be so many recent ones.
 abbrev pub no_sectors : ℕ → HeldSectors

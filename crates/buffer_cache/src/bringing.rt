@@ -8,7 +8,7 @@ ghost use Rattle.disk_model.specs.Disk.{OnlyAdds, last_image};
 ghost use Rattle.disk_model.specs.Identity.{IsBound};
 ghost use Rattle.disk_model.specs.Moments.{EachSince, HasNow};
 ghost use Rattle.buffer_cache.specs.Cached.{IsOfDisk, IsPutOut, IsRead, IsScratch, Keeps};
-ghost use Rattle.buffer_cache.specs.HeldSectors.{CanPutOut, HoldsNoMore, IsFree, held_in, with_recent};
+ghost use Rattle.buffer_cache.specs.HeldSectors.{CanPutOut, HoldsAlso, HoldsNoMore, IsFree, held_in, with_recent};
 
 use crate::write_out::{make_room, write_held};
 use crate::{Held, HeldSectors, Scratch};
@@ -26,6 +26,7 @@ pub(crate) fn bring<D: Disk>(disk: &mut D, held: &mut HeldSectors, at: u64) -> R
 
     ensures cache { IsOfDisk held.new (D.identity disk.new) (D.moments disk.new) }
     ensures keeps { Keeps held.old held.new (D.moments disk.old) (D.moments disk.new) }
+    ensures held { HoldsAlso at held.old held.new }
     ensures identity { D.identity disk.new ≡ D.identity disk.old }
 
     ensures moments { EachSince (OnlyAdds (IsPutOut at held.old)) (D.moments disk.old) (D.moments disk.new) }
@@ -49,6 +50,7 @@ fn fetch<D: Disk>(disk: &mut D, held: &mut HeldSectors, at: u64) -> Result<(), F
 
     ensures cache { IsOfDisk held.new (D.identity disk.new) (D.moments disk.new) }
     ensures keeps { Keeps held.old held.new (D.moments disk.old) (D.moments disk.new) }
+    ensures held { HoldsAlso at held.old held.new }
     ensures identity { D.identity disk.new ≡ D.identity disk.old }
 
     ensures moments { EachSince (OnlyAdds (IsPutOut at held.old)) (D.moments disk.old) (D.moments disk.new) }
@@ -79,6 +81,7 @@ fn hold<D: Disk>(
 
     ensures cache { IsOfDisk held.new (D.identity disk.new) (D.moments disk.new) }
     ensures keeps { Keeps held.old held.new (D.moments disk.old) (D.moments disk.new) }
+    ensures held { HoldsAlso at held.old held.new }
     ensures identity { D.identity disk.new ≡ D.identity disk.old }
 
     ensures moments { EachSince (OnlyAdds (IsScratch held.old)) (D.moments disk.old) (D.moments disk.new) }
@@ -128,6 +131,7 @@ fn hold_in_scratch<D: Disk>(
 
     ensures cache { IsOfDisk held.new (D.identity disk.new) (D.moments disk.new) }
     ensures keeps { Keeps held.old held.new (D.moments disk.old) (D.moments disk.new) }
+    ensures held { HoldsAlso at held.old held.new }
     ensures identity { D.identity disk.new ≡ D.identity disk.old }
 
     ensures moments { EachSince (OnlyAdds (IsScratch held.old)) (D.moments disk.old) (D.moments disk.new) }
@@ -143,12 +147,12 @@ fn free_scratch<D: Disk>(disk: &mut D, held: &mut HeldSectors) -> Result<(), Fai
     requires cache { IsOfDisk held.old (D.identity disk.old) (D.moments disk.old) }
 
     ensures free { OnOk result (IsFree held.new) }
-    ensures missed { OnOk result (HoldsNoMore held.old held.new) }
 
     ensures cause { HasCause (D.faults disk.old) (D.faults disk.new) result }
 
     ensures cache { IsOfDisk held.new (D.identity disk.new) (D.moments disk.new) }
     ensures keeps { Keeps held.old held.new (D.moments disk.old) (D.moments disk.new) }
+    ensures held { HoldsNoMore held.old held.new }
     ensures identity { D.identity disk.new ≡ D.identity disk.old }
 
     ensures moments { EachSince (OnlyAdds (IsScratch held.old)) (D.moments disk.old) (D.moments disk.new) }

@@ -4,8 +4,8 @@ ghost use Rattle.disk_model.specs.Causes.{HasCause};
 ghost use Rattle.disk_model.specs.Disk.{OnlyAdds};
 ghost use Rattle.disk_model.specs.Identity.{IsBound};
 ghost use Rattle.disk_model.specs.Moments.{EachSince, HasNow, IsChangedBy};
-ghost use Rattle.buffer_cache.specs.Cached.{Changes, HasNoMark, IsAmidWriteBack, IsOfDisk, IsPiece, IsPutOut, Keeps, ReadsGiven, cached, piece_of, written_back};
-ghost use Rattle.buffer_cache.specs.HeldSectors.{no_sectors};
+ghost use Rattle.buffer_cache.specs.Cached.{Changes, IsAmidWriteBack, IsOfDisk, IsPiece, IsPutOut, IsWrittenBack, Keeps, cached, piece_of, written_back};
+ghost use Rattle.buffer_cache.specs.HeldSectors.{HoldsAlso, HoldsNoMore, no_sectors};
 
 use crate::HeldSectors;
 use crate::bringing::bring;
@@ -84,6 +84,7 @@ impl Cache {
         ensures cache { IsOfDisk (sectors_of self.new) (D.identity disk.new) (D.moments disk.new) }
         ensures keeps { Keeps (sectors_of self.old) (sectors_of self.new)
             (D.moments disk.old) (D.moments disk.new) }
+        ensures held { HoldsAlso at (sectors_of self.old) (sectors_of self.new) }
         ensures identity { D.identity disk.new ≡ D.identity disk.old }
 
         ensures moments { EachSince (OnlyAdds (IsPutOut at (sectors_of self.old)))
@@ -120,6 +121,7 @@ impl Cache {
             (D.moments disk.old) (D.moments disk.new)) }
 
         ensures cache { IsOfDisk (sectors_of self.new) (D.identity disk.new) (D.moments disk.new) }
+        ensures held { HoldsAlso at (sectors_of self.old) (sectors_of self.new) }
         ensures identity { D.identity disk.new ≡ D.identity disk.old }
 
         ensures moments { EachSince (OnlyAdds (IsPutOut at (sectors_of self.old)))
@@ -139,17 +141,17 @@ impl Cache {
         requires bound { IsBound (D.identity disk.old).name }
         requires cache { IsOfDisk (sectors_of self.old) (D.identity disk.old) (D.moments disk.old) }
 
-        ensures read { OnOk result (HasNow (λ c. HasNow (ReadsGiven (sectors_of self.old) c)
-            (D.moments disk.new)) (D.moments disk.old)) }
         ensures written { OnOk result (IsChangedBy (written_back (sectors_of self.old))
             (D.moments disk.old) (D.moments disk.new)) }
-        ensures unmarked { OnOk result (HasNoMark (sectors_of self.new)) }
+        ensures unmarked { OnOk result (IsWrittenBack (sectors_of self.old) (sectors_of self.new)
+            (D.moments disk.old) (D.moments disk.new)) }
 
         ensures cause { HasCause (D.faults disk.old) (D.faults disk.new) result }
 
         ensures cache { IsOfDisk (sectors_of self.new) (D.identity disk.new) (D.moments disk.new) }
         ensures keeps { Keeps (sectors_of self.old) (sectors_of self.new)
             (D.moments disk.old) (D.moments disk.new) }
+        ensures held { HoldsNoMore (sectors_of self.old) (sectors_of self.new) }
         ensures identity { D.identity disk.new ≡ D.identity disk.old }
 
         ensures moments { EachSince (IsAmidWriteBack (sectors_of self.old))

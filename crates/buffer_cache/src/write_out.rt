@@ -31,6 +31,7 @@ pub(crate) fn write_held<D: Disk>(
 
     ensures cache { IsOfDisk held.new (D.identity disk.new) (D.moments disk.new) }
     ensures keeps { Keeps held.old held.new (D.moments disk.old) (D.moments disk.new) }
+    ensures held { HoldsNoMore held.old held.new }
     ensures identity { D.identity disk.new ≡ D.identity disk.old }
 
     ensures moments { EachSince (IsAmidMarked at (held_in held.old at)) (D.moments disk.old) (D.moments disk.new) }
@@ -66,12 +67,12 @@ pub(crate) fn make_room<D: Disk>(disk: &mut D, held: &mut HeldSectors) -> Result
 
     ensures room { OnOk result (CanPutOut held.new) }
     ensures scratch { OnOk result (held.new.scratch ≡ held.old.scratch) }
-    ensures missed { OnOk result (HoldsNoMore held.old held.new) }
 
     ensures cause { HasCause (D.faults disk.old) (D.faults disk.new) result }
 
     ensures cache { IsOfDisk held.new (D.identity disk.new) (D.moments disk.new) }
     ensures keeps { Keeps held.old held.new (D.moments disk.old) (D.moments disk.new) }
+    ensures held { HoldsNoMore held.old held.new }
     ensures identity { D.identity disk.new ≡ D.identity disk.old }
 
     ensures moments { EachSince (OnlyAdds (IsLeastRecent held.old)) (D.moments disk.old) (D.moments disk.new) }

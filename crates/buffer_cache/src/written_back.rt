@@ -7,7 +7,7 @@ ghost use Rattle.disk_model.specs.Causes.{HasCause};
 ghost use Rattle.disk_model.specs.Identity.{IsBound};
 ghost use Rattle.disk_model.specs.Moments.{EachSince, IsChangedBy};
 ghost use Rattle.buffer_cache.specs.Cached.{HasNoMark, IsAmidWriteBack, IsOfDisk, Keeps, is_marked, written_back};
-ghost use Rattle.buffer_cache.specs.HeldSectors.{held_in, marked_keys, marked_scratch};
+ghost use Rattle.buffer_cache.specs.HeldSectors.{HoldsNoMore, held_in, marked_keys, marked_scratch};
 
 use crate::write_out::write_held;
 use crate::{Held, HeldSectors, Scratch};
@@ -80,6 +80,7 @@ pub(crate) fn write_each<D: Disk>(
 
     ensures cache { IsOfDisk held.new (D.identity disk.new) (D.moments disk.new) }
     ensures keeps { Keeps held.old held.new (D.moments disk.old) (D.moments disk.new) }
+    ensures held { HoldsNoMore held.old held.new }
     ensures identity { D.identity disk.new ≡ D.identity disk.old }
 
     ensures moments { EachSince (IsAmidWriteBack held.old) (D.moments disk.old) (D.moments disk.new) }

@@ -15,7 +15,7 @@ pub hold-requires-clause-read : goal.hold-requires-clause-read
 hold-requires-clause-read g c =
     let W = IsLeastRecent c.args.held.now in
     read_later (OnlyAdds W) c.args.at c.read_run.new.buffer c.args.held.now c.make_room.new.held (OnlyAdds-none W) c.make_room.ensures.moments c.make_room.ensures.keeps
-    c.requires.missed (c.in_ok-make_room.ensures.missed.each c.args.at c.requires.missed)
+    c.requires.missed (c.make_room.ensures.held.each c.args.at c.requires.missed)
     (rw c.read_run.ensures.kept (λ content told. Reads-one c.args.at c.read_run.new.buffer content (search rules) (c.in_ok-read_run.ensures.read content told)))
 
 pub returns-clause-keeps : goal.returns-clause-keeps

@@ -1,6 +1,4 @@
 use Rattle.std.proofs.lemmas.Result.{on_ok_weaker}
-use Rattle.buffer_cache.specs.HeldSectors.{unmarked}
-use Rattle.buffer_cache.proofs.HeldLemmas.{HoldsNoMore-with_change}
 use Rattle.buffer_cache.proofs.CachedLemmas.{scratch_told, no_scratch, scratch_is_held, IsFree-unmarked, adds_scratch}
 use Rattle.buffer_cache.proofs.bringing.free_scratch.Goals as goal
 
@@ -13,10 +11,6 @@ pub returns-in-Some-clause-free : goal.returns-in-Some-clause-free
 returns-in-Some-clause-free g c =
     let told = scratch_told c.in-Some.at c.args.held.now.scratch c.in-Some.ensures in
     on_ok_weaker c.write_held.result (λ written. rw written (IsFree-unmarked c.args.held.now c.in-Some.at told.0 told.1 told.2)) c.write_held.ensures.written
-
-pub returns-in-Some-clause-missed : goal.returns-in-Some-clause-missed
-returns-in-Some-clause-missed g c =
-    on_ok_weaker c.write_held.result (λ written. rw written (HoldsNoMore-with_change c.in-Some.at unmarked c.args.held.now)) c.write_held.ensures.written
 
 pub returns-in-Some-clause-moments : goal.returns-in-Some-clause-moments
 returns-in-Some-clause-moments g c =

@@ -4,6 +4,7 @@ use Rattle.buffer_cache.specs.declared.held.Held.{Held}
 use Rattle.buffer_cache.specs.Cached.{IsRead}
 use Rattle.buffer_cache.specs.HeldSectors.{with_recent}
 use Rattle.buffer_cache.proofs.CachedLemmas.{Replaces-recent, apart-recent, IsOfDisk-replaced, Keeps-replaced}
+use Rattle.buffer_cache.proofs.CachedLemmas.{HoldsAlso-replaced}
 use Rattle.buffer_cache.proofs.bringing.hold.Goals as goal
 
 pub returns-in-Ok-clause-found : goal.returns-in-Ok-clause-found
@@ -26,3 +27,9 @@ returns-in-Ok-clause-keeps g c =
     let read : IsRead c.args.at sector (g.D.Disk.moments c.args.disk.now) = record { whole = search rules; marked = refl; read = c.requires.read } in
     let replaces = Replaces-recent c.args.at sector c.args.held.now c.requires.room c.requires.missed c.requires.cache.apart in
     rw c.in-Ok.ensures.put (Keeps-replaced (g.D.Disk.identity c.args.disk.now) (g.D.Disk.moments c.args.disk.now) c.args.at sector c.args.held.now (with_recent c.args.at sector c.args.held.now) c.requires.cache c.requires.missed read replaces)
+
+pub returns-in-Ok-clause-held : goal.returns-in-Ok-clause-held
+returns-in-Ok-clause-held g c =
+    let sector : Held = record { bytes = c.args.bytes; marked = false } in
+    let replaces = Replaces-recent c.args.at sector c.args.held.now c.requires.room c.requires.missed c.requires.cache.apart in
+    rw c.in-Ok.ensures.put (HoldsAlso-replaced c.args.at sector c.args.held.now (with_recent c.args.at sector c.args.held.now) replaces)

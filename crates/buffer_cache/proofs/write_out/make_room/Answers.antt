@@ -1,8 +1,7 @@
 use Rattle.std.proofs.Common.{ap, ◌∙◌}
 use Rattle.std.proofs.lemmas.Result.{on_ok_weaker}
 use Rattle.buffer_cache.specs.declared.held.HeldSectors.{HeldSectors}
-use Rattle.buffer_cache.specs.HeldSectors.{unmarked}
-use Rattle.buffer_cache.proofs.HeldLemmas.{CanPutOut-unmarked, HoldsNoMore-with_change}
+use Rattle.buffer_cache.proofs.HeldLemmas.{CanPutOut-unmarked}
 use Rattle.buffer_cache.proofs.CachedLemmas.{last_is_held, scratch_stays, adds_least_recent}
 use Rattle.buffer_cache.proofs.write_out.make_room.Goals as goal
 
@@ -17,10 +16,6 @@ returns-in-Some-clause-room g c =
 pub returns-in-Some-clause-scratch : goal.returns-in-Some-clause-scratch
 returns-in-Some-clause-scratch g c =
     on_ok_weaker c.write_held.result (λ written. ap (λ (s : HeldSectors). s.scratch) written ∙ scratch_stays c.args.held.now c.in-Some.at c.requires.cache.apart c.next_out.ensures.valid c.in-Some.ensures.last) c.write_held.ensures.written
-
-pub returns-in-Some-clause-missed : goal.returns-in-Some-clause-missed
-returns-in-Some-clause-missed g c =
-    on_ok_weaker c.write_held.result (λ written. rw written (HoldsNoMore-with_change c.in-Some.at unmarked c.args.held.now)) c.write_held.ensures.written
 
 pub returns-in-Some-clause-moments : goal.returns-in-Some-clause-moments
 returns-in-Some-clause-moments g c =

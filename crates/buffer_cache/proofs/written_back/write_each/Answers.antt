@@ -5,6 +5,7 @@ use Rattle.disk_model.proofs.MomentsLemmas.{EachMoment-join}
 use Rattle.buffer_cache.specs.Cached.{IsAmidMarked, IsAmidWriteBack, is_marked, written_back}
 use Rattle.buffer_cache.specs.HeldSectors.{held_in}
 use Rattle.buffer_cache.proofs.CachedLemmas.{Keeps-then, amid_same, none_is_marked, stays_unmarked, written_unmarked}
+use Rattle.buffer_cache.proofs.HeldLemmas.{HoldsNoMore-then}
 use Rattle.buffer_cache.proofs.WriteBackLemmas.{above_waits, all_written, amid_write_back, below_is_clear, changed_from, each_contained, gone_more, write_back_none, written_more}
 use Rattle.buffer_cache.proofs.written_back.write_each.Goals as goal
 
@@ -47,6 +48,7 @@ loop-at-preserved g c =
           (rw c.in_ok-write_held.ensures.written (written_unmarked now x));
       gone = rw c.in_ok-write_held.ensures.written (gone_more start now xs i c.loop-at.invariant.gone);
       written = rw c.in_ok-write_held.ensures.written (written_more (g.D.Disk.moments c.args.disk.now) (g.D.Disk.moments c.loop-at.disk) (g.D.Disk.moments c.write_held.new.disk) start now x c.loop-at.invariant.keeps.marked (c.loop-at.invariant.cache.whole x) c.loop-at.invariant.written c.in_ok-write_held.ensures.changed);
+      held = HoldsNoMore-then start now c.write_held.new.held c.loop-at.invariant.held c.write_held.ensures.held;
       moments = EachMoment-join (IsAmidWriteBack start) (IsAmidMarked x (held_in now x)) c.loop-at.invariant.moments c.write_held.ensures.moments
           (λ at_start middle later told told_middle _ amid.
           amid_write_back start now x at_start middle later c.loop-at.invariant.keeps.marked (c.loop-at.invariant.written at_start told middle told_middle)
