@@ -36,7 +36,8 @@ pub record Agrees (sectors : HeldSectors) (content : Content) : Type 0 where
 pub record IsOfDisk (sectors : HeldSectors) (disk : DiskIdentity) (moments : List Content) : Type 0 where
   pub within : (sector : ℕ) (held : Held) → held_in sectors sector ≡ Some held → sector < disk.sectors
   pub whole : (sector : ℕ) (held : Held) → held_in sectors sector ≡ Some held → length held.bytes ≡ 512
-  pub apart : (scratch : Scratch) → sectors.scratch ≡ Some scratch → lookup (nat_eq scratch.at) sectors.recent.entries ≡ None
+  pub apart : (scratch : Scratch) → sectors.scratch ≡ Some scratch
+      → lookup (nat_eq scratch.at) sectors.recent.entries ≡ None
   pub agrees : HasNow (Agrees sectors) moments
 
 -- The cache gives what it gave before, and what is marked now was held so.
@@ -103,7 +104,8 @@ with_given_piece at from piece image sector =
 
 -- The cache gives what it gave before, but for a piece of a sector that is marked now; no other sector has been marked.
 pub record Changes (at from : ℕ) (piece : List ℕ) (old new : HeldSectors) (before after : List Content) : Type 0 where
-  pub given : HasNow (λ c. HasNow (λ d. (sector : ℕ) → cached new d sector ≡ with_given_piece at from piece (cached old c) sector) after) before
+  pub given : HasNow (λ c. HasNow (λ d. (sector : ℕ)
+      → cached new d sector ≡ with_given_piece at from piece (cached old c) sector) after) before
   pub marked : is_marked new at ≡ true
   pub others : (sector : ℕ) → sector ≢ at → is_marked new sector ≡ true → held_in new sector ≡ held_in old sector
   pub slots : new.recent.cap ≡ old.recent.cap

@@ -29,7 +29,8 @@ pub(crate) fn bring<D: Disk>(disk: &mut D, held: &mut HeldSectors, at: u64) -> R
     ensures held { HoldsAlso at held.old held.new }
     ensures identity { D.identity disk.new ≡ D.identity disk.old }
 
-    ensures moments { EachSince (OnlyAdds (IsPutOut at held.old)) (D.moments disk.old) (D.moments disk.new) }
+    ensures moments { EachSince (OnlyAdds (IsPutOut at held.old))
+        (D.moments disk.old) (D.moments disk.new) }
 {
     if held.touch(at) {
         return Ok(());
@@ -53,7 +54,8 @@ fn fetch<D: Disk>(disk: &mut D, held: &mut HeldSectors, at: u64) -> Result<(), F
     ensures held { HoldsAlso at held.old held.new }
     ensures identity { D.identity disk.new ≡ D.identity disk.old }
 
-    ensures moments { EachSince (OnlyAdds (IsPutOut at held.old)) (D.moments disk.old) (D.moments disk.new) }
+    ensures moments { EachSince (OnlyAdds (IsPutOut at held.old))
+        (D.moments disk.old) (D.moments disk.new) }
 {
     let mut bytes = [0; 512];
     disk.read_run(at, &mut bytes)?;
@@ -84,7 +86,8 @@ fn hold<D: Disk>(
     ensures held { HoldsAlso at held.old held.new }
     ensures identity { D.identity disk.new ≡ D.identity disk.old }
 
-    ensures moments { EachSince (OnlyAdds (IsScratch held.old)) (D.moments disk.old) (D.moments disk.new) }
+    ensures moments { EachSince (OnlyAdds (IsScratch held.old))
+        (D.moments disk.old) (D.moments disk.new) }
 {
     match put_recent(
         held,
@@ -134,7 +137,8 @@ fn hold_in_scratch<D: Disk>(
     ensures held { HoldsAlso at held.old held.new }
     ensures identity { D.identity disk.new ≡ D.identity disk.old }
 
-    ensures moments { EachSince (OnlyAdds (IsScratch held.old)) (D.moments disk.old) (D.moments disk.new) }
+    ensures moments { EachSince (OnlyAdds (IsScratch held.old))
+        (D.moments disk.old) (D.moments disk.new) }
 {
     free_scratch(disk, held)?;
     held.scratch = Some(Scratch { at, held: sector });
@@ -155,7 +159,8 @@ fn free_scratch<D: Disk>(disk: &mut D, held: &mut HeldSectors) -> Result<(), Fai
     ensures held { HoldsNoMore held.old held.new }
     ensures identity { D.identity disk.new ≡ D.identity disk.old }
 
-    ensures moments { EachSince (OnlyAdds (IsScratch held.old)) (D.moments disk.old) (D.moments disk.new) }
+    ensures moments { EachSince (OnlyAdds (IsScratch held.old))
+        (D.moments disk.old) (D.moments disk.new) }
 {
     match scratch_at(&held.scratch) {
         Some(at) => write_held(disk, held, at),

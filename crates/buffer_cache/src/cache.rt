@@ -113,8 +113,8 @@ impl Cache {
         requires piece { IsPiece at from (length bytes.now) (D.identity disk.old).sectors }
         requires cache { IsOfDisk (sectors_of self.old) (D.identity disk.old) (D.moments disk.old) }
 
-        ensures written { OnOk result (Changes at from bytes.now (sectors_of self.old) (sectors_of self.new)
-            (D.moments disk.old) (D.moments disk.new)) }
+        ensures written { OnOk result (Changes at from bytes.now
+            (sectors_of self.old) (sectors_of self.new) (D.moments disk.old) (D.moments disk.new)) }
 
         ensures cause { HasCause (D.faults disk.old) (D.faults disk.new) result }
         ensures err { OnErr result (Keeps (sectors_of self.old) (sectors_of self.new)

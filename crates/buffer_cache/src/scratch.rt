@@ -40,7 +40,8 @@ pub(crate) fn unmark_scratch(scratch: &mut Option<Scratch>, at: u64)
 pub(crate) fn put_recent_piece(recent: &mut LruCache<u64, Held>, at: u64, from: usize, piece: &[u8])
     requires { from + length piece.now ≤ 512 }
 
-    ensures { recent.new ≡ lru_cache (changed_at at (with_held_piece from piece.now) recent.old.entries) recent.old.cap }
+    ensures { recent.new ≡ lru_cache (changed_at at (with_held_piece from piece.now)
+        recent.old.entries) recent.old.cap }
 {
     if let Some(held) = recent.peek_mut(&at) {
         held.bytes[from..from + piece.len()].copy_from_slice(piece);

@@ -1,4 +1,4 @@
-//! Tests of the cache over a disk in memory: against the plain bytes of its sectors, and with each call failing in turn.
+//! Tests of the cache over a disk in memory: against the plain bytes of its sectors, with each call failing in turn.
 ghost use Rattle.std.specs.Prelude.{◌≡◌, ◌≤◌, IfOk};
 ghost use Rattle.disk_model.specs.Identity.{IsBound};
 ghost use Rattle.buffer_cache.specs.Cache.{sectors_of};
@@ -177,6 +177,20 @@ fn gives_all<D: Disk>(cache: &mut Cache, disk: &mut D, plain: &[u8]) -> Result<b
     Ok(true)
 }
 
+/// Whether the sixteen pieces of one sector, of 32 bytes each, are zeros.
+fn reads_sixteen<D: Disk>(cache: &mut Cache, disk: &mut D) -> Result<bool, Failed>
+    requires bound { IsBound (D.identity disk.old).name }
+    requires cache { IsOfDisk (sectors_of cache.old) (D.identity disk.old) (D.moments disk.old) }
+{
+    let mut piece = [0; 32];
+    let mut zeros = 0u64;
+    for k in 0..16 {
+        read(cache, disk, 5, 32 * k, &mut piece)?;
+        zeros = zeros.wrapping_add(if piece == [0; 32] { 1 } else { 0 });
+    }
+    Ok(zeros == 16)
+}
+
 #[test]
 fn the_least_recently_used_sector_goes_out(rt: HostRuntime) -> Result<(), Fail> {
     let alloc = rt.alloc();
@@ -207,6 +221,21 @@ fn walk_with(alloc: Global, slots: u64) -> Result<bool, Fail>
     cache.write_back(&mut disk)?;
     let mut fresh = cache_over(alloc, &disk, 1)?;
     Ok(same && gives_all(&mut fresh, &mut disk, &plain)?)
+}
+
+#[test]
+fn pieces_of_one_sector_cost_one_read(rt: HostRuntime) -> Result<(), Fail> {
+    let alloc = rt.alloc();
+    let mut disk = MemDisk::new(alloc, SECTORS, 10)?;
+    disk.fail_at(&[2]);
+    let mut cache = cache_over(alloc, &disk, 1)?;
+    assert!(rt; reads_sixteen(&mut cache, &mut disk)?);
+    assert_eq!(rt;
+        on_disk(&mut disk, 5),
+        Err(Failed),
+        "this is the second call of the disk"
+    );
+    Ok(())
 }
 
 #[test]

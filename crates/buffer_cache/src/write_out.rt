@@ -34,7 +34,8 @@ pub(crate) fn write_held<D: Disk>(
     ensures held { HoldsNoMore held.old held.new }
     ensures identity { D.identity disk.new ≡ D.identity disk.old }
 
-    ensures moments { EachSince (IsAmidMarked at (held_in held.old at)) (D.moments disk.old) (D.moments disk.new) }
+    ensures moments { EachSince (IsAmidMarked at (held_in held.old at))
+        (D.moments disk.old) (D.moments disk.new) }
 {
     write_marked(disk, held, at)?;
     held.unmark(at);
@@ -46,13 +47,15 @@ fn write_marked<D: Disk>(disk: &mut D, held: &HeldSectors, at: u64) -> Result<()
     requires bound { IsBound (D.identity disk.old).name }
     requires at { at < (D.identity disk.old).sectors }
 
-    ensures written { OnOk result (IsChangedBy (with_marked at (held_in held.now at)) (D.moments disk.old) (D.moments disk.new)) }
+    ensures written { OnOk result (IsChangedBy (with_marked at (held_in held.now at))
+        (D.moments disk.old) (D.moments disk.new)) }
 
     ensures cause { HasCause (D.faults disk.old) (D.faults disk.new) result }
 
     ensures identity { D.identity disk.new ≡ D.identity disk.old }
 
-    ensures moments { EachSince (IsAmidMarked at (held_in held.now at)) (D.moments disk.old) (D.moments disk.new) }
+    ensures moments { EachSince (IsAmidMarked at (held_in held.now at))
+        (D.moments disk.old) (D.moments disk.new) }
 {
     match held.find(at) {
         Some(sector) if sector.marked => disk.write_run(at, &sector.bytes),
@@ -75,7 +78,8 @@ pub(crate) fn make_room<D: Disk>(disk: &mut D, held: &mut HeldSectors) -> Result
     ensures held { HoldsNoMore held.old held.new }
     ensures identity { D.identity disk.new ≡ D.identity disk.old }
 
-    ensures moments { EachSince (OnlyAdds (IsLeastRecent held.old)) (D.moments disk.old) (D.moments disk.new) }
+    ensures moments { EachSince (OnlyAdds (IsLeastRecent held.old))
+        (D.moments disk.old) (D.moments disk.new) }
 {
     match next_out(&held.recent) {
         Some(at) => write_held(disk, held, at),

@@ -73,7 +73,8 @@ pub(crate) fn write_each<D: Disk>(
     requires each { (sector : ℕ) → is_marked held.old sector ≡ true → Contains sectors.now sector }
     requires sorted { IsSorted nat_cmp sectors.now }
 
-    ensures written { OnOk result (IsChangedBy (written_back held.old) (D.moments disk.old) (D.moments disk.new)) }
+    ensures written { OnOk result (IsChangedBy (written_back held.old)
+        (D.moments disk.old) (D.moments disk.new)) }
     ensures unmarked { OnOk result (HasNoMark held.new) }
 
     ensures cause { HasCause (D.faults disk.old) (D.faults disk.new) result }
