@@ -1,0 +1,3 @@
+pub mod CachedLemmas
+pub mod HeldLemmas
+pub mod WriteBackLemmas

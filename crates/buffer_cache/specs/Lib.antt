@@ -1,0 +1,3 @@
+pub mod Cache
+pub mod Cached
+pub mod HeldSectors
