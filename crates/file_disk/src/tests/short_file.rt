@@ -1,5 +1,5 @@
 //! A file in memory that does few sectors at a time and is interrupted, and a folder that has it.
-ghost use Rattle.std.specs.Prelude.{◌≡◌, ◌≤◌, ◌+◌, ◌*◌, ◌/◌, ◌^◌, ◌<◌, IsTrue, [], length};
+ghost use Rattle.std.specs.Prelude.{◌≡◌, ◌≤◌, ◌+◌, ◌*◌, ◌/◌, ◌^◌, ◌<◌, IsTrue, [], codes, length};
 ghost use Rattle.disk_model.specs.Identity.{BoundTo};
 ghost use Rattle.file_disk.specs.Files.{named_as};
 ghost use Rattle.sector_disk.specs.MemDisk.{record_of, moments_told};
@@ -43,7 +43,10 @@ impl Interrupts {
 }
 
 impl SectorFile for ShortFile {
-    ghost identity = { λ file. record { name = BoundTo (codes "image"); sectors = (record_of file.disk).sectors } };
+    ghost identity = { λ file. record {
+      name = BoundTo (codes "image");
+      sectors = (record_of file.disk).sectors;
+    } };
 
     ghost moments = { λ file. moments_told (record_of file.disk) };
 
