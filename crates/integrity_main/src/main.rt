@@ -1,7 +1,7 @@
 //! The program: its files, its standard input and output, and its status.
 //!
-//! What it does is `integrity` of `integrity_tool`, which is proved over any disk, key, script and sink. These are those
-//! of `file_disk` and `file_stream`, over the files of the system.
+//! What it does is `integrity` of `integrity_tool`, which is proved over any disk, key, script and sink. Here these are
+//! those of `file_disk` and `file_stream`, over the files of the system.
 #![tactic(auto)]
 
 use file_disk::{FileDisk, StdFolder};
