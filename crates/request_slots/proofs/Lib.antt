@@ -1,0 +1,4 @@
+pub mod SlotLemmas
+pub mod SlotsLemmas
+pub mod SubmitLemmas
+pub mod TableLemmas

@@ -1,0 +1,49 @@
+use Rattle.std.proofs.Common.{◌≡◌, ℕ, ◌+◌, ◌<◌, ◌≤◌, Bool, true, false, if◌then◌else◌, refl, sym, ◌∙◌, ap, subst, arith}
+use Rattle.request_slots.specs.Flight.{is_unfinished, first_in, next_of}
+use Rattle.request_slots.specs.declared.slot.Slot.{Slot}
+use Rattle.request_slots.proofs.SlotLemmas.{block-low, served-low}
+use Rattle.request_slots.proofs.TableLemmas.{at-place, at-low, fits-own, lent-own, turn_by, turn_of-own, turn_of-asked, turn_asked}
+use Rattle.request_slots.proofs.slots.Slots.turn.Goals as goal
+
+pub index-slot-requires : goal.index-slot-requires
+index-slot-requires c =
+    let here = at-place c.self.inside _ c.args.ticket.now _ c.self.view_is c.requires c.place_of.ensures in
+    at-low c.self.inside c.args.ticket.now _ c.self.invariant here
+
+pub returns-then-not-is_unfinished : goal.returns-then-not-is_unfinished
+returns-then-not-is_unfinished c =
+    let here = at-place c.self.inside _ c.args.ticket.now _ c.self.view_is c.requires c.place_of.ensures in
+    let is = lent-own c.self.inside c.args.ticket.now _ c.self.invariant here _ c.index-slot.ensures in
+    let done : is_unfinished here.split.own ≡ false = sym (ap is_unfinished is) ∙ sym c.is_unfinished.ensures ∙ c.if-not-is_unfinished.true in
+    sym (turn_of-own c.self.inside c.args.self.now c.args.ticket.now _ c.self.invariant here c.self.view_is ∙ ap (turn_by here.split.own c.self.inside.slots.items) done)
+
+pub next-requires-clause-block : goal.next-requires-clause-block
+next-requires-clause-block c =
+    let here = at-place c.self.inside _ c.args.ticket.now _ c.self.view_is c.requires c.place_of.ensures in
+    let is = lent-own c.self.inside c.args.ticket.now _ c.self.invariant here _ c.index-slot.ensures in
+    let low = block-low _ _ _ here.split.own (fits-own c.self.inside c.args.ticket.now _ c.self.invariant here) c.self.invariant.few_blocks in
+    subst (λ (x : Slot). first_in x.request + x.served < 18446744073709551616) (sym is) (omega (arith, low))
+
+pub next-requires-clause-served : goal.next-requires-clause-served
+next-requires-clause-served c =
+    let here = at-place c.self.inside _ c.args.ticket.now _ c.self.view_is c.requires c.place_of.ensures in
+    let is = lent-own c.self.inside c.args.ticket.now _ c.self.invariant here _ c.index-slot.ensures in
+    let low = served-low _ _ _ here.split.own (fits-own c.self.inside c.args.ticket.now _ c.self.invariant here) c.self.invariant.few_blocks in
+    subst (λ (x : Slot). x.served + 1 < 18446744073709551616) (sym is) (omega (arith, low))
+
+pub returns-in-Held : goal.returns-in-Held
+returns-in-Held c =
+    let here = at-place c.self.inside _ c.args.ticket.now _ c.self.view_is c.requires c.place_of.ensures in
+    let is = lent-own c.self.inside c.args.ticket.now _ c.self.invariant here _ c.index-slot.ensures in
+    let still : is_unfinished here.split.own ≡ true = sym (ap is_unfinished is) ∙ sym c.is_unfinished.ensures ∙ c.if-not-is_unfinished.false in
+    sym (turn_of-asked c.self.inside c.args.self.now c.args.ticket.now _ _ c.self.invariant here c.self.view_is still c.ticket.view_is c.check.result c.check.ensures
+    ∙ ap (turn_asked here.split.own) c.in-Held.is)
+
+pub returns-in-Granted : goal.returns-in-Granted
+returns-in-Granted c =
+    let here = at-place c.self.inside _ c.args.ticket.now _ c.self.view_is c.requires c.place_of.ensures in
+    let is = lent-own c.self.inside c.args.ticket.now _ c.self.invariant here _ c.index-slot.ensures in
+    let still : is_unfinished here.split.own ≡ true = sym (ap is_unfinished is) ∙ sym c.is_unfinished.ensures ∙ c.if-not-is_unfinished.false in
+    c.next.ensures ∙ ap (λ (x : Slot). next_of x x.request) is
+    ∙ sym (turn_of-asked c.self.inside c.args.self.now c.args.ticket.now _ _ c.self.invariant here c.self.view_is still c.ticket.view_is c.check.result c.check.ensures
+    ∙ ap (turn_asked here.split.own) c.in-Granted.is)

@@ -1,0 +1,1 @@
+//! Requests in flight on eight blocks.
