@@ -1,3 +1,4 @@
+pub mod InFlightLemmas
 pub mod SlotLemmas
 pub mod SlotsLemmas
 pub mod SubmitLemmas

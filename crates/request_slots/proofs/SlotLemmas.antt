@@ -1,5 +1,5 @@
 -- One slot that goes on: its ticket, what it asks for, and that it fits.
-use Rattle.std.proofs.Common.{◌≡◌, ◌≢◌, ◌⊎◌, inl, inr, ℕ, suc, ◌+◌, ◌*◌, ◌^◌, ◌<◌, ◌≤◌, ◌==◌, Bool, true, false, if◌then◌else◌, List, ◌++◌, length, take, drop, refl, sym, ◌∙◌, ap, subst, arith, length-append, length-take, length-drop}
+use Rattle.std.proofs.Common.{◌≡◌, ◌≢◌, ◌⊎◌, inl, inr, ℕ, suc, ◌+◌, ◌*◌, ◌^◌, ◌<◌, ◌≤◌, ◌==◌, Bool, true, false, if◌then◌else◌, List, length, refl, sym, ◌∙◌, ap, subst, arith, length-append, length-take, length-drop}
 use Rattle.std.proofs.Math.Nat.{mul-le-mul_right}
 use Rattle.std.proofs.Math.Numerals.{lt_of_le_of_ne}
 use Rattle.range_lock.specs.Asks.{ask_for}
@@ -9,8 +9,7 @@ use Rattle.request_slots.specs.Flight.{bytes_in, count_in, first_in, has_blocks,
 use Rattle.request_slots.specs.Serving.{with_piece, with_read_piece, with_block_counted, with_block_read, with_fault, with_finish}
 use Rattle.request_slots.specs.declared.request.Request.{Request}
 use Rattle.request_slots.specs.declared.request.Request.TheVariants.{Read, Write, Flush}
-use Rattle.request_slots.specs.declared.slot.Outcome.{Outcome}
-use Rattle.request_slots.specs.declared.slot.Outcome.TheVariants.{Unfinished, Finished, Fault}
+use Rattle.request_slots.specs.declared.slot.Outcome.TheVariants.{Finished}
 use Rattle.request_slots.specs.declared.slot.Slot.{Slot}
 
 length-with_piece : (from : ℕ) (piece bytes : List ℕ) → from + length piece ≤ length bytes → length (with_piece from piece bytes) ≡ length bytes
@@ -108,12 +107,12 @@ IsSlotOf-read blocks size submitted piece x fits has still whole =
     (blocks-read_piece (x.served * size) piece x.request ∙ has) still
 
 pub IsSlotOf-fault : (blocks size submitted block : ℕ) (stored computed : List ℕ) (x : Slot) → IsSlotOf blocks size submitted x
-    → IsSlotOf blocks size submitted (with_fault block stored computed x)
-IsSlotOf-fault blocks size submitted block stored computed x fits = record {
+    → has_blocks x.request ≡ true → is_unfinished x ≡ true → IsSlotOf blocks size submitted (with_fault block stored computed x)
+IsSlotOf-fault blocks size submitted block stored computed x fits has still = record {
   given = fits.given;
   there = fits.there;
   bytes = fits.bytes;
-  counted = fits.counted;
+  counted = fits.left has still;
   left = λ _ unfinished. absurd (false≢true unfinished);
 }
 

@@ -1,10 +1,10 @@
 -- A list of slots around one of them: its place, a change of it, and what the others keep.
-use Rattle.std.proofs.Common.{◌≡◌, ◌≢◌, inl, inr, ℕ, zero, suc, ◌+◌, ◌<◌, ◌≤◌, ◌==◌, not, Bool, true, false, ◌||◌, List, [], ◌∷◌, ◌++◌, length, take, drop, set, get_or, filter, find, slice_get, if◌then◌else◌, None, Some, refl, sym, ◌∙◌, ap, subst, arith}
+use Rattle.std.proofs.Common.{◌≡◌, inl, inr, ℕ, suc, ◌<◌, ◌≤◌, not, Bool, true, false, ◌||◌, List, [], ◌∷◌, ◌++◌, length, set, get_or, filter, find, Some, refl, sym, ◌∙◌, ap, subst, arith}
 use Rattle.std.specs.List.{AllByRecursion, list_any, position_or_len, remove}
-use Rattle.std.proofs.lemmas.Bool.{cases_Bool, false≢true, eq-eqb, eqb-true, ne_eqb}
-use Rattle.range_lock.specs.Asks.{ask_for, has_ticket}
+use Rattle.std.proofs.lemmas.Bool.{cases_Bool, false≢true, eqb-true, ne_eqb}
+use Rattle.range_lock.specs.Asks.{has_ticket}
 use Rattle.range_lock.specs.declared.ask.Ask.{Ask}
-use Rattle.request_slots.specs.Flight.{first_in, count_in, is_unfinished, is_of, ask_of, asks_in, AreAbove}
+use Rattle.request_slots.specs.Flight.{is_unfinished, is_of, ask_of, asks_in, AreAbove}
 use Rattle.request_slots.specs.Serving.{changed}
 use Rattle.request_slots.specs.Taking.{without}
 use Rattle.request_slots.specs.declared.slot.Slot.{Slot}

@@ -1,7 +1,7 @@
 -- A request against which nothing is: it fits, and there is a slot for it.
-use Rattle.std.proofs.Common.{◌≡◌, ◌≢◌, ◌⊎◌, inl, inr, ℕ, suc, ◌+◌, ◌*◌, ◌<◌, ◌≤◌, ◌==◌, ◌||◌, Bool, true, false, List, [], ◌∷◌, ◌++◌, length, ltb, leb, if◌then◌else◌, Option, None, Some, refl, sym, ◌∙◌, ap, subst, arith}
+use Rattle.std.proofs.Common.{◌≡◌, ◌≢◌, ℕ, ◌+◌, ◌*◌, ◌<◌, ◌≤◌, ◌==◌, ◌||◌, Bool, true, false, List, length, ltb, leb, if◌then◌else◌, Option, None, Some, refl, sym, arith}
 use Rattle.std.specs.Option.{option_or}
-use Rattle.std.proofs.lemmas.Bool.{cases_Bool, false≢true, or_parts, eqb-true, eqb-false, leb-false, ltb-false}
+use Rattle.std.proofs.lemmas.Bool.{false≢true, or_parts, eqb-true, eqb-false, leb-false, ltb-false}
 use Rattle.std.proofs.lemmas.Option.{none-some}
 use Rattle.request_slots.specs.Flight.{Flight, IsSlotOf, newly_slotted}
 use Rattle.request_slots.specs.Submitting.{blocks_fault, fault_of, form_fault, slots_fault}

@@ -1,6 +1,6 @@
 -- The table around the request of a ticket, and after a change of it.
-use Rattle.std.proofs.Common.{◌≡◌, ◌⊎◌, inl, inr, ℕ, suc, ◌+◌, ◌*◌, ◌^◌, ◌<◌, ◌≤◌, not, Bool, true, false, if◌then◌else◌, List, ◌∷◌, ◌++◌, length, set, get_or, find, Option, None, Some, refl, sym, ◌∙◌, ap, subst, arith, length-append, [], unwrap_or, position, ltb}
-use Rattle.std.specs.List.{AllByRecursion, list_any, position_or_len, remove}
+use Rattle.std.proofs.Common.{◌≡◌, ◌⊎◌, inl, inr, ℕ, suc, ◌+◌, ◌<◌, ◌≤◌, not, Bool, true, false, if◌then◌else◌, List, ◌∷◌, ◌++◌, length, set, get_or, find, Option, None, Some, refl, sym, ◌∙◌, ap, subst, arith, length-append, [], unwrap_or, position, ltb}
+use Rattle.std.specs.List.{AllByRecursion, position_or_len, remove}
 use Rattle.std.specs.Global.{Vec}
 use Rattle.std.specs.Vec.{with_item, vec_len, vec_capacity}
 use Rattle.std.proofs.lemmas.Bool.{cases_Bool, eqb-true, ltb-false}

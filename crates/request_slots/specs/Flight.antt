@@ -1,5 +1,5 @@
 -- What a contract sees of the requests in flight, and what is done next for each.
-use Rattle.std.specs.Prelude.{◌≡◌, ℕ, suc, ◌+◌, ◌*◌, ◌<◌, ◌≤◌, ◌==◌, Bool, true, false, not, ◌&&◌, if◌then◌else◌, List, [], ◌∷◌, ◌++◌, length, take, drop, filter, map, find, Option, Some, None}
+use Rattle.std.specs.Prelude.{◌≡◌, ℕ, suc, ◌+◌, ◌*◌, ◌<◌, ◌≤◌, ◌==◌, Bool, true, false, ◌&&◌, if◌then◌else◌, List, [], ◌∷◌, length, find, Option, Some, None}
 use Rattle.std.specs.List.{list_any}
 use Rattle.range_lock.specs.Asks.{ask_for, holder_of}
 use Rattle.range_lock.specs.declared.ask.Ask.{Ask}

@@ -1,6 +1,6 @@
 -- Which requests of `device_model` those in flight are, and what they are answered there.
 use Rattle.std.specs.Prelude.{◌≡◌, ℕ, suc, ◌*◌, false, true, if◌then◌else◌, List, [], ◌∷◌, ◌++◌, length, drop, Option, Some, None, slice_get}
-use Rattle.device_model.specs.Mode.{DeviceFormat, is_recovery}
+use Rattle.device_model.specs.Mode.{DeviceFormat}
 use Rattle.device_model.specs.Progress as Model
 use Rattle.device_model.specs.Reply as ModelReply
 use Rattle.device_model.specs.Request as Asks
@@ -90,12 +90,19 @@ IsWhole a (Asks.Read first count) = a.state ≡ Asks.Finished → a.served ≡ c
 IsWhole a (Asks.Write first blocks fua) = Unit {0}
 IsWhole a Asks.Flush = Unit {0}
 
+-- A read alone may be at fault.
+abbrev pub IsNoFault : Asks.Asked → Asks.Request → Type 0
+IsNoFault a (Asks.Read first count) = Unit {0}
+IsNoFault a (Asks.Write first blocks fua) = is_fault a.reply ≡ false
+IsNoFault a Asks.Flush = is_fault a.reply ≡ false
+
 -- What a request has read, blocks of so many bytes, is its reply up to a fault, which ends it.
 pub record HasRead (block_size : ℕ) (a : Asks.Asked) : Type 0 where
   pub reply : is_fault a.reply ≡ false → a.reply ≡ ModelReply.Bytes a.got
   pub size : is_fault a.reply ≡ false → length a.got ≡ blocks_read a a.request * block_size
   pub open_ : Asks.is_unfinished a.state ≡ true → is_fault a.reply ≡ false
   pub whole : is_fault a.reply ≡ false → IsWhole a a.request
+  pub no_fault : IsNoFault a a.request
 
 -- Those in flight are these requests of a device, each of which was submitted, as far as they are neither taken nor dropped.
 pub record IsFlightOf (f : DeviceFormat) (flight : Flight) (requests : List Asks.Asked) : Type 0 where

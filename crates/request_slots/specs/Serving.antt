@@ -1,10 +1,9 @@
 -- How a request in flight goes on when it is served.
-use Rattle.std.specs.Prelude.{ℕ, suc, ◌+◌, ◌*◌, ◌==◌, Bool, true, false, if◌then◌else◌, List, [], ◌∷◌, length, take, drop, map, Option, Some, None}
+use Rattle.std.specs.Prelude.{ℕ, suc, ◌+◌, ◌*◌, ◌==◌, if◌then◌else◌, List, [], ◌∷◌, length, take, drop}
 use Rattle.std.specs.List.{replace_range}
 use Rattle.request_slots.specs.declared.request.Request.{Request}
 use Rattle.request_slots.specs.declared.request.Request.TheVariants.{Read, Write, Flush}
-use Rattle.request_slots.specs.declared.slot.Outcome.{Outcome}
-use Rattle.request_slots.specs.declared.slot.Outcome.TheVariants.{Unfinished, Finished, Fault}
+use Rattle.request_slots.specs.declared.slot.Outcome.TheVariants.{Finished, Fault}
 use Rattle.request_slots.specs.declared.slot.Slot.{Slot}
 use Rattle.request_slots.specs.Flight.{Flight, bytes_in, count_in, is_of}
 
@@ -32,7 +31,7 @@ with_block_read block_size bytes slot =
 
 -- A read ends with a fault of its next block.
 abbrev pub with_fault : ℕ → (stored computed : List ℕ) → Slot → Slot
-with_fault block stored computed slot = record slot { outcome = Fault block stored computed }
+with_fault block stored computed slot = record slot { served = suc slot.served; outcome = Fault block stored computed }
 
 -- The request is done.
 abbrev pub with_finish : Slot → Slot

@@ -1,5 +1,5 @@
 -- How the requests in flight are kept.
-use Rattle.std.specs.Prelude.{◌≡◌, ℕ, ◌≤◌, ◌^◌, not, filter, if◌then◌else◌, length, vec_capacity}
+use Rattle.std.specs.Prelude.{◌≡◌, ◌≤◌, ◌^◌, not, filter, if◌then◌else◌, length, vec_capacity}
 use Rattle.std.specs.List.{AllByRecursion}
 use Rattle.request_slots.specs.Flight.{Flight, IsSlotOf, AreAbove, asks_in, is_unfinished}
 use Rattle.range_lock.specs.Asks.{Slots, has_ticket}

@@ -7,7 +7,7 @@ use Rattle.request_slots.specs.declared.request.Request.TheVariants.{Read, Write
 use Rattle.request_slots.specs.declared.slot.Outcome.{Outcome}
 use Rattle.request_slots.specs.declared.slot.Outcome.TheVariants.{Unfinished, Finished, Fault}
 use Rattle.request_slots.specs.declared.slot.Slot.{Slot}
-use Rattle.request_slots.specs.Flight.{Flight, is_of, is_unfinished, slot_of}
+use Rattle.request_slots.specs.Flight.{Flight, is_of, is_unfinished}
 
 -- What a read is answered.
 abbrev pub read_reply_of : List ℕ → Outcome → Reply

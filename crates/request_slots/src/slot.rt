@@ -120,10 +120,13 @@ impl Slot {
         }
     }
 
-    /// Finishes a read with a fault.
+    /// Counts a block that is at fault, which finishes a read.
     pub(crate) fn put_fault(&mut self, block: u64, stored: Tag, computed: Tag)
+        requires { self.old.served + 1 < 2 ^ 64 }
+
         ensures { self.new ≡ with_fault block stored computed self.old }
     {
+        self.served += 1;
         self.outcome = Outcome::Fault {
             block,
             stored,

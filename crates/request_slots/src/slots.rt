@@ -1,5 +1,5 @@
 //! The requests in flight.
-ghost use Rattle.std.specs.Prelude.{◌≡◌, ◌+◌, ◌<◌, ◌≤◌, ◌^◌, suc, true, length, position, IfOk, IfSome};
+ghost use Rattle.std.specs.Prelude.{◌≡◌, ◌↔◌, ◌+◌, ◌<◌, ◌≤◌, ◌^◌, suc, true, length, position, IfOk, IfSome, IsTrue};
 ghost use Rattle.std.specs.List.{position_or_len};
 ghost use Rattle.request_slots.specs.Table.{with_unlocked};
 
@@ -68,7 +68,28 @@ impl Slots {
         })
     }
 
-    /// Whether the request of this ticket is submitted and not taken.
+    /// How many blocks the device has.
+    pub fn blocks(&self) -> u64
+        ensures { result ≡ self.now.blocks }
+    {
+        self.blocks
+    }
+
+    /// How many bytes a block has.
+    pub fn block_size(&self) -> usize
+        ensures { result ≡ self.now.block_size }
+    {
+        self.block_size
+    }
+
+    /// Whether there is a ticket for one more request: fewer than 2^64 - 1 were submitted. The condition of `submit`.
+    pub fn has_ticket(&self) -> bool
+        ensures { IsTrue result ↔ (self.now.submitted + 1 < 2 ^ 64) }
+    {
+        self.submitted < u64::MAX
+    }
+
+    /// Whether the request of this ticket is submitted and not taken: the condition of the calls that name it.
     pub fn holds(&self, ticket: &Ticket) -> bool
         ensures { result ≡ is_in_flight ticket.now self.now }
     {

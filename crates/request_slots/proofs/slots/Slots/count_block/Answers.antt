@@ -1,9 +1,8 @@
-use Rattle.std.proofs.Common.{◌≡◌, inl, inr, false, true, ℕ, ◌+◌, ◌<◌, refl, sym, ◌∙◌, ap, subst, arith}
-use Rattle.request_slots.specs.Flight.{Flight, IsSlotOf, is_unfinished, ask_of}
-use Rattle.request_slots.specs.Serving.{with_block_counted, with_fault, with_finish}
+use Rattle.std.proofs.Common.{◌≡◌, inr, ◌+◌, ◌<◌, sym, ◌∙◌, ap, subst, arith}
+use Rattle.request_slots.specs.Flight.{IsSlotOf, ask_of}
+use Rattle.request_slots.specs.Serving.{with_block_counted}
 use Rattle.request_slots.specs.declared.slot.Slot.{Slot}
-use Rattle.std.proofs.lemmas.Bool.{false≢true}
-use Rattle.request_slots.proofs.SlotLemmas.{served-low, IsSlotOf-counted, IsSlotOf-fault, IsSlotOf-finish}
+use Rattle.request_slots.proofs.SlotLemmas.{served-low, IsSlotOf-counted}
 use Rattle.request_slots.proofs.TableLemmas.{at-place, at-low, lent-own, fits-own, still-own, blocks-own, IsTable-changed, flight-changed}
 use Rattle.request_slots.proofs.slots.Slots.count_block.Goals as goal
 

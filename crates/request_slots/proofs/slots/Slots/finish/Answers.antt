@@ -1,10 +1,10 @@
-use Rattle.std.proofs.Common.{◌≡◌, inl, inr, false, true, ℕ, ◌+◌, ◌<◌, refl, sym, ◌∙◌, ap, subst, arith}
-use Rattle.request_slots.specs.Flight.{Flight, IsSlotOf, is_unfinished, ask_of}
-use Rattle.request_slots.specs.Serving.{with_block_counted, with_fault, with_finish}
+use Rattle.std.proofs.Common.{◌≡◌, sym, ◌∙◌, ap, subst}
+use Rattle.request_slots.specs.Flight.{IsSlotOf, is_unfinished, ask_of}
+use Rattle.request_slots.specs.Serving.{with_finish}
 use Rattle.request_slots.specs.declared.slot.Slot.{Slot}
 use Rattle.std.proofs.lemmas.Bool.{false≢true}
-use Rattle.request_slots.proofs.SlotLemmas.{IsSlotOf-counted, IsSlotOf-fault, IsSlotOf-finish}
-use Rattle.request_slots.proofs.TableLemmas.{at-place, at-low, lent-own, fits-own, still-own, blocks-own, IsTable-changed, flight-changed}
+use Rattle.request_slots.proofs.SlotLemmas.{IsSlotOf-finish}
+use Rattle.request_slots.proofs.TableLemmas.{at-place, at-low, lent-own, fits-own, IsTable-changed, flight-changed}
 use Rattle.request_slots.proofs.slots.Slots.finish.Goals as goal
 
 pub index_mut-slot-requires : goal.index_mut-slot-requires

@@ -1,5 +1,5 @@
-use Rattle.std.proofs.Common.{◌≡◌, inr, ℕ, ◌+◌, ◌*◌, ◌<◌, ◌≤◌, Option, IfSome, length, refl, sym, ◌∙◌, ap, subst, arith}
-use Rattle.request_slots.specs.Flight.{Flight, bytes_in, slot_of}
+use Rattle.std.proofs.Common.{◌≡◌, inr, ℕ, ◌+◌, ◌*◌, ◌<◌, ◌≤◌, Option, IfSome, length, sym, ◌∙◌, ap, subst, arith}
+use Rattle.request_slots.specs.Flight.{Flight, bytes_in}
 use Rattle.request_slots.specs.Serving.{next_bytes}
 use Rattle.request_slots.specs.declared.slot.Slot.{Slot}
 use Rattle.request_slots.proofs.SlotLemmas.{room-next, from-low}

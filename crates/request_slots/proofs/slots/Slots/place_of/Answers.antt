@@ -1,4 +1,4 @@
-use Rattle.std.proofs.Common.{◌≡◌, ℕ, Option, length, position, unwrap_or, refl, sym, ◌∙◌, ap}
+use Rattle.std.proofs.Common.{ℕ, Option, length, position, unwrap_or, ◌∙◌, ap}
 use Rattle.request_slots.specs.Flight.{Flight, is_of}
 use Rattle.request_slots.proofs.TableLemmas.{unwrap_or-position}
 use Rattle.request_slots.proofs.slots.Slots.place_of.Goals as goal

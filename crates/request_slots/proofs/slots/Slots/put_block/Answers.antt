@@ -1,9 +1,9 @@
-use Rattle.std.proofs.Common.{◌≡◌, inl, inr, ℕ, ◌+◌, ◌*◌, ◌<◌, ◌≤◌, ◌^◌, length, get_or, refl, sym, ◌∙◌, ap, subst, arith}
-use Rattle.request_slots.specs.Flight.{Flight, bytes_in, is_unfinished, ask_of, IsSlotOf}
-use Rattle.request_slots.specs.Serving.{with_block_read, with_block_counted, with_fault, with_finish, with_change}
+use Rattle.std.proofs.Common.{◌≡◌, inl, ℕ, ◌+◌, ◌*◌, ◌<◌, ◌≤◌, length, sym, ◌∙◌, ap, subst, arith}
+use Rattle.request_slots.specs.Flight.{Flight, bytes_in, ask_of, IsSlotOf}
+use Rattle.request_slots.specs.Serving.{with_block_read, with_change}
 use Rattle.request_slots.specs.declared.slot.Slot.{Slot}
-use Rattle.request_slots.proofs.SlotLemmas.{room-next, from-low, served-low, IsSlotOf-read, IsSlotOf-counted, IsSlotOf-fault, IsSlotOf-finish, ask_of-read}
-use Rattle.request_slots.proofs.TableLemmas.{IsAt, at-place, at-low, lent-own, fits-own, still-own, blocks-own, IsTable-changed, flight-changed}
+use Rattle.request_slots.proofs.SlotLemmas.{room-next, from-low, served-low, IsSlotOf-read, ask_of-read}
+use Rattle.request_slots.proofs.TableLemmas.{at-place, at-low, lent-own, fits-own, still-own, blocks-own, IsTable-changed, flight-changed}
 use Rattle.request_slots.proofs.slots.Slots.put_block.Goals as goal
 
 pub index_mut-slot-requires : goal.index_mut-slot-requires

@@ -1,6 +1,6 @@
-use Rattle.std.proofs.Common.{◌≡◌, ℕ, ◌+◌, ◌<◌, ◌≤◌, suc, length, List, [], ◌∷◌, ◌++◌, None, refl, sym, ◌∙◌, ap, subst, arith}
+use Rattle.std.proofs.Common.{ℕ, ◌+◌, ◌<◌, length, [], ◌∷◌, ◌++◌, sym, ◌∙◌, ap, subst, arith}
 use Rattle.range_lock.specs.Asks.{Slots, ask_for}
-use Rattle.request_slots.specs.Flight.{Flight, asks_in, first_in, newly_slotted}
+use Rattle.request_slots.specs.Flight.{Flight, first_in}
 use Rattle.request_slots.specs.Submitting.{fault_of}
 use Rattle.request_slots.specs.Table.{flight_of}
 use Rattle.request_slots.specs.declared.slot.Slot.{Slot}

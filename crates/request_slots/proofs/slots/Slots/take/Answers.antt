@@ -1,7 +1,6 @@
-use Rattle.std.proofs.Common.{◌≡◌, Bool, true, false, ℕ, Option, Some, List, if◌then◌else◌, Result, Ok, Err, refl, sym, ◌∙◌, ap, subst}
-use Rattle.request_slots.specs.Flight.{Flight, is_unfinished, slot_of}
+use Rattle.std.proofs.Common.{◌≡◌, Bool, true, false, Option, if◌then◌else◌, Ok, Err, sym, ◌∙◌, ap}
+use Rattle.request_slots.specs.Flight.{is_unfinished}
 use Rattle.request_slots.specs.Taking.{taken_by, after_take, reply_of, without}
-use Rattle.request_slots.specs.declared.reply.Reply.{Reply}
 use Rattle.request_slots.specs.declared.slot.Slot.{Slot}
 use Rattle.request_slots.proofs.TableLemmas.{at-place, at-low, lent-own, slot_of-view, IsTable-without, flight-taken}
 use Rattle.request_slots.proofs.slots.Slots.take.Goals as goal
