@@ -8,17 +8,17 @@ use Rattle.device_model.specs.Mode.{DeviceFormat}
 use Rattle.device_model.specs.Progress.{DeviceState, EventResult, Serve, is_flushed_by, block_changes, event_result, after_event}
 use Rattle.device_model.specs.Request.{Write, Asked}
 use Rattle.place_model.specs.Format.{tagger_of}
-use Rattle.place_model.specs.Left.{IsLeftInDirect}
+use Rattle.place_model.specs.Left.{IsLeftPlaced}
 use Rattle.place_model.specs.Tags.{IsOfTags, KeepsOthers, ReadsTags, with_block_tag}
 use Rattle.device_laws.specs.EventLaws.{IsServed, next_write}
 use Rattle.direct_model.specs.DirectDisk.{DirectDisk}
 use Rattle.direct_model.specs.Steps.{with_write, after_flush}
 use Rattle.direct_laws.specs.Device.{IsDirectDevice, after_changes}
 use Rattle.direct_laws.specs.EventLaws.{after_block}
-use Rattle.direct_laws.specs.PromiseLaws.{IsLeftWithin}
+use Rattle.direct_laws.specs.Within.{IsPlacedWithin}
 use Rattle.direct_laws.specs.ReadLaws.{KeepsCells}
 use Rattle.direct_laws.proofs.EventLemmas.{served_law, serve_write_law}
-use Rattle.direct_laws.proofs.PromiseLemmas.{standing_left_law, writing_left_law, back_left_law}
+use Rattle.direct_laws.proofs.PlacedLemmas.{standing_placed_law, writing_placed_law, back_placed_law}
 use Rattle.direct_laws.proofs.ReadLemmas.{keeps_write, keeps_back, keeps_flushed}
 
 module _ (f : DeviceFormat) (s : DeviceState) (d : DirectDisk) (k : ℕ) (a : Asked) (first : ℕ) (blocks : List (List ℕ)) (awaiting : ℕ → Bool) (tags : ℕ → List ℕ) (start : Content)
@@ -39,9 +39,9 @@ module _ (f : DeviceFormat) (s : DeviceState) (d : DirectDisk) (k : ℕ) (a : As
       ∙ ap (λ (t : Bool). Begun write ∷ Written write ∷ (if t then Flushed ∷ [] else [])) last
 
   -- Some sectors of the data are written: each image is left within the call.
-  while_data : (c : Content) → AddsSome (data_at d.geometry write.block) write.bytes start c → IsLeftWithin f s (Serve (suc k)) d.format c
+  while_data : (c : Content) → AddsSome (data_at d.geometry write.block) write.bytes start c → IsPlacedWithin f s (Serve (suc k)) d.format c
   while_data c adds =
-      (writing_left_law f s d k a first blocks true awaiting tags start c is asked request keeps
+      (writing_placed_law f s d k a first blocks true awaiting tags start c is asked request keeps
       (record { among = λ sector x has. ⊎_elim inl (λ run. inr (inl run)) ((AddsSome-adds (data_at d.geometry write.block) write.bytes start c adds).among sector x has) })).0
 
   -- All of them are, and the tag stands in memory.
@@ -52,9 +52,9 @@ module _ (f : DeviceFormat) (s : DeviceState) (d : DirectDisk) (k : ℕ) (a : As
 
   -- Tags are written back: each image is left within the call, of which two changes are done.
   module _ (c : Content) (adds : OnlyAdds (IsOfTags d.geometry new_tags new_tags) written c) where
-    while_back : IsLeftWithin f s (Serve (suc k)) d.format c
+    while_back : IsPlacedWithin f s (Serve (suc k)) d.format c
     while_back =
-        back_left_law f s (Serve (suc k)) d 2 awaiting new_tags written c is
+        back_placed_law f s (Serve (suc k)) d 2 awaiting new_tags written c is
         (subst (λ (changes : List Change). KeepsCells (after_changes (take 2 changes) d) awaiting new_tags written) (sym changes-are) after_data) adds
 
     -- All of them are, and a sync settles them: then the call is done.
@@ -65,5 +65,5 @@ module _ (f : DeviceFormat) (s : DeviceState) (d : DirectDisk) (k : ℕ) (a : As
       at_end : IsDirectDevice f (after_event f s (Serve (suc k))) (after_flush (with_write d write))
       at_end = subst (λ (t : Bool). IsDirectDevice f (after_event f s (Serve (suc k))) (after_block t write d)) last (serve_write_law f s d k a first blocks true is asked request).1
 
-      left_at_end : EachImage (IsLeftInDirect d.format (after_event f s (Serve (suc k))).history) (newest_only c)
-      left_at_end = standing_left_law f (after_event f s (Serve (suc k))) (after_flush (with_write d write)) (newest_only c) at_end after_sync.stands
+      left_at_end : EachImage (IsLeftPlaced d.format (after_event f s (Serve (suc k))).history) (newest_only c)
+      left_at_end = standing_placed_law f (after_event f s (Serve (suc k))) (after_flush (with_write d write)) (newest_only c) at_end after_sync.stands

@@ -1,4 +1,6 @@
 pub mod Device
 pub mod EventLaws
 pub mod ReadLaws
+pub mod Within
+pub mod PlacedLaws
 pub mod PromiseLaws

@@ -4,14 +4,16 @@
 //! keeps of it.
 #![tactic(auto)]
 
-ghost use Rattle.direct_laws.specs.Device.{BeginningLaw, MovedDeviceLaw, OpeningLaw};
+ghost use Rattle.direct_laws.specs.Device.{BeginningLaw, MovedDeviceLaw, OpeningLaw, PlacedOpeningLaw};
 ghost use Rattle.direct_laws.specs.EventLaws.{CloseLaw, EventLaw, FailedWriteLaw, HeldLaw, IdleLaw, QuietEventsLaw, QuietLaw, RecalcIdleLaw, RecalcLaw, ServeFlushLaw, ServeReadLaw, ServeWriteLaw, ServedLaw, UnservedLaw};
-ghost use Rattle.direct_laws.specs.PromiseLaws.{BackLeftLaw, FailedLeftLaw, FlushedLeftLaw, KindLeftLaw, MovingLeftLaw, RecalculatingLeftLaw, ReopensLaw, StandingLeftLaw, WithinLaw, WritingLeftLaw};
-ghost use Rattle.direct_laws.specs.ReadLaws.{KeepsBack, KeepsBegun, KeepsFlushed, KeepsMoved, KeepsOpened, KeepsRecalculated, KeepsSame, KeepsSynced, KeepsWrite, ReadLaw};
+ghost use Rattle.direct_laws.specs.PlacedLaws.{BackPlacedLaw, FailedPlacedLaw, FlushedPlacedLaw, KindPlacedLaw, MovingPlacedLaw, RecalculatingPlacedLaw, ReopensPlacedLaw, StandingPlacedLaw, WithinPlacedLaw, WritingPlacedLaw};
+ghost use Rattle.direct_laws.specs.PromiseLaws.{BackLeftLaw, FailedLeftLaw, FlushedLeftLaw, KindLeftLaw, MovingLeftLaw, PlacedIsLeftLaw, RecalculatingLeftLaw, ReopensLaw, StandingLeftLaw, WithinLaw, WritingLeftLaw};
+ghost use Rattle.direct_laws.specs.ReadLaws.{KeepsBack, KeepsBegun, KeepsFlushed, KeepsMoved, KeepsOpened, KeepsPlaced, KeepsRecalculated, KeepsSame, KeepsSynced, KeepsWrite, ReadLaw};
 
 /// A device opens on a disk without a write, so on an image without a bitmap; its position of recalculation may move.
 pub fn device_opens()
     ensures begins { BeginningLaw }
+    ensures placed { PlacedOpeningLaw }
     ensures opened { OpeningLaw }
     ensures moved { MovedDeviceLaw }
 {}
@@ -44,6 +46,7 @@ pub fn actors_step()
 /// A serve in which a disk fails leaves its write under way, and what was left before it may be left then.
 pub fn failures_leave_a_write()
     ensures write { FailedWriteLaw }
+    ensures placed { FailedPlacedLaw }
     ensures left { FailedLeftLaw }
 {}
 
@@ -55,6 +58,7 @@ pub fn reads_give_the_reply()
 /// Reads give what the disk says after an opening, and after each step that writes or syncs.
 pub fn cells_are_kept()
     ensures begins { KeepsBegun }
+    ensures placed { KeepsPlaced }
     ensures opened { KeepsOpened }
     ensures write { KeepsWrite }
     ensures synced { KeepsSynced }
@@ -65,8 +69,23 @@ pub fn cells_are_kept()
     ensures moved { KeepsMoved }
 {}
 
-/// Each image, also within a call, can be opened and has cells that may be left of the device.
+/// Each image, also within a call, can be read and has placed cells that may be left of the device, whatever the journal says.
+pub fn placed_cut_is_left()
+    ensures standing { StandingPlacedLaw }
+    ensures reopens { ReopensPlacedLaw }
+    ensures all { FlushedPlacedLaw }
+    ensures kind { KindPlacedLaw }
+    ensures within { WithinPlacedLaw }
+    ensures writing { WritingPlacedLaw }
+    ensures back { BackPlacedLaw }
+    ensures recalculating { RecalculatingPlacedLaw }
+    ensures moving { MovingPlacedLaw }
+{}
+
+/// Where the journal has nothing to replay each image, also within a call, can be opened and has cells that may be left of
+/// the device.
 pub fn cut_is_left()
+    ensures placed { PlacedIsLeftLaw }
     ensures standing { StandingLeftLaw }
     ensures reopens { ReopensLaw }
     ensures all { FlushedLeftLaw }
