@@ -4,5 +4,7 @@ pub mod EventLemmas
 pub mod ReadLemmas
 pub mod PlacedLemmas
 pub mod PromiseLemmas
+pub mod CallLemmas
+pub mod MomentLemmas
 pub mod Worked
 pub mod WorkedServe

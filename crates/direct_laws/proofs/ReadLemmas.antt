@@ -49,7 +49,7 @@ other true q holds e = e
 other false q holds e = absurd (true≢false (sym holds))
 
 -- A block that is not to be recalculated does not await its tag.
-rests : (d : DirectDisk) (awaiting : ℕ → Bool) (b : ℕ) → is_to_recalculate d.superblock d.geometry b ≡ false → awaits_tag d awaiting b ≡ false
+pub rests : (d : DirectDisk) (awaiting : ℕ → Bool) (b : ℕ) → is_to_recalculate d.superblock d.geometry b ≡ false → awaits_tag d awaiting b ≡ false
 rests d awaiting b e = neither (awaiting (region_of d.geometry b)) (is_to_recalculate d.superblock d.geometry b) e
 
 module _ (d : DirectDisk) (awaiting : ℕ → Bool) (tags : ℕ → List ℕ) (c : Content) (keeps : KeepsCells d awaiting tags c) where
@@ -140,16 +140,16 @@ keeps_opened d entry tags image_is opens clear none whole placed =
 -- ---- a write
 
 module _ (d : DirectDisk) (write : BlockWrite) (first : Content) (formed : IsFormed d) (is : IsBlockWrite d.geometry write) where
-  own : (b : ℕ) → write.block ≡ b → (cell_now (with_write d write) b) ≡ record { bytes = write.bytes; tag = tagger_of d.format write.block write.bytes }
+  pub own : (b : ℕ) → write.block ≡ b → (cell_now (with_write d write) b) ≡ record { bytes = write.bytes; tag = tagger_of d.format write.block write.bytes }
   own b same = cells_after-push_same (tagger_of d.format) d.base d.writes write b same
 
-  kept : (b : ℕ) → write.block ≢ b → cell_now (with_write d write) b ≡ cell_now d b
+  pub kept : (b : ℕ) → write.block ≢ b → cell_now (with_write d write) b ≡ cell_now d b
   kept b apart = cells_after-push_other (tagger_of d.format) d.base d.writes write b apart
 
   run : length write.bytes / 512 ≡ d.geometry.shape.spb
   run = let size = is.bytes in omega arith
 
-  written_data : ReadsData d.geometry (cell_now d) first → ReadsData d.geometry (cell_now (with_write d write)) (with_run (data_at d.geometry write.block) write.bytes first)
+  pub written_data : ReadsData d.geometry (cell_now d) first → ReadsData d.geometry (cell_now (with_write d write)) (with_run (data_at d.geometry write.block) write.bytes first)
   written_data reads = record {
     each = λ b k low k_low.
         let g = d.geometry in

@@ -4,3 +4,5 @@ pub mod ReadLaws
 pub mod Within
 pub mod PlacedLaws
 pub mod PromiseLaws
+pub mod CallLaws
+pub mod MomentLaws
