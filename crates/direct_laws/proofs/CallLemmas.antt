@@ -7,7 +7,7 @@ use Rattle.std.proofs.lemmas.Option.{none-some, same_Some}
 use Rattle.disk_model.specs.Disk.{Content, Image, IsImage, OnlyAdds, AddsSome, IsOfRun, last_image, newest_only, with_run}
 use Rattle.disk_model.specs.Moments.{content_now, EachMoment, FromStart}
 use Rattle.disk_model.proofs.DiskLemmas.{only_candidate, OnlyAdds-none, OnlyAdds-wider, AddsSome-adds, AddsSome-none, AddsSome-all}
-use Rattle.disk_model.proofs.MomentsLemmas.{EachMoment-then, EachMoment-weaker, content_at_end}
+use Rattle.disk_model.proofs.MomentsLemmas.{EachMoment-kept, EachMoment-then, EachMoment-weaker, content_at_end}
 use Rattle.image_model.specs.declared.flags.TheConstants.{RECALCULATING}
 use Rattle.image_model.specs.Bitmap.{is_to_recalculate}
 use Rattle.image_model.specs.Cells.{Cell}
@@ -26,7 +26,7 @@ use Rattle.place_model.proofs.BlocksLemmas.{ReadsData-same}
 use Rattle.direct_model.specs.DirectDisk.{DirectDisk, StandsFor, cell_now}
 use Rattle.direct_model.specs.Steps.{with_write, after_flush, AreTags, IsOfWrite}
 use Rattle.direct_model.proofs.DirectLemmas.{kept_before, writing_law, tags_written_law}
-use Rattle.direct_laws.specs.CallLaws.{StandsThrough, HasData, ThroughLaw, DataLaw, DataDoneLaw, PutLaw, PutDoneLaw, BackLaw, BackDoneLaw, SyncLaw, SyncDoneLaw, BlockReadLaw, NoneAwaitsLaw}
+use Rattle.direct_laws.specs.CallLaws.{StandsThrough, HasData, StillLaw, ThroughLaw, DataLaw, DataDoneLaw, PutLaw, PutDoneLaw, BackLaw, BackDoneLaw, SyncLaw, SyncDoneLaw, BlockReadLaw, NoneAwaitsLaw, AnyAwaitingLaw}
 use Rattle.direct_laws.specs.ReadLaws.{KeepsCells}
 use Rattle.direct_laws.proofs.ReadLemmas.{own, kept, rests, written_data, are_tags, keeps_flushed, keeps_same, read_law}
 
@@ -69,6 +69,9 @@ end_from {a} {b} P none m start c told_start told = last a m.since m.each told_s
     last [] since each e f = absurd (none-some start e)
     last (s ∷ h) [] each e f = subst (P start) (same_Some _ _ (sym e ∙ f)) (none start)
     last (s ∷ h) (x ∷ since) each e f = subst (λ (y : Content). P y c) (same_Some _ _ e) (subst (P s) (same_Some _ _ f) each.0)
+
+pub still_law : StillLaw
+still_law d a b same stands = record { moments = EachMoment-kept (StandsFor d) same; now = subst (λ (moments : List Content). ForSome (content_now moments) (StandsFor d)) (sym same) stands }
 
 pub through_law : ThroughLaw
 through_law d a b c first second = record { moments = EachMoment-then first.moments second.moments; now = second.now }
@@ -244,3 +247,7 @@ none_awaits_law f s d image is reads =
       λ region. false_from_ne_true (s.progress.regions.awaiting region) (λ waits. let may = is.awaiting region waits in true≢false (sym may.to_recalculate ∙ still may.block)),
       λ awaiting b. rests d awaiting b (still b),
     )
+
+pub any_awaiting_law : AnyAwaitingLaw
+any_awaiting_law f s d image awaiting now tags a is reads keeps c told =
+    keeps_same d awaiting now (tags c) (tags c) c (λ b low. refl) (λ b low awaits. (none_awaits_law f s d image is reads).1 awaiting b) (keeps c told)

@@ -6,5 +6,6 @@ pub mod PlacedLemmas
 pub mod PromiseLemmas
 pub mod CallLemmas
 pub mod MomentLemmas
+pub mod ServeLemmas
 pub mod Worked
 pub mod WorkedServe

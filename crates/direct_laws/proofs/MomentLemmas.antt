@@ -104,7 +104,7 @@ module _ (key : Option (List ℕ)) (sectors : ℕ) (start : Content)
       (standing_placed_law ((placed_kind key sectors).format image) ((placed_kind key sectors).opened image) (placed_disk format image) (newest_only start) device stands_opened)
 
 pub opening_sync_law : OpeningSyncLaw
-opening_sync_law key sectors a b image can m =
+opening_sync_law key sectors a b is_image can m =
     let kind = placed_kind key sectors in (
       EachMoment-weaker (FromStart-weaker a (λ start c. c ≡ newest_only start) (λ start. EachImage (kind.MayBeLeft (last_image start) (kind.opened (last_image start)).history)) (λ start c told is.
           subst (EachImage (kind.MayBeLeft (last_image start) (kind.opened (last_image start)).history)) (sym is) (left_opened key sectors start (can start told)))) m,
@@ -114,13 +114,13 @@ opening_sync_law key sectors a b image can m =
     )
 
 pub opening_done_law : OpeningDoneLaw
-opening_done_law key sectors tags a b image can synced placed start told = record {
+opening_done_law key sectors tags a b is_image can synced placed start told = record {
   device = device key sectors start (can start told);
   keeps = λ c told_c.
       let first = came_from (content_now a) newest_only c (sym synced ∙ told_c) in
       let same : start ≡ first.0 = same_Some start first.0 (sym told ∙ first.1) in
       let is : newest_only start ≡ c = ap newest_only same ∙ first.2 in
       subst (λ (x : Content). KeepsCells (placed_disk (format_on key sectors (last_image start)) (last_image start)) (awaiting_on Direct (format_on key sectors (last_image start)) (last_image start)) (tags x) x) is
-      (keeps_placed (format_on key sectors (last_image start)) start (tags (newest_only start)) (image start told) (reads_on key sectors (last_image start) (can start told).0.0) (can start told).0.1 (can start told).1
+      (keeps_placed (format_on key sectors (last_image start)) start (tags (newest_only start)) (is_image start told) (reads_on key sectors (last_image start) (can start told).0.0) (can start told).0.1 (can start told).1
       (placed (newest_only start) (told_c ∙ ap (λ (x : Content). Some x) (sym is))));
 }

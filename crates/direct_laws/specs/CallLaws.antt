@@ -71,7 +71,11 @@ ReadsTagsNow g tags moments = HasNow (λ c. ReadsTags g (tags c) c) moments
 
 -- ---- laws
 
--- Calls in a row.
+-- A call that keeps the moments, as a read does,
+abbrev pub StillLaw : Type 0
+StillLaw = (d : DirectDisk) (a b : List Content) → b ≡ a → HasNow (StandsFor d) a → StandsThrough d a b
+
+-- and calls in a row.
 abbrev pub ThroughLaw : Type 0
 ThroughLaw = (d : DirectDisk) (a b c : List Content) → StandsThrough d a b → StandsThrough d b c → StandsThrough d a c
 
@@ -147,3 +151,9 @@ abbrev pub NoneAwaitsLaw : Type 0
 NoneAwaitsLaw = (f : DeviceFormat) (s : DeviceState) (d : DirectDisk) (image : Image) → IsDirectDevice f s d
     → IsReadAs d.format image → ((region : ℕ) → s.progress.regions.awaiting region ≡ false)
     × ((awaiting : ℕ → Bool) (b : ℕ) → awaits_tag d awaiting b ≡ false)
+
+-- So whatever is said to await, the cells are the same.
+abbrev pub AnyAwaitingLaw : Type 0
+AnyAwaitingLaw = (f : DeviceFormat) (s : DeviceState) (d : DirectDisk) (image : Image) (awaiting now : ℕ → Bool)
+    (tags : Content → ℕ → List ℕ) (a : List Content) → IsDirectDevice f s d → IsReadAs d.format image
+    → KeepsNow d awaiting tags a → KeepsNow d now tags a

@@ -6,3 +6,4 @@ pub mod PlacedLaws
 pub mod PromiseLaws
 pub mod CallLaws
 pub mod MomentLaws
+pub mod ServeLaws
