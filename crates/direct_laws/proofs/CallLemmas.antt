@@ -21,9 +21,9 @@ use Rattle.device_model.specs.Reply.{block_reply}
 use Rattle.device_model.specs.Serial.{readable_cells}
 use Rattle.place_model.specs.Blocks.{IsBlockWrite, ReadsData}
 use Rattle.place_model.specs.Format.{tagger_of}
-use Rattle.place_model.specs.Tags.{IsOfTags, ReadsTags, with_block_tag}
-use Rattle.place_model.proofs.BlocksLemmas.{ReadsData-same}
-use Rattle.direct_model.specs.DirectDisk.{DirectDisk, StandsFor, cell_now}
+use Rattle.place_model.specs.Tags.{IsOfTags, KeepsOthers, ReadsTags, with_block_tag}
+use Rattle.place_model.proofs.BlocksLemmas.{ReadsData-same, KeepsOthers-data}
+use Rattle.direct_model.specs.DirectDisk.{DirectDisk, IsFormed, StandsFor, cell_now}
 use Rattle.direct_model.specs.Steps.{with_write, after_flush, AreTags, IsOfWrite}
 use Rattle.direct_model.proofs.DirectLemmas.{kept_before, writing_law, tags_written_law}
 use Rattle.direct_laws.specs.CallLaws.{StandsThrough, HasData, StillLaw, ThroughLaw, DataLaw, DataDoneLaw, PutLaw, PutDoneLaw, BackLaw, BackDoneLaw, SyncLaw, SyncDoneLaw, BlockReadLaw, NoneAwaitsLaw, AnyAwaitingLaw}
@@ -112,11 +112,11 @@ data_done_law d g write awaiting tags now a b e is keeps written same c told =
 
 -- ---- the tag of a block
 
--- Reads of the data are the same in the geometry of the disk.
-same_in : (d : DirectDisk) (g : Geometry) → d.geometry ≡ g → (start c : Content)
-    → ((b k : ℕ) → b < g.blocks → k < g.shape.spb → last_image c (data_at g b + k) ≡ last_image start (data_at g b + k))
+-- Reads of the data are the same.
+data_same : (d : DirectDisk) (g : Geometry) → d.geometry ≡ g → IsFormed d → (start c : Content) → KeepsOthers g start c
     → (b k : ℕ) → b < d.geometry.blocks → k < d.geometry.shape.spb → last_image c (data_at d.geometry b + k) ≡ last_image start (data_at d.geometry b + k)
-same_in d g e start c = subst (λ (y : Geometry). (b k : ℕ) → b < y.blocks → k < y.shape.spb → last_image c (data_at y b + k) ≡ last_image start (data_at y b + k)) (sym e)
+data_same d g e formed start c others b k low k_low =
+    KeepsOthers-data d.geometry d.sectors start c formed.is_geometry (subst (λ (y : Geometry). KeepsOthers y start c) (sym e) others) b k low k_low
 
 -- Sectors of tags are written, in the geometry of the disk.
 adds_in : (d : DirectDisk) (g : Geometry) → d.geometry ≡ g → (old new : ℕ → List ℕ) (start c : Content) → OnlyAdds (IsOfTags g old new) start c → OnlyAdds (IsOfTags d.geometry old new) start c
@@ -142,11 +142,11 @@ module _ (d : DirectDisk) (g : Geometry) (write : BlockWrite) (tag : List ℕ) (
   stands_put adds = tags_written_law (with_write d write) tags (with_block_tag write.block tag tags) start c has.stands old_are new_are (adds_in d g e tags (with_block_tag write.block tag tags) start c adds)
 
   put_done : (now : ℕ → List ℕ) → tag ≡ tagger_of d.format write.block write.bytes → OnlyAdds (IsOfTags g tags (with_block_tag write.block tag tags)) start c
-      → ((b k : ℕ) → b < g.blocks → k < g.shape.spb → last_image c (data_at g b + k) ≡ last_image start (data_at g b + k))
+      → KeepsOthers g start c
       → ((b : ℕ) → b < g.blocks → now b ≡ with_block_tag write.block tag tags b) → KeepsCells (with_write d write) awaiting now c
-  put_done now is_tag adds same gives = record {
+  put_done now is_tag adds others gives = record {
     stands = stands_put adds;
-    reads = ReadsData-same d.geometry (cell_now (with_write d write)) start c (same_in d g e start c same) has.reads;
+    reads = ReadsData-same d.geometry (cell_now (with_write d write)) start c (data_same d g e has.formed start c others) has.reads;
     tags_are = λ b low awaits. gives b (subst (λ (y : Geometry). b < y.blocks) e low) ∙ elim (cases_eq write.block b) [
       | inl here ↦ rw (eq-eqb write.block b here) (is_tag ∙ ap (λ (cell : Cell). cell.tag) (sym (own d write start has.formed is b here)))
       | inr apart ↦ rw (ne_eqb write.block b apart) (has.tags_are b low apart awaits ∙ ap (λ (cell : Cell). cell.tag) (sym (kept d write start has.formed is b apart)))
@@ -163,11 +163,11 @@ put_law d g write tag awaiting tags a b e is has m =
     (λ start told c adds. stands_put d g write tag e is awaiting (tags start) start c (has start told) adds) m
 
 pub put_done_law : PutDoneLaw
-put_done_law d g write tag awaiting tags now a b e is is_tag has m same gives c told =
+put_done_law d g write tag awaiting tags now a b e is is_tag has m others gives c told =
     let P = PutAdds g write.block tag tags in
     let start = start_told P c m told in
     let adds = end_from P (λ x. OnlyAdds-none (IsOfTags g (tags x) (with_block_tag write.block tag (tags x))) x) m start.0 c start.1 told in
-    put_done d g write tag e is awaiting (tags start.0) start.0 c (has start.0 start.1) (now c) is_tag adds (same start.0 start.1 c told) (gives start.0 start.1 c told)
+    put_done d g write tag e is awaiting (tags start.0) start.0 c (has start.0 start.1) (now c) is_tag adds (others start.0 start.1 c told) (gives start.0 start.1 c told)
 
 -- ---- tags are written back
 
@@ -178,11 +178,11 @@ module _ (d : DirectDisk) (g : Geometry) (e : d.geometry ≡ g) (awaiting : ℕ 
       tags_written_law d tags tags start c keeps.stands are are (adds_in d g e tags tags start c adds)
 
   back_done : (now : ℕ → List ℕ) → OnlyAdds (IsOfTags g tags tags) start c
-      → ((b k : ℕ) → b < g.blocks → k < g.shape.spb → last_image c (data_at g b + k) ≡ last_image start (data_at g b + k))
+      → KeepsOthers g start c
       → ((b : ℕ) → b < g.blocks → now b ≡ tags b) → KeepsCells d awaiting now c
-  back_done now adds same gives = record {
+  back_done now adds others gives = record {
     stands = stands_back adds;
-    reads = ReadsData-same d.geometry (cell_now d) start c (same_in d g e start c same) keeps.reads;
+    reads = ReadsData-same d.geometry (cell_now d) start c (data_same d g e keeps.stands.formed start c others) keeps.reads;
     tags_are = λ b low awaits. gives b (subst (λ (y : Geometry). b < y.blocks) e low) ∙ keeps.tags_are b low awaits;
   }
 
@@ -196,11 +196,11 @@ back_law d g awaiting tags a b e keeps m =
     (λ start told c adds. stands_back d g e awaiting (tags start) start c (keeps start told) adds) m
 
 pub back_done_law : BackDoneLaw
-back_done_law d g awaiting tags now a b e keeps m same gives c told =
+back_done_law d g awaiting tags now a b e keeps m others gives c told =
     let P = BackAdds g tags in
     let start = start_told P c m told in
     let adds = end_from P (λ x. OnlyAdds-none (IsOfTags g (tags x) (tags x)) x) m start.0 c start.1 told in
-    back_done d g e awaiting (tags start.0) start.0 c (keeps start.0 start.1) (now c) adds (same start.0 start.1 c told) (gives start.0 start.1 c told)
+    back_done d g e awaiting (tags start.0) start.0 c (keeps start.0 start.1) (now c) adds (others start.0 start.1 c told) (gives start.0 start.1 c told)
 
 -- ---- a sync
 

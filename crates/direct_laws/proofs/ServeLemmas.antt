@@ -28,12 +28,12 @@ put_failed_law d g write tag awaiting tags mid a m b e is keeps data_ put =
 pub block_written_law : BlockWrittenLaw
 block_written_law d g write tag awaiting tags mid now a m b e is is_tag keeps data_ put = (
   put_failed_law d g write tag awaiting tags mid a m b e is keeps data_ put.adds,
-  put_done_law d g write tag awaiting mid now m b e is is_tag (data_done_law d g write awaiting tags mid a m e is keeps data_.written data_.gives) put.adds put.same put.gives,
+  put_done_law d g write tag awaiting mid now m b e is is_tag (data_done_law d g write awaiting tags mid a m e is keeps data_.written data_.gives) put.adds put.others put.gives,
 )
 
 pub tags_kept_law : TagsKeptLaw
 tags_kept_law d g awaiting tags now a b e keeps back =
-    (back_law d g awaiting tags a b e keeps back.adds, back_done_law d g awaiting tags now a b e keeps back.adds back.same back.gives)
+    (back_law d g awaiting tags a b e keeps back.adds, back_done_law d g awaiting tags now a b e keeps back.adds back.others back.gives)
 
 pub sync_failed_law : SyncFailedLaw
 sync_failed_law d g awaiting tags mid a m b e keeps back image synced =
@@ -43,7 +43,7 @@ sync_failed_law d g awaiting tags mid a m b e keeps back image synced =
 pub all_flushed_law : AllFlushedLaw
 all_flushed_law d g awaiting tags mid now a m b e keeps back reads sync = (
   sync_failed_law d g awaiting tags mid a m b e keeps back sync.image sync.adds,
-  sync_done_law d g awaiting mid now m b e (back_done_law d g awaiting tags mid a m e keeps back.adds back.same back.gives) sync.image reads sync.synced sync.gives,
+  sync_done_law d g awaiting mid now m b e (back_done_law d g awaiting tags mid a m e keeps back.adds back.others back.gives) sync.image reads sync.synced sync.gives,
 )
 
 -- ---- serves, and a close

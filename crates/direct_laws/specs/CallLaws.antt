@@ -1,6 +1,6 @@
 -- What the calls that a device in direct mode makes leave at each of their moments, by what the calls below them say.
 -- Own: the tags come from a store, which may write any of them back within each call of its own.
-use Rattle.std.specs.Prelude.{◌≡◌, ◌≢◌, ℕ, ◌+◌, ◌<◌, Bool, false, List, length}
+use Rattle.std.specs.Prelude.{◌≡◌, ◌≢◌, ℕ, ◌<◌, Bool, false, List, length}
 use Rattle.disk_model.specs.Disk.{Content, Image, IsImage, OnlyAdds, AddsSome, Reads, last_image, newest_only, with_run}
 use Rattle.disk_model.specs.Moments.{EachMoment, EachSince, HasNow, IsChangedBy}
 use Rattle.image_model.specs.Cells.{Cell}
@@ -12,7 +12,7 @@ use Rattle.device_model.specs.Reply.{block_reply}
 use Rattle.device_model.specs.Serial.{readable_cells}
 use Rattle.place_model.specs.Blocks.{IsBlockWrite, ReadsData}
 use Rattle.place_model.specs.Format.{IsReadAs, tagger_of}
-use Rattle.place_model.specs.Tags.{IsOfTags, ReadsTags, with_block_tag}
+use Rattle.place_model.specs.Tags.{IsOfTags, KeepsOthers, ReadsTags, with_block_tag}
 use Rattle.direct_model.specs.DirectDisk.{DirectDisk, IsFormed, StandsFor, cell_now}
 use Rattle.direct_model.specs.Steps.{with_write, after_flush}
 use Rattle.direct_laws.specs.Device.{IsDirectDevice}
@@ -60,10 +60,9 @@ abbrev pub GivesTags : Geometry → (told now : Content → ℕ → List ℕ) �
 GivesTags g told now before after =
     HasNow (λ start. HasNow (λ c. (b : ℕ) → b < g.blocks → now c b ≡ told start b) after) before
 
--- Reads of the data give then what they gave.
-abbrev pub ReadsSameData : Geometry → (before after : List Content) → Type 0
-ReadsSameData g before after = HasNow (λ start. HasNow (λ c. (b k : ℕ) → b < g.blocks → k < g.shape.spb
-    → last_image c (data_at g b + k) ≡ last_image start (data_at g b + k)) after) before
+-- Reads of each sector without a byte of a tag give then what they gave.
+abbrev pub KeepsOthersNow : Geometry → (before after : List Content) → Type 0
+KeepsOthersNow g before after = HasNow (λ start. HasNow (KeepsOthers g start) after) before
 
 -- What reads give of the tags are those of the store.
 abbrev pub ReadsTagsNow : Geometry → (tags : Content → ℕ → List ℕ) → List Content → Type 0
@@ -106,7 +105,7 @@ abbrev pub PutDoneLaw : Type 0
 PutDoneLaw = (d : DirectDisk) (g : Geometry) (write : BlockWrite) (tag : List ℕ) (awaiting : ℕ → Bool)
     (tags now : Content → ℕ → List ℕ) (a b : List Content) → d.geometry ≡ g → IsBlockWrite d.geometry write
     → tag ≡ tagger_of d.format write.block write.bytes → HasDataNow d write awaiting tags a
-    → AddsTags g tags (λ c. with_block_tag write.block tag (tags c)) a b → ReadsSameData g a b
+    → AddsTags g tags (λ c. with_block_tag write.block tag (tags c)) a b → KeepsOthersNow g a b
     → GivesTags g (λ c. with_block_tag write.block tag (tags c)) now a b
     → KeepsNow (with_write d write) awaiting now b
 
@@ -120,7 +119,7 @@ BackLaw = (d : DirectDisk) (g : Geometry) (awaiting : ℕ → Bool) (tags : Cont
 abbrev pub BackDoneLaw : Type 0
 BackDoneLaw = (d : DirectDisk) (g : Geometry) (awaiting : ℕ → Bool) (tags now : Content → ℕ → List ℕ)
     (a b : List Content) → d.geometry ≡ g → KeepsNow d awaiting tags a → AddsTags g tags tags a b
-    → ReadsSameData g a b → GivesTags g tags now a b → KeepsNow d awaiting now b
+    → KeepsOthersNow g a b → GivesTags g tags now a b → KeepsNow d awaiting now b
 
 -- While it is synced it stands for the same,
 abbrev pub SyncLaw : Type 0

@@ -14,7 +14,7 @@ use Rattle.place_model.specs.Tags.{with_block_tag}
 use Rattle.device_laws.specs.EventLaws.{IsServed, next_write}
 use Rattle.direct_model.specs.DirectDisk.{DirectDisk}
 use Rattle.direct_model.specs.Steps.{with_write, after_flush}
-use Rattle.direct_laws.specs.CallLaws.{AddsTags, GivesTags, KeepsNow, ReadsImage, ReadsSameData, ReadsTagsNow, StandsThrough}
+use Rattle.direct_laws.specs.CallLaws.{AddsTags, GivesTags, KeepsNow, ReadsImage, KeepsOthersNow, ReadsTagsNow, StandsThrough}
 use Rattle.direct_laws.specs.Device.{IsDirectDevice}
 use Rattle.direct_laws.specs.EventLaws.{after_block}
 use Rattle.direct_laws.specs.MomentLaws.{HasBlocksOf, IsLeftNow, IsLeftThrough, kind_of}
@@ -32,13 +32,13 @@ pub record WritesData (g : Geometry) (write : BlockWrite) (tags now : Content �
 pub record PutsTag (g : Geometry) (block : ℕ) (tag : List ℕ) (tags now : Content → ℕ → List ℕ)
     (before after : List Content) : Type 0 where
   pub adds : AddsTags g tags (λ c. with_block_tag block tag (tags c)) before after
-  pub same : ReadsSameData g before after
+  pub others : KeepsOthersNow g before after
   pub gives : GivesTags g (λ c. with_block_tag block tag (tags c)) now before after
 
 -- Tags may have been written back, and nothing else was: so does a call that gets one.
 pub record KeepsTags (g : Geometry) (tags now : Content → ℕ → List ℕ) (before after : List Content) : Type 0 where
   pub adds : AddsTags g tags tags before after
-  pub same : ReadsSameData g before after
+  pub others : KeepsOthersNow g before after
   pub gives : GivesTags g tags now before after
 
 -- The disk was synced.
