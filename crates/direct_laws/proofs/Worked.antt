@@ -57,7 +57,7 @@ awaits_tag-region = refl
 
 -- ---- a device
 
-abbrev format : DeviceFormat
+abbrev pub format : DeviceFormat
 format = device_format Direct journal_format
 
 abbrev at_start : DeviceState
