@@ -30,7 +30,7 @@ use Rattle.direct_laws.specs.Device.{IsDirectDevice}
 use Rattle.direct_laws.specs.EventLaws.{after_block}
 use Rattle.direct_laws.specs.MomentLaws.{HasBlocksOf}
 use Rattle.direct_laws.specs.ReadLaws.{KeepsCells, awaits_tag}
-use Rattle.direct_laws.specs.ServeLaws.{WritesData, PutsTag, KeepsTags, Syncs, KeepsDevice}
+use Rattle.direct_laws.specs.ServeLaws.{WritesData, PutsTag, WritesBack, Syncs, KeepsDevice}
 use Rattle.direct_laws.proofs.CallLemmas.{through_law, data_law, back_law, block_read_law}
 use Rattle.direct_laws.proofs.EventLemmas.{quiet_events_law, serve_write_law, serve_read_law}
 use Rattle.direct_laws.proofs.ServeLemmas.{put_failed_law, block_written_law, tags_kept_law, sync_failed_law, all_flushed_law, served_block_law, failed_block_law, served_kept_law}
@@ -76,7 +76,7 @@ module _ (f : DeviceFormat) (s : DeviceState) (d : DirectDisk) (k : ℕ) (r : As
       back_fails : AddsTags d.geometry tags_put tags_put put back → KeepsDevice f s (FailedServe (suc k)) entry d (with_write d write) start back
       back_fails adds = fails back (through_law (with_write d write) start put back written.0 (back_law (with_write d write) d.geometry awaiting tags_put put back refl written.1 adds))
 
-      module _ (kept : KeepsTags d.geometry tags_put tags_back put back) (in_place : ReadsTagsNow d.geometry tags_back back) where
+      module _ (kept : WritesBack d.geometry tags_put tags_back put back) (in_place : ReadsTagsNow d.geometry tags_back back) where
         -- They are, and the sync fails.
         sync_fails : ReadsImage back → EachSince (λ before c. c ≡ newest_only before) back synced → KeepsDevice f s (FailedServe (suc k)) entry d (with_write d write) start synced
         sync_fails image adds =
@@ -101,7 +101,7 @@ module _ (f : DeviceFormat) (s : DeviceState) (d : DirectDisk) (k : ℕ) (r : As
 module _ (f : DeviceFormat) (s : DeviceState) (d : DirectDisk) (k : ℕ) (r : Asked) (first count : ℕ) (entry : Image) (tags tags_got : Content → ℕ → List ℕ) (start got : List Content)
     (b : ℕ) (bytes tag : List ℕ) (is : IsDirectDevice f s d) (same : HasBlocksOf entry d) (served : IsServed s k r) (request : r.request ≡ Read first count)
     (keeps : KeepsNow d s.progress.regions.awaiting tags start) (low : b < f.blocks.blocks) (rests : awaits_tag d s.progress.regions.awaiting b ≡ false) (size : length bytes ≡ f.blocks.block_size)
-    (reads : HasNow (Reads (data_at d.geometry b) bytes) start) (is_tag : HasNow (λ c. tag ≡ tags c b) start) (kept : KeepsTags d.geometry tags tags_got start got) where
+    (reads : HasNow (Reads (data_at d.geometry b) bytes) start) (is_tag : HasNow (λ c. tag ≡ tags c b) start) (kept : WritesBack d.geometry tags tags_got start got) where
   abbrev cell : Cell
   cell = record { bytes = bytes; tag = tag }
 

@@ -21,7 +21,8 @@ use Rattle.direct_laws.specs.ReadLaws.{KeepsCells, awaits_tag}
 -- ---- what a call leaves
 
 -- The disk, with the tags that a store gives over its content, has the cells.
-abbrev pub KeepsNow : DirectDisk → (awaiting : ℕ → Bool) → (tags : Content → ℕ → List ℕ) → List Content → Type 0
+abbrev pub KeepsNow : DirectDisk → (awaiting : ℕ → Bool) → (tags : Content → ℕ → List ℕ) → List Content
+    → Type 0
 KeepsNow d awaiting tags moments = HasNow (λ c. KeepsCells d awaiting (tags c) c) moments
 
 -- The disk stands for this at each moment of a call, and at its end.
@@ -76,7 +77,8 @@ StillLaw = (d : DirectDisk) (a b : List Content) → b ≡ a → HasNow (StandsF
 
 -- and calls in a row.
 abbrev pub ThroughLaw : Type 0
-ThroughLaw = (d : DirectDisk) (a b c : List Content) → StandsThrough d a b → StandsThrough d b c → StandsThrough d a c
+ThroughLaw = (d : DirectDisk) (a b c : List Content) → StandsThrough d a b → StandsThrough d b c
+    → StandsThrough d a c
 
 -- While the bytes of a block are written the disk stands for the one with the write, whether the call fails or not,
 abbrev pub DataLaw : Type 0
@@ -142,7 +144,8 @@ BlockReadLaw = (f : DeviceFormat) (s : DeviceState) (d : DirectDisk) (awaiting :
     → HasNow (Reads (data_at d.geometry b) bytes) a → HasNow (λ c. tag ≡ tags c b) a
     → let cell : Cell = record { bytes = bytes; tag = tag } in
     let told = readable_cells f (cells_now f.blocks.tag s.history) b in
-    HasNow (λ c. (told ≡ cell) × (block_reply f.blocks.tag b told ≡ block_reply (tagger_of d.format) b cell)) a
+    HasNow (λ c. (told ≡ cell)
+    × (block_reply f.blocks.tag b told ≡ block_reply (tagger_of d.format) b cell)) a
 
 -- No block awaits its tag on an image that can be read: no flag says so that is known.
 -- Own: `RECALCULATING` is not yet one of the known flags.
@@ -153,6 +156,6 @@ NoneAwaitsLaw = (f : DeviceFormat) (s : DeviceState) (d : DirectDisk) (image : I
 
 -- So whatever is said to await, the cells are the same.
 abbrev pub AnyAwaitingLaw : Type 0
-AnyAwaitingLaw = (f : DeviceFormat) (s : DeviceState) (d : DirectDisk) (image : Image) (awaiting now : ℕ → Bool)
-    (tags : Content → ℕ → List ℕ) (a : List Content) → IsDirectDevice f s d → IsReadAs d.format image
+AnyAwaitingLaw = (f : DeviceFormat) (s : DeviceState) (d : DirectDisk) (image : Image)
+    (awaiting now : ℕ → Bool) (tags : Content → ℕ → List ℕ) (a : List Content) → IsDirectDevice f s d → IsReadAs d.format image
     → KeepsNow d awaiting tags a → KeepsNow d now tags a

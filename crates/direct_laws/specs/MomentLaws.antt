@@ -22,8 +22,8 @@ use Rattle.direct_laws.specs.Within.{IsWithin}
 
 -- At each moment of a call each image can be opened, and may be left of the device that was opened on the one at entry, by a
 -- history within the event.
-pub record IsLeftThrough (kind : DeviceKind) (entry : Image) (f : DeviceFormat) (s : DeviceState) (event : Event)
-    (before after : List Content) : Type 0 where
+pub record IsLeftThrough (kind : DeviceKind) (entry : Image) (f : DeviceFormat) (s : DeviceState)
+    (event : Event) (before after : List Content) : Type 0 where
   pub opens : EachMoment before after (EachImage kind.CanOpen)
   pub left : EachMoment before after (IsWithin (kind.MayBeLeft entry) f s event)
 
@@ -44,8 +44,8 @@ HasBlocksOf entry d = blocks_of d.format ≡ blocks_of (format_on d.key d.sector
 -- in place.
 pub record IsOpenedOn (key : Option (List ℕ)) (sectors : ℕ) (image : Image) (tags : Content → ℕ → List ℕ)
     (moments : List Content) : Type 0 where
-  pub device : IsDirectDevice ((placed_kind key sectors).format image) ((placed_kind key sectors).opened image)
-      (placed_disk (format_on key sectors image) image)
+  pub device : IsDirectDevice ((placed_kind key sectors).format image)
+      ((placed_kind key sectors).opened image) (placed_disk (format_on key sectors image) image)
   pub keeps : KeepsNow (placed_disk (format_on key sectors image) image)
       ((placed_kind key sectors).opened image).progress.regions.awaiting tags moments
 
@@ -61,7 +61,8 @@ abbrev pub OpeningSyncLaw : Type 0
 OpeningSyncLaw = (key : Option (List ℕ)) (sectors : ℕ) (a b : List Content) → ReadsImage a
     → CanOpenNow key sectors a → EachSince (λ start c. c ≡ newest_only start) a b
     → let kind = placed_kind key sectors in
-    EachSince (λ start. EachImage (kind.MayBeLeft (last_image start) (kind.opened (last_image start)).history)) a b
+    EachSince (λ start. let image = last_image start in
+    EachImage (kind.MayBeLeft image (kind.opened image).history)) a b
     × EachSince (λ start. EachImage kind.CanOpen) a b
 
 -- and then the device is open.

@@ -1,5 +1,5 @@
--- What a cut leaves of a device in direct mode, between its calls and within them, by superblock and geometry alone: nothing is
--- asked of the journal, and nothing told.
+-- What a cut leaves of a device in direct mode, between its calls and within them, by superblock and geometry alone: nothing
+-- is asked of the journal, and nothing told.
 use Rattle.std.specs.Prelude.{◌≡◌, ◌⊎◌, ℕ, suc, Bool, Ok, List, length, take}
 use Rattle.disk_model.specs.Disk.{Content, Image, EachImage, HasNothingPending, OnlyAdds}
 use Rattle.image_model.specs.Superblock.{Superblock, superblock_of}
@@ -28,7 +28,8 @@ StandingPlacedLaw = (f : DeviceFormat) (s : DeviceState) (d : DirectDisk) (c : C
 
 -- and a device can be opened on it.
 abbrev pub ReopensPlacedLaw : Type 0
-ReopensPlacedLaw = (d : DirectDisk) (c : Content) → StandsFor d c → EachImage (CanOpenPlaced d.key d.sectors) c
+ReopensPlacedLaw = (d : DirectDisk) (c : Content) → StandsFor d c
+    → EachImage (CanOpenPlaced d.key d.sectors) c
 
 -- Once all is flushed each image has all placed cells.
 abbrev pub FlushedPlacedLaw : Type 0
@@ -45,8 +46,8 @@ KindPlacedLaw = (d : DiskFormat) (entry : Image) (h : History) (left : Image)
 
 -- A disk that stands for what some of the changes of an event give is left within it.
 abbrev pub WithinPlacedLaw : Type 0
-WithinPlacedLaw = (f : DeviceFormat) (s : DeviceState) (event : Event) (d : DirectDisk) (kept : ℕ) (c : Content)
-    → IsDirectDevice f s d → StandsFor (after_changes (take kept (event_result f s event).changes) d) c
+WithinPlacedLaw = (f : DeviceFormat) (s : DeviceState) (event : Event) (d : DirectDisk) (kept : ℕ)
+    (c : Content) → IsDirectDevice f s d → StandsFor (after_changes (take kept (event_result f s event).changes) d) c
     → IsPlacedWithin f s event d.format c
 
 -- So it is while the data and the tag of a block are written, whether the call then fails or not,

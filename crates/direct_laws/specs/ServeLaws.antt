@@ -1,4 +1,4 @@
--- The work of a device in direct mode, as chains of calls: a block is written or read, all is flushed, and where a call fails.
+-- The work of a device in direct mode, as chains of calls: a block is written or read, all is flushed, and a call fails.
 -- Own: data before their tag, and tags before a sync.
 use Rattle.std.specs.Prelude.{◌≡◌, ℕ, suc, Bool, List}
 use Rattle.disk_model.specs.Disk.{Content, Image, AddsSome, newest_only, with_run}
@@ -36,7 +36,8 @@ pub record PutsTag (g : Geometry) (block : ℕ) (tag : List ℕ) (tags now : Con
   pub gives : GivesTags g (λ c. with_block_tag block tag (tags c)) now before after
 
 -- Tags may have been written back, and nothing else was: so does a call that gets one.
-pub record KeepsTags (g : Geometry) (tags now : Content → ℕ → List ℕ) (before after : List Content) : Type 0 where
+pub record WritesBack (g : Geometry) (tags now : Content → ℕ → List ℕ)
+    (before after : List Content) : Type 0 where
   pub adds : AddsTags g tags tags before after
   pub others : KeepsOthersNow g before after
   pub gives : GivesTags g tags now before after
@@ -63,33 +64,34 @@ abbrev pub PutFailedLaw : Type 0
 PutFailedLaw = (d : DirectDisk) (g : Geometry) (write : BlockWrite) (tag : List ℕ) (awaiting : ℕ → Bool)
     (tags mid : Content → ℕ → List ℕ) (a m b : List Content) → d.geometry ≡ g
     → IsBlockWrite d.geometry write → KeepsNow d awaiting tags a → WritesData g write tags mid a m
-    → AddsTags g mid (λ c. with_block_tag write.block tag (mid c)) m b → StandsThrough (with_write d write) a b
+    → AddsTags g mid (λ c. with_block_tag write.block tag (mid c)) m b
+    → StandsThrough (with_write d write) a b
 
 -- A tag is got, or tags are written back.
 abbrev pub TagsKeptLaw : Type 0
 TagsKeptLaw = (d : DirectDisk) (g : Geometry) (awaiting : ℕ → Bool) (tags now : Content → ℕ → List ℕ)
-    (a b : List Content) → d.geometry ≡ g → KeepsNow d awaiting tags a → KeepsTags g tags now a b
+    (a b : List Content) → d.geometry ≡ g → KeepsNow d awaiting tags a → WritesBack g tags now a b
     → StandsThrough d a b × KeepsNow d awaiting now b
 
 -- All is flushed: tags are written back, and the disk is synced.
 abbrev pub AllFlushedLaw : Type 0
 AllFlushedLaw = (d : DirectDisk) (g : Geometry) (awaiting : ℕ → Bool) (tags mid now : Content → ℕ → List ℕ)
-    (a m b : List Content) → d.geometry ≡ g → KeepsNow d awaiting tags a → KeepsTags g tags mid a m
+    (a m b : List Content) → d.geometry ≡ g → KeepsNow d awaiting tags a → WritesBack g tags mid a m
     → ReadsTagsNow g mid m → Syncs g mid now m b
     → StandsThrough d a b × KeepsNow (after_flush d) awaiting now b
 
 -- So it stands where the sync failed.
 abbrev pub SyncFailedLaw : Type 0
 SyncFailedLaw = (d : DirectDisk) (g : Geometry) (awaiting : ℕ → Bool) (tags mid : Content → ℕ → List ℕ)
-    (a m b : List Content) → d.geometry ≡ g → KeepsNow d awaiting tags a → KeepsTags g tags mid a m
+    (a m b : List Content) → d.geometry ≡ g → KeepsNow d awaiting tags a → WritesBack g tags mid a m
     → ReadsImage m → EachSince (λ start c. c ≡ newest_only start) m b → StandsThrough d a b
 
 -- ---- serves, and a close
 
 -- After an event the device is one with this disk. At each moment of the call each image can be opened, and may be left
 -- within the event; and at its end by the history then.
-pub record KeepsDevice (f : DeviceFormat) (s : DeviceState) (event : Event) (entry : Image) (d then_ : DirectDisk)
-    (before after : List Content) : Type 0 where
+pub record KeepsDevice (f : DeviceFormat) (s : DeviceState) (event : Event) (entry : Image)
+    (d then_ : DirectDisk) (before after : List Content) : Type 0 where
   pub device : IsDirectDevice f (after_event f s event) then_
   pub through : IsLeftThrough (kind_of d) entry f s event before after
   pub now : IsLeftNow (kind_of d) entry (after_event f s event).history after

@@ -8,8 +8,8 @@ use Rattle.place_model.specs.Format.{DiskFormat}
 use Rattle.place_model.specs.Left.{IsLeftInDirect, IsLeftPlaced}
 
 -- Each image may be left by one history, which is one within the event.
-pub record IsWithin (MayBeLeft : History → Image → Type 0) (f : DeviceFormat) (s : DeviceState) (event : Event)
-    (c : Content) : Type 0 where
+pub record IsWithin (MayBeLeft : History → Image → Type 0) (f : DeviceFormat) (s : DeviceState)
+    (event : Event) (c : Content) : Type 0 where
   pub history : History
   pub within : IsHistoryWithin f s event history
   pub each : EachImage (MayBeLeft history) c

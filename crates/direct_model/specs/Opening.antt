@@ -1,5 +1,5 @@
--- What a disk stands for when it is opened in direct mode: with its placed cells, whatever its journal says; and with its cells,
--- where the journal has nothing to replay.
+-- What a disk stands for when it is opened in direct mode: its placed cells, whatever its journal says; and its cells, where
+-- the journal has nothing to replay.
 -- Own: a journal that has entries is emptied in journal mode first, once something recovers it.
 use Rattle.std.specs.Prelude.{◌≡◌, false, []}
 use Rattle.disk_model.specs.Disk.{Content, Image, IsImage, EachImage, HasNothingPending, last_image, newest_only}

@@ -27,8 +27,9 @@ PlacedOpensLaw = (d : DiskFormat) (image : Image) → has_flag DIRTY_BITMAP d.su
 
 -- and one that may be left with its placed cells may be left in direct mode.
 abbrev pub PlacedLeftLaw : Type 0
-PlacedLeftLaw = (d : DiskFormat) (h : History) (image : Image) → has_flag DIRTY_BITMAP d.superblock.flags ≡ false
-    → HasNothingToReplay d.geometry image → IsLeftPlaced d h image → IsLeftInDirect d h image
+PlacedLeftLaw = (d : DiskFormat) (h : History) (image : Image)
+    → has_flag DIRTY_BITMAP d.superblock.flags ≡ false → HasNothingToReplay d.geometry image
+    → IsLeftPlaced d h image → IsLeftInDirect d h image
 
 -- An image with the same journal has nothing to replay either.
 abbrev pub SameJournalLaw : Type 0
@@ -36,7 +37,7 @@ SameJournalLaw = (g : Geometry) (sectors : ℕ) (one other : Image) → IsGeomet
     → ((sector : ℕ) → IsOfJournal g sector → one sector ≡ other sector)
     → HasNothingToReplay g other → HasNothingToReplay g one
 
--- The image can be opened in direct mode where it can be opened by superblock and geometry alone, and then in the same state,
+-- The image can be opened in direct mode where it can be by superblock and geometry alone, and then in the same state,
 abbrev pub SameOpeningLaw : Type 0
 SameOpeningLaw = (key : Option (List ℕ)) (sectors : ℕ) (image : Image)
     → HasNothingToReplay (format_on key sectors image).geometry image → CanOpenPlaced key sectors image
