@@ -13,7 +13,7 @@ use Rattle.image_model.specs.Superblock.{Superblock, magic, superblock_faults, h
 use Rattle.image_model.specs.declared.super_fields.SuperFault.TheVariants.{Magic}
 use Rattle.image_model.proofs.FaultLemmas.{ok_unless-told}
 use Rattle.image_model.proofs.OpenableLemmas.{IsReadable-geometry}
-use Rattle.place_model.specs.Format.{DiskFormat, IsReadAs, OpensAs, format_on}
+use Rattle.place_model.specs.Format.{DiskFormat, IsReadAs, OpensAs, ReadFormatLaw, format_on}
 
 -- A disk with a geometry has a first sector.
 some_sector : (g : Geometry) (sectors : ℕ) → IsGeometry g sectors → sectors ≢ 0
@@ -132,3 +132,8 @@ pub opens_on : (key : Option (List ℕ)) (sectors : ℕ) (image : Image) → (op
 opens_on key sectors image openable =
     let own = fields-own key sectors image openable.readable in
     record { openable = openable; superblock = own.0; geometry = own.1 }
+
+pub read_format_law : ReadFormatLaw
+read_format_law d image head geometry =
+    let reads : IsReadAs d image = record { readable = record { superblock = d.superblock; geometry = d.geometry; has_superblock = head; has_geometry = geometry }; superblock = refl; geometry = refl } in
+    (reads, format_on-read d image reads)

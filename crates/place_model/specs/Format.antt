@@ -1,10 +1,10 @@
 -- A disk as a device opens it, the tags of its blocks, and the cells of its images.
-use Rattle.std.specs.Prelude.{◌≡◌, ℕ, ◌*◌, ◌<◌, Option, List, length}
+use Rattle.std.specs.Prelude.{◌≡◌, ℕ, ◌*◌, ◌<◌, Option, Ok, List, length}
 use Rattle.disk_model.specs.Disk.{Image}
 use Rattle.image_model.specs.Cells.{Cell, salt_of, block_tag, recalculated_cell, cells_of}
-use Rattle.image_model.specs.Geometry.{Geometry, layout_of}
+use Rattle.image_model.specs.Geometry.{Geometry, layout_of, geometry_of}
 use Rattle.image_model.specs.Openable.{IsReadable, IsOpenable, first_sector}
-use Rattle.image_model.specs.Superblock.{Superblock, fields_in}
+use Rattle.image_model.specs.Superblock.{Superblock, fields_in, superblock_of}
 use Rattle.device_model.specs.History.{Tagger}
 
 -- The key of the tags, if there is one, the sectors of the disk, and what its superblock says.
@@ -62,3 +62,12 @@ pub record OpensAs (d : DiskFormat) (image : Image) : Type 0 where
 pub record HasCells (d : DiskFormat) (cells : ℕ → Cell) (image : Image) : Type 0 where
   pub opens : OpensAs d image
   pub each : (b : ℕ) → b < d.geometry.blocks → cells_on d image b ≡ cells b
+
+-- ---- laws
+
+-- An image whose first sector tells a superblock that is accepted, with its geometry, can be read in this format, which is
+-- its own.
+abbrev pub ReadFormatLaw : Type 0
+ReadFormatLaw = (d : DiskFormat) (image : Image) → superblock_of (first_sector d.sectors image) ≡ Ok d.superblock
+    → geometry_of d.superblock d.sectors ≡ Ok d.geometry
+    → IsReadAs d image × (format_on d.key d.sectors image ≡ d)

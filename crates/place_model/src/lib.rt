@@ -4,6 +4,7 @@
 #![tactic(auto)]
 
 ghost use Rattle.place_model.specs.FirstSync.{FirstSyncLaw, OpeningLeftLaw, PlacedOpeningLeftLaw, PlacedSyncLaw};
+ghost use Rattle.place_model.specs.Format.{ReadFormatLaw};
 ghost use Rattle.place_model.specs.Kind.{BitmapKindLaw, DirectKindLaw, JournalKindLaw, PlacedKindLaw};
 ghost use Rattle.place_model.specs.Left.{BitmapPendingLaw, DirectPendingLaw, JournalPendingLaw, PlacedPendingLaw};
 ghost use Rattle.place_model.specs.Placed.{PlacedCellsLaw, PlacedLeftLaw, PlacedOpensLaw, SameJournalLaw, SameLeftLaw, SameOpeningLaw};
@@ -43,4 +44,9 @@ pub fn placed_cells_are_cells()
     ensures same { SameJournalLaw }
     ensures opening { SameOpeningLaw }
     ensures same_left { SameLeftLaw }
+{}
+
+/// An image is read in the format that its first sector tells.
+pub fn format_is_told()
+    ensures { ReadFormatLaw }
 {}
