@@ -1,5 +1,5 @@
 -- What may be left at each moment of a call, from what the disk stands for there.
-use Rattle.std.proofs.Common.{◌≡◌, ℕ, suc, Bool, refl, sym, ◌∙◌, ap, subst, Option, Some, List, [], ◌∷◌, take}
+use Rattle.std.proofs.Common.{◌≡◌, ℕ, suc, refl, sym, ◌∙◌, ap, subst, Option, Some, List, [], ◌∷◌, take}
 use Rattle.std.proofs.lemmas.Option.{same_Some}
 use Rattle.disk_model.specs.Disk.{Content, Image, EachImage, last_image, newest_only}
 use Rattle.disk_model.specs.Moments.{EachMoment, content_now}
@@ -21,7 +21,7 @@ use Rattle.direct_model.specs.Steps.{with_write}
 use Rattle.direct_model.proofs.OpeningLemmas.{placed_opened_law}
 use Rattle.direct_laws.specs.Device.{IsDirectDevice, after_changes}
 use Rattle.direct_laws.specs.ReadLaws.{KeepsCells}
-use Rattle.direct_laws.specs.MomentLaws.{IsLeftThrough, IsLeftNow, kind_of, HasBlocksOf, OpeningSyncLaw, OpeningDoneLaw, LeftNowLaw, KeptThroughLaw, WrittenThroughLaw, FailedNowLaw}
+use Rattle.direct_laws.specs.MomentLaws.{IsLeftThrough, kind_of, HasBlocksOf, OpeningSyncLaw, OpeningDoneLaw, LeftNowLaw, KeptThroughLaw, WrittenThroughLaw, FailedNowLaw}
 use Rattle.direct_laws.specs.Within.{IsPlacedWithin, IsWithin}
 use Rattle.direct_laws.proofs.CallLemmas.{came_from}
 use Rattle.direct_laws.proofs.DeviceLemmas.{placed_opening_law}

@@ -1,8 +1,8 @@
 -- What a cut leaves of a device in direct mode whose journal has nothing to replay: as with its placed cells, which are its cells.
-use Rattle.std.proofs.Common.{◌≡◌, inl, inr, ⊎_elim, ℕ, suc, sym, ◌∙◌, ap, subst, arith, length, take}
+use Rattle.std.proofs.Common.{inl, inr, ⊎_elim, ℕ, suc, sym, ◌∙◌, ap, subst, arith, length, take}
 use Rattle.std.specs.List.{Any}
 use Rattle.std.proofs.lemmas.List.{drop_all}
-use Rattle.disk_model.specs.Disk.{Content, Image, EachImage}
+use Rattle.disk_model.specs.Disk.{Content}
 use Rattle.image_model.specs.declared.flags.TheConstants.{DIRTY_BITMAP}
 use Rattle.image_model.specs.Superblock.{has_flag}
 use Rattle.device_model.specs.Mode.{DeviceFormat}

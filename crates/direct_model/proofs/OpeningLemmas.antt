@@ -1,5 +1,5 @@
 -- A disk in direct mode at opening.
-use Rattle.std.proofs.Common.{◌≡◌, inl, inr, ℕ, ◌*◌, ◌<◌, true, false, refl, sym, ◌∙◌, ap, subst, arith, List, [], length, slice_index}
+use Rattle.std.proofs.Common.{◌≡◌, inl, inr, ℕ, ◌*◌, true, false, refl, sym, ◌∙◌, ap, subst, arith, List, [], length, slice_index}
 use Rattle.std.proofs.Math.Path.{fun_ext}
 use Rattle.std.proofs.lemmas.Bool.{cases_Bool}
 use Rattle.disk_model.specs.Disk.{Image, last_image, newest_only, sector_in}
@@ -21,7 +21,7 @@ use Rattle.place_model.proofs.FormatLemmas.{TellsFields, reads_tells, opens_tell
 use Rattle.place_model.proofs.PlacedLemmas.{placed_cells_of-bytes, placed_sector, placed_tag-byte, placed_tag-length, recalculated-bytes, recalculated-tag, recalculated-computed}
 use Rattle.place_model.proofs.ReplayLemmas.{placed_cells_law}
 use Rattle.direct_model.specs.DirectDisk.{DirectDisk, MayStand, StandsFor}
-use Rattle.direct_model.specs.Opening.{placed_disk, opened_disk, PlacedOpenedLaw, PlacedSyncLaw, SameDiskLaw, OpenedLaw, FirstSyncLaw}
+use Rattle.direct_model.specs.Opening.{placed_disk, PlacedOpenedLaw, PlacedSyncLaw, SameDiskLaw, OpenedLaw, FirstSyncLaw}
 
 module _ (d : DiskFormat) (image : Image) (told : TellsFields d image) (clear : has_flag DIRTY_BITMAP d.superblock.flags ≡ false) (whole : HasWholeSectors d image) where
   -- A block has what is placed, or the tag of its bytes where it is to be recalculated.

@@ -15,7 +15,6 @@ use Rattle.image_model.proofs.CellsLemmas.{counted_entries-journal}
 use Rattle.device_model.specs.Mode.{Direct}
 use Rattle.device_model.specs.Progress.{opened_device}
 use Rattle.place_model.specs.Format.{DiskFormat, placed_on, cells_on, format_on}
-use Rattle.place_model.specs.Journal.{HasNothingToReplay}
 use Rattle.place_model.specs.Opened.{next_on, set_bits_on, awaiting_on}
 use Rattle.place_model.specs.Placed.{PlacedCellsLaw, PlacedOpensLaw, PlacedLeftLaw, SameJournalLaw, SameOpeningLaw, SameLeftLaw}
 use Rattle.place_model.proofs.FormatLemmas.{reads_tells, reads_on, opens_from}
