@@ -157,5 +157,5 @@ NoneAwaitsLaw = (f : DeviceFormat) (s : DeviceState) (d : DirectDisk) (image : I
 -- So whatever is said to await, the cells are the same.
 abbrev pub AnyAwaitingLaw : Type 0
 AnyAwaitingLaw = (f : DeviceFormat) (s : DeviceState) (d : DirectDisk) (image : Image)
-    (awaiting now : ℕ → Bool) (tags : Content → ℕ → List ℕ) (a : List Content) → IsDirectDevice f s d → IsReadAs d.format image
-    → KeepsNow d awaiting tags a → KeepsNow d now tags a
+    (awaiting now : ℕ → Bool) (tags : Content → ℕ → List ℕ) (a : List Content) → IsDirectDevice f s d
+    → IsReadAs d.format image → KeepsNow d awaiting tags a → KeepsNow d now tags a

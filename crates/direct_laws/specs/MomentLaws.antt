@@ -97,7 +97,7 @@ WrittenThroughLaw = (f : DeviceFormat) (s : DeviceState) (d : DirectDisk) (k : �
     → IsLeftThrough (kind_of d) entry f s (Serve (suc k)) a b
     × IsLeftThrough (kind_of d) entry f s (FailedServe (suc k)) a b
 
--- and each that a failed one leaves may be left then, and stays so.
+-- and each that a failed one leaves may be left then.
 abbrev pub FailedNowLaw : Type 0
 FailedNowLaw = (f : DeviceFormat) (s : DeviceState) (d : DirectDisk) (k : ℕ) (r : Asked) (first : ℕ)
     (blocks : List (List ℕ)) (fua : Bool) (entry : Image) (a : List Content) → IsDirectDevice f s d
