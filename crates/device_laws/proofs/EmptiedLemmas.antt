@@ -22,32 +22,32 @@ module _ (d : JournaledDisk) (c : Content) (stands : StandsFor d c) (none : repl
 
 pub emptied_law : EmptiedLaw
 emptied_law d c stands none =
-    let formed = stands.sound.formed in
-    record {
-      formed = record {
-        has_geometry = formed.has_geometry;
-        is_geometry = formed.is_geometry;
-        no_bitmap = formed.no_bitmap;
-        has_walk = stands.sound.has_walk;
-        none = none;
-        flushed_low = omega arith;
-        base = cell_after-cells d.format d.base d.entries formed.is_geometry formed.base formed.each;
-        each = tt;
-      };
-      each = λ sector x has.
-          let may = stands.each sector x has in
-          record {
-            whole = may.outside.whole;
-            head = may.outside.head;
-            journal = may.journal;
-            data_ = λ b k low k_low kept there.
-                let p = may.outside.in_place.data_ b k low k_low there in
-                p.3 ∙ ap (λ (cell : Cell). sector_in cell.bytes k) (all_placed d c stands none p.0 b p.1);
-            tags = λ b i low i_low rests kept there.
-                let p = may.outside.in_place.tags b i low i_low rests there in
-                p.3 ∙ ap (λ (cell : Cell). slice_index cell.tag i) (all_placed d c stands none p.0 b p.1);
-          };
-    }
+    let formed = stands.sound.formed in (
+      record {
+        formed = record {
+          has_geometry = formed.has_geometry;
+          is_geometry = formed.is_geometry;
+          no_bitmap = formed.no_bitmap;
+          flushed_low = omega arith;
+          base = cell_after-cells d.format d.base d.entries formed.is_geometry formed.base formed.each;
+          each = tt;
+        };
+        each = λ sector x has.
+            let may = stands.each sector x has in
+            record {
+              whole = may.outside.whole;
+              head = may.outside.head;
+              journal = may.journal;
+              data_ = λ b k low k_low kept there.
+                  let p = may.outside.in_place.data_ b k low k_low there in
+                  p.3 ∙ ap (λ (cell : Cell). sector_in cell.bytes k) (all_placed d c stands none p.0 b p.1);
+              tags = λ b i low i_low rests kept there.
+                  let p = may.outside.in_place.tags b i low i_low rests there in
+                  p.3 ∙ ap (λ (cell : Cell). slice_index cell.tag i) (all_placed d c stands none p.0 b p.1);
+            };
+      },
+      record { has_walk = stands.sound.has_walk; none = none },
+    )
 
 pub erased_law : ErasedLaw
 erased_law d number empty first erasable stands reads erased =

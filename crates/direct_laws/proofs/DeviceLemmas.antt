@@ -2,7 +2,10 @@
 use Rattle.std.proofs.Common.{◌≡◌, ℕ, zero, suc, ◌*◌, Bool, true, false, if◌then◌else◌, refl, sym, ◌∙◌, ap, subst, arith, Option, Some, None, List, [], ◌∷◌, ◌++◌, length, take, append-nil, length-append}
 use Rattle.std.specs.Option.{option_to_list}
 use Rattle.std.proofs.lemmas.List.{take_all}
-use Rattle.image_model.specs.Cells.{block_tag}
+use Rattle.disk_model.specs.Disk.{Image}
+use Rattle.image_model.specs.declared.flags.TheConstants.{DIRTY_BITMAP}
+use Rattle.image_model.specs.Cells.{Cell, block_tag}
+use Rattle.image_model.specs.Superblock.{has_flag}
 use Rattle.image_model.proofs.BitmapLemmas.{awaits-journal, region_awaits_found}
 use Rattle.device_model.specs.History.{Tagger, BlockWrite, History, Change, Begun, Written, Flushed, with_change, with_changes}
 use Rattle.device_model.specs.Mode.{DeviceFormat, Direct}
@@ -11,12 +14,12 @@ use Rattle.device_model.specs.RequestLaws.{IsReached}
 use Rattle.device_model.proofs.EventLemmas.{Serves, IsServing-reached}
 use Rattle.device_model.proofs.MomentLemmas.{EventChanges, Nothing, AFlush, AWrite, ABegun, working-changes, broken-changes, pending_law}
 use Rattle.device_model.proofs.ReachedLemmas.{IsReached-opened, IsReached-event}
-use Rattle.place_model.specs.Format.{DiskFormat}
-use Rattle.place_model.specs.Opened.{device_format}
+use Rattle.place_model.specs.Format.{DiskFormat, placed_on, cells_on}
+use Rattle.place_model.specs.Opened.{device_format, awaiting_on}
 use Rattle.direct_model.specs.DirectDisk.{DirectDisk}
-use Rattle.direct_model.specs.Opening.{opened_disk}
+use Rattle.direct_model.specs.Opening.{placed_disk, opened_disk}
 use Rattle.direct_model.specs.Steps.{with_write, after_flush, IsHistoryOf}
-use Rattle.direct_laws.specs.Device.{MayAwait, IsDirectDevice, after_changes, BeginningLaw, OpeningLaw, MovedDeviceLaw}
+use Rattle.direct_laws.specs.Device.{MayAwait, IsDirectDevice, after_changes, BeginningLaw, PlacedOpeningLaw, OpeningLaw, MovedDeviceLaw}
 use Rattle.direct_laws.specs.EventLaws.{EventLaw}
 use Rattle.direct_laws.proofs.CountLemmas.{KeepsCounts, counts_kept}
 
@@ -40,6 +43,13 @@ after_changes-format [] d = refl
 after_changes-format (Begun write ∷ changes) d = after_changes-format changes (with_write d write)
 after_changes-format (Written write ∷ changes) d = after_changes-format changes d
 after_changes-format (Flushed ∷ changes) d = after_changes-format changes (after_flush d)
+
+-- So is the journal.
+pub after_changes-journal : (changes : List Change) (d : DirectDisk) → (after_changes changes d).journal ≡ d.journal
+after_changes-journal [] d = refl
+after_changes-journal (Begun write ∷ changes) d = after_changes-journal changes (with_write d write)
+after_changes-journal (Written write ∷ changes) d = after_changes-journal changes d
+after_changes-journal (Flushed ∷ changes) d = after_changes-journal changes (after_flush d)
 
 MayAwait-changes : (changes : List Change) (d : DirectDisk) (region : ℕ) → MayAwait d region → MayAwait (after_changes changes d) region
 MayAwait-changes [] d region may = may
@@ -165,15 +175,25 @@ beginning_law f d base next set_bits awaiting format none unflushed same may = r
   awaiting = may;
 }
 
-pub opening_law : OpeningLaw
-opening_law d image clear = beginning_law (device_format Direct d) (opened_disk d image) _ _ _ _ refl refl refl (λ b low. refl) (λ region waits.
+-- A region that awaits at opening has a block to be recalculated, where there is no bitmap.
+may_await : (d : DiskFormat) (image : Image) (base : ℕ → Cell) → has_flag DIRTY_BITMAP d.superblock.flags ≡ false
+    → (region : ℕ) → awaiting_on Direct d image region ≡ true → MayAwait (record { format = d; journal = image; base = base; writes = []; flushed = 0 }) region
+may_await d image base clear region waits =
     let found = region_awaits_found d.superblock d.geometry image region waits in
     record {
       block = found.0;
       inside = found.1;
       is = found.2;
       to_recalculate = sym (awaits-journal d.superblock d.geometry image found.0 clear) ∙ found.3;
-    })
+    }
+
+pub placed_opening_law : PlacedOpeningLaw
+placed_opening_law d image clear =
+    beginning_law (device_format Direct d) (placed_disk d image) _ _ _ _ refl refl refl (λ b low. refl) (may_await d image (placed_on d image) clear)
+
+pub opening_law : OpeningLaw
+opening_law d image clear =
+    beginning_law (device_format Direct d) (opened_disk d image) _ _ _ _ refl refl refl (λ b low. refl) (may_await d image (cells_on d image) clear)
 
 pub moved_device_law : MovedDeviceLaw
 moved_device_law f s d fields is moved passes = record {

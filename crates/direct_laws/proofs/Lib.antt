@@ -2,6 +2,10 @@ pub mod CountLemmas
 pub mod DeviceLemmas
 pub mod EventLemmas
 pub mod ReadLemmas
+pub mod PlacedLemmas
 pub mod PromiseLemmas
+pub mod CallLemmas
+pub mod MomentLemmas
+pub mod ServeLemmas
 pub mod Worked
 pub mod WorkedServe

@@ -4,12 +4,14 @@ use Rattle.std.specs.List.{Any, Contains}
 use Rattle.std.specs.Option.{option_to_list}
 use Rattle.std.proofs.lemmas.Bool.{cases_Bool, cases_eq, eq-eqb, ne_eqb, true≢false, false_from_ne_true, and_parts}
 use Rattle.std.proofs.lemmas.List.{drop_all}
-use Rattle.disk_model.specs.Disk.{Content, OnlyAdds, sector_in, last_image, with_run, newest_only}
+use Rattle.disk_model.specs.Disk.{Content, Image, OnlyAdds, sector_in, last_image, with_run, newest_only}
 use Rattle.disk_model.proofs.DiskLemmas.{AddsSome-adds, AddsSome-all, last_image-with_run, last_image-with_run_out, newest_only-last, newest_only-pending, only_candidate, last_image-with_other}
+use Rattle.image_model.specs.declared.flags.TheConstants.{DIRTY_BITMAP}
 use Rattle.image_model.specs.Bitmap.{is_to_recalculate}
 use Rattle.image_model.specs.Cells.{Cell, placed_cells_of, block_tag}
 use Rattle.image_model.specs.Geometry.{data_at, region_of}
 use Rattle.image_model.specs.Sectors.{bytes_at}
+use Rattle.image_model.specs.Superblock.{has_flag}
 use Rattle.image_model.proofs.BitmapLemmas.{awaits-journal, region_awaits-block}
 use Rattle.image_model.proofs.GeometryLemmas.{data_at-inside}
 use Rattle.image_model.proofs.SectorLemmas.{bytes_at_read}
@@ -21,19 +23,19 @@ use Rattle.device_model.specs.Reply.{block_reply}
 use Rattle.device_model.specs.Serial.{readable_cells}
 use Rattle.device_model.proofs.HistoryLemmas.{IsOfBlock, Any-nil, cells_after-push_same, cells_after-push_other}
 use Rattle.place_model.specs.Blocks.{IsBlockWrite, ReadsData}
-use Rattle.place_model.specs.Format.{tagger_of}
+use Rattle.place_model.specs.Format.{DiskFormat, tagger_of}
 use Rattle.place_model.specs.Opened.{awaiting_on}
 use Rattle.place_model.specs.Tags.{tag_byte_at, KeepsOthers}
 use Rattle.place_model.proofs.BlocksLemmas.{ReadsData-same, KeepsOthers-data, cells_after-base}
 use Rattle.place_model.proofs.PlacedLemmas.{same_cell, placed_cells_of-bytes, placed_tag}
 use Rattle.place_model.proofs.TagsLemmas.{data_once}
 use Rattle.direct_model.specs.DirectDisk.{DirectDisk, IsFormed, IsKept, cell_now}
-use Rattle.direct_model.specs.Opening.{opened_disk}
+use Rattle.direct_model.specs.Opening.{placed_disk, opened_disk}
 use Rattle.direct_model.specs.Steps.{with_write, with_fields, AreTags, AreNewTags, IsOfWrite, HasTagsOf}
 use Rattle.direct_model.proofs.DirectLemmas.{now_cells, writing_law, tags_written_law, flushed_law, moved_law}
-use Rattle.direct_model.proofs.OpeningLemmas.{opened_law}
+use Rattle.direct_model.proofs.OpeningLemmas.{placed_opened_law, opened_law}
 use Rattle.direct_laws.specs.Device.{IsDirectDevice}
-use Rattle.direct_laws.specs.ReadLaws.{awaits_tag, KeepsCells, ReadLaw, KeepsBegun, KeepsOpened, KeepsWrite, KeepsSynced, KeepsBack, KeepsFlushed, KeepsSame, recalculated_tags, KeepsRecalculated, KeepsMoved}
+use Rattle.direct_laws.specs.ReadLaws.{awaits_tag, KeepsCells, ReadLaw, KeepsBegun, KeepsPlaced, KeepsOpened, KeepsWrite, KeepsSynced, KeepsBack, KeepsFlushed, KeepsSame, recalculated_tags, KeepsRecalculated, KeepsMoved}
 use Rattle.direct_laws.proofs.DeviceLemmas.{mode-is, blocks-is, block_size-is, idle-works}
 
 -- ---- what awaits
@@ -47,7 +49,7 @@ other true q holds e = e
 other false q holds e = absurd (true≢false (sym holds))
 
 -- A block that is not to be recalculated does not await its tag.
-rests : (d : DirectDisk) (awaiting : ℕ → Bool) (b : ℕ) → is_to_recalculate d.superblock d.geometry b ≡ false → awaits_tag d awaiting b ≡ false
+pub rests : (d : DirectDisk) (awaiting : ℕ → Bool) (b : ℕ) → is_to_recalculate d.superblock d.geometry b ≡ false → awaits_tag d awaiting b ≡ false
 rests d awaiting b e = neither (awaiting (region_of d.geometry b)) (is_to_recalculate d.superblock d.geometry b) e
 
 module _ (d : DirectDisk) (awaiting : ℕ → Bool) (tags : ℕ → List ℕ) (c : Content) (keeps : KeepsCells d awaiting tags c) where
@@ -111,27 +113,43 @@ keeps_begun d awaiting tags c stands image flushed waits placed =
           (λ i i_low. (stands.each (tag_byte_at d.geometry b i).0 (last_image c (tag_byte_at d.geometry b i).0) (image (tag_byte_at d.geometry b i).0)).tags b i low i_low still (kept b) refl);
     }
 
+-- A block that is to be recalculated awaits at opening, where there is no bitmap.
+waits-opened : (d : DiskFormat) (image : Image) → has_flag DIRTY_BITMAP d.superblock.flags ≡ false → (b : ℕ) → b < d.geometry.blocks
+    → is_to_recalculate d.superblock d.geometry b ≡ true → awaiting_on Direct d image (region_of d.geometry b) ≡ true
+waits-opened d image clear b low waits = region_awaits-block d.superblock d.geometry image b low (awaits-journal d.superblock d.geometry image b clear ∙ waits)
+
+pub keeps_placed : KeepsPlaced
+keeps_placed d entry tags image_is reads clear whole placed =
+    let image = last_image entry in
+    keeps_begun (placed_disk d image) (awaiting_on Direct d image) tags (newest_only entry)
+    (placed_opened_law d (newest_only entry) reads clear (newest_only-pending entry) whole) (newest_only-last entry) refl
+    (waits-opened d image clear)
+    placed
+
 pub keeps_opened : KeepsOpened
 keeps_opened d entry tags image_is opens clear none whole placed =
     let image = last_image entry in
-    keeps_begun (opened_disk d image) (awaiting_on Direct d image) tags (newest_only entry)
-    (opened_law d (newest_only entry) opens clear none (newest_only-pending entry) whole) (newest_only-last entry) refl
-    (λ b low waits. region_awaits-block d.superblock d.geometry image b low (awaits-journal d.superblock d.geometry image b clear ∙ waits))
-    placed
+    let opened = opened_law d (newest_only entry) opens clear none (newest_only-pending entry) whole in (
+      keeps_begun (opened_disk d image) (awaiting_on Direct d image) tags (newest_only entry)
+          opened.0 (newest_only-last entry) refl
+          (waits-opened d image clear)
+          placed,
+      opened.1,
+    )
 
 -- ---- a write
 
 module _ (d : DirectDisk) (write : BlockWrite) (first : Content) (formed : IsFormed d) (is : IsBlockWrite d.geometry write) where
-  own : (b : ℕ) → write.block ≡ b → (cell_now (with_write d write) b) ≡ record { bytes = write.bytes; tag = tagger_of d.format write.block write.bytes }
+  pub own : (b : ℕ) → write.block ≡ b → (cell_now (with_write d write) b) ≡ record { bytes = write.bytes; tag = tagger_of d.format write.block write.bytes }
   own b same = cells_after-push_same (tagger_of d.format) d.base d.writes write b same
 
-  kept : (b : ℕ) → write.block ≢ b → cell_now (with_write d write) b ≡ cell_now d b
+  pub kept : (b : ℕ) → write.block ≢ b → cell_now (with_write d write) b ≡ cell_now d b
   kept b apart = cells_after-push_other (tagger_of d.format) d.base d.writes write b apart
 
   run : length write.bytes / 512 ≡ d.geometry.shape.spb
   run = let size = is.bytes in omega arith
 
-  written_data : ReadsData d.geometry (cell_now d) first → ReadsData d.geometry (cell_now (with_write d write)) (with_run (data_at d.geometry write.block) write.bytes first)
+  pub written_data : ReadsData d.geometry (cell_now d) first → ReadsData d.geometry (cell_now (with_write d write)) (with_run (data_at d.geometry write.block) write.bytes first)
   written_data reads = record {
     each = λ b k low k_low.
         let g = d.geometry in

@@ -12,9 +12,9 @@ use Rattle.device_model.specs.Mode.{DeviceFormat, Direct}
 use Rattle.device_model.specs.Progress.{DeviceState, opened_device}
 use Rattle.device_model.specs.RequestLaws.{IsReached}
 use Rattle.place_model.specs.Format.{DiskFormat}
-use Rattle.place_model.specs.Opened.{device_format, opened_on}
+use Rattle.place_model.specs.Opened.{device_format, opened_on, opened_placed}
 use Rattle.direct_model.specs.DirectDisk.{DirectDisk}
-use Rattle.direct_model.specs.Opening.{opened_disk}
+use Rattle.direct_model.specs.Opening.{placed_disk, opened_disk}
 use Rattle.direct_model.specs.Steps.{with_write, after_flush, with_fields, IsMoved, IsHistoryOf}
 
 -- A region may await that has a block to be recalculated.
@@ -52,7 +52,12 @@ BeginningLaw = (f : DeviceFormat) (d : DirectDisk) (base : ℕ → Cell) (next :
     → ((region : ℕ) → awaiting region ≡ true → MayAwait d region)
     → IsDirectDevice f (opened_device base next set_bits awaiting) d
 
--- so on an image without a bitmap.
+-- so on an image without a bitmap, on its placed cells,
+abbrev pub PlacedOpeningLaw : Type 0
+PlacedOpeningLaw = (d : DiskFormat) (image : Image) → has_flag DIRTY_BITMAP d.superblock.flags ≡ false
+    → IsDirectDevice (device_format Direct d) (opened_placed d image) (placed_disk d image)
+
+-- and on its cells.
 abbrev pub OpeningLaw : Type 0
 OpeningLaw = (d : DiskFormat) (image : Image) → has_flag DIRTY_BITMAP d.superblock.flags ≡ false
     → IsDirectDevice (device_format Direct d) (opened_on Direct d image) (opened_disk d image)

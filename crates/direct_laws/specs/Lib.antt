@@ -1,4 +1,9 @@
 pub mod Device
 pub mod EventLaws
 pub mod ReadLaws
+pub mod Within
+pub mod PlacedLaws
 pub mod PromiseLaws
+pub mod CallLaws
+pub mod MomentLaws
+pub mod ServeLaws

@@ -14,11 +14,12 @@ use Rattle.device_model.specs.Regions.{with_region}
 use Rattle.device_model.specs.Reply.{block_reply}
 use Rattle.device_model.specs.Serial.{readable_cells}
 use Rattle.place_model.specs.Blocks.{IsBlockWrite, ReadsData}
-use Rattle.place_model.specs.Format.{DiskFormat, HasWholeSectors, OpensAs, tagger_of}
+use Rattle.place_model.specs.Format.{DiskFormat, HasWholeSectors, IsReadAs, OpensAs, tagger_of}
+use Rattle.place_model.specs.Journal.{HasNothingToReplay}
 use Rattle.place_model.specs.Opened.{awaiting_on}
 use Rattle.place_model.specs.Tags.{IsOfTags, KeepsOthers, ReadsTags, with_block_tag}
 use Rattle.direct_model.specs.DirectDisk.{DirectDisk, StandsFor, cell_now}
-use Rattle.direct_model.specs.Opening.{opened_disk}
+use Rattle.direct_model.specs.Opening.{placed_disk, opened_disk}
 use Rattle.direct_model.specs.Steps.{with_write, after_flush, with_fields, IsMoved}
 use Rattle.direct_laws.specs.Device.{IsDirectDevice, PassesNone}
 
@@ -57,14 +58,23 @@ KeepsBegun = (d : DirectDisk) (awaiting : ℕ → Bool) (tags : ℕ → List ℕ
     → ((b : ℕ) → b < d.geometry.blocks → tags b ≡ (placed_cells_of d.geometry (last_image c) b).tag)
     → KeepsCells d awaiting tags c
 
--- so one after the first sync of an opening.
+-- so one after the first sync of an opening, with its placed cells,
+abbrev pub KeepsPlaced : Type 0
+KeepsPlaced = (d : DiskFormat) (entry : Content) (tags : ℕ → List ℕ) → IsImage entry (last_image entry)
+    → IsReadAs d (last_image entry) → has_flag DIRTY_BITMAP d.superblock.flags ≡ false
+    → HasWholeSectors d (last_image entry)
+    → ((b : ℕ) → b < d.geometry.blocks → tags b ≡ (placed_cells_of d.geometry (last_image entry) b).tag)
+    → KeepsCells (placed_disk d (last_image entry)) (awaiting_on Direct d (last_image entry)) tags
+    (newest_only entry)
+
+-- and with its cells, where no entry is replayed.
 abbrev pub KeepsOpened : Type 0
 KeepsOpened = (d : DiskFormat) (entry : Content) (tags : ℕ → List ℕ) → IsImage entry (last_image entry)
     → OpensAs d (last_image entry) → has_flag DIRTY_BITMAP d.superblock.flags ≡ false
     → replayed_entries d.geometry (last_image entry) ≡ [] → HasWholeSectors d (last_image entry)
     → ((b : ℕ) → b < d.geometry.blocks → tags b ≡ (placed_cells_of d.geometry (last_image entry) b).tag)
     → KeepsCells (opened_disk d (last_image entry)) (awaiting_on Direct d (last_image entry)) tags
-    (newest_only entry)
+    (newest_only entry) × HasNothingToReplay d.geometry (last_image entry)
 
 -- The bytes of a block are written, then sectors of tags without and with its tag.
 abbrev pub KeepsWrite : Type 0

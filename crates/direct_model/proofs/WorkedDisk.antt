@@ -4,12 +4,12 @@ use Rattle.disk_model.specs.Disk.{Content}
 use Rattle.disk_model.proofs.DiskLemmas.{OnlyAdds-none, only_candidate}
 use Rattle.device_model.specs.History.{BlockWrite}
 use Rattle.place_model.specs.Blocks.{IsBlockWrite}
-use Rattle.place_model.proofs.WorkedDisk.{journal_format, fresh_journal, replayed_entries-fresh, OpensAs-journal, HasWholeSectors-journal}
+use Rattle.place_model.proofs.WorkedDisk.{journal_format, fresh_journal, zeros_journal, replayed_entries-fresh, OpensAs-journal, IsReadAs-zeros, HasWholeSectors-journal, HasWholeSectors-zeros}
 use Rattle.direct_model.specs.DirectDisk.{DirectDisk, StandsFor, cell_now}
-use Rattle.direct_model.specs.Opening.{opened_disk}
+use Rattle.direct_model.specs.Opening.{placed_disk, opened_disk}
 use Rattle.direct_model.specs.Steps.{with_write, IsOfWrite}
 use Rattle.direct_model.proofs.DirectLemmas.{writing_law}
-use Rattle.direct_model.proofs.OpeningLemmas.{opened_law}
+use Rattle.direct_model.proofs.OpeningLemmas.{placed_opened_law, opened_law}
 
 abbrev pub content : Content
 content sector = fresh_journal sector ∷ []
@@ -18,8 +18,21 @@ abbrev pub fresh : DirectDisk
 fresh = opened_disk journal_format fresh_journal
 
 pub StandsFor-fresh : StandsFor fresh content
-StandsFor-fresh = opened_law journal_format content OpensAs-journal refl replayed_entries-fresh
-    (record { only = λ sector x has. only_candidate (fresh_journal sector) x has }) HasWholeSectors-journal
+StandsFor-fresh =
+    (opened_law journal_format content OpensAs-journal refl replayed_entries-fresh
+    (record { only = λ sector x has. only_candidate (fresh_journal sector) x has }) HasWholeSectors-journal).0
+
+-- So is one whose journal is zeros, which has no walk.
+abbrev pub zeros_content : Content
+zeros_content sector = zeros_journal sector ∷ []
+
+abbrev pub zeros : DirectDisk
+zeros = placed_disk journal_format zeros_journal
+
+pub StandsFor-zeros : StandsFor zeros zeros_content
+StandsFor-zeros =
+    placed_opened_law journal_format zeros_content IsReadAs-zeros refl
+    (record { only = λ sector x has. only_candidate (zeros_journal sector) x has }) HasWholeSectors-zeros
 
 -- ---- a write of block 5
 

@@ -8,12 +8,12 @@ use Rattle.image_model.specs.declared.flags.TheConstants.{DIRTY_BITMAP}
 use Rattle.image_model.specs.Cells.{salt_of, counted_entries}
 use Rattle.image_model.specs.Geometry.{Geometry, layout_of, geometry_of, IsGeometry}
 use Rattle.image_model.specs.Grid.{walk_of}
-use Rattle.image_model.specs.Openable.{first_sector, IsReplayable, IsOpenable}
+use Rattle.image_model.specs.Openable.{first_sector, IsReadable, IsReplayable, IsOpenable}
 use Rattle.image_model.specs.Superblock.{Superblock, magic, superblock_faults, has_flag, fields_in, superblock_of}
 use Rattle.image_model.specs.declared.super_fields.SuperFault.TheVariants.{Magic}
 use Rattle.image_model.proofs.FaultLemmas.{ok_unless-told}
 use Rattle.image_model.proofs.OpenableLemmas.{IsReadable-geometry}
-use Rattle.place_model.specs.Format.{DiskFormat, OpensAs, format_on}
+use Rattle.place_model.specs.Format.{DiskFormat, IsReadAs, OpensAs, ReadFormatLaw, format_on}
 
 -- A disk with a geometry has a first sector.
 some_sector : (g : Geometry) (sectors : ℕ) → IsGeometry g sectors → sectors ≢ 0
@@ -28,6 +28,12 @@ unfolding superblock_of
 superblock_of-told bytes s e =
     (ok_unless-told ((not (starts_with nat_eq bytes magic), Magic) ∷ superblock_faults (fields_in bytes)) (fields_in bytes) s e).0
 
+-- The image tells the superblock and the geometry of the format.
+pub record TellsFields (d : DiskFormat) (image : Image) : Type 0 where
+  pub head : superblock_of (image 0) ≡ Ok d.superblock
+  pub has_geometry : geometry_of d.superblock d.sectors ≡ Ok d.geometry
+  pub is_geometry : IsGeometry d.geometry d.sectors
+
 -- The image tells the superblock and the geometry of the format, and its journal has a walk whose entries can be replayed.
 pub record TellsFormat (d : DiskFormat) (image : Image) : Type 0 where
   pub head : superblock_of (image 0) ≡ Ok d.superblock
@@ -37,6 +43,34 @@ pub record TellsFormat (d : DiskFormat) (image : Image) : Type 0 where
   pub entries : AllByRecursion (IsReplayable d.key (salt_of d.superblock) d.geometry) (counted_entries d.superblock d.geometry image)
 
 -- ---- for callers
+
+pub reads_tells : (d : DiskFormat) (image : Image) → IsReadAs d image → TellsFields d image
+reads_tells d image reads =
+    let readable = reads.readable in
+    let geometry = (IsReadable-geometry d.sectors image readable).1 in
+    let told : TellsFields (record { key = d.key; sectors = d.sectors; superblock = readable.superblock; geometry = readable.geometry }) image = record {
+      head = ap superblock_of (sym (first_sector-is readable.geometry d.sectors image geometry)) ∙ readable.has_superblock;
+      has_geometry = readable.has_geometry;
+      is_geometry = geometry;
+    } in
+    subst (λ (g : Geometry). TellsFields (record { key = d.key; sectors = d.sectors; superblock = d.superblock; geometry = g }) image) reads.geometry
+    (subst (λ (s : Superblock). TellsFields (record { key = d.key; sectors = d.sectors; superblock = s; geometry = readable.geometry }) image) reads.superblock told)
+
+pub reads_from : (d : DiskFormat) (image : Image) → TellsFields d image → IsReadAs d image
+reads_from d image told = record {
+  readable = record {
+    superblock = d.superblock;
+    geometry = d.geometry;
+    has_superblock = ap superblock_of (first_sector-is d.geometry d.sectors image told.is_geometry) ∙ told.head;
+    has_geometry = told.has_geometry;
+  };
+  superblock = refl;
+  geometry = refl;
+}
+
+-- An image that can be opened can be read.
+pub opens_reads : (d : DiskFormat) (image : Image) → OpensAs d image → IsReadAs d image
+opens_reads d image opens = record { readable = opens.openable.readable; superblock = opens.superblock; geometry = opens.geometry }
 
 pub opens_tells : (d : DiskFormat) (image : Image) → OpensAs d image → TellsFormat d image
 opens_tells d image opens =
@@ -69,21 +103,37 @@ opens_from d image told = record {
 }
 
 -- What its first sector says is the format,
-pub format_on-is : (d : DiskFormat) (image : Image) → OpensAs d image → format_on d.key d.sectors image ≡ d
-format_on-is d image opens =
-    let readable = opens.openable.readable in
-    let super = superblock_of-told (first_sector d.sectors image) readable.superblock readable.has_superblock ∙ opens.superblock in
-    let geometry = ap layout_of (sym opens.superblock) ∙ sym (IsReadable-geometry d.sectors image readable).0 ∙ opens.geometry in
+pub format_on-read : (d : DiskFormat) (image : Image) → IsReadAs d image → format_on d.key d.sectors image ≡ d
+format_on-read d image reads =
+    let readable = reads.readable in
+    let super = superblock_of-told (first_sector d.sectors image) readable.superblock readable.has_superblock ∙ reads.superblock in
+    let geometry = ap layout_of (sym reads.superblock) ∙ sym (IsReadable-geometry d.sectors image readable).0 ∙ reads.geometry in
     ap (λ (s : Superblock). let format : DiskFormat = record { key = d.key; sectors = d.sectors; superblock = s; geometry = layout_of s } in format) super
     ∙ ap (λ (g : Geometry). let format : DiskFormat = record { key = d.key; sectors = d.sectors; superblock = d.superblock; geometry = g } in format) geometry
 
--- in which each image can be opened that can be.
+pub format_on-is : (d : DiskFormat) (image : Image) → OpensAs d image → format_on d.key d.sectors image ≡ d
+format_on-is d image opens = format_on-read d image (opens_reads d image opens)
+
+-- and an image that can be read tells the fields of its own.
+fields-own : (key : Option (List ℕ)) (sectors : ℕ) (image : Image) (readable : IsReadable sectors image)
+    → (readable.superblock ≡ (format_on key sectors image).superblock) × (readable.geometry ≡ (format_on key sectors image).geometry)
+fields-own key sectors image readable =
+    let super = superblock_of-told (first_sector sectors image) readable.superblock readable.has_superblock in
+    (sym super, (IsReadable-geometry sectors image readable).0 ∙ ap layout_of (sym super))
+
+-- Each image can be read in the format of its own that can be read,
+pub reads_on : (key : Option (List ℕ)) (sectors : ℕ) (image : Image) → IsReadable sectors image → IsReadAs (format_on key sectors image) image
+reads_on key sectors image readable =
+    let own = fields-own key sectors image readable in
+    record { readable = readable; superblock = own.0; geometry = own.1 }
+
+-- and opened that can be opened.
 pub opens_on : (key : Option (List ℕ)) (sectors : ℕ) (image : Image) → (openable : IsOpenable key sectors image) → OpensAs (format_on key sectors image) image
 opens_on key sectors image openable =
-    let readable = openable.readable in
-    let super = superblock_of-told (first_sector sectors image) readable.superblock readable.has_superblock in
-    record {
-      openable = openable;
-      superblock = sym super;
-      geometry = (IsReadable-geometry sectors image readable).0 ∙ ap layout_of (sym super);
-    }
+    let own = fields-own key sectors image openable.readable in
+    record { openable = openable; superblock = own.0; geometry = own.1 }
+
+pub read_format_law : ReadFormatLaw
+read_format_law d image head geometry =
+    let reads : IsReadAs d image = record { readable = record { superblock = d.superblock; geometry = d.geometry; has_superblock = head; has_geometry = geometry }; superblock = refl; geometry = refl } in
+    (reads, format_on-read d image reads)

@@ -7,7 +7,7 @@ use Rattle.device_model.specs.Cut.{all_writes}
 use Rattle.device_model.specs.History.{BlockWrite, History, Begun, with_change, cells_after}
 use Rattle.device_model.proofs.CutLemmas.{IsUnflushed-begun}
 use Rattle.place_model.specs.Format.{tagger_of}
-use Rattle.place_model.specs.Left.{DirectPendingLaw, JournalPendingLaw, BitmapPendingLaw}
+use Rattle.place_model.specs.Left.{DirectPendingLaw, PlacedPendingLaw, JournalPendingLaw, BitmapPendingLaw}
 
 module _ (h : History) (write : BlockWrite) (idle : h.pending ≡ None) where
   all-before : all_writes h ≡ h.writes
@@ -29,6 +29,12 @@ module _ (h : History) (write : BlockWrite) (idle : h.pending ≡ None) where
 pub direct_pending_law : DirectPendingLaw
 direct_pending_law d h write image idle is = record {
   opens = is.opens;
+  left = record { flushed = λ b below flushed. is.left.flushed b below (λ any. flushed (IsUnflushed-begun h (Some write) b idle any)) };
+}
+
+pub placed_pending_law : PlacedPendingLaw
+placed_pending_law d h write image idle is = record {
+  reads = is.reads;
   left = record { flushed = λ b below flushed. is.left.flushed b below (λ any. flushed (IsUnflushed-begun h (Some write) b idle any)) };
 }
 

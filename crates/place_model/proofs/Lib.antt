@@ -6,5 +6,6 @@ pub mod JournalLemmas
 pub mod LeftLemmas
 pub mod KindLemmas
 pub mod FirstSyncLemmas
+pub mod ReplayLemmas
 pub mod EachLemmas
 pub mod WorkedDisk

@@ -1,7 +1,7 @@
 -- A fresh disk of eight blocks, with a journal and with a bitmap: each can be opened, and its sectors are whole.
 -- The bytes of the first sector and the tags of blocks of zeros are those that a program of its own wrote when it formatted
 -- such disks by the format's description.
-use Rattle.std.proofs.Common.{◌≡◌, ℕ, ◌+◌, ◌-◌, ◌==◌, nat_lt, Bool, true, false, if◌then◌else◌, refl, ◌∙◌, ap, None, Ok, List, [], ◌∷◌, ◌++◌, length, replicate, length-append}
+use Rattle.std.proofs.Common.{◌≡◌, ℕ, ◌+◌, ◌-◌, ◌==◌, nat_lt, Bool, true, false, if◌then◌else◌, refl, ◌∙◌, ap, None, Ok, is_ok, List, [], ◌∷◌, ◌++◌, length, replicate, length-append}
 use Rattle.std.specs.List.{repeat}
 use Rattle.disk_model.specs.Disk.{Image}
 use Rattle.image_model.specs.Bitmap.{is_dirty, is_bit_set}
@@ -15,7 +15,7 @@ use Rattle.image_model.specs.Sectors.{bytes_of}
 use Rattle.image_model.specs.Superblock.{Superblock, superblock_of, fields_in}
 use Rattle.image_model.specs.Walk.{plan_of}
 use Rattle.image_model.specs.declared.journal_plan.State.TheVariants.{Rest}
-use Rattle.place_model.specs.Format.{DiskFormat, OpensAs, HasWholeSectors}
+use Rattle.place_model.specs.Format.{DiskFormat, IsReadAs, OpensAs, HasWholeSectors}
 use Rattle.place_model.specs.Journal.{entries_in}
 use Rattle.place_model.proofs.JournalLemmas.{replayed_entries-plan}
 
@@ -97,6 +97,10 @@ disk_with head from sector =
 abbrev pub fresh_journal : Image
 fresh_journal = disk_with journal_head 8
 
+-- The same disk with a journal of zeros.
+abbrev pub zeros_journal : Image
+zeros_journal = disk_with journal_head 96
+
 -- A bitmap has the first eight sectors of the journal.
 abbrev pub fresh_bitmap : Image
 fresh_bitmap = disk_with bitmap_head 16
@@ -122,6 +126,9 @@ length-disk_with head from sector size =
 
 pub HasWholeSectors-journal : HasWholeSectors journal_format fresh_journal
 HasWholeSectors-journal sector low = length-disk_with journal_head 8 sector refl
+
+pub HasWholeSectors-zeros : HasWholeSectors journal_format zeros_journal
+HasWholeSectors-zeros sector low = length-disk_with journal_head 96 sector refl
 
 pub HasWholeSectors-bitmap : HasWholeSectors bitmap_format fresh_bitmap
 HasWholeSectors-bitmap sector low = length-disk_with bitmap_head 16 sector refl
@@ -161,6 +168,19 @@ OpensAs-journal = record {
     walk = λ clear. rw walk_of-fresh refl;
     entries = rw replayed_entries-fresh tt;
   };
+  superblock = refl;
+  geometry = refl;
+}
+
+-- A journal of zeros has no walk,
+pub walk_of-zeros : is_ok (walk_of (layout_of (fields 0x8)) zeros_journal) ≡ false
+unfolding walk_of_grid plan_of grid_with blank_bound bitmap_sectors_for regions_for fitting_log2_region is_used number_of id_in entry_size entries_per_sector section_entries section_sectors
+walk_of-zeros = refl
+
+-- but the disk can be read.
+pub IsReadAs-zeros : IsReadAs journal_format zeros_journal
+IsReadAs-zeros = record {
+  readable = record { superblock = fields 0x8; geometry = layout_of (fields 0x8); has_superblock = superblock_of-journal; has_geometry = geometry_of-journal };
   superblock = refl;
   geometry = refl;
 }

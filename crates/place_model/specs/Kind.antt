@@ -7,8 +7,8 @@ use Rattle.device_model.specs.Device.{DeviceKind}
 use Rattle.device_model.specs.History.{History}
 use Rattle.device_model.specs.Mode.{Mode, Journal, Bitmap, Direct, Recovery}
 use Rattle.place_model.specs.Format.{DiskFormat, format_on}
-use Rattle.place_model.specs.Left.{IsLeftInDirect, IsLeftInJournal, IsLeftInBitmap}
-use Rattle.place_model.specs.Opened.{IsModeOf, blocks_of, device_format, opened_on}
+use Rattle.place_model.specs.Left.{IsLeftInDirect, IsLeftPlaced, IsLeftInJournal, IsLeftInBitmap}
+use Rattle.place_model.specs.Opened.{IsModeOf, blocks_of, device_format, opened_on, opened_placed}
 
 -- The image can be opened in this mode: in recovery mode one that can be read.
 abbrev pub CanOpenIn : Mode → Option (List ℕ) → ℕ → Image → Type 0
@@ -38,6 +38,30 @@ kind_in mode key sectors = record {
   MayBeLeft = MayBeLeftIn mode key sectors;
 }
 
+-- ---- placed cells
+
+-- The image can be opened in direct mode by superblock and geometry alone.
+abbrev pub CanOpenPlaced : Option (List ℕ) → ℕ → Image → Type 0
+CanOpenPlaced key sectors image =
+    IsReadable sectors image × IsModeOf Direct (format_on key sectors image).superblock
+
+-- What a cut may leave of a device that was opened so: the same blocks with the same tags, and their placed cells as direct
+-- mode says.
+pub record MayBeLeftPlaced (key : Option (List ℕ)) (sectors : ℕ) (entry : Image) (h : History)
+    (left : Image) : Type 0 where
+  pub blocks : blocks_of (format_on key sectors left) ≡ blocks_of (format_on key sectors entry)
+  pub left_is : IsLeftPlaced (format_on key sectors left) h left
+
+-- The devices in direct mode that look at no journal.
+-- Own: as long as nothing recovers a journal; an image that has entries is opened without them.
+abbrev pub placed_kind : Option (List ℕ) → ℕ → DeviceKind
+placed_kind key sectors = record {
+  CanOpen = CanOpenPlaced key sectors;
+  format = λ image. device_format Direct (format_on key sectors image);
+  opened = λ image. opened_placed (format_on key sectors image) image;
+  MayBeLeft = MayBeLeftPlaced key sectors;
+}
+
 -- ---- laws
 
 -- What may be left by the format of the image at entry may be left of the device that was opened on it in journal mode.
@@ -57,3 +81,9 @@ abbrev pub DirectKindLaw : Type 0
 DirectKindLaw = (d : DiskFormat) (entry : Image) (h : History) (left : Image)
     → format_on d.key d.sectors entry ≡ d → IsLeftInDirect d h left
     → MayBeLeftIn Direct d.key d.sectors entry h left
+
+-- So it is of the placed cells.
+abbrev pub PlacedKindLaw : Type 0
+PlacedKindLaw = (d : DiskFormat) (entry : Image) (h : History) (left : Image)
+    → format_on d.key d.sectors entry ≡ d → IsLeftPlaced d h left
+    → MayBeLeftPlaced d.key d.sectors entry h left

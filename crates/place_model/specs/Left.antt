@@ -1,4 +1,4 @@
--- What a cut may leave of a device: an image that can be opened, whose cells its history allows.
+-- What a cut may leave of a device: an image that can be opened, or read, whose cells its history allows.
 -- Own: what each mode promises.
 use Rattle.std.specs.Prelude.{◌≡◌, None}
 use Rattle.disk_model.specs.Disk.{Image}
@@ -6,12 +6,17 @@ use Rattle.image_model.specs.Bitmap.{is_dirty}
 use Rattle.image_model.specs.Geometry.{region_of}
 use Rattle.device_model.specs.Cut.{MayBeLeftDirect, MayBeLeftJournal, MayBeLeftBitmap}
 use Rattle.device_model.specs.History.{BlockWrite, History, Begun, with_change}
-use Rattle.place_model.specs.Format.{DiskFormat, tagger_of, cells_on, OpensAs}
+use Rattle.place_model.specs.Format.{DiskFormat, tagger_of, placed_on, cells_on, IsReadAs, OpensAs}
 
 -- The image may be left in direct mode: each block with no write that is not flushed holds what the flushed ones gave it.
 pub record IsLeftInDirect (d : DiskFormat) (h : History) (image : Image) : Type 0 where
   pub opens : OpensAs d image
   pub left : MayBeLeftDirect (tagger_of d) d.geometry.blocks h (cells_on d image)
+
+-- The same of the placed cells, whatever the journal says: the image may be left of a device that does not look at it.
+pub record IsLeftPlaced (d : DiskFormat) (h : History) (image : Image) : Type 0 where
+  pub reads : IsReadAs d image
+  pub left : MayBeLeftDirect (tagger_of d) d.geometry.blocks h (placed_on d image)
 
 -- The image may be left in journal mode: its blocks hold what some of the first writes gave them, with every flushed one
 -- among them.
@@ -32,6 +37,11 @@ pub record IsLeftInBitmap (d : DiskFormat) (h : History) (image : Image) : Type 
 abbrev pub DirectPendingLaw : Type 0
 DirectPendingLaw = (d : DiskFormat) (h : History) (write : BlockWrite) (image : Image) → h.pending ≡ None
     → IsLeftInDirect d h image → IsLeftInDirect d (with_change h (Begun write)) image
+
+-- of the placed cells,
+abbrev pub PlacedPendingLaw : Type 0
+PlacedPendingLaw = (d : DiskFormat) (h : History) (write : BlockWrite) (image : Image) → h.pending ≡ None
+    → IsLeftPlaced d h image → IsLeftPlaced d (with_change h (Begun write)) image
 
 -- in journal mode,
 abbrev pub JournalPendingLaw : Type 0

@@ -6,3 +6,4 @@ pub mod Left
 pub mod Opened
 pub mod FirstSync
 pub mod Kind
+pub mod Placed

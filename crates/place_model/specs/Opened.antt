@@ -15,7 +15,7 @@ use Rattle.image_model.specs.declared.journal_plan.Plan.{Plan}
 use Rattle.device_model.specs.Mode.{Mode, Journal, Bitmap, Direct, Recovery, is_bitmap, is_recovery, DeviceFormat}
 use Rattle.device_model.specs.Progress.{DeviceState, opened_device}
 use Rattle.device_model.specs.Transcript.{BlockFormat}
-use Rattle.place_model.specs.Format.{DiskFormat, tagger_of, cells_on}
+use Rattle.place_model.specs.Format.{DiskFormat, tagger_of, placed_on, cells_on}
 
 -- ---- the format
 
@@ -89,3 +89,9 @@ abbrev pub opened_on : Mode → DiskFormat → Image → DeviceState
 opened_on mode d image =
     opened_device (base_on mode d image) (next_on mode d image)
     (set_bits_on mode d image) (awaiting_on mode d image)
+
+-- The device that has just been opened on its placed cells, in direct mode.
+abbrev pub opened_placed : DiskFormat → Image → DeviceState
+opened_placed d image =
+    opened_device (placed_on d image) (next_on Direct d image)
+    (set_bits_on Direct d image) (awaiting_on Direct d image)

@@ -3,13 +3,16 @@
 //! `specs/Format.antt` is the file to read first: the disk, its tags and the cells of its images.
 #![tactic(auto)]
 
-ghost use Rattle.place_model.specs.FirstSync.{FirstSyncLaw, OpeningLeftLaw};
-ghost use Rattle.place_model.specs.Kind.{BitmapKindLaw, DirectKindLaw, JournalKindLaw};
-ghost use Rattle.place_model.specs.Left.{BitmapPendingLaw, DirectPendingLaw, JournalPendingLaw};
+ghost use Rattle.place_model.specs.FirstSync.{FirstSyncLaw, OpeningLeftLaw, PlacedOpeningLeftLaw, PlacedSyncLaw};
+ghost use Rattle.place_model.specs.Format.{ReadFormatLaw};
+ghost use Rattle.place_model.specs.Kind.{BitmapKindLaw, DirectKindLaw, JournalKindLaw, PlacedKindLaw};
+ghost use Rattle.place_model.specs.Left.{BitmapPendingLaw, DirectPendingLaw, JournalPendingLaw, PlacedPendingLaw};
+ghost use Rattle.place_model.specs.Placed.{PlacedCellsLaw, PlacedLeftLaw, PlacedOpensLaw, SameJournalLaw, SameLeftLaw, SameOpeningLaw};
 
 /// What may be left before a write may be left while it is under way.
 pub fn pending_write_leaves_all()
     ensures direct { DirectPendingLaw }
+    ensures placed { PlacedPendingLaw }
     ensures journal { JournalPendingLaw }
     ensures bitmap { BitmapPendingLaw }
 {}
@@ -19,6 +22,8 @@ pub fn pending_write_leaves_all()
 pub fn first_sync_settles()
     ensures sync { FirstSyncLaw }
     ensures left { OpeningLeftLaw }
+    ensures placed { PlacedSyncLaw }
+    ensures placed_left { PlacedOpeningLeftLaw }
 {}
 
 /// What a cut leaves by the format that was opened may be left of the device, by the superblock of what is left.
@@ -26,4 +31,22 @@ pub fn cut_is_left_of_the_device()
     ensures journal { JournalKindLaw }
     ensures bitmap { BitmapKindLaw }
     ensures direct { DirectKindLaw }
+    ensures placed { PlacedKindLaw }
+{}
+
+/// Where a journal has nothing to replay, the placed cells of an image are its cells.
+/// An image that can be read can be opened then, in the same state.
+/// What may be left with its placed cells may be left in direct mode.
+pub fn placed_cells_are_cells()
+    ensures cells { PlacedCellsLaw }
+    ensures opens { PlacedOpensLaw }
+    ensures left { PlacedLeftLaw }
+    ensures same { SameJournalLaw }
+    ensures opening { SameOpeningLaw }
+    ensures same_left { SameLeftLaw }
+{}
+
+/// An image is read in the format that its first sector tells.
+pub fn format_is_told()
+    ensures { ReadFormatLaw }
 {}
