@@ -1,3 +1,4 @@
 pub mod CachedLemmas
 pub mod HeldLemmas
+pub mod StepsLemmas
 pub mod WriteBackLemmas

@@ -1,3 +1,4 @@
 pub mod Cache
 pub mod Cached
 pub mod HeldSectors
+pub mod Steps

@@ -5,10 +5,10 @@
 ghost use Rattle.std.specs.Prelude.{◌≡◌, ◌<◌, None, IfErr, OnErr, OnOk, IsSome, option_map, length};
 ghost use Rattle.disk_model.specs.Causes.{HasCause};
 ghost use Rattle.disk_model.specs.Disk.{OnlyAdds, last_image};
-ghost use Rattle.disk_model.specs.Identity.{IsBound};
 ghost use Rattle.disk_model.specs.Moments.{EachSince, HasNow};
-ghost use Rattle.buffer_cache.specs.Cached.{IsOfDisk, IsPutOut, IsRead, IsScratch, Keeps};
+ghost use Rattle.buffer_cache.specs.Cached.{IsPutOut, IsRead, IsScratch};
 ghost use Rattle.buffer_cache.specs.HeldSectors.{CanPutOut, HoldsAlso, HoldsNoMore, IsFree, held_in, with_recent};
+ghost use Rattle.buffer_cache.specs.Steps.{GivesSame, IsOverDisk};
 
 use crate::write_out::{make_room, write_held};
 use crate::{Held, HeldSectors, Scratch};
@@ -16,18 +16,16 @@ use sector_disk::{Disk, Failed};
 
 /// Makes a sector the most recently used one, and reads it where it is not held.
 pub(crate) fn bring<D: Disk>(disk: &mut D, held: &mut HeldSectors, at: u64) -> Result<(), Failed>
-    requires bound { IsBound (D.identity disk.old).name }
+    requires over { IsOverDisk held.old (D.identity disk.old) (D.moments disk.old) }
     requires at { at < (D.identity disk.old).sectors }
-    requires cache { IsOfDisk held.old (D.identity disk.old) (D.moments disk.old) }
 
     ensures found { OnOk result (IsSome (held_in held.new at)) }
 
     ensures cause { HasCause (D.faults disk.old) (D.faults disk.new) result }
 
-    ensures cache { IsOfDisk held.new (D.identity disk.new) (D.moments disk.new) }
-    ensures keeps { Keeps held.old held.new (D.moments disk.old) (D.moments disk.new) }
+    ensures same { GivesSame held.old held.new (D.identity disk.old) (D.identity disk.new)
+        (D.moments disk.old) (D.moments disk.new) }
     ensures held { HoldsAlso at held.old held.new }
-    ensures identity { D.identity disk.new ≡ D.identity disk.old }
 
     ensures moments { EachSince (OnlyAdds (IsPutOut at held.old))
         (D.moments disk.old) (D.moments disk.new) }
@@ -40,19 +38,17 @@ pub(crate) fn bring<D: Disk>(disk: &mut D, held: &mut HeldSectors, at: u64) -> R
 
 // Reads a sector that is not held, and holds it.
 fn fetch<D: Disk>(disk: &mut D, held: &mut HeldSectors, at: u64) -> Result<(), Failed>
-    requires bound { IsBound (D.identity disk.old).name }
+    requires over { IsOverDisk held.old (D.identity disk.old) (D.moments disk.old) }
     requires at { at < (D.identity disk.old).sectors }
-    requires cache { IsOfDisk held.old (D.identity disk.old) (D.moments disk.old) }
     requires missed { held_in held.old at ≡ None }
 
     ensures found { OnOk result (IsSome (held_in held.new at)) }
 
     ensures cause { HasCause (D.faults disk.old) (D.faults disk.new) result }
 
-    ensures cache { IsOfDisk held.new (D.identity disk.new) (D.moments disk.new) }
-    ensures keeps { Keeps held.old held.new (D.moments disk.old) (D.moments disk.new) }
+    ensures same { GivesSame held.old held.new (D.identity disk.old) (D.identity disk.new)
+        (D.moments disk.old) (D.moments disk.new) }
     ensures held { HoldsAlso at held.old held.new }
-    ensures identity { D.identity disk.new ≡ D.identity disk.old }
 
     ensures moments { EachSince (OnlyAdds (IsPutOut at held.old))
         (D.moments disk.old) (D.moments disk.new) }
@@ -70,9 +66,8 @@ fn hold<D: Disk>(
     at: u64,
     bytes: [u8; 512],
 ) -> Result<(), Failed>
-    requires bound { IsBound (D.identity disk.old).name }
+    requires over { IsOverDisk held.old (D.identity disk.old) (D.moments disk.old) }
     requires at { at < (D.identity disk.old).sectors }
-    requires cache { IsOfDisk held.old (D.identity disk.old) (D.moments disk.old) }
     requires missed { held_in held.old at ≡ None }
     requires room { CanPutOut held.old }
     requires read { HasNow (λ c. bytes ≡ last_image c at) (D.moments disk.old) }
@@ -81,10 +76,9 @@ fn hold<D: Disk>(
 
     ensures cause { HasCause (D.faults disk.old) (D.faults disk.new) result }
 
-    ensures cache { IsOfDisk held.new (D.identity disk.new) (D.moments disk.new) }
-    ensures keeps { Keeps held.old held.new (D.moments disk.old) (D.moments disk.new) }
+    ensures same { GivesSame held.old held.new (D.identity disk.old) (D.identity disk.new)
+        (D.moments disk.old) (D.moments disk.new) }
     ensures held { HoldsAlso at held.old held.new }
-    ensures identity { D.identity disk.new ≡ D.identity disk.old }
 
     ensures moments { EachSince (OnlyAdds (IsScratch held.old))
         (D.moments disk.old) (D.moments disk.new) }
@@ -122,9 +116,8 @@ fn hold_in_scratch<D: Disk>(
     at: u64,
     sector: Held,
 ) -> Result<(), Failed>
-    requires bound { IsBound (D.identity disk.old).name }
+    requires over { IsOverDisk held.old (D.identity disk.old) (D.moments disk.old) }
     requires at { at < (D.identity disk.old).sectors }
-    requires cache { IsOfDisk held.old (D.identity disk.old) (D.moments disk.old) }
     requires missed { held_in held.old at ≡ None }
     requires read { IsRead at sector (D.moments disk.old) }
 
@@ -132,10 +125,9 @@ fn hold_in_scratch<D: Disk>(
 
     ensures cause { HasCause (D.faults disk.old) (D.faults disk.new) result }
 
-    ensures cache { IsOfDisk held.new (D.identity disk.new) (D.moments disk.new) }
-    ensures keeps { Keeps held.old held.new (D.moments disk.old) (D.moments disk.new) }
+    ensures same { GivesSame held.old held.new (D.identity disk.old) (D.identity disk.new)
+        (D.moments disk.old) (D.moments disk.new) }
     ensures held { HoldsAlso at held.old held.new }
-    ensures identity { D.identity disk.new ≡ D.identity disk.old }
 
     ensures moments { EachSince (OnlyAdds (IsScratch held.old))
         (D.moments disk.old) (D.moments disk.new) }
@@ -147,17 +139,15 @@ fn hold_in_scratch<D: Disk>(
 
 // Writes what the scratch buffer holds, where it is marked.
 fn free_scratch<D: Disk>(disk: &mut D, held: &mut HeldSectors) -> Result<(), Failed>
-    requires bound { IsBound (D.identity disk.old).name }
-    requires cache { IsOfDisk held.old (D.identity disk.old) (D.moments disk.old) }
+    requires over { IsOverDisk held.old (D.identity disk.old) (D.moments disk.old) }
 
     ensures free { OnOk result (IsFree held.new) }
 
     ensures cause { HasCause (D.faults disk.old) (D.faults disk.new) result }
 
-    ensures cache { IsOfDisk held.new (D.identity disk.new) (D.moments disk.new) }
-    ensures keeps { Keeps held.old held.new (D.moments disk.old) (D.moments disk.new) }
+    ensures same { GivesSame held.old held.new (D.identity disk.old) (D.identity disk.new)
+        (D.moments disk.old) (D.moments disk.new) }
     ensures held { HoldsNoMore held.old held.new }
-    ensures identity { D.identity disk.new ≡ D.identity disk.old }
 
     ensures moments { EachSince (OnlyAdds (IsScratch held.old))
         (D.moments disk.old) (D.moments disk.new) }

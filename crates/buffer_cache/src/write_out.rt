@@ -5,8 +5,9 @@ ghost use Rattle.disk_model.specs.Disk.{OnlyAdds};
 ghost use Rattle.disk_model.specs.Identity.{IsBound};
 ghost use Rattle.disk_model.specs.Moments.{EachSince, IsChangedBy};
 ghost use Rattle.lru.specs.LruCache.{IsValid, last_entry};
-ghost use Rattle.buffer_cache.specs.Cached.{IsAmidMarked, IsLeastRecent, IsOfDisk, Keeps, with_marked};
+ghost use Rattle.buffer_cache.specs.Cached.{IsAmidMarked, IsLeastRecent, with_marked};
 ghost use Rattle.buffer_cache.specs.HeldSectors.{CanPutOut, HoldsNoMore, IsLast, held_in, unmarked, with_change};
+ghost use Rattle.buffer_cache.specs.Steps.{GivesSame, IsOverDisk};
 
 use crate::{Held, HeldSectors};
 use lru::LruCache;
@@ -18,9 +19,8 @@ pub(crate) fn write_held<D: Disk>(
     held: &mut HeldSectors,
     at: u64,
 ) -> Result<(), Failed>
-    requires bound { IsBound (D.identity disk.old).name }
+    requires over { IsOverDisk held.old (D.identity disk.old) (D.moments disk.old) }
     requires at { at < (D.identity disk.old).sectors }
-    requires cache { IsOfDisk held.old (D.identity disk.old) (D.moments disk.old) }
 
     ensures written { OnOk result (held.new ≡ with_change at unmarked held.old) }
     ensures changed { OnOk result (IsChangedBy (with_marked at (held_in held.old at))
@@ -29,10 +29,9 @@ pub(crate) fn write_held<D: Disk>(
     ensures cause { HasCause (D.faults disk.old) (D.faults disk.new) result }
     ensures err { OnErr result (held.new ≡ held.old) }
 
-    ensures cache { IsOfDisk held.new (D.identity disk.new) (D.moments disk.new) }
-    ensures keeps { Keeps held.old held.new (D.moments disk.old) (D.moments disk.new) }
+    ensures same { GivesSame held.old held.new (D.identity disk.old) (D.identity disk.new)
+        (D.moments disk.old) (D.moments disk.new) }
     ensures held { HoldsNoMore held.old held.new }
-    ensures identity { D.identity disk.new ≡ D.identity disk.old }
 
     ensures moments { EachSince (IsAmidMarked at (held_in held.old at))
         (D.moments disk.old) (D.moments disk.new) }
@@ -65,18 +64,16 @@ fn write_marked<D: Disk>(disk: &mut D, held: &HeldSectors, at: u64) -> Result<()
 
 /// Sees to it that the next sector to go out is not marked, where one has to.
 pub(crate) fn make_room<D: Disk>(disk: &mut D, held: &mut HeldSectors) -> Result<(), Failed>
-    requires bound { IsBound (D.identity disk.old).name }
-    requires cache { IsOfDisk held.old (D.identity disk.old) (D.moments disk.old) }
+    requires over { IsOverDisk held.old (D.identity disk.old) (D.moments disk.old) }
 
     ensures room { OnOk result (CanPutOut held.new) }
     ensures scratch { OnOk result (held.new.scratch ≡ held.old.scratch) }
 
     ensures cause { HasCause (D.faults disk.old) (D.faults disk.new) result }
 
-    ensures cache { IsOfDisk held.new (D.identity disk.new) (D.moments disk.new) }
-    ensures keeps { Keeps held.old held.new (D.moments disk.old) (D.moments disk.new) }
+    ensures same { GivesSame held.old held.new (D.identity disk.old) (D.identity disk.new)
+        (D.moments disk.old) (D.moments disk.new) }
     ensures held { HoldsNoMore held.old held.new }
-    ensures identity { D.identity disk.new ≡ D.identity disk.old }
 
     ensures moments { EachSince (OnlyAdds (IsLeastRecent held.old))
         (D.moments disk.old) (D.moments disk.new) }

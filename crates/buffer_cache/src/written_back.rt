@@ -4,10 +4,10 @@ ghost use Rattle.std.specs.List.{All, Contains};
 ghost use Rattle.std.specs.List.Sorted.{IsSorted};
 ghost use Rattle.std.specs.Ordering.{nat_cmp};
 ghost use Rattle.disk_model.specs.Causes.{HasCause};
-ghost use Rattle.disk_model.specs.Identity.{IsBound};
 ghost use Rattle.disk_model.specs.Moments.{EachSince, IsChangedBy};
-ghost use Rattle.buffer_cache.specs.Cached.{HasNoMark, IsAmidWriteBack, IsOfDisk, Keeps, is_marked, written_back};
+ghost use Rattle.buffer_cache.specs.Cached.{HasNoMark, IsAmidWriteBack, is_marked, written_back};
 ghost use Rattle.buffer_cache.specs.HeldSectors.{HoldsNoMore, held_in, marked_keys, marked_scratch};
+ghost use Rattle.buffer_cache.specs.Steps.{GivesSame, IsOverDisk};
 
 use crate::write_out::write_held;
 use crate::{Held, HeldSectors, Scratch};
@@ -67,8 +67,7 @@ pub(crate) fn write_each<D: Disk>(
     held: &mut HeldSectors,
     sectors: &[u64],
 ) -> Result<(), Failed>
-    requires bound { IsBound (D.identity disk.old).name }
-    requires cache { IsOfDisk held.old (D.identity disk.old) (D.moments disk.old) }
+    requires over { IsOverDisk held.old (D.identity disk.old) (D.moments disk.old) }
     requires sectors { All (λ sector. sector < (D.identity disk.old).sectors) sectors.now }
     requires each { (sector : ℕ) → is_marked held.old sector ≡ true → Contains sectors.now sector }
     requires sorted { IsSorted nat_cmp sectors.now }
@@ -79,10 +78,9 @@ pub(crate) fn write_each<D: Disk>(
 
     ensures cause { HasCause (D.faults disk.old) (D.faults disk.new) result }
 
-    ensures cache { IsOfDisk held.new (D.identity disk.new) (D.moments disk.new) }
-    ensures keeps { Keeps held.old held.new (D.moments disk.old) (D.moments disk.new) }
+    ensures same { GivesSame held.old held.new (D.identity disk.old) (D.identity disk.new)
+        (D.moments disk.old) (D.moments disk.new) }
     ensures held { HoldsNoMore held.old held.new }
-    ensures identity { D.identity disk.new ≡ D.identity disk.old }
 
     ensures moments { EachSince (IsAmidWriteBack held.old) (D.moments disk.old) (D.moments disk.new) }
 {

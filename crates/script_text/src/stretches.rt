@@ -1,12 +1,35 @@
 //! The text of some bytes: runs of one byte, joined by commas.
-ghost use Rattle.std.specs.Prelude.{◌≡◌, ◌+◌, ◌<◌, ◌≤◌, ◌==◌, ◌++◌, codes, length, slice_index, vec_len, vec_capacity, IsTrue};
+ghost use Rattle.std.specs.Prelude.{◌≡◌, ◌+◌, ◌<◌, ◌≤◌, ◌==◌, ◌++◌, codes, length, replicate, slice_index, take, vec_len, vec_capacity, IsTrue};
 ghost use Rattle.std.specs.List.{prefix_len};
 ghost use Rattle.device_model.specs.Stretches.{stretch_text, stretches_text};
 
 use crate::pieces::{digits_of, put_byte, put_bytes, put_number};
 
-/// How many bytes from the front on are this byte.
+/// How many bytes from the front on are this byte. They are compared eight at a time.
 fn count_at_front(bytes: &[u8], byte: u8) -> usize
+    ensures count { result ≡ prefix_len (λ x. x == byte) bytes.now }
+    ensures within { result ≤ length bytes.now }
+{
+    let mut rest = bytes;
+    while begins_with_eight(rest, byte) {
+        rest = &rest[8..];
+    }
+    bytes.len() - rest.len() + count_singly(rest, byte)
+}
+
+/// Whether the first eight bytes are this byte.
+fn begins_with_eight(bytes: &[u8], byte: u8) -> bool
+    ensures long { IsTrue result → 8 ≤ length bytes.now }
+    ensures same { IsTrue result → take 8 bytes.now ≡ replicate 8 byte }
+{
+    match bytes.first_chunk::<8>() {
+        Some(eight) => u64::from_le_bytes(*eight) == u64::from_le_bytes([byte; 8]),
+        None => false,
+    }
+}
+
+/// How many bytes from the front on are this byte, compared one at a time.
+fn count_singly(bytes: &[u8], byte: u8) -> usize
     ensures count { result ≡ prefix_len (λ x. x == byte) bytes.now }
     ensures within { result ≤ length bytes.now }
 {

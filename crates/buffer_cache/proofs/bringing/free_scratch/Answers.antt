@@ -5,7 +5,7 @@ use Rattle.buffer_cache.proofs.bringing.free_scratch.Goals as goal
 pub write_held-requires-clause-at : goal.write_held-requires-clause-at
 write_held-requires-clause-at g c =
     let told = scratch_told c.in-Some.at c.args.held.now.scratch c.in-Some.ensures in
-    rw (← told.2) (c.requires.cache.within told.0.at told.0.held (scratch_is_held c.args.held.now told.0 told.1 (c.requires.cache.apart told.0 told.1)))
+    rw (← told.2) (c.requires.over.cache.within told.0.at told.0.held (scratch_is_held c.args.held.now told.0 told.1 (c.requires.over.cache.apart told.0 told.1)))
 
 pub returns-in-Some-clause-free : goal.returns-in-Some-clause-free
 returns-in-Some-clause-free g c =

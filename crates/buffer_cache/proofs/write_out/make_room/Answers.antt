@@ -7,7 +7,7 @@ use Rattle.buffer_cache.proofs.write_out.make_room.Goals as goal
 
 pub write_held-requires-clause-at : goal.write_held-requires-clause-at
 write_held-requires-clause-at g c =
-    c.requires.cache.within c.in-Some.at c.in-Some.ensures.last.held (last_is_held c.args.held.now c.in-Some.at c.next_out.ensures.valid c.in-Some.ensures.last)
+    c.requires.over.cache.within c.in-Some.at c.in-Some.ensures.last.held (last_is_held c.args.held.now c.in-Some.at c.next_out.ensures.valid c.in-Some.ensures.last)
 
 pub returns-in-Some-clause-room : goal.returns-in-Some-clause-room
 returns-in-Some-clause-room g c =
@@ -15,7 +15,7 @@ returns-in-Some-clause-room g c =
 
 pub returns-in-Some-clause-scratch : goal.returns-in-Some-clause-scratch
 returns-in-Some-clause-scratch g c =
-    on_ok_weaker c.write_held.result (λ written. ap (λ (s : HeldSectors). s.scratch) written ∙ scratch_stays c.args.held.now c.in-Some.at c.requires.cache.apart c.next_out.ensures.valid c.in-Some.ensures.last) c.write_held.ensures.written
+    on_ok_weaker c.write_held.result (λ written. ap (λ (s : HeldSectors). s.scratch) written ∙ scratch_stays c.args.held.now c.in-Some.at c.requires.over.cache.apart c.next_out.ensures.valid c.in-Some.ensures.last) c.write_held.ensures.written
 
 pub returns-in-Some-clause-moments : goal.returns-in-Some-clause-moments
 returns-in-Some-clause-moments g c =

@@ -4,15 +4,19 @@ use Rattle.std.proofs.lemmas.List.Sorted.{IsNonDecreasingBy-from_sort}
 use Rattle.disk_model.proofs.MomentsLemmas.{EachMoment-join}
 use Rattle.buffer_cache.specs.Cached.{IsAmidMarked, IsAmidWriteBack, is_marked, written_back}
 use Rattle.buffer_cache.specs.HeldSectors.{held_in}
-use Rattle.buffer_cache.proofs.CachedLemmas.{Keeps-then, amid_same, none_is_marked, stays_unmarked, written_unmarked}
+use Rattle.buffer_cache.proofs.CachedLemmas.{amid_same, none_is_marked, stays_unmarked, written_unmarked}
 use Rattle.buffer_cache.proofs.HeldLemmas.{HoldsNoMore-then}
+use Rattle.buffer_cache.proofs.StepsLemmas.{GivesSame-then, IsOverDisk-later}
 use Rattle.buffer_cache.proofs.WriteBackLemmas.{above_waits, all_written, amid_write_back, below_is_clear, changed_from, each_contained, gone_more, write_back_none, written_more}
 use Rattle.buffer_cache.proofs.written_back.write_each.Goals as goal
 
-pub returns-in_err-write_held-clause-keeps : goal.returns-in_err-write_held-clause-keeps
-returns-in_err-write_held-clause-keeps g c =
+pub write_held-requires-clause-over : goal.write_held-requires-clause-over
+write_held-requires-clause-over g c = IsOverDisk-later c.args.held.now c.loop-at.held c.requires.over c.loop-at.invariant.same
+
+pub returns-in_err-write_held-clause-same : goal.returns-in_err-write_held-clause-same
+returns-in_err-write_held-clause-same g c =
     let x = get_or c.args.sectors.now c.loop-at.at-index 0 in
-    Keeps-then (IsAmidMarked x (held_in c.loop-at.held x)) c.args.held.now c.loop-at.held c.write_held.new.held (amid_same x (held_in c.loop-at.held x)) c.write_held.ensures.moments c.loop-at.invariant.keeps c.write_held.ensures.keeps
+    GivesSame-then (IsAmidMarked x (held_in c.loop-at.held x)) c.args.held.now c.loop-at.held c.write_held.new.held (amid_same x (held_in c.loop-at.held x)) c.write_held.ensures.moments c.loop-at.invariant.same c.write_held.ensures.same
 
 pub returns-in_err-write_held-clause-moments : goal.returns-in_err-write_held-clause-moments
 returns-in_err-write_held-clause-moments g c =
@@ -25,9 +29,9 @@ returns-in_err-write_held-clause-moments g c =
     let rises : IsNonDecreasing xs = IsNonDecreasingBy-from_sort (λ (k : ℕ). k) xs c.requires.sorted in
     EachMoment-join (IsAmidWriteBack start) (IsAmidMarked x (held_in now x)) c.loop-at.invariant.moments c.write_held.ensures.moments
     (λ at_start middle later told told_middle _ amid.
-    amid_write_back start now x at_start middle later c.loop-at.invariant.keeps.marked (c.loop-at.invariant.written at_start told middle told_middle)
-    (below_is_clear start now xs i c.loop-at.invariant.keeps.marked rises low c.requires.each c.loop-at.invariant.unmarked)
-    (above_waits start now xs i c.loop-at.invariant.keeps.marked rises low c.loop-at.invariant.gone) amid)
+    amid_write_back start now x at_start middle later c.loop-at.invariant.same.keeps.marked (c.loop-at.invariant.written at_start told middle told_middle)
+    (below_is_clear start now xs i c.loop-at.invariant.same.keeps.marked rises low c.requires.each c.loop-at.invariant.unmarked)
+    (above_waits start now xs i c.loop-at.invariant.same.keeps.marked rises low c.loop-at.invariant.gone) amid)
 
 pub loop-at-preserved : goal.loop-at-preserved
 loop-at-preserved g c =
@@ -39,27 +43,25 @@ loop-at-preserved g c =
     let low : i < length xs = omega arith in
     let rises : IsNonDecreasing xs = IsNonDecreasingBy-from_sort (λ (k : ℕ). k) xs c.requires.sorted in
     record {
-      identity = search rules;
       later = search rules;
-      cache = c.write_held.ensures.cache;
-      keeps = Keeps-then (IsAmidMarked x (held_in now x)) start now c.write_held.new.held (amid_same x (held_in now x)) c.write_held.ensures.moments c.loop-at.invariant.keeps c.write_held.ensures.keeps;
+      same = GivesSame-then (IsAmidMarked x (held_in now x)) start now c.write_held.new.held (amid_same x (held_in now x)) c.write_held.ensures.moments c.loop-at.invariant.same c.write_held.ensures.same;
       unmarked = below_more (λ (k : ℕ). is_marked c.write_held.new.held (get_or xs k 0) ≡ false) i
-          (λ k below. stays_unmarked now c.write_held.new.held (get_or xs k 0) c.write_held.ensures.keeps (c.loop-at.invariant.unmarked k below))
+          (λ k below. stays_unmarked now c.write_held.new.held (get_or xs k 0) c.write_held.ensures.same.keeps (c.loop-at.invariant.unmarked k below))
           (rw c.in_ok-write_held.ensures.written (written_unmarked now x));
       gone = rw c.in_ok-write_held.ensures.written (gone_more start now xs i c.loop-at.invariant.gone);
-      written = rw c.in_ok-write_held.ensures.written (written_more (g.D.Disk.moments c.args.disk.now) (g.D.Disk.moments c.loop-at.disk) (g.D.Disk.moments c.write_held.new.disk) start now x c.loop-at.invariant.keeps.marked (c.loop-at.invariant.cache.whole x) c.loop-at.invariant.written c.in_ok-write_held.ensures.changed);
+      written = rw c.in_ok-write_held.ensures.written (written_more (g.D.Disk.moments c.args.disk.now) (g.D.Disk.moments c.loop-at.disk) (g.D.Disk.moments c.write_held.new.disk) start now x c.loop-at.invariant.same.keeps.marked (c.loop-at.invariant.same.cache.whole x) c.loop-at.invariant.written c.in_ok-write_held.ensures.changed);
       held = HoldsNoMore-then start now c.write_held.new.held c.loop-at.invariant.held c.write_held.ensures.held;
       moments = EachMoment-join (IsAmidWriteBack start) (IsAmidMarked x (held_in now x)) c.loop-at.invariant.moments c.write_held.ensures.moments
           (λ at_start middle later told told_middle _ amid.
-          amid_write_back start now x at_start middle later c.loop-at.invariant.keeps.marked (c.loop-at.invariant.written at_start told middle told_middle)
-          (below_is_clear start now xs i c.loop-at.invariant.keeps.marked rises low c.requires.each c.loop-at.invariant.unmarked)
-          (above_waits start now xs i c.loop-at.invariant.keeps.marked rises low c.loop-at.invariant.gone) amid);
+          amid_write_back start now x at_start middle later c.loop-at.invariant.same.keeps.marked (c.loop-at.invariant.written at_start told middle told_middle)
+          (below_is_clear start now xs i c.loop-at.invariant.same.keeps.marked rises low c.requires.each c.loop-at.invariant.unmarked)
+          (above_waits start now xs i c.loop-at.invariant.same.keeps.marked rises low c.loop-at.invariant.gone) amid);
     }
 
 pub returns-clause-unmarked : goal.returns-clause-unmarked
 returns-clause-unmarked g c =
     record {
-      none = none_is_marked c.args.held.now c.loop-at.held c.args.sectors.now c.args.sectors.now c.loop-at.invariant.keeps c.requires.each (λ i. c.args.sectors.now)
+      none = none_is_marked c.args.held.now c.loop-at.held c.args.sectors.now c.args.sectors.now c.loop-at.invariant.same.keeps c.requires.each (λ i. c.args.sectors.now)
           (λ s has. each_contained (λ (k : ℕ). is_marked c.loop-at.held k ≡ false) c.args.sectors.now s (λ k low. c.loop-at.invariant.unmarked k (omega arith)) has);
     }
 

@@ -4,18 +4,18 @@ use Rattle.buffer_cache.proofs.HeldLemmas.{HoldsAlso-before, HoldsNoMore-with_ch
 use Rattle.buffer_cache.proofs.cache.Cache.write_at.Goals as goal
 
 pub invariant_of-self : goal.invariant_of-self
-invariant_of-self g c = record { room = rw c.bring.ensures.keeps.slots c.args.self.now.room }
+invariant_of-self g c = record { room = rw c.bring.ensures.same.keeps.slots c.args.self.now.room }
 
 pub invariant_of-self-2 : goal.invariant_of-self-2
-invariant_of-self-2 g c = record { room = rw (c.put_piece.ensures, c.bring.ensures.keeps.slots) c.args.self.now.room }
+invariant_of-self-2 g c = record { room = rw (c.put_piece.ensures, c.bring.ensures.same.keeps.slots) c.args.self.now.room }
 
 pub returns-clause-written : goal.returns-clause-written
 returns-clause-written g c =
-    rw c.put_piece.ensures (changes_piece c.args.at c.args.from c.args.bytes.now c.args.self.now.sectors c.bring.new.held c.bring.ensures.keeps c.in_ok-bring.ensures.found)
+    rw c.put_piece.ensures (changes_piece c.args.at c.args.from c.args.bytes.now c.args.self.now.sectors c.bring.new.held c.bring.ensures.same.keeps c.in_ok-bring.ensures.found)
 
 pub returns-clause-cache : goal.returns-clause-cache
 returns-clause-cache g c =
-    rw c.put_piece.ensures (IsOfDisk-piece _ _ c.args.at c.args.from c.args.bytes.now c.bring.new.held c.requires.piece.fits c.in_ok-bring.ensures.found c.bring.ensures.cache)
+    rw c.put_piece.ensures (IsOfDisk-piece _ _ c.args.at c.args.from c.args.bytes.now c.bring.new.held c.requires.piece.fits c.in_ok-bring.ensures.found c.bring.ensures.same.cache)
 
 pub returns-clause-held : goal.returns-clause-held
 returns-clause-held g c =
