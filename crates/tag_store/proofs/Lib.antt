@@ -1,1 +1,2 @@
 pub mod SpansLemmas
+pub mod StoreLemmas

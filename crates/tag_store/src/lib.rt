@@ -2,3 +2,6 @@
 #![tactic(auto)]
 
 mod spans;
+mod tags;
+
+pub use tags::Tags;
