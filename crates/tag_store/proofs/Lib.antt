@@ -1,2 +1,4 @@
 pub mod SpansLemmas
 pub mod StoreLemmas
+pub mod PutLemmas
+pub mod StoreLawsLemmas

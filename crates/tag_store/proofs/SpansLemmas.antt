@@ -170,11 +170,11 @@ with_given_piece-none at image sector = elim (cases_Bool (nat_eq at sector)) [ i
 with_given_piece-same : (at from : ℕ) (piece : List ℕ) (old new : Image) (sector : ℕ) → new sector ≡ old sector → with_given_piece at from piece new sector ≡ with_given_piece at from piece old sector
 with_given_piece-same at from piece old new sector same = ap (λ (x : List ℕ). if nat_eq at sector then with_piece from piece x else x) same
 
-with_given_piece-other : (at from : ℕ) (piece : List ℕ) (image : Image) (sector : ℕ) → sector ≢ at → with_given_piece at from piece image sector ≡ image sector
+pub with_given_piece-other : (at from : ℕ) (piece : List ℕ) (image : Image) (sector : ℕ) → sector ≢ at → with_given_piece at from piece image sector ≡ image sector
 with_given_piece-other at from piece image sector ne = ap (λ (t : Bool). if t then with_piece from piece (image sector) else image sector) (ne_eqb at sector (λ e. ne (sym e)))
 
 -- The first sector has its part, and none of the rest.
-with_span-first : (at from : ℕ) (bytes : List ℕ) (image : Image) (sector : ℕ) → sector ≡ at → with_span at from bytes image sector ≡ with_given_piece at from (take (512 - from) bytes) image sector
+pub with_span-first : (at from : ℕ) (bytes : List ℕ) (image : Image) (sector : ℕ) → sector ≡ at → with_span at from bytes image sector ≡ with_given_piece at from (take (512 - from) bytes) image sector
 with_span-first at from bytes image sector same =
     with_given_piece-other (at + 1) 0 (drop (512 - from) bytes) (with_given_piece at from (take (512 - from) bytes) image) sector (λ e. omega arith)
 

@@ -1,0 +1,135 @@
+-- The laws of specs/StoreLaws.antt.
+use Rattle.std.proofs.Common.{◌≡◌, ◌≢◌, ◌⊎◌, inl, inr, ⊎_elim, ℕ, ◌+◌, ◌*◌, ◌/◌, ◌<◌, ◌≤◌, List, [], ◌∷◌, length, slice_index, refl, sym, ◌∙◌, ap, subst, arith, Option, Some, None}
+use Rattle.std.proofs.lemmas.Option.{none-some, same_Some}
+use Rattle.disk_model.specs.Disk.{Content, Image, last_candidate, last_image, newest_only}
+use Rattle.disk_model.specs.Identity.{DiskIdentity}
+use Rattle.disk_model.specs.Moments.{IsChangedBy, content_now}
+use Rattle.image_model.specs.Cells.{placed_cells_of}
+use Rattle.image_model.specs.Geometry.{Geometry, IsGeometry, tag_at}
+use Rattle.image_model.proofs.GeometryLemmas.{tag_at-inside, data_at-inside}
+use Rattle.place_model.specs.Tags.{IsOfTags, ReadsTags, tag_byte_at, with_block_tag}
+use Rattle.place_model.proofs.PlacedLemmas.{placed_tag-byte}
+use Rattle.buffer_cache.specs.declared.held.Held.{Held}
+use Rattle.buffer_cache.specs.Cached.{IsMarkedSector, cached, held_or}
+use Rattle.buffer_cache.specs.HeldSectors.{held_in, no_sectors}
+use Rattle.buffer_cache.proofs.CachedLemmas.{IsOfDisk-elsewhere, IsOfDisk-none, changed_now}
+use Rattle.tag_store.specs.Store.{HoldsTag, IsFirstOfTag, IsOfPut, IsOwed, IsStore, Store, given, given_tags, tags_in, with_tag}
+use Rattle.tag_store.specs.StoreLaws.{AreWhole, DirectLaw, ElsewhereLaw, FreshLaw, IsNoByteOf, OwedLaw, PutLaw, ReadTagsAlike, ReadsTagsLaw, RestLaw, SameTagsLaw, SyncedLaw}
+use Rattle.tag_store.proofs.PutLemmas.{with_tag-byte, with_tag-length, with_tag-rest}
+use Rattle.tag_store.proofs.StoreLemmas.{tags_in-same}
+
+-- ---- what may be written
+
+-- A sector with a byte of a tag is one of the disk.
+HoldsTag-inside : (g : Geometry) (sectors sector : ℕ) → IsGeometry g sectors → HoldsTag g sector → sector < sectors
+unfolding tag_byte_at
+HoldsTag-inside g sectors sector geometry holds =
+    let tag = tag_at-inside g sectors holds.block geometry holds.block_low in
+    let bytes = data_at-inside g sectors holds.block geometry holds.block_low in
+    let is = holds.is in
+    let low = holds.byte_low in
+    omega arith
+
+-- The first sector of a tag has its first byte.
+HoldsTag-first : (g : Geometry) (sectors block sector : ℕ) → IsGeometry g sectors → block < g.blocks → IsFirstOfTag g block sector → HoldsTag g sector
+unfolding tag_byte_at
+HoldsTag-first g sectors block sector geometry low first =
+    let tag = tag_at-inside g sectors block geometry low in
+    let is = first.is in
+    record { block = block; byte = 0; block_low = low; byte_low = geometry.tag_size.0; is = omega arith }
+
+-- What stands in a sector of tags of an image, has its tags in it,
+IsOfTags-image : (g : Geometry) (sectors : ℕ) (image : Image) (new : ℕ → List ℕ) (sector : ℕ) (x : List ℕ) → IsGeometry g sectors → AreWhole sectors image → HoldsTag g sector → x ≡ image sector → IsOfTags g (tags_in g image) new sector x
+IsOfTags-image g sectors image new sector x geometry whole holds is = record {
+  whole = ap (λ (xs : List ℕ). length xs) is ∙ whole sector (HoldsTag-inside g sectors sector geometry holds);
+  block = holds.block;
+  byte = holds.byte;
+  block_low = holds.block_low;
+  byte_low = holds.byte_low;
+  is = holds.is;
+  each = λ b i b_low i_low here. inl
+      (ap (λ (bytes : List ℕ). slice_index bytes (tag_byte_at g b i).1) (is ∙ ap image here)
+      ∙ sym (placed_tag-byte g sectors geometry image whole b b_low (placed_cells_of g image b) i i_low));
+}
+
+-- and with a tag put, those with this one.
+IsOfTags-put : (g : Geometry) (sectors : ℕ) (image : Image) (block : ℕ) (tag : List ℕ) (sector : ℕ) (x : List ℕ) → IsGeometry g sectors → AreWhole sectors image → block < g.blocks → length tag ≡ g.shape.tag_size → HoldsTag g sector
+    → x ≡ with_tag g block tag image sector → IsOfTags g (tags_in g image) (with_block_tag block tag (tags_in g image)) sector x
+IsOfTags-put g sectors image block tag sector x geometry whole low size holds is = record {
+  whole = ap (λ (xs : List ℕ). length xs) is ∙ with_tag-length g sectors block tag image geometry whole low size sector ∙ whole sector (HoldsTag-inside g sectors sector geometry holds);
+  block = holds.block;
+  byte = holds.byte;
+  block_low = holds.block_low;
+  byte_low = holds.byte_low;
+  is = holds.is;
+  each = λ b i b_low i_low here. inr
+      (ap (λ (bytes : List ℕ). slice_index bytes (tag_byte_at g b i).1) (is ∙ ap (with_tag g block tag image) here)
+      ∙ with_tag-byte g sectors block tag image geometry whole low size b i b_low i_low);
+}
+
+owed_is_given : (store : Store) (start : Content) (sector : ℕ) (x : List ℕ) → IsOwed store sector x → x ≡ given store start sector
+owed_is_given store start sector x owed = owed.marked.bytes ∙ sym (ap (λ (o : Option Held). held_or o (last_image start sector)) owed.marked.is)
+
+pub owed_law : OwedLaw
+owed_law store disk moments start sector x is whole owed =
+    let same = owed_is_given store start sector x owed in
+    (same, IsOfTags-image store.geometry disk.sectors (given store start) (given_tags store start) sector x is.geometry whole owed.tags same)
+
+pub put_law : PutLaw
+put_law store disk moments start block tag sector x is whole low size of =
+    let tags = with_block_tag block tag (given_tags store start) in
+    ⊎_elim (λ owed. IsOfTags-image store.geometry disk.sectors (given store start) tags sector x is.geometry whole owed.tags (owed_is_given store start sector x owed))
+    (λ first. IsOfTags-put store.geometry disk.sectors (given store start) block tag sector x is.geometry whole low size
+    (HoldsTag-first store.geometry disk.sectors block sector is.geometry low first.0) first.1) of
+
+pub rest_law : RestLaw
+rest_law store disk moments start block tag sector x at is whole low size of none =
+    ⊎_elim (λ owed. ap (λ (bytes : List ℕ). slice_index bytes at) (owed_is_given store start sector x owed))
+    (λ first. ap (λ (bytes : List ℕ). slice_index bytes at) first.1
+    ∙ with_tag-rest store.geometry disk.sectors block tag (given store start) is.geometry whole low size sector at none) of
+
+-- ---- what reads give
+
+pub reads_tags_law : ReadsTagsLaw
+reads_tags_law store disk moments c d is whole read = record {
+  each = λ b i low i_low.
+      ap (λ (bytes : List ℕ). slice_index bytes (tag_byte_at store.geometry b i).1) (read (tag_byte_at store.geometry b i).0)
+      ∙ sym (placed_tag-byte store.geometry disk.sectors is.geometry (given store c) whole b low (placed_cells_of store.geometry (given store c) b) i i_low);
+}
+
+pub direct_law : DirectLaw
+direct_law store disk moments c sector is none = by_held (held_in store.sectors sector) refl
+  where
+    by_held : (o : Option Held) → held_in store.sectors sector ≡ o → held_or o (last_image c sector) ≡ last_image c sector
+    by_held None e = refl
+    by_held (Some held) e =
+        let holds = is.tags_only sector held e in
+        absurd (none holds.block holds.byte holds.block_low holds.byte_low holds.is)
+
+pub fresh_law : FreshLaw
+fresh_law g disk moments slots geometry =
+    (record { geometry = geometry; cache = IsOfDisk-none disk moments slots; tags_only = λ sector held e. absurd (none-some held e) }, λ c. refl)
+
+-- ---- other calls of the disk
+
+pub elsewhere_law : ElsewhereLaw
+elsewhere_law store disk before after is alike = record {
+  geometry = is.geometry;
+  cache = IsOfDisk-elsewhere disk store.sectors is.cache
+      (λ d told.
+      let start = alike d told in
+      (start.0, start.1, λ sector held e. start.2 sector (is.tags_only sector held e)));
+  tags_only = is.tags_only;
+}
+
+pub synced_law : SyncedLaw
+synced_law store disk before after is synced =
+    elsewhere_law store disk before after is
+    (λ d told.
+    let start = changed_now newest_only (content_now before) (content_now after) synced d told in
+    (start.0, start.1, λ sector holds. ap (λ (c : Content). last_image c sector) start.2))
+
+pub same_tags_law : SameTagsLaw
+same_tags_law store disk moments c d is whole whole_now alike b low =
+    tags_in-same store.geometry disk.sectors is.geometry (given store c) (given store d) whole whole_now
+    (λ sector holds. ap (held_or (held_in store.sectors sector)) (alike sector holds)) b low
