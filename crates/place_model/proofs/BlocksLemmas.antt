@@ -3,7 +3,7 @@ use Rattle.std.proofs.Common.{◌≡◌, inl, inr, ℕ, ◌≤◌, refl, sym, ap
 use Rattle.std.specs.List.{AllByRecursion}
 use Rattle.std.proofs.lemmas.Bool.{cases_eq}
 use Rattle.std.proofs.lemmas.List.{take-append-le, take_all}
-use Rattle.disk_model.specs.Disk.{Content, last_candidate, last_image}
+use Rattle.disk_model.specs.Disk.{Content, last_image}
 use Rattle.image_model.specs.Cells.{Cell}
 use Rattle.image_model.specs.Geometry.{Geometry, data_at, IsGeometry}
 use Rattle.device_model.specs.History.{Tagger, BlockWrite, written_cell, cells_after}
@@ -48,4 +48,4 @@ ReadsData-same g cells first c same reads = record { each = λ b k low k_low. sa
 pub KeepsOthers-data : (g : Geometry) (sectors : ℕ) (old new : Content) → IsGeometry g sectors → KeepsOthers g old new → (b k : ℕ) → b < g.blocks → k < g.shape.spb
     → last_image new (data_at g b + k) ≡ last_image old (data_at g b + k)
 KeepsOthers-data g sectors old new geometry keeps b k low k_low =
-    ap last_candidate (keeps.each (data_at g b + k) (λ c i c_low i_low same. tag_byte-no_data g sectors c b i k geometry i_low k_low (sym same)))
+    keeps.each (data_at g b + k) (λ c i c_low i_low same. tag_byte-no_data g sectors c b i k geometry i_low k_low (sym same))

@@ -37,7 +37,7 @@ pub record ReadsTags (g : Geometry) (tags : ℕ → List ℕ) (c : Content) : Ty
   pub each : (b i : ℕ) → b < g.blocks → i < g.shape.tag_size
       → slice_index (last_image c (tag_byte_at g b i).0) (tag_byte_at g b i).1 ≡ slice_index (tags b) i
 
--- Each sector that holds no byte of a tag has the candidates that it had.
+-- Of each sector that holds no byte of a tag reads give what they gave.
 pub record KeepsOthers (g : Geometry) (old new : Content) : Type 0 where
   pub each : (sector : ℕ) → ((b i : ℕ) → b < g.blocks → i < g.shape.tag_size → sector ≢ (tag_byte_at g b i).0)
-      → new sector ≡ old sector
+      → last_image new sector ≡ last_image old sector
