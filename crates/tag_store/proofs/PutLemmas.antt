@@ -57,7 +57,7 @@ module _ (at from : ℕ) (bytes : List ℕ) (image : Image) where
       with_given_piece-here (at + 1) 0 (drop (512 - from) bytes) (with_given_piece at from (take (512 - from) bytes) image)
       ∙ ap (with_piece 0 (drop (512 - from) bytes)) (with_given_piece-other at from (take (512 - from) bytes) image (at + 1) (λ same. omega arith))
 
-  with_span-other : (sector : ℕ) → sector ≢ at → sector ≢ at + 1 → with_span at from bytes image sector ≡ image sector
+  pub with_span-other : (sector : ℕ) → sector ≢ at → sector ≢ at + 1 → with_span at from bytes image sector ≡ image sector
   with_span-other sector ne ne_next =
       with_given_piece-other (at + 1) 0 (drop (512 - from) bytes) (with_given_piece at from (take (512 - from) bytes) image) sector ne_next
       ∙ with_given_piece-other at from (take (512 - from) bytes) image sector ne

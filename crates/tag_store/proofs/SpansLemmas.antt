@@ -88,10 +88,10 @@ held_or_not None = inl refl
 held_or_not (Some held) = inr (held, refl)
 
 -- The first sector has the first byte, and the next one the last, where the bytes go on in it.
-first_in_span : (at from size sector : ℕ) → from < 512 → 1 ≤ size → sector ≡ at → IsInSpan at from size sector
+pub first_in_span : (at from size sector : ℕ) → from < 512 → 1 ≤ size → sector ≡ at → IsInSpan at from size sector
 first_in_span at from size sector begins some same = record { byte = 0; low = some; is = omega arith }
 
-next_in_span : (at from size sector : ℕ) → from < 512 → size ≤ 512 → 512 < from + size → sector ≡ at + 1 → IsInSpan at from size sector
+pub next_in_span : (at from size sector : ℕ) → from < 512 → size ≤ 512 → 512 < from + size → sector ≡ at + 1 → IsInSpan at from size sector
 next_in_span at from size sector begins short past same = record { byte = size - 1; low = omega arith; is = omega arith }
 
 -- A sector of the span comes to be held, after others or none.
@@ -163,7 +163,7 @@ MarksSpan-two at from size piece rest r s t begins some short past first second 
 -- ---- what is given
 
 -- No bytes in place of none.
-with_given_piece-none : (at : ℕ) (image : Image) (sector : ℕ) → with_given_piece at 0 [] image sector ≡ image sector
+pub with_given_piece-none : (at : ℕ) (image : Image) (sector : ℕ) → with_given_piece at 0 [] image sector ≡ image sector
 with_given_piece-none at image sector = elim (cases_Bool (nat_eq at sector)) [ inl y ↦ rw y refl | inr n ↦ rw n refl ]
 
 -- A piece of a sector follows from what stands in it.

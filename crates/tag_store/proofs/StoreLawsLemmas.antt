@@ -1,5 +1,7 @@
 -- The laws of specs/StoreLaws.antt.
-use Rattle.std.proofs.Common.{◌≡◌, ◌≢◌, ◌⊎◌, inl, inr, ⊎_elim, ℕ, ◌+◌, ◌*◌, ◌/◌, ◌<◌, ◌≤◌, List, [], ◌∷◌, length, slice_index, refl, sym, ◌∙◌, ap, subst, arith, Option, Some, None}
+use Rattle.std.proofs.Common.{◌≡◌, ◌≢◌, ◌⊎◌, inl, inr, ⊎_elim, ℕ, ◌+◌, ◌-◌, ◌*◌, ◌/◌, ◌<◌, ◌≤◌, List, [], ◌∷◌, length, take, drop, slice_index, refl, sym, ◌∙◌, ap, subst, arith, Option, Some, None}
+use Rattle.std.proofs.lemmas.Bool.{cases_eq, cases_lt}
+use Rattle.std.proofs.lemmas.List.{drop_all}
 use Rattle.std.proofs.lemmas.Option.{none-some, same_Some}
 use Rattle.disk_model.specs.Disk.{Content, Image, last_candidate, last_image, newest_only}
 use Rattle.disk_model.specs.Identity.{DiskIdentity}
@@ -10,13 +12,15 @@ use Rattle.image_model.proofs.GeometryLemmas.{tag_at-inside, data_at-inside}
 use Rattle.place_model.specs.Tags.{IsOfTags, ReadsTags, tag_byte_at, with_block_tag}
 use Rattle.place_model.proofs.PlacedLemmas.{placed_tag-byte}
 use Rattle.buffer_cache.specs.declared.held.Held.{Held}
-use Rattle.buffer_cache.specs.Cached.{IsMarkedSector, cached, held_or}
+use Rattle.buffer_cache.specs.Cached.{IsMarkedSector, cached, held_or, with_given_piece}
 use Rattle.buffer_cache.specs.HeldSectors.{held_in, no_sectors}
 use Rattle.buffer_cache.proofs.CachedLemmas.{IsOfDisk-elsewhere, IsOfDisk-none, changed_now}
+use Rattle.tag_store.specs.Spans.{IsInSpan, IsSpan}
 use Rattle.tag_store.specs.Store.{HoldsTag, IsFirstOfTag, IsOfPut, IsOwed, IsStore, Store, given, given_tags, tags_in, with_tag}
-use Rattle.tag_store.specs.StoreLaws.{AreWhole, DirectLaw, ElsewhereLaw, FreshLaw, IsNoByteOf, OwedLaw, PutLaw, ReadTagsAlike, ReadsTagsLaw, RestLaw, SameTagsLaw, SyncedLaw}
-use Rattle.tag_store.proofs.PutLemmas.{with_tag-byte, with_tag-length, with_tag-rest}
-use Rattle.tag_store.proofs.StoreLemmas.{tags_in-same}
+use Rattle.tag_store.specs.StoreLaws.{AreWhole, DirectLaw, ElsewhereLaw, FreshLaw, IsNoByteOf, KeepsOthersLaw, OthersLaw, OwedLaw, PutLaw, ReadTagsAlike, ReadsTagsLaw, RestLaw, SameTagsLaw, SyncedLaw}
+use Rattle.tag_store.proofs.PutLemmas.{with_span-other, with_tag-byte, with_tag-length, with_tag-rest}
+use Rattle.tag_store.proofs.SpansLemmas.{first_in_span, next_in_span, with_given_piece-none, with_given_piece-other}
+use Rattle.tag_store.proofs.StoreLemmas.{HoldsTag-span, tag-span, tags_in-same}
 
 -- ---- what may be written
 
@@ -105,6 +109,37 @@ direct_law store disk moments c sector is none = by_held (held_in store.sectors 
     by_held (Some held) e =
         let holds = is.tags_only sector held e in
         absurd (none holds.block holds.byte holds.block_low holds.byte_low holds.is)
+
+-- A sector in which no byte of a tag stands has none of the block's.
+pub others_law : OthersLaw
+others_law g sectors block tag image sector geometry low size none = elim (cases_eq sector (tag_at g block).0) [
+  | inl same ↦ absurd (none_of (first_in_span (tag_at g block).0 (tag_at g block).1 g.shape.tag_size sector span.begins span.some same))
+  | inr ne ↦ elim (cases_eq sector ((tag_at g block).0 + 1)) [
+    | inr ne_next ↦ with_span-other (tag_at g block).0 (tag_at g block).1 tag image sector ne ne_next
+    | inl next ↦ elim (cases_lt 512 ((tag_at g block).1 + g.shape.tag_size)) [
+      | inl past ↦ absurd (none_of (next_in_span (tag_at g block).0 (tag_at g block).1 g.shape.tag_size sector span.begins span.short past next))
+      | inr fits ↦
+          ap (λ (rest : List ℕ). with_given_piece ((tag_at g block).0 + 1) 0 rest (with_given_piece (tag_at g block).0 (tag_at g block).1 (take (512 - (tag_at g block).1) tag) image) sector)
+          (drop_all (512 - (tag_at g block).1) tag (omega arith))
+          ∙ with_given_piece-none ((tag_at g block).0 + 1) (with_given_piece (tag_at g block).0 (tag_at g block).1 (take (512 - (tag_at g block).1) tag) image) sector
+          ∙ with_given_piece-other (tag_at g block).0 (tag_at g block).1 (take (512 - (tag_at g block).1) tag) image sector ne
+    ]
+  ]
+]
+  where
+    span : IsSpan (tag_at g block).0 (tag_at g block).1 g.shape.tag_size sectors
+    span = tag-span g sectors block g.shape.tag_size geometry low refl
+
+    none_of : IsInSpan (tag_at g block).0 (tag_at g block).1 g.shape.tag_size sector → ⊥
+    none_of of = let holds = HoldsTag-span g block g.shape.tag_size sector low refl of in none holds.block holds.byte holds.block_low holds.byte_low holds.is
+
+pub keeps_others_law : KeepsOthersLaw
+keeps_others_law old new disk now before after c d is is_now same given_same = record {
+  each = λ sector none.
+      sym (direct_law new now after d sector is_now (subst (λ (g : Geometry). (b i : ℕ) → b < g.blocks → i < g.shape.tag_size → sector ≢ (tag_byte_at g b i).0) (sym same) none))
+      ∙ given_same sector none
+      ∙ direct_law old disk before c sector is none;
+}
 
 pub fresh_law : FreshLaw
 fresh_law g disk moments slots geometry =

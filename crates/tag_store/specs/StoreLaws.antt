@@ -74,6 +74,21 @@ DirectLaw = (store : Store) (disk : DiskIdentity) (moments : List Content) (c : 
     → ((b i : ℕ) → b < store.geometry.blocks → i < store.geometry.shape.tag_size → sector ≢ (tag_byte_at store.geometry b i).0)
     → given store c sector ≡ last_image c sector
 
+-- and what is put, is put in no sector of these.
+abbrev pub OthersLaw : Type 0
+OthersLaw = (g : Geometry) (sectors block : ℕ) (tag : List ℕ) (image : Image) (sector : ℕ) → IsGeometry g sectors
+    → block < g.blocks → length tag ≡ g.shape.tag_size
+    → ((b i : ℕ) → b < g.blocks → i < g.shape.tag_size → sector ≢ (tag_byte_at g b i).0)
+    → with_tag g block tag image sector ≡ image sector
+
+-- So these are read as before, where the store gives the same of them before a call and behind it.
+abbrev pub KeepsOthersLaw : Type 0
+KeepsOthersLaw = (old new : Store) (disk now : DiskIdentity) (before after : List Content) (c d : Content)
+    → IsStore old disk before → IsStore new now after → new.geometry ≡ old.geometry
+    → ((sector : ℕ) → ((b i : ℕ) → b < old.geometry.blocks → i < old.geometry.shape.tag_size
+    → sector ≢ (tag_byte_at old.geometry b i).0) → given new d sector ≡ given old c sector)
+    → KeepsOthers old.geometry c d
+
 -- A store over a cache that holds none is of any disk on which its places lie, and gives what reads give.
 abbrev pub FreshLaw : Type 0
 FreshLaw = (g : Geometry) (disk : DiskIdentity) (moments : List Content) (slots : ℕ) → IsGeometry g disk.sectors
