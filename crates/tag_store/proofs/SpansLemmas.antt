@@ -239,7 +239,7 @@ marked_then at from bytes piece r s start middle told told_middle is past first 
   | inl same ↦ inr (
     record { is = same; past = past },
     of.bytes ∙ sym (ap (λ (o : Option Held). held_or o (last_image middle sector)) of.is) ∙ first.given start told middle told_middle sector
-    ∙ ap (λ (p : List ℕ). with_given_piece at from p (cached r start) sector) is ∙ sym (with_span-first at from bytes (cached r start) sector same),
+        ∙ ap (λ (p : List ℕ). with_given_piece at from p (cached r start) sector) is ∙ sym (with_span-first at from bytes (cached r start) sector same),
   )
   | inr ne ↦ inl (record { held = of.held; is = sym (first.others sector ne (ap marked_of of.is ∙ of.marked)) ∙ of.is; marked = of.marked; bytes = of.bytes })
 ]

@@ -95,7 +95,6 @@ FreshLaw = (g : Geometry) (disk : DiskIdentity) (moments : List Content) (slots 
     → let store : Store = record { geometry = g; sectors = no_sectors slots } in
     IsStore store disk moments × ((c : Content) → given store c ≡ last_image c)
 
-
 -- ---- other calls of the disk
 
 -- Two contents read the same at each sector of tags.

@@ -136,12 +136,7 @@ impl Tags {
     /// # Errors
     ///
     /// - `Failed`: the disk failed. Any of the block's sectors may have got its bytes as a candidate.
-    pub fn write_block<D: Disk>(
-        &self,
-        disk: &mut D,
-        block: u64,
-        bytes: &[u8],
-    ) -> Result<(), Failed>
+    pub fn write_block<D: Disk>(&self, disk: &mut D, block: u64, bytes: &[u8]) -> Result<(), Failed>
         requires bound { IsBound (D.identity disk.old).name }
         requires block { block < self.now.geometry.blocks }
         requires size { length bytes.now ≡ 512 * self.now.geometry.shape.spb }
