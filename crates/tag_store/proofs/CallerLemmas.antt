@@ -1,6 +1,6 @@
 -- For callers: what a store's calls may write and leave, in the words of every mode (specs/Tags.antt of place_model).
 use Rattle.std.proofs.Common.{◌≡◌, ◌≢◌, ◌⊎◌, inl, inr, ⊎_elim, ℕ, ◌<◌, List, length, slice_index, sym, ◌∙◌, ap, Some}
-use Rattle.disk_model.specs.Disk.{Content, OnlyAdds, last_image}
+use Rattle.disk_model.specs.Disk.{Content, Image, OnlyAdds}
 use Rattle.disk_model.specs.Identity.{DiskIdentity}
 use Rattle.disk_model.specs.Moments.{EachSince, HasNow, content_now}
 use Rattle.disk_model.proofs.MomentsLemmas.{adds_told, EachMoment-weaker, FromStart-weaker}
@@ -9,10 +9,11 @@ use Rattle.image_model.specs.Geometry.{Geometry}
 use Rattle.place_model.specs.Tags.{IsOfTags, KeepsOthers, ReadsTags, tag_byte_at, with_block_tag}
 use Rattle.buffer_cache.specs.Cached.{IsAmidWriteBack, IsWrittenBack}
 use Rattle.buffer_cache.proofs.CachedLemmas.{write_back_adds}
-use Rattle.tag_store.specs.Store.{IsOfPut, IsOwed, IsStore, KeepsStore, Store, StoresFirst, StoresTag, given, given_tags}
+use Rattle.tag_store.specs.Store.{IsOfPut, IsMarkedTags, IsStore, KeepsStore, Store, StoresFirst, StoresTag, given, given_tags, tags_in, with_tag}
 use Rattle.tag_store.specs.StoreLaws.{AreWhole}
-use Rattle.tag_store.proofs.StoreLemmas.{owed_adds}
-use Rattle.tag_store.proofs.StoreLawsLemmas.{keeps_others_law, others_law, owed_law, put_law, reads_tags_law}
+use Rattle.tag_store.proofs.StoreLemmas.{marked_adds}
+use Rattle.tag_store.proofs.StoreLawsLemmas.{keeps_others_law, others_law, marked_law, put_law, reads_tags_law}
+use Rattle.tag_store.proofs.PutLemmas.{put_tags_law}
 
 -- ---- what may be written
 
@@ -33,14 +34,14 @@ IsOfTags-same g old new old_ new_ sector x same same_new of = record {
 
 module _ (store : Store) (disk : DiskIdentity) {a b : List Content} (is : IsStore store disk a) (whole : (c : Content) → content_now a ≡ Some c → AreWhole disk.sectors (given store c)) where
   -- A get adds tags that the store gives,
-  pub get_adds_tags : EachSince (OnlyAdds (IsOwed store)) a b → EachSince (λ start. OnlyAdds (IsOfTags store.geometry (given_tags store start) (given_tags store start)) start) a b
+  pub get_adds_tags : EachSince (OnlyAdds (IsMarkedTags store)) a b → EachSince (λ start. OnlyAdds (IsOfTags store.geometry (given_tags store start) (given_tags store start)) start) a b
   get_adds_tags moments =
-      adds_told (λ start. IsOfTags store.geometry (given_tags store start) (given_tags store start)) (IsOwed store)
-      (λ start told sector x owed. (owed_law store disk a start sector x is (whole start told) owed).1) moments
+      adds_told (λ start. IsOfTags store.geometry (given_tags store start) (given_tags store start)) (IsMarkedTags store)
+      (λ start told sector x marked. (marked_law store disk a start sector x is (whole start told) marked).1) moments
 
   -- so a write-back,
   pub back_adds_tags : EachSince (IsAmidWriteBack store.sectors) a b → EachSince (λ start. OnlyAdds (IsOfTags store.geometry (given_tags store start) (given_tags store start)) start) a b
-  back_adds_tags moments = get_adds_tags (owed_adds store disk is (write_back_adds store.sectors moments))
+  back_adds_tags moments = get_adds_tags (marked_adds store disk is (write_back_adds store.sectors moments))
 
   -- and a put those, and the one that is put.
   pub put_adds_tags : (block : ℕ) (tag : List ℕ) → block < store.geometry.blocks → length tag ≡ store.geometry.shape.tag_size → EachSince (λ start. OnlyAdds (IsOfPut block tag store start) start) a b
@@ -76,3 +77,18 @@ module _ (old new : Store) (disk now : DiskIdentity) {a b : List Content} (is : 
   pub back_reads_tags : ((c : Content) → content_now a ≡ Some c → AreWhole disk.sectors (given old c)) → IsWrittenBack old.sectors new.sectors a b
       → (c d : Content) → content_now a ≡ Some c → content_now b ≡ Some d → ReadsTags old.geometry (given_tags old c) d
   back_reads_tags whole back c d told told_end = reads_tags_law old disk a c d is (whole c told) (λ sector. back.read c told d told_end sector)
+
+  -- A put changes the tag of its block alone,
+  pub put_gives_tags : (block : ℕ) (tag : List ℕ) → block < old.geometry.blocks → length tag ≡ old.geometry.shape.tag_size → new.geometry ≡ old.geometry → ((c : Content) → content_now a ≡ Some c → AreWhole disk.sectors (given old c))
+      → StoresTag block tag old new a b → (c d : Content) → content_now a ≡ Some c → content_now b ≡ Some d → (k : ℕ) → k < old.geometry.blocks → given_tags new d k ≡ with_block_tag block tag (given_tags old c) k
+  put_gives_tags block tag low size same whole stored c d told told_end k k_low =
+      let image : given new d ≡ with_tag old.geometry block tag (given old c) = λ i s. stored.given_ c told d told_end s i in
+      ap (λ (g : Geometry). tags_in g (given new d) k) same
+      ∙ ap (λ (x : Image). tags_in old.geometry x k) image
+      ∙ put_tags_law old.geometry disk.sectors block tag (given old c) is.geometry (whole c told) low size k k_low
+
+  -- and no other call changes any.
+  pub keeps_gives_tags : KeepsStore old new a b → (c d : Content) → content_now a ≡ Some c → content_now b ≡ Some d → (k : ℕ) → given_tags new d k ≡ given_tags old c k
+  keeps_gives_tags keeps c d told told_end k =
+      let image : given new d ≡ given old c = λ i s. keeps.sectors.given c told d told_end s i in
+      ap (λ (g : Geometry). tags_in g (given new d) k) keeps.geometry ∙ ap (λ (x : Image). tags_in old.geometry x k) image

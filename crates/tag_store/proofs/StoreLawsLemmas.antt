@@ -16,8 +16,8 @@ use Rattle.buffer_cache.specs.Cached.{IsMarkedSector, cached, held_or, with_give
 use Rattle.buffer_cache.specs.HeldSectors.{held_in, no_sectors}
 use Rattle.buffer_cache.proofs.CachedLemmas.{IsOfDisk-elsewhere, IsOfDisk-none, changed_now}
 use Rattle.tag_store.specs.Spans.{IsInSpan, IsSpan}
-use Rattle.tag_store.specs.Store.{HoldsTag, IsFirstOfTag, IsOfPut, IsOwed, IsStore, Store, given, given_tags, tags_in, with_tag}
-use Rattle.tag_store.specs.StoreLaws.{AreWhole, DirectLaw, ElsewhereLaw, FreshLaw, IsNoByteOf, KeepsOthersLaw, OthersLaw, OwedLaw, PutLaw, ReadTagsAlike, ReadsTagsLaw, RestLaw, SameTagsLaw, SyncedLaw}
+use Rattle.tag_store.specs.Store.{HoldsTag, IsFirstOfTag, IsOfPut, IsMarkedTags, IsStore, Store, given, given_tags, tags_in, with_tag}
+use Rattle.tag_store.specs.StoreLaws.{AreWhole, DirectLaw, ElsewhereLaw, FreshLaw, IsNoByteOf, KeepsOthersLaw, OthersLaw, MarkedLaw, PutLaw, ReadTagsAlike, ReadsTagsLaw, RestLaw, SameTagsLaw, SyncedLaw}
 use Rattle.tag_store.proofs.PutLemmas.{with_span-other, with_tag-byte, with_tag-length, with_tag-rest}
 use Rattle.tag_store.proofs.SpansLemmas.{first_in_span, next_in_span, with_given_piece-none, with_given_piece-other}
 use Rattle.tag_store.proofs.StoreLemmas.{HoldsTag-span, tag-span, tags_in-same}
@@ -71,24 +71,24 @@ IsOfTags-put g sectors image block tag sector x geometry whole low size holds is
       ∙ with_tag-byte g sectors block tag image geometry whole low size b i b_low i_low);
 }
 
-owed_is_given : (store : Store) (start : Content) (sector : ℕ) (x : List ℕ) → IsOwed store sector x → x ≡ given store start sector
-owed_is_given store start sector x owed = owed.marked.bytes ∙ sym (ap (λ (o : Option Held). held_or o (last_image start sector)) owed.marked.is)
+marked_is_given : (store : Store) (start : Content) (sector : ℕ) (x : List ℕ) → IsMarkedTags store sector x → x ≡ given store start sector
+marked_is_given store start sector x marked = marked.marked.bytes ∙ sym (ap (λ (o : Option Held). held_or o (last_image start sector)) marked.marked.is)
 
-pub owed_law : OwedLaw
-owed_law store disk moments start sector x is whole owed =
-    let same = owed_is_given store start sector x owed in
-    (same, IsOfTags-image store.geometry disk.sectors (given store start) (given_tags store start) sector x is.geometry whole owed.tags same)
+pub marked_law : MarkedLaw
+marked_law store disk moments start sector x is whole marked =
+    let same = marked_is_given store start sector x marked in
+    (same, IsOfTags-image store.geometry disk.sectors (given store start) (given_tags store start) sector x is.geometry whole marked.tags same)
 
 pub put_law : PutLaw
 put_law store disk moments start block tag sector x is whole low size of =
     let tags = with_block_tag block tag (given_tags store start) in
-    ⊎_elim (λ owed. IsOfTags-image store.geometry disk.sectors (given store start) tags sector x is.geometry whole owed.tags (owed_is_given store start sector x owed))
+    ⊎_elim (λ marked. IsOfTags-image store.geometry disk.sectors (given store start) tags sector x is.geometry whole marked.tags (marked_is_given store start sector x marked))
     (λ first. IsOfTags-put store.geometry disk.sectors (given store start) block tag sector x is.geometry whole low size
     (HoldsTag-first store.geometry disk.sectors block sector is.geometry low first.0) first.1) of
 
 pub rest_law : RestLaw
 rest_law store disk moments start block tag sector x at is whole low size of none =
-    ⊎_elim (λ owed. ap (λ (bytes : List ℕ). slice_index bytes at) (owed_is_given store start sector x owed))
+    ⊎_elim (λ marked. ap (λ (bytes : List ℕ). slice_index bytes at) (marked_is_given store start sector x marked))
     (λ first. ap (λ (bytes : List ℕ). slice_index bytes at) first.1
     ∙ with_tag-rest store.geometry disk.sectors block tag (given store start) is.geometry whole low size sector at none) of
 
@@ -142,13 +142,14 @@ keeps_others_law old new disk now before after c d is is_now same given_same = r
 }
 
 pub fresh_law : FreshLaw
-fresh_law g disk moments slots geometry =
-    (record { geometry = geometry; cache = IsOfDisk-none disk moments slots; tags_only = λ sector held e. absurd (none-some held e) }, λ c. refl)
+fresh_law g disk moments slots bound geometry =
+    (record { bound = bound; geometry = geometry; cache = IsOfDisk-none disk moments slots; tags_only = λ sector held e. absurd (none-some held e) }, λ c. refl)
 
 -- ---- other calls of the disk
 
 pub elsewhere_law : ElsewhereLaw
 elsewhere_law store disk before after is alike = record {
+  bound = is.bound;
   geometry = is.geometry;
   cache = IsOfDisk-elsewhere disk store.sectors is.cache
       (λ d told.

@@ -4,7 +4,7 @@ use Rattle.std.specs.Option.{is_some}
 use Rattle.std.proofs.lemmas.Bool.{false≢true}
 use Rattle.std.proofs.lemmas.Option.{none-some, same_Some}
 use Rattle.disk_model.specs.Disk.{AddsSome, Content, Image, IsRun, OnlyAdds, last_image, last_candidate}
-use Rattle.disk_model.specs.Identity.{DiskIdentity}
+use Rattle.disk_model.specs.Identity.{DiskIdentity, IsBound}
 use Rattle.disk_model.specs.Moments.{EachMoment, EachSince, FromStart, HasNow, content_now}
 use Rattle.disk_model.proofs.DiskLemmas.{AddsSome-none, OnlyAdds-wider, with_run-out}
 use Rattle.disk_model.proofs.MomentsLemmas.{EachMoment-weaker, FromStart-weaker, adds_wider}
@@ -20,7 +20,7 @@ use Rattle.buffer_cache.specs.Cached.{IsMarkedSector, IsOfDisk, Keeps, cached, h
 use Rattle.buffer_cache.specs.HeldSectors.{HoldsNoMore, held_in}
 use Rattle.buffer_cache.proofs.CachedLemmas.{IsOfDisk-elsewhere, told_at_end}
 use Rattle.tag_store.specs.Spans.{HoldsSpan, IsFirstOfTwo, IsInSpan, IsOfSpan, IsSpan, MarksSpan, StoresPart, StoresSpan, span_of, with_span}
-use Rattle.tag_store.specs.Store.{HoldsTag, IsOfPut, IsOwed, IsStore, KeepsButTag, KeepsStore, KeepsTags, Store, StoresFirst, StoresTag, given, given_tags, tags_in}
+use Rattle.tag_store.specs.Store.{HoldsTag, IsOfPut, IsMarkedTags, IsStore, KeepsButTag, KeepsStore, KeepsTags, Store, StoresFirst, StoresTag, given, given_tags, tags_in}
 
 -- ---- where a tag stands
 
@@ -74,6 +74,7 @@ pub IsStore-also : (g : Geometry) (disk now : DiskIdentity) {a b : List Content}
     → IsStore (record { geometry = g; sectors = r }) disk a → now ≡ disk → IsOfDisk s now b → HoldsSpan (tag_at g block).0 (tag_at g block).1 size r s
     → IsStore (record { geometry = g; sectors = s }) now b
 IsStore-also g disk now r s block size low same is there cache held = record {
+  bound = subst (λ (d : DiskIdentity). IsBound d.name) (sym there) is.bound;
   geometry = subst (λ (d : DiskIdentity). IsGeometry g d.sectors) (sym there) is.geometry;
   cache = cache;
   tags_only = λ sector found e. ⊎_elim
@@ -85,6 +86,7 @@ IsStore-also g disk now r s block size low same is there cache held = record {
 pub IsStore-no_more : (g : Geometry) (disk now : DiskIdentity) {a b : List Content} (r s : HeldSectors) → IsStore (record { geometry = g; sectors = r }) disk a → now ≡ disk → IsOfDisk s now b → HoldsNoMore r s
     → IsStore (record { geometry = g; sectors = s }) now b
 IsStore-no_more g disk now r s is there cache held = record {
+  bound = subst (λ (d : DiskIdentity). IsBound d.name) (sym there) is.bound;
   geometry = subst (λ (d : DiskIdentity). IsGeometry g d.sectors) (sym there) is.geometry;
   cache = cache;
   tags_only = λ sector found e. by_before sector found e (held_in r sector) refl;
@@ -96,11 +98,11 @@ IsStore-no_more g disk now r s is there cache held = record {
 
 -- ---- what may be written
 
-pub IsOwed-marked : (store : Store) (disk : DiskIdentity) {m : List Content} (sector : ℕ) (x : List ℕ) → IsStore store disk m → IsMarkedSector store.sectors sector x → IsOwed store sector x
-IsOwed-marked store disk sector x is of = record { tags = is.tags_only sector of.held of.is; marked = of }
+pub IsMarkedTags-held : (store : Store) (disk : DiskIdentity) {m : List Content} (sector : ℕ) (x : List ℕ) → IsStore store disk m → IsMarkedSector store.sectors sector x → IsMarkedTags store sector x
+IsMarkedTags-held store disk sector x is of = record { tags = is.tags_only sector of.held of.is; marked = of }
 
-pub owed_adds : (store : Store) (disk : DiskIdentity) {m a b : List Content} → IsStore store disk m → EachSince (OnlyAdds (IsMarkedSector store.sectors)) a b → EachSince (OnlyAdds (IsOwed store)) a b
-owed_adds store disk is moments = adds_wider (IsMarkedSector store.sectors) (IsOwed store) (λ sector x of. IsOwed-marked store disk sector x is of) moments
+pub marked_adds : (store : Store) (disk : DiskIdentity) {m a b : List Content} → IsStore store disk m → EachSince (OnlyAdds (IsMarkedSector store.sectors)) a b → EachSince (OnlyAdds (IsMarkedTags store)) a b
+marked_adds store disk is moments = adds_wider (IsMarkedSector store.sectors) (IsMarkedTags store) (λ sector x of. IsMarkedTags-held store disk sector x is of) moments
 
 -- ---- a tag that is put
 
@@ -135,7 +137,7 @@ module _ (g : Geometry) (block : ℕ) (tag : List ℕ) (size : length tag ≡ g.
   put_adds disk {m} {a} {b} is moments =
       EachMoment-weaker (FromStart-weaker a (λ start. OnlyAdds (IsOfSpan (tag_at g block).0 (tag_at g block).1 tag r start) start) (λ start. OnlyAdds (IsOfPut block tag old start) start)
       (λ start c told adds. OnlyAdds-wider (IsOfSpan (tag_at g block).0 (tag_at g block).1 tag r start) (IsOfPut block tag old start)
-      (λ sector x of. ⊎_elim (λ marked. inl (IsOwed-marked old disk sector x is marked))
+      (λ sector x of. ⊎_elim (λ marked. inl (IsMarkedTags-held old disk sector x is marked))
       (λ first. inr (first_of_size (tag_at g block).0 (tag_at g block).1 g.shape.tag_size (length tag) sector (sym size) first.0, first.1)) of) start c adds)) moments
 
 -- ---- a block that is written
@@ -159,6 +161,7 @@ module _ (store : Store) (disk now : DiskIdentity) (block : ℕ) (bytes : List �
 
   pub IsStore-written : IsStore store now b
   IsStore-written = record {
+    bound = subst (λ (i : DiskIdentity). IsBound i.name) (sym there) is.bound;
     geometry = subst (λ (i : DiskIdentity). IsGeometry store.geometry i.sectors) (sym there) is.geometry;
     cache = IsOfDisk-elsewhere now store.sectors (subst (λ (i : DiskIdentity). IsOfDisk store.sectors i a) (sym there) is.cache)
         (λ d told.

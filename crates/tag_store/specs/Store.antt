@@ -1,7 +1,7 @@
 -- What a store of tags gives over a disk: each sector as the disk reads it, or as it stands in memory.
 use Rattle.std.specs.Prelude.{◌≡◌, ◌⊎◌, ℕ, ◌+◌, ◌<◌, true, List, Some}
 use Rattle.disk_model.specs.Disk.{Content, Image}
-use Rattle.disk_model.specs.Identity.{DiskIdentity}
+use Rattle.disk_model.specs.Identity.{DiskIdentity, IsBound}
 use Rattle.disk_model.specs.Moments.{HasNow}
 use Rattle.image_model.specs.Cells.{placed_cells_of}
 use Rattle.image_model.specs.Geometry.{Geometry, IsGeometry, tag_at}
@@ -37,8 +37,10 @@ pub record HoldsTag (g : Geometry) (sector : ℕ) : Type 0 where
   pub byte_low : byte < g.shape.tag_size
   pub is : sector ≡ (tag_byte_at g block byte).0
 
--- The store is of this disk: its places lie on it, what is held agrees with it, and that are sectors of tags alone.
+-- The store is of this disk, which is bound: its places lie on it, and what is held are sectors of tags, of which nobody
+-- else wrote one.
 pub record IsStore (store : Store) (disk : DiskIdentity) (moments : List Content) : Type 0 where
+  pub bound : IsBound disk.name
   pub geometry : IsGeometry store.geometry disk.sectors
   pub cache : IsOfDisk store.sectors disk moments
   pub tags_only : (sector : ℕ) (held : Held) → held_in store.sectors sector ≡ Some held
@@ -50,7 +52,7 @@ pub record KeepsStore (old new : Store) (before after : List Content) : Type 0 w
   pub sectors : Keeps old.sectors new.sectors before after
 
 -- The bytes may be written to the sector: they are those of a sector of tags that was changed, and not written since.
-pub record IsOwed (store : Store) (sector : ℕ) (x : List ℕ) : Type 0 where
+pub record IsMarkedTags (store : Store) (sector : ℕ) (x : List ℕ) : Type 0 where
   pub tags : HoldsTag store.geometry sector
   pub marked : IsMarkedSector store.sectors sector x
 
@@ -86,9 +88,9 @@ pub record KeepsButTag (block : ℕ) (old new : Store) : Type 0 where
       → (held_in new.sectors sector ≡ held_in old.sectors sector) ⊎ HoldsTagOf old.geometry block sector
   pub slots : new.sectors.recent.cap ≡ old.sectors.recent.cap
 
--- The bytes may be written to the sector while the tag is put: those that were owed, and its part in the first sector of two.
+-- The bytes may be written to the sector while the tag is put: those that were marked, and its part in the first sector of two.
 abbrev pub IsOfPut : ℕ → List ℕ → Store → Content → ℕ → List ℕ → Type 0
-IsOfPut block tag store start sector x = IsOwed store sector x
+IsOfPut block tag store start sector x = IsMarkedTags store sector x
     ⊎ (IsFirstOfTag store.geometry block sector × (x ≡ with_tag store.geometry block tag (given store start) sector))
 
 -- ---- a block that is written

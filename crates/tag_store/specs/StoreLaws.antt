@@ -1,13 +1,13 @@
 -- What the words of a store's contracts say of tags, and of each byte of a sector: for the layers of every mode.
 use Rattle.std.specs.Prelude.{◌≡◌, ◌≢◌, ℕ, ◌<◌, List, length, slice_index, Some}
 use Rattle.disk_model.specs.Disk.{Content, Image, last_image, newest_only}
-use Rattle.disk_model.specs.Identity.{DiskIdentity}
+use Rattle.disk_model.specs.Identity.{DiskIdentity, IsBound}
 use Rattle.disk_model.specs.Moments.{IsChangedBy, content_now}
 use Rattle.image_model.specs.Geometry.{Geometry, IsGeometry}
 use Rattle.place_model.specs.Tags.{IsOfTags, KeepsOthers, ReadsTags, tag_byte_at, with_block_tag}
 use Rattle.buffer_cache.specs.Cached.{IsWrittenBack}
 use Rattle.buffer_cache.specs.HeldSectors.{no_sectors}
-use Rattle.tag_store.specs.Store.{HoldsTag, IsOfPut, IsOwed, IsStore, Store, given, given_tags, tags_in, with_tag}
+use Rattle.tag_store.specs.Store.{HoldsTag, IsOfPut, IsMarkedTags, IsStore, Store, given, given_tags, tags_in, with_tag}
 
 -- Each sector of a disk of so many has 512 bytes.
 abbrev pub AreWhole : ℕ → Image → Type 0
@@ -39,10 +39,10 @@ PutWholeLaw = (g : Geometry) (sectors block : ℕ) (tag : List ℕ) (image : Ima
 
 -- ---- what may be written
 
--- What is owed of a sector is what the store gives of it: in each place the tag that it gives,
-abbrev pub OwedLaw : Type 0
-OwedLaw = (store : Store) (disk : DiskIdentity) (moments : List Content) (start : Content) (sector : ℕ) (x : List ℕ)
-    → IsStore store disk moments → AreWhole disk.sectors (given store start) → IsOwed store sector x
+-- What is marked of a sector is what the store gives of it: in each place the tag that it gives,
+abbrev pub MarkedLaw : Type 0
+MarkedLaw = (store : Store) (disk : DiskIdentity) (moments : List Content) (start : Content) (sector : ℕ) (x : List ℕ)
+    → IsStore store disk moments → AreWhole disk.sectors (given store start) → IsMarkedTags store sector x
     → (x ≡ given store start sector) × IsOfTags store.geometry (given_tags store start) (given_tags store start) sector x
 
 -- and while a tag is put, in each place a tag that it gave before, or the one that is put,
@@ -91,7 +91,8 @@ KeepsOthersLaw = (old new : Store) (disk now : DiskIdentity) (before after : Lis
 
 -- A store over a cache that holds none is of any disk on which its places lie, and gives what reads give.
 abbrev pub FreshLaw : Type 0
-FreshLaw = (g : Geometry) (disk : DiskIdentity) (moments : List Content) (slots : ℕ) → IsGeometry g disk.sectors
+FreshLaw = (g : Geometry) (disk : DiskIdentity) (moments : List Content) (slots : ℕ) → IsBound disk.name
+    → IsGeometry g disk.sectors
     → let store : Store = record { geometry = g; sectors = no_sectors slots } in
     IsStore store disk moments × ((c : Content) → given store c ≡ last_image c)
 

@@ -1,7 +1,7 @@
 //! What the words of a store's contracts say, for the layers of every mode: each law is the contract of a function that
 //! does nothing.
 
-ghost use Rattle.tag_store.specs.StoreLaws.{DirectLaw, ElsewhereLaw, FreshLaw, KeepsOthersLaw, OthersLaw, OwedLaw, PutBytesLaw, PutLaw, PutTagsLaw, PutWholeLaw, ReadsTagsLaw, RestLaw, SameTagsLaw, SyncedLaw};
+ghost use Rattle.tag_store.specs.StoreLaws.{DirectLaw, ElsewhereLaw, FreshLaw, KeepsOthersLaw, OthersLaw, MarkedLaw, PutBytesLaw, PutLaw, PutTagsLaw, PutWholeLaw, ReadsTagsLaw, RestLaw, SameTagsLaw, SyncedLaw};
 
 /// A tag that is put changes the tag of its block, and no other byte.
 pub fn tag_is_put()
@@ -14,7 +14,7 @@ pub fn tag_is_put()
 /// What may be written to a sector of tags has in each place a tag that the store gives or that is put, and all other
 /// bytes as they are given.
 pub fn tags_are_written()
-    ensures owed { OwedLaw }
+    ensures marked { MarkedLaw }
     ensures put { PutLaw }
     ensures rest { RestLaw }
 {}

@@ -2,12 +2,11 @@
 ghost use Rattle.std.specs.Prelude.{◌≡◌, ◌*◌, ◌<◌, length, IfOk, OnErr, OnOk};
 ghost use Rattle.disk_model.specs.Causes.{HasCause};
 ghost use Rattle.disk_model.specs.Disk.{AddsSome, OnlyAdds, Reads, with_run};
-ghost use Rattle.disk_model.specs.Identity.{IsBound};
 ghost use Rattle.disk_model.specs.Moments.{EachSince, HasNow, IsChangedBy};
 ghost use Rattle.image_model.specs.Geometry.{data_at};
 ghost use Rattle.buffer_cache.specs.Cache.{sectors_of};
 ghost use Rattle.buffer_cache.specs.Cached.{IsAmidWriteBack, IsWrittenBack, written_back};
-ghost use Rattle.tag_store.specs.Store.{IsOfPut, IsOwed, IsStore, KeepsButTag, KeepsStore, KeepsTags, StoresFirst, StoresTag, given_tags};
+ghost use Rattle.tag_store.specs.Store.{IsOfPut, IsMarkedTags, IsStore, KeepsButTag, KeepsStore, KeepsTags, StoresFirst, StoresTag, given_tags};
 
 use crate::spans::{read_span, write_span};
 use buffer_cache::Cache;
@@ -50,7 +49,6 @@ impl Tags {
     ///
     /// - `Failed`: the disk failed. The store gives what it gave before, and what was not written is still to be.
     pub fn get<D: Disk>(&mut self, disk: &mut D, block: u64) -> Result<Tag, Failed>
-        requires bound { IsBound (D.identity disk.old).name }
         requires block { block < self.old.geometry.blocks }
         requires store { IsStore self.old (D.identity disk.old) (D.moments disk.old) }
 
@@ -62,7 +60,7 @@ impl Tags {
         ensures keeps { KeepsStore self.old self.new (D.moments disk.old) (D.moments disk.new) }
         ensures identity { D.identity disk.new ≡ D.identity disk.old }
 
-        ensures moments { EachSince (OnlyAdds (IsOwed self.old)) (D.moments disk.old) (D.moments disk.new) }
+        ensures moments { EachSince (OnlyAdds (IsMarkedTags self.old)) (D.moments disk.old) (D.moments disk.new) }
     {
         let (at, from) = self.geometry.tag_at(block);
         let size = self.geometry.shape().tag as usize;
@@ -80,7 +78,6 @@ impl Tags {
     /// - `Failed`: the disk failed. Of a tag that stands in two sectors the part in the first may have been put, and
     ///   all else is as before.
     pub fn put<D: Disk>(&mut self, disk: &mut D, block: u64, tag: &Tag) -> Result<(), Failed>
-        requires bound { IsBound (D.identity disk.old).name }
         requires block { block < self.old.geometry.blocks }
         requires size { length tag.now ≡ self.old.geometry.shape.tag_size }
         requires store { IsStore self.old (D.identity disk.old) (D.moments disk.old) }
@@ -114,7 +111,6 @@ impl Tags {
         block: u64,
         out: &mut [u8],
     ) -> Result<(), Failed>
-        requires bound { IsBound (D.identity disk.old).name }
         requires block { block < self.now.geometry.blocks }
         requires size { length out.old ≡ 512 * self.now.geometry.shape.spb }
         requires store { IsStore self.now (D.identity disk.old) (D.moments disk.old) }
@@ -137,7 +133,6 @@ impl Tags {
     ///
     /// - `Failed`: the disk failed. Any of the block's sectors may have got its bytes as a candidate.
     pub fn write_block<D: Disk>(&self, disk: &mut D, block: u64, bytes: &[u8]) -> Result<(), Failed>
-        requires bound { IsBound (D.identity disk.old).name }
         requires block { block < self.now.geometry.blocks }
         requires size { length bytes.now ≡ 512 * self.now.geometry.shape.spb }
         requires store { IsStore self.now (D.identity disk.old) (D.moments disk.old) }
@@ -163,7 +158,6 @@ impl Tags {
     ///
     /// - `Failed`: the disk failed. The store gives what it gave before, and what was not written is still to be.
     pub fn write_back<D: Disk>(&mut self, disk: &mut D) -> Result<(), Failed>
-        requires bound { IsBound (D.identity disk.old).name }
         requires store { IsStore self.old (D.identity disk.old) (D.moments disk.old) }
 
         ensures written { OnOk result (IsChangedBy (written_back self.old.sectors)

@@ -55,7 +55,6 @@ fn get<D: Disk>(
     disk: &mut D,
     block: u64,
 ) -> Result<Tag, Failed>
-    requires bound { IsBound (D.identity disk.old).name }
     requires geometry { tags.old.geometry ≡ geometry }
     requires store { IsStore tags.old (D.identity disk.old) (D.moments disk.old) }
 
@@ -77,7 +76,6 @@ fn put<D: Disk>(
     block: u64,
     tag: &Tag,
 ) -> Result<(), Failed>
-    requires bound { IsBound (D.identity disk.old).name }
     requires geometry { tags.old.geometry ≡ geometry }
     requires store { IsStore tags.old (D.identity disk.old) (D.moments disk.old) }
 
@@ -100,7 +98,6 @@ fn write<D: Disk>(
     byte: u8,
     tag: &Tag,
 ) -> Result<(), Failed>
-    requires bound { IsBound (D.identity disk.old).name }
     requires geometry { tags.old.geometry ≡ geometry }
     requires store { IsStore tags.old (D.identity disk.old) (D.moments disk.old) }
 
@@ -123,7 +120,6 @@ fn read<D: Disk>(
     disk: &mut D,
     block: u64,
 ) -> Result<(u8, Tag), Failed>
-    requires bound { IsBound (D.identity disk.old).name }
     requires geometry { tags.old.geometry ≡ geometry }
     requires store { IsStore tags.old (D.identity disk.old) (D.moments disk.old) }
 
@@ -142,7 +138,6 @@ fn read<D: Disk>(
 
 /// Writes the tags back, and syncs.
 fn flush<D: Disk>(tags: &mut Tags, disk: &mut D) -> Result<(), Failed>
-    requires bound { IsBound (D.identity disk.old).name }
     requires store { IsStore tags.old (D.identity disk.old) (D.moments disk.old) }
 
     ensures store { OnOk result (IsStore tags.new (D.identity disk.new) (D.moments disk.new)) }
@@ -215,7 +210,6 @@ fn a_tag_in_two_sectors_goes_through_one_slot(rt: HostRuntime) -> Result<(), Fai
 
 /// Whether the tags of sixteen blocks in a row are zeros.
 fn gets_sixteen<D: Disk>(tags: &mut Tags, geometry: Geometry, disk: &mut D) -> Result<bool, Failed>
-    requires bound { IsBound (D.identity disk.old).name }
     requires geometry { tags.old.geometry ≡ geometry }
     requires store { IsStore tags.old (D.identity disk.old) (D.moments disk.old) }
 {
@@ -244,7 +238,6 @@ fn tags_of_neighbours_cost_one_read(rt: HostRuntime) -> Result<(), Fail> {
 
 /// Writes blocks 24, 25 and 26, each once more where it fails.
 fn write_three<D: Disk>(tags: &mut Tags, geometry: Geometry, disk: &mut D) -> Result<(), Failed>
-    requires bound { IsBound (D.identity disk.old).name }
     requires geometry { tags.old.geometry ≡ geometry }
     requires store { IsStore tags.old (D.identity disk.old) (D.moments disk.old) }
 
@@ -263,7 +256,6 @@ fn write_three<D: Disk>(tags: &mut Tags, geometry: Geometry, disk: &mut D) -> Re
 
 /// Whether blocks 23 to 27 read as they were written.
 fn reads_three<D: Disk>(tags: &mut Tags, geometry: Geometry, disk: &mut D) -> Result<bool, Failed>
-    requires bound { IsBound (D.identity disk.old).name }
     requires geometry { tags.old.geometry ≡ geometry }
     requires store { IsStore tags.old (D.identity disk.old) (D.moments disk.old) }
 {
