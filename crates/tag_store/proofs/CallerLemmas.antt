@@ -1,15 +1,15 @@
 -- For callers: what a store's calls may write and leave, in the words of every mode (specs/Tags.antt of place_model).
-use Rattle.std.proofs.Common.{◌≡◌, ◌≢◌, ◌⊎◌, inl, inr, ⊎_elim, ℕ, ◌<◌, List, length, slice_index, sym, ◌∙◌, ap, Some}
+use Rattle.std.proofs.Common.{◌≡◌, inl, inr, ⊎_elim, ℕ, ◌<◌, List, length, slice_index, ◌∙◌, ap, Some}
 use Rattle.disk_model.specs.Disk.{Content, Image, OnlyAdds}
 use Rattle.disk_model.specs.Identity.{DiskIdentity}
-use Rattle.disk_model.specs.Moments.{EachSince, HasNow, content_now}
-use Rattle.disk_model.proofs.MomentsLemmas.{adds_told, EachMoment-weaker, FromStart-weaker}
+use Rattle.disk_model.specs.Moments.{EachSince, content_now}
+use Rattle.disk_model.proofs.MomentsLemmas.{adds_told, adds_wider, EachMoment-weaker, FromStart-weaker}
 use Rattle.disk_model.proofs.DiskLemmas.{OnlyAdds-wider}
 use Rattle.image_model.specs.Geometry.{Geometry}
-use Rattle.place_model.specs.Tags.{IsOfTags, KeepsOthers, ReadsTags, tag_byte_at, with_block_tag}
+use Rattle.place_model.specs.Tags.{IsOfTags, KeepsOthers, ReadsTags, with_block_tag}
 use Rattle.buffer_cache.specs.Cached.{IsAmidWriteBack, IsWrittenBack}
 use Rattle.buffer_cache.proofs.CachedLemmas.{write_back_adds}
-use Rattle.tag_store.specs.Store.{IsOfPut, IsMarkedTags, IsStore, KeepsStore, Store, StoresFirst, StoresTag, given, given_tags, tags_in, with_tag}
+use Rattle.tag_store.specs.Store.{IsMarkedTags, IsOfPut, IsOutForTag, IsStore, KeepsStore, Store, StoresFirst, StoresTag, given, given_tags, tags_in, with_tag}
 use Rattle.tag_store.specs.StoreLaws.{AreWhole}
 use Rattle.tag_store.proofs.StoreLemmas.{marked_adds}
 use Rattle.tag_store.proofs.StoreLawsLemmas.{keeps_others_law, others_law, marked_law, put_law, reads_tags_law}
@@ -33,15 +33,19 @@ IsOfTags-same g old new old_ new_ sector x same same_new of = record {
 }
 
 module _ (store : Store) (disk : DiskIdentity) {a b : List Content} (is : IsStore store disk a) (whole : (c : Content) → content_now a ≡ Some c → AreWhole disk.sectors (given store c)) where
-  -- A get adds tags that the store gives,
-  pub get_adds_tags : EachSince (OnlyAdds (IsMarkedTags store)) a b → EachSince (λ start. OnlyAdds (IsOfTags store.geometry (given_tags store start) (given_tags store start)) start) a b
-  get_adds_tags moments =
+  -- What is marked has tags that the store gives,
+  marked_adds_tags : EachSince (OnlyAdds (IsMarkedTags store)) a b → EachSince (λ start. OnlyAdds (IsOfTags store.geometry (given_tags store start) (given_tags store start)) start) a b
+  marked_adds_tags moments =
       adds_told (λ start. IsOfTags store.geometry (given_tags store start) (given_tags store start)) (IsMarkedTags store)
       (λ start told sector x marked. (marked_law store disk a start sector x is (whole start told) marked).1) moments
 
-  -- so a write-back,
+  -- so a get adds such,
+  pub get_adds_tags : (block : ℕ) → EachSince (OnlyAdds (IsOutForTag block store)) a b → EachSince (λ start. OnlyAdds (IsOfTags store.geometry (given_tags store start) (given_tags store start)) start) a b
+  get_adds_tags block moments = marked_adds_tags (adds_wider (IsOutForTag block store) (IsMarkedTags store) (λ sector x out. out.marked) moments)
+
+  -- a write-back,
   pub back_adds_tags : EachSince (IsAmidWriteBack store.sectors) a b → EachSince (λ start. OnlyAdds (IsOfTags store.geometry (given_tags store start) (given_tags store start)) start) a b
-  back_adds_tags moments = get_adds_tags (marked_adds store disk is (write_back_adds store.sectors moments))
+  back_adds_tags moments = marked_adds_tags (marked_adds store disk is (write_back_adds store.sectors moments))
 
   -- and a put those, and the one that is put.
   pub put_adds_tags : (block : ℕ) (tag : List ℕ) → block < store.geometry.blocks → length tag ≡ store.geometry.shape.tag_size → EachSince (λ start. OnlyAdds (IsOfPut block tag store start) start) a b

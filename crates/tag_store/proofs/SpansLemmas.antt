@@ -1,23 +1,23 @@
 -- Lemmas on the words of specs/Spans.antt: what a span holds, and what the calls of a cache make of it.
-use Rattle.std.proofs.Common.{◌≡◌, ◌≢◌, ◌⊎◌, inl, inr, ⊎_elim, ℕ, suc, ◌+◌, ◌-◌, ◌*◌, ◌/◌, ◌<◌, ◌≤◌, min, Bool, true, false, nat_eq, if◌then◌else◌, List, [], ◌∷◌, ◌++◌, length, take, drop, refl, sym, ◌∙◌, ap, subst, arith, add-one, append-nil, length-append, length-take, length-drop, Option, Some, None}
+use Rattle.std.proofs.Common.{◌≡◌, ◌≢◌, ◌⊎◌, inl, inr, ⊎_elim, ℕ, suc, ◌+◌, ◌-◌, ◌<◌, ◌≤◌, min, Bool, nat_eq, if◌then◌else◌, List, [], ◌++◌, length, take, drop, refl, sym, ◌∙◌, ap, subst, arith, add-one, append-nil, length-drop, Option, Some, None}
 use Rattle.std.specs.List.{Contains}
 use Rattle.std.specs.Option.{is_some}
-use Rattle.std.proofs.lemmas.Bool.{cases_Bool, cases_eq, cases_lt, eq-eqb, ne_eqb, false≢true}
+use Rattle.std.proofs.lemmas.Bool.{cases_Bool, cases_eq, cases_lt, ne_eqb}
 use Rattle.std.proofs.lemmas.List.{take-append-le, take_all, take_rest, drop-append-le, drop_all}
-use Rattle.std.proofs.lemmas.Option.{none-some, same_Some}
+use Rattle.std.proofs.lemmas.Option.{none-some}
 use Rattle.std.proofs.Math.Seq.{take-append-add}
 use Rattle.disk_model.specs.Disk.{Content, Image, IsImage, OnlyAdds, last_image}
 use Rattle.disk_model.specs.Identity.{DiskIdentity}
-use Rattle.disk_model.specs.Moments.{EachMoment, EachSince, FromStart, HasNow, content_now}
+use Rattle.disk_model.specs.Moments.{EachMoment, EachSince, HasNow, content_now}
 use Rattle.disk_model.proofs.DiskLemmas.{OnlyAdds-join, OnlyAdds-none, OnlyAdds-wider}
 use Rattle.disk_model.proofs.MomentsLemmas.{EachMoment-join, adds_then, adds_told, adds_wider}
 use Rattle.image_model.specs.Sectors.{bytes_at}
 use Rattle.buffer_cache.specs.declared.held.Held.{Held}
 use Rattle.buffer_cache.specs.declared.held.HeldSectors.{HeldSectors}
-use Rattle.buffer_cache.specs.Cached.{Changes, IsMarkedSector, IsOfDisk, IsPutOut, Keeps, cached, held_or, is_marked, marked_of, piece_of, with_given_piece}
+use Rattle.buffer_cache.specs.Cached.{Changes, IsMarkedSector, IsOfDisk, IsPutOut, Keeps, cached, held_or, marked_of, piece_of, with_given_piece}
 use Rattle.buffer_cache.specs.HeldSectors.{HoldsAlso, held_in, with_piece}
-use Rattle.buffer_cache.proofs.CachedLemmas.{IsMarkedSector-put_out, Keeps-then, adds_marked, told_at_end, told_on}
-use Rattle.tag_store.specs.Spans.{HoldsSpan, IsFirstOfTwo, IsInSpan, IsOfSpan, MarksSpan, StoresPart, StoresSpan, span_of, with_span}
+use Rattle.buffer_cache.proofs.CachedLemmas.{IsMarkedSector-put_out, adds_marked, told_at_end, told_on}
+use Rattle.tag_store.specs.Spans.{HoldsSpan, IsInSpan, IsOfSpan, IsOutForSpan, MarksSpan, StoresPart, StoresSpan, span_of, with_span}
 
 -- ---- what stands in a span
 
@@ -223,14 +223,22 @@ pub IsMarkedSector-before : {a b : List Content} (r s : HeldSectors) (sector : �
 IsMarkedSector-before r s sector x keeps of =
     record { held = of.held; is = sym (keeps.marked sector (ap marked_of of.is ∙ of.marked)) ∙ of.is; marked = of.marked; bytes = of.bytes }
 
-pub marked_by_two : {a b c : List Content} (at next : ℕ) (r s : HeldSectors) → EachSince (OnlyAdds (IsPutOut at r)) a b → Keeps r s a b → EachSince (OnlyAdds (IsPutOut next s)) b c → EachSince (OnlyAdds (IsMarkedSector r)) a c
-marked_by_two at next r s first keeps second =
-    adds_then (IsMarkedSector r) (adds_marked at r first)
-    (adds_wider (IsMarkedSector s) (IsMarkedSector r) (λ sector x of. IsMarkedSector-before r s sector x keeps of) (adds_marked next s second))
+-- What goes out for the first sector, and for the second.
+out_for_first : (at from size : ℕ) (r : HeldSectors) (sector : ℕ) (x : List ℕ) → IsPutOut at r sector x → IsOutForSpan at from size r sector x
+out_for_first at from size r sector x out = record { marked = IsMarkedSector-put_out at r sector x out; used = inl out.missed }
+
+pub out_by_one : {a b : List Content} (at from size : ℕ) (r : HeldSectors) → EachSince (OnlyAdds (IsPutOut at r)) a b → EachSince (OnlyAdds (IsOutForSpan at from size r)) a b
+out_by_one at from size r moments = adds_wider (IsPutOut at r) (IsOutForSpan at from size r) (out_for_first at from size r) moments
+
+pub out_by_two : {a b c : List Content} (at from size : ℕ) (r s : HeldSectors) → 512 < from + size → EachSince (OnlyAdds (IsPutOut at r)) a b → Keeps r s a b → EachSince (OnlyAdds (IsPutOut (at + 1) s)) b c
+    → EachSince (OnlyAdds (IsOutForSpan at from size r)) a c
+out_by_two at from size r s past first keeps second =
+    adds_then (IsOutForSpan at from size r) (out_by_one at from size r first)
+    (adds_wider (IsMarkedSector s) (IsOutForSpan at from size r) (λ sector x of. record { marked = IsMarkedSector-before r s sector x keeps of; used = inr past }) (adds_marked (at + 1) s second))
 
 pub span_by_one : {a b : List Content} (at from : ℕ) (bytes : List ℕ) (r : HeldSectors) → EachSince (OnlyAdds (IsPutOut at r)) a b → EachSince (λ start. OnlyAdds (IsOfSpan at from bytes r start) start) a b
 span_by_one at from bytes r moments =
-    adds_told (IsOfSpan at from bytes r) (IsMarkedSector r) (λ start told sector x of. inl of) (adds_marked at r moments)
+    adds_told (IsOfSpan at from bytes r) (IsPutOut at r) (λ start told sector x of. inl (out_for_first at from (length bytes) r sector x of)) moments
 
 -- What is marked after the first part is put was marked before, or it is the first sector with that part.
 pub marked_then : {a b : List Content} (at from : ℕ) (bytes piece : List ℕ) (r s : HeldSectors) (start middle : Content) → content_now a ≡ Some start → content_now b ≡ Some middle → piece ≡ take (512 - from) bytes
@@ -241,7 +249,10 @@ marked_then at from bytes piece r s start middle told told_middle is past first 
     of.bytes ∙ sym (ap (λ (o : Option Held). held_or o (last_image middle sector)) of.is) ∙ first.given start told middle told_middle sector
         ∙ ap (λ (p : List ℕ). with_given_piece at from p (cached r start) sector) is ∙ sym (with_span-first at from bytes (cached r start) sector same),
   )
-  | inr ne ↦ inl (record { held = of.held; is = sym (first.others sector ne (ap marked_of of.is ∙ of.marked)) ∙ of.is; marked = of.marked; bytes = of.bytes })
+  | inr ne ↦ inl (record {
+    marked = record { held = of.held; is = sym (first.others sector ne (ap marked_of of.is ∙ of.marked)) ∙ of.is; marked = of.marked; bytes = of.bytes };
+    used = inr past;
+  })
 ]
 
 pub span_by_two : {a b c : List Content} (at from : ℕ) (bytes piece : List ℕ) (r s : HeldSectors) → piece ≡ take (512 - from) bytes → 512 < from + length bytes

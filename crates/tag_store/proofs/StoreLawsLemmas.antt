@@ -1,23 +1,22 @@
 -- The laws of specs/StoreLaws.antt.
-use Rattle.std.proofs.Common.{◌≡◌, ◌≢◌, ◌⊎◌, inl, inr, ⊎_elim, ℕ, ◌+◌, ◌-◌, ◌*◌, ◌/◌, ◌<◌, ◌≤◌, List, [], ◌∷◌, length, take, drop, slice_index, refl, sym, ◌∙◌, ap, subst, arith, Option, Some, None}
+use Rattle.std.proofs.Common.{◌≡◌, ◌≢◌, inl, inr, ⊎_elim, ℕ, ◌+◌, ◌-◌, ◌<◌, List, length, take, slice_index, refl, sym, ◌∙◌, ap, subst, arith, Option, Some, None}
 use Rattle.std.proofs.lemmas.Bool.{cases_eq, cases_lt}
 use Rattle.std.proofs.lemmas.List.{drop_all}
-use Rattle.std.proofs.lemmas.Option.{none-some, same_Some}
-use Rattle.disk_model.specs.Disk.{Content, Image, last_candidate, last_image, newest_only}
-use Rattle.disk_model.specs.Identity.{DiskIdentity}
-use Rattle.disk_model.specs.Moments.{IsChangedBy, content_now}
+use Rattle.std.proofs.lemmas.Option.{none-some}
+use Rattle.disk_model.specs.Disk.{Content, Image, last_image, newest_only}
+use Rattle.disk_model.specs.Moments.{content_now}
 use Rattle.image_model.specs.Cells.{placed_cells_of}
 use Rattle.image_model.specs.Geometry.{Geometry, IsGeometry, tag_at}
 use Rattle.image_model.proofs.GeometryLemmas.{tag_at-inside, data_at-inside}
-use Rattle.place_model.specs.Tags.{IsOfTags, ReadsTags, tag_byte_at, with_block_tag}
+use Rattle.place_model.specs.Tags.{IsOfTags, tag_byte_at, with_block_tag}
 use Rattle.place_model.proofs.PlacedLemmas.{placed_tag-byte}
 use Rattle.buffer_cache.specs.declared.held.Held.{Held}
-use Rattle.buffer_cache.specs.Cached.{IsMarkedSector, cached, held_or, with_given_piece}
-use Rattle.buffer_cache.specs.HeldSectors.{held_in, no_sectors}
+use Rattle.buffer_cache.specs.Cached.{held_or, with_given_piece}
+use Rattle.buffer_cache.specs.HeldSectors.{held_in}
 use Rattle.buffer_cache.proofs.CachedLemmas.{IsOfDisk-elsewhere, IsOfDisk-none, changed_now}
 use Rattle.tag_store.specs.Spans.{IsInSpan, IsSpan}
-use Rattle.tag_store.specs.Store.{HoldsTag, IsFirstOfTag, IsOfPut, IsMarkedTags, IsStore, Store, given, given_tags, tags_in, with_tag}
-use Rattle.tag_store.specs.StoreLaws.{AreWhole, DirectLaw, ElsewhereLaw, FreshLaw, IsNoByteOf, KeepsOthersLaw, OthersLaw, MarkedLaw, PutLaw, ReadTagsAlike, ReadsTagsLaw, RestLaw, SameTagsLaw, SyncedLaw}
+use Rattle.tag_store.specs.Store.{HoldsTag, IsFirstOfTag, IsMarkedTags, Store, given, given_tags, tags_in, with_tag}
+use Rattle.tag_store.specs.StoreLaws.{AreWhole, DirectLaw, ElsewhereLaw, FreshLaw, KeepsOthersLaw, OthersLaw, MarkedLaw, PutLaw, ReadsTagsLaw, RestLaw, SameTagsLaw, SyncedLaw}
 use Rattle.tag_store.proofs.PutLemmas.{with_span-other, with_tag-byte, with_tag-length, with_tag-rest}
 use Rattle.tag_store.proofs.SpansLemmas.{first_in_span, next_in_span, with_given_piece-none, with_given_piece-other}
 use Rattle.tag_store.proofs.StoreLemmas.{HoldsTag-span, tag-span, tags_in-same}
@@ -82,13 +81,13 @@ marked_law store disk moments start sector x is whole marked =
 pub put_law : PutLaw
 put_law store disk moments start block tag sector x is whole low size of =
     let tags = with_block_tag block tag (given_tags store start) in
-    ⊎_elim (λ marked. IsOfTags-image store.geometry disk.sectors (given store start) tags sector x is.geometry whole marked.tags (marked_is_given store start sector x marked))
+    ⊎_elim (λ out. IsOfTags-image store.geometry disk.sectors (given store start) tags sector x is.geometry whole out.marked.tags (marked_is_given store start sector x out.marked))
     (λ first. IsOfTags-put store.geometry disk.sectors (given store start) block tag sector x is.geometry whole low size
     (HoldsTag-first store.geometry disk.sectors block sector is.geometry low first.0) first.1) of
 
 pub rest_law : RestLaw
 rest_law store disk moments start block tag sector x at is whole low size of none =
-    ⊎_elim (λ marked. ap (λ (bytes : List ℕ). slice_index bytes at) (marked_is_given store start sector x marked))
+    ⊎_elim (λ out. ap (λ (bytes : List ℕ). slice_index bytes at) (marked_is_given store start sector x out.marked))
     (λ first. ap (λ (bytes : List ℕ). slice_index bytes at) first.1
     ∙ with_tag-rest store.geometry disk.sectors block tag (given store start) is.geometry whole low size sector at none) of
 

@@ -1,11 +1,11 @@
 -- Lemmas on the words of specs/Store.antt, for the calls of a store.
-use Rattle.std.proofs.Common.{◌≡◌, ◌≢◌, ◌⊎◌, inl, inr, ⊎_elim, ℕ, ◌+◌, ◌-◌, ◌*◌, ◌/◌, ◌<◌, ◌≤◌, List, length, slice_index, true, false, refl, sym, ◌∙◌, ap, subst, arith, Option, Some, None}
+use Rattle.std.proofs.Common.{◌≡◌, inl, inr, ⊎_elim, ℕ, ◌-◌, ◌*◌, ◌<◌, List, length, slice_index, true, refl, sym, ◌∙◌, ap, subst, arith, Option, Some, None}
 use Rattle.std.specs.Option.{is_some}
 use Rattle.std.proofs.lemmas.Bool.{false≢true}
 use Rattle.std.proofs.lemmas.Option.{none-some, same_Some}
-use Rattle.disk_model.specs.Disk.{AddsSome, Content, Image, IsRun, OnlyAdds, last_image, last_candidate}
+use Rattle.disk_model.specs.Disk.{AddsSome, Content, Image, IsRun, OnlyAdds, last_candidate}
 use Rattle.disk_model.specs.Identity.{DiskIdentity, IsBound}
-use Rattle.disk_model.specs.Moments.{EachMoment, EachSince, FromStart, HasNow, content_now}
+use Rattle.disk_model.specs.Moments.{EachSince, content_now}
 use Rattle.disk_model.proofs.DiskLemmas.{AddsSome-none, OnlyAdds-wider, with_run-out}
 use Rattle.disk_model.proofs.MomentsLemmas.{EachMoment-weaker, FromStart-weaker, adds_wider}
 use Rattle.image_model.specs.Cells.{placed_cells_of}
@@ -16,11 +16,11 @@ use Rattle.place_model.proofs.PlacedLemmas.{placed_tag, placed_tag-byte, placed_
 use Rattle.place_model.proofs.TagsLemmas.{tag_byte-no_data}
 use Rattle.buffer_cache.specs.declared.held.Held.{Held}
 use Rattle.buffer_cache.specs.declared.held.HeldSectors.{HeldSectors}
-use Rattle.buffer_cache.specs.Cached.{IsMarkedSector, IsOfDisk, Keeps, cached, held_or}
+use Rattle.buffer_cache.specs.Cached.{IsMarkedSector, IsOfDisk, held_or}
 use Rattle.buffer_cache.specs.HeldSectors.{HoldsNoMore, held_in}
 use Rattle.buffer_cache.proofs.CachedLemmas.{IsOfDisk-elsewhere, told_at_end}
-use Rattle.tag_store.specs.Spans.{HoldsSpan, IsFirstOfTwo, IsInSpan, IsOfSpan, IsSpan, MarksSpan, StoresPart, StoresSpan, span_of, with_span}
-use Rattle.tag_store.specs.Store.{HoldsTag, IsOfPut, IsMarkedTags, IsStore, KeepsButTag, KeepsStore, KeepsTags, Store, StoresFirst, StoresTag, given, given_tags, tags_in}
+use Rattle.tag_store.specs.Spans.{HoldsSpan, IsFirstOfTwo, IsInSpan, IsOfSpan, IsOutForSpan, IsSpan, MarksSpan, StoresPart, StoresSpan, span_of}
+use Rattle.tag_store.specs.Store.{HoldsTag, IsMarkedTags, IsOfPut, IsOutForTag, IsStore, KeepsButTag, KeepsTags, Store, StoresFirst, StoresTag, given, tags_in}
 
 -- ---- where a tag stands
 
@@ -104,6 +104,19 @@ IsMarkedTags-held store disk sector x is of = record { tags = is.tags_only secto
 pub marked_adds : (store : Store) (disk : DiskIdentity) {m a b : List Content} → IsStore store disk m → EachSince (OnlyAdds (IsMarkedSector store.sectors)) a b → EachSince (OnlyAdds (IsMarkedTags store)) a b
 marked_adds store disk is moments = adds_wider (IsMarkedSector store.sectors) (IsMarkedTags store) (λ sector x of. IsMarkedTags-held store disk sector x is of) moments
 
+IsOutForTag-span : (store : Store) (disk : DiskIdentity) {m : List Content} (block size sector : ℕ) (x : List ℕ) → IsStore store disk m → size ≡ store.geometry.shape.tag_size
+    → IsOutForSpan (tag_at store.geometry block).0 (tag_at store.geometry block).1 size store.sectors sector x → IsOutForTag block store sector x
+IsOutForTag-span store disk block size sector x is same out = record {
+  marked = IsMarkedTags-held store disk sector x is out.marked;
+  used = ⊎_elim inl (λ past. inr (omega arith)) out.used;
+}
+
+pub out_adds : (store : Store) (disk : DiskIdentity) {m a b : List Content} (block size : ℕ) → IsStore store disk m → size ≡ store.geometry.shape.tag_size
+    → EachSince (OnlyAdds (IsOutForSpan (tag_at store.geometry block).0 (tag_at store.geometry block).1 size store.sectors)) a b → EachSince (OnlyAdds (IsOutForTag block store)) a b
+out_adds store disk block size is same moments =
+    adds_wider (IsOutForSpan (tag_at store.geometry block).0 (tag_at store.geometry block).1 size store.sectors) (IsOutForTag block store)
+    (λ sector x out. IsOutForTag-span store disk block size sector x is same out) moments
+
 -- ---- a tag that is put
 
 first_of_size : (at from size length_ sector : ℕ) → size ≡ length_ → IsFirstOfTwo at from length_ sector → IsFirstOfTwo at from size sector
@@ -137,7 +150,7 @@ module _ (g : Geometry) (block : ℕ) (tag : List ℕ) (size : length tag ≡ g.
   put_adds disk {m} {a} {b} is moments =
       EachMoment-weaker (FromStart-weaker a (λ start. OnlyAdds (IsOfSpan (tag_at g block).0 (tag_at g block).1 tag r start) start) (λ start. OnlyAdds (IsOfPut block tag old start) start)
       (λ start c told adds. OnlyAdds-wider (IsOfSpan (tag_at g block).0 (tag_at g block).1 tag r start) (IsOfPut block tag old start)
-      (λ sector x of. ⊎_elim (λ marked. inl (IsMarkedTags-held old disk sector x is marked))
+      (λ sector x of. ⊎_elim (λ out. inl (IsOutForTag-span old disk block (length tag) sector x is size out))
       (λ first. inr (first_of_size (tag_at g block).0 (tag_at g block).1 g.shape.tag_size (length tag) sector (sym size) first.0, first.1)) of) start c adds)) moments
 
 -- ---- a block that is written

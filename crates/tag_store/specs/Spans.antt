@@ -1,5 +1,5 @@
 -- Some bytes that stand in a sector and may go on in the next one.
-use Rattle.std.specs.Prelude.{◌≡◌, ◌⊎◌, ℕ, ◌+◌, ◌-◌, ◌*◌, ◌/◌, ◌^◌, ◌<◌, ◌≤◌, true, List, length, take, drop, Some}
+use Rattle.std.specs.Prelude.{◌≡◌, ◌⊎◌, ℕ, ◌+◌, ◌-◌, ◌*◌, ◌/◌, ◌^◌, ◌<◌, ◌≤◌, true, List, length, take, drop, Some, None}
 use Rattle.std.specs.Option.{is_some}
 use Rattle.disk_model.specs.Disk.{Content, Image}
 use Rattle.disk_model.specs.Moments.{HasNow}
@@ -59,7 +59,12 @@ pub record StoresPart (at from : ℕ) (bytes : List ℕ) (old new : HeldSectors)
       ⊎ (IsFirstOfTwo at from (length bytes) sector × (cached new d sector ≡ with_span at from bytes (cached old c) sector)))
       after) before
 
--- The bytes may be written to the sector while these are stored: what was marked, and the first of two sectors with its part.
+-- The bytes may go out for a use of these: those of a marked sector, where the first sector is not held, or there are two.
+pub record IsOutForSpan (at from size : ℕ) (sectors : HeldSectors) (sector : ℕ) (x : List ℕ) : Type 0 where
+  pub marked : IsMarkedSector sectors sector x
+  pub used : (held_in sectors at ≡ None) ⊎ (512 < from + size)
+
+-- The bytes may be written to the sector while these are stored: what goes out, and the first of two with its part.
 abbrev pub IsOfSpan : ℕ → ℕ → List ℕ → HeldSectors → Content → ℕ → List ℕ → Type 0
-IsOfSpan at from bytes sectors start sector x = IsMarkedSector sectors sector x
+IsOfSpan at from bytes sectors start sector x = IsOutForSpan at from (length bytes) sectors sector x
     ⊎ (IsFirstOfTwo at from (length bytes) sector × (x ≡ with_span at from bytes (cached sectors start) sector))

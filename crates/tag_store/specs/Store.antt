@@ -1,5 +1,5 @@
 -- What a store of tags gives over a disk: each sector as the disk reads it, or as it stands in memory.
-use Rattle.std.specs.Prelude.{◌≡◌, ◌⊎◌, ℕ, ◌+◌, ◌<◌, true, List, Some}
+use Rattle.std.specs.Prelude.{◌≡◌, ◌⊎◌, ℕ, ◌+◌, ◌<◌, true, List, Some, None}
 use Rattle.disk_model.specs.Disk.{Content, Image}
 use Rattle.disk_model.specs.Identity.{DiskIdentity, IsBound}
 use Rattle.disk_model.specs.Moments.{HasNow}
@@ -56,6 +56,12 @@ pub record IsMarkedTags (store : Store) (sector : ℕ) (x : List ℕ) : Type 0 w
   pub tags : HoldsTag store.geometry sector
   pub marked : IsMarkedSector store.sectors sector x
 
+-- They may go out for a use of a block's tag: where the sector of the tag is not held, or the tag stands in two.
+pub record IsOutForTag (block : ℕ) (store : Store) (sector : ℕ) (x : List ℕ) : Type 0 where
+  pub marked : IsMarkedTags store sector x
+  pub used : (held_in store.sectors (tag_at store.geometry block).0 ≡ None)
+      ⊎ (512 < (tag_at store.geometry block).1 + store.geometry.shape.tag_size)
+
 -- ---- a tag that is put
 
 -- The image with a tag in the place of a block's.
@@ -88,9 +94,10 @@ pub record KeepsButTag (block : ℕ) (old new : Store) : Type 0 where
       → (held_in new.sectors sector ≡ held_in old.sectors sector) ⊎ HoldsTagOf old.geometry block sector
   pub slots : new.sectors.recent.cap ≡ old.sectors.recent.cap
 
--- The bytes may be written to the sector while the tag is put: those that were marked, and its part in the first sector of two.
+-- The bytes may be written to the sector while the tag is put: what goes out for it, and the first sector of two with its
+-- part of the tag.
 abbrev pub IsOfPut : ℕ → List ℕ → Store → Content → ℕ → List ℕ → Type 0
-IsOfPut block tag store start sector x = IsMarkedTags store sector x
+IsOfPut block tag store start sector x = IsOutForTag block store sector x
     ⊎ (IsFirstOfTag store.geometry block sector × (x ≡ with_tag store.geometry block tag (given store start) sector))
 
 -- ---- a block that is written

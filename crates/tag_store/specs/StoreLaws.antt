@@ -5,7 +5,6 @@ use Rattle.disk_model.specs.Identity.{DiskIdentity, IsBound}
 use Rattle.disk_model.specs.Moments.{IsChangedBy, content_now}
 use Rattle.image_model.specs.Geometry.{Geometry, IsGeometry}
 use Rattle.place_model.specs.Tags.{IsOfTags, KeepsOthers, ReadsTags, tag_byte_at, with_block_tag}
-use Rattle.buffer_cache.specs.Cached.{IsWrittenBack}
 use Rattle.buffer_cache.specs.HeldSectors.{no_sectors}
 use Rattle.tag_store.specs.Store.{HoldsTag, IsOfPut, IsMarkedTags, IsStore, Store, given, given_tags, tags_in, with_tag}
 

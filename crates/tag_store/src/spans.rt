@@ -5,8 +5,8 @@ ghost use Rattle.disk_model.specs.Disk.{OnlyAdds};
 ghost use Rattle.disk_model.specs.Identity.{IsBound};
 ghost use Rattle.disk_model.specs.Moments.{EachSince, HasNow};
 ghost use Rattle.buffer_cache.specs.Cache.{sectors_of};
-ghost use Rattle.buffer_cache.specs.Cached.{IsMarkedSector, IsOfDisk, Keeps, cached};
-ghost use Rattle.tag_store.specs.Spans.{HoldsSpan, IsOfSpan, IsSpan, MarksSpan, StoresPart, StoresSpan, span_of};
+ghost use Rattle.buffer_cache.specs.Cached.{IsOfDisk, Keeps, cached};
+ghost use Rattle.tag_store.specs.Spans.{HoldsSpan, IsOfSpan, IsOutForSpan, IsSpan, MarksSpan, StoresPart, StoresSpan, span_of};
 
 use buffer_cache::Cache;
 use sector_disk::{Disk, Failed};
@@ -34,7 +34,7 @@ pub(crate) fn read_span<D: Disk>(
     ensures held { HoldsSpan at from (length out.old) (sectors_of cache.old) (sectors_of cache.new) }
     ensures identity { D.identity disk.new ≡ D.identity disk.old }
 
-    ensures moments { EachSince (OnlyAdds (IsMarkedSector (sectors_of cache.old)))
+    ensures moments { EachSince (OnlyAdds (IsOutForSpan at from (length out.old) (sectors_of cache.old)))
         (D.moments disk.old) (D.moments disk.new) }
 {
     let len = out.len();

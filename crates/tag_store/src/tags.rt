@@ -6,7 +6,7 @@ ghost use Rattle.disk_model.specs.Moments.{EachSince, HasNow, IsChangedBy};
 ghost use Rattle.image_model.specs.Geometry.{data_at};
 ghost use Rattle.buffer_cache.specs.Cache.{sectors_of};
 ghost use Rattle.buffer_cache.specs.Cached.{IsAmidWriteBack, IsWrittenBack, written_back};
-ghost use Rattle.tag_store.specs.Store.{IsOfPut, IsMarkedTags, IsStore, KeepsButTag, KeepsStore, KeepsTags, StoresFirst, StoresTag, given_tags};
+ghost use Rattle.tag_store.specs.Store.{IsOfPut, IsOutForTag, IsStore, KeepsButTag, KeepsStore, KeepsTags, StoresFirst, StoresTag, given_tags};
 
 use crate::spans::{read_span, write_span};
 use buffer_cache::Cache;
@@ -60,7 +60,7 @@ impl Tags {
         ensures keeps { KeepsStore self.old self.new (D.moments disk.old) (D.moments disk.new) }
         ensures identity { D.identity disk.new ≡ D.identity disk.old }
 
-        ensures moments { EachSince (OnlyAdds (IsMarkedTags self.old)) (D.moments disk.old) (D.moments disk.new) }
+        ensures moments { EachSince (OnlyAdds (IsOutForTag block self.old)) (D.moments disk.old) (D.moments disk.new) }
     {
         let (at, from) = self.geometry.tag_at(block);
         let size = self.geometry.shape().tag as usize;

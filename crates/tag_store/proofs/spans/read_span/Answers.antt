@@ -1,18 +1,18 @@
-use Rattle.std.proofs.Common.{arith, tests, ◌+◌, ◌-◌, ◌*◌, ◌<◌, ◌≤◌, ℕ, length, rules}
+use Rattle.std.proofs.Common.{arith, ◌+◌, length}
 use Rattle.std.proofs.lemmas.Result.{on_ok_weaker}
-use Rattle.disk_model.specs.Disk.{Content, OnlyAdds}
+use Rattle.disk_model.specs.Disk.{OnlyAdds}
 use Rattle.disk_model.proofs.DiskLemmas.{OnlyAdds-none}
 use Rattle.buffer_cache.specs.Cache.{sectors_of}
 use Rattle.buffer_cache.specs.Cached.{IsPutOut}
-use Rattle.buffer_cache.proofs.CachedLemmas.{Keeps-then, adds_marked}
-use Rattle.tag_store.proofs.SpansLemmas.{HoldsSpan-two, cached-whole, marked_by_two, reads_two}
+use Rattle.buffer_cache.proofs.CachedLemmas.{Keeps-then}
+use Rattle.tag_store.proofs.SpansLemmas.{HoldsSpan-two, cached-whole, out_by_one, out_by_two, reads_two}
 use Rattle.tag_store.proofs.spans.read_span.Goals as goal
 
 pub returns-in_err-read_at-clause-moments : goal.returns-in_err-read_at-clause-moments
-returns-in_err-read_at-clause-moments g c = adds_marked c.args.at (sectors_of c.args.cache.now) c.read_at.ensures.moments
+returns-in_err-read_at-clause-moments g c = out_by_one c.args.at c.args.from (length c.args.out.now) (sectors_of c.args.cache.now) c.read_at.ensures.moments
 
 pub returns-then-size-len-clause-moments : goal.returns-then-size-len-clause-moments
-returns-then-size-len-clause-moments g c = adds_marked c.args.at (sectors_of c.args.cache.now) c.read_at.ensures.moments
+returns-then-size-len-clause-moments g c = out_by_one c.args.at c.args.from (length c.args.out.now) (sectors_of c.args.cache.now) c.read_at.ensures.moments
 
 pub overflow_add-at : goal.overflow_add-at
 overflow_add-at g c = omega arith
@@ -37,5 +37,5 @@ returns-clause-held g c =
 
 pub returns-clause-moments : goal.returns-clause-moments
 returns-clause-moments g c =
-    marked_by_two c.args.at (c.args.at + 1) (sectors_of c.args.cache.now) (sectors_of c.read_at.new.self)
+    out_by_two c.args.at c.args.from (length c.args.out.now) (sectors_of c.args.cache.now) (sectors_of c.read_at.new.self) (omega arith)
     c.read_at.ensures.moments c.read_at.ensures.keeps c.read_at-2.ensures.moments

@@ -1,14 +1,13 @@
-use Rattle.std.proofs.Common.{◌≡◌, ◌<◌, ◌∙◌, ap, sym, subst, arith, rules, length, take, ℕ}
+use Rattle.std.proofs.Common.{◌≡◌, ◌<◌, ◌∙◌, ap, sym, subst, arith, length, ℕ}
 use Rattle.std.proofs.lemmas.List.{length-take-le, take-append-le, take_all}
 use Rattle.buffer_cache.specs.Cache.{sectors_of}
 use Rattle.disk_model.specs.Disk.{OnlyAdds}
 use Rattle.disk_model.specs.Moments.{EachSince}
 use Rattle.buffer_cache.specs.Cached.{cached}
 use Rattle.tag_store.specs.Spans.{span_of}
-use Rattle.commit_id.specs.Shape.{as_shape}
-use Rattle.image_model.specs.Geometry.{Shape, tag_at}
-use Rattle.tag_store.specs.Store.{IsMarkedTags, IsStore, Store, given, tags_in}
-use Rattle.tag_store.proofs.StoreLemmas.{IsStore-also, marked_adds, tag-span, tags_in-span}
+use Rattle.image_model.specs.Geometry.{Shape}
+use Rattle.tag_store.specs.Store.{IsOutForTag, IsStore, Store, given, tags_in}
+use Rattle.tag_store.proofs.StoreLemmas.{IsStore-also, out_adds, tag-span, tags_in-span}
 use Rattle.tag_store.proofs.tags.Tags.get.Goals as goal
 
 pub read_span-requires-clause-span : goal.read_span-requires-clause-span
@@ -30,8 +29,10 @@ returns-in_err-read_span-clause-store g c =
 pub returns-in_err-read_span-clause-moments : goal.returns-in_err-read_span-clause-moments
 returns-in_err-read_span-clause-moments g c =
     let is = subst (λ (s : Store). IsStore s (g.D.Disk.identity c.args.disk.now) (g.D.Disk.moments c.args.disk.now)) (sym c.self.view_is) c.requires.store in
-    subst (λ (s : Store). EachSince (OnlyAdds (IsMarkedTags s)) (g.D.Disk.moments c.args.disk.now) (g.D.Disk.moments c.read_span.new.disk)) c.self.view_is
-    (marked_adds (record { geometry = c.self.inside.geometry; sectors = sectors_of c.self.inside.cache }) _ is c.read_span.ensures.moments)
+    subst (λ (s : Store). EachSince (OnlyAdds (IsOutForTag c.args.block s)) (g.D.Disk.moments c.args.disk.now) (g.D.Disk.moments c.read_span.new.disk)) c.self.view_is
+    (out_adds (record { geometry = c.self.inside.geometry; sectors = sectors_of c.self.inside.cache }) _ c.args.block _ is
+    (length-take-le c.shape-size.result.tag _ (omega (arith, c.shape-size.ensures.is_shape.tag.1)) ∙ ap (λ (s : Shape). s.tag_size) c.shape-size.ensures.shape)
+    (rw c.tag_at-at.ensures at c.read_span.ensures.moments))
 
 pub returns-clause-tag : goal.returns-clause-tag
 returns-clause-tag g c content told =
@@ -58,5 +59,7 @@ returns-clause-store g c =
 pub returns-clause-moments : goal.returns-clause-moments
 returns-clause-moments g c =
     let is = subst (λ (s : Store). IsStore s (g.D.Disk.identity c.args.disk.now) (g.D.Disk.moments c.args.disk.now)) (sym c.self.view_is) c.requires.store in
-    subst (λ (s : Store). EachSince (OnlyAdds (IsMarkedTags s)) (g.D.Disk.moments c.args.disk.now) (g.D.Disk.moments c.read_span.new.disk)) c.self.view_is
-    (marked_adds (record { geometry = c.self.inside.geometry; sectors = sectors_of c.self.inside.cache }) _ is c.read_span.ensures.moments)
+    subst (λ (s : Store). EachSince (OnlyAdds (IsOutForTag c.args.block s)) (g.D.Disk.moments c.args.disk.now) (g.D.Disk.moments c.read_span.new.disk)) c.self.view_is
+    (out_adds (record { geometry = c.self.inside.geometry; sectors = sectors_of c.self.inside.cache }) _ c.args.block _ is
+    (length-take-le c.shape-size.result.tag _ (omega (arith, c.shape-size.ensures.is_shape.tag.1)) ∙ ap (λ (s : Shape). s.tag_size) c.shape-size.ensures.shape)
+    (rw c.tag_at-at.ensures at c.read_span.ensures.moments))

@@ -1,4 +1,4 @@
-use Rattle.std.proofs.Common.{◌≡◌, ◌<◌, ◌∙◌, ap, sym, subst, arith, rules, length}
+use Rattle.std.proofs.Common.{◌≡◌, ◌<◌, sym, subst, length}
 use Rattle.buffer_cache.specs.Cache.{sectors_of}
 use Rattle.disk_model.specs.Disk.{OnlyAdds}
 use Rattle.disk_model.specs.Moments.{EachSince}

@@ -1,7 +1,6 @@
 use Rattle.std.proofs.Common.{◌≡◌, ◌∙◌, ap}
 use Rattle.image_model.specs.Geometry.{data_at}
 use Rattle.tag_store.specs.Store.{Store}
-use Rattle.buffer_cache.proofs.CachedLemmas.{told_at_end}
 use Rattle.tag_store.proofs.SpansLemmas.{cached-whole}
 use Rattle.tag_store.proofs.StoreLemmas.{IsStore-written, KeepsTags-written, data-run}
 use Rattle.tag_store.proofs.tags.Tags.write_block.Goals as goal
