@@ -9,7 +9,7 @@ use Rattle.buffer_cache.specs.declared.held.HeldSectors.{HeldSectors}
 use Rattle.buffer_cache.specs.Cached.{IsMarkedSector, cached, is_marked, with_given_piece}
 use Rattle.buffer_cache.specs.HeldSectors.{held_in}
 
--- So many bytes from byte `from` of sector `at` on lie on a disk of so many sectors, and end in the next sector or before.
+-- So many bytes from byte `from` of sector `at` on lie on a disk of so many sectors, and end in the next or before.
 pub record IsSpan (at from size sectors : ℕ) : Type 0 where
   pub begins : from < 512
   pub some : 1 ≤ size
@@ -27,7 +27,7 @@ pub record IsInSpan (at from size sector : ℕ) : Type 0 where
   pub low : byte < size
   pub is : sector ≡ at + (from + byte) / 512
 
--- The image with some bytes in place of those from byte `from` of sector `at` on: what has no room in it stands in the next.
+-- The image with some bytes in place of those from byte `from` of sector `at` on, of which some may stand in the next.
 abbrev pub with_span : ℕ → ℕ → List ℕ → Image → Image
 with_span at from bytes image =
     with_given_piece (at + 1) 0 (drop (512 - from) bytes) (with_given_piece at from (take (512 - from) bytes) image)
@@ -49,15 +49,17 @@ pub record MarksSpan (at from size : ℕ) (old new : HeldSectors) : Type 0 where
   pub slots : new.recent.cap ≡ old.recent.cap
 
 -- The cache gives what it gave before, with these bytes in their place.
-pub record StoresSpan (at from : ℕ) (bytes : List ℕ) (old new : HeldSectors) (before after : List Content) : Type 0 where
+pub record StoresSpan (at from : ℕ) (bytes : List ℕ) (old new : HeldSectors)
+    (before after : List Content) : Type 0 where
   pub given : HasNow (λ c. HasNow (λ d. (sector : ℕ)
       → cached new d sector ≡ with_span at from bytes (cached old c) sector) after) before
 
 -- It gives what it gave before, but that the first sector of two may have its part of the bytes.
-pub record StoresPart (at from : ℕ) (bytes : List ℕ) (old new : HeldSectors) (before after : List Content) : Type 0 where
+pub record StoresPart (at from : ℕ) (bytes : List ℕ) (old new : HeldSectors)
+    (before after : List Content) : Type 0 where
   pub given : HasNow (λ c. HasNow (λ d. (sector : ℕ) → (cached new d sector ≡ cached old c sector)
-      ⊎ (IsFirstOfTwo at from (length bytes) sector × (cached new d sector ≡ with_span at from bytes (cached old c) sector)))
-      after) before
+      ⊎ (IsFirstOfTwo at from (length bytes) sector
+      × (cached new d sector ≡ with_span at from bytes (cached old c) sector))) after) before
 
 -- The bytes may go out for a use of these: those of a marked sector, where the first sector is not held, or there are two.
 pub record IsOutForSpan (at from size : ℕ) (sectors : HeldSectors) (sector : ℕ) (x : List ℕ) : Type 0 where

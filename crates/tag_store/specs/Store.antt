@@ -37,8 +37,8 @@ pub record HoldsTag (g : Geometry) (sector : ℕ) : Type 0 where
   pub byte_low : byte < g.shape.tag_size
   pub is : sector ≡ (tag_byte_at g block byte).0
 
--- The store is of this disk, which is bound: its places lie on it, and what is held are sectors of tags, of which nobody
--- else wrote one.
+-- The store is of this disk, which is bound: its places lie on it, and what is held are sectors of tags, as the disk
+-- has them where they are not marked.
 pub record IsStore (store : Store) (disk : DiskIdentity) (moments : List Content) : Type 0 where
   pub bound : IsBound disk.name
   pub geometry : IsGeometry store.geometry disk.sectors
@@ -94,8 +94,8 @@ pub record KeepsButTag (block : ℕ) (old new : Store) : Type 0 where
       → (held_in new.sectors sector ≡ held_in old.sectors sector) ⊎ HoldsTagOf old.geometry block sector
   pub slots : new.sectors.recent.cap ≡ old.sectors.recent.cap
 
--- The bytes may be written to the sector while the tag is put: what goes out for it, and the first sector of two with its
--- part of the tag.
+-- The bytes may be written to the sector while the tag is put: what goes out for it, and the first sector of two with
+-- its part of the tag.
 abbrev pub IsOfPut : ℕ → List ℕ → Store → Content → ℕ → List ℕ → Type 0
 IsOfPut block tag store start sector x = IsOutForTag block store sector x
     ⊎ (IsFirstOfTag store.geometry block sector × (x ≡ with_tag store.geometry block tag (given store start) sector))

@@ -26,8 +26,8 @@ PutTagsLaw = (g : Geometry) (sectors block : ℕ) (tag : List ℕ) (image : Imag
 
 -- each byte that is none of it is as before, be it of another tag, behind the tags or data,
 abbrev pub PutBytesLaw : Type 0
-PutBytesLaw = (g : Geometry) (sectors block : ℕ) (tag : List ℕ) (image : Image) (sector at : ℕ) → IsGeometry g sectors
-    → AreWhole sectors image → block < g.blocks → length tag ≡ g.shape.tag_size → IsNoByteOf g block sector at
+PutBytesLaw = (g : Geometry) (sectors block : ℕ) (tag : List ℕ) (image : Image) (sector at : ℕ)
+    → IsGeometry g sectors → AreWhole sectors image → block < g.blocks → length tag ≡ g.shape.tag_size → IsNoByteOf g block sector at
     → slice_index (with_tag g block tag image sector) at ≡ slice_index (image sector) at
 
 -- and each sector is whole.
@@ -42,21 +42,23 @@ PutWholeLaw = (g : Geometry) (sectors block : ℕ) (tag : List ℕ) (image : Ima
 abbrev pub MarkedLaw : Type 0
 MarkedLaw = (store : Store) (disk : DiskIdentity) (moments : List Content) (start : Content) (sector : ℕ) (x : List ℕ)
     → IsStore store disk moments → AreWhole disk.sectors (given store start) → IsMarkedTags store sector x
-    → (x ≡ given store start sector) × IsOfTags store.geometry (given_tags store start) (given_tags store start) sector x
+    → (x ≡ given store start sector)
+    × IsOfTags store.geometry (given_tags store start) (given_tags store start) sector x
 
 -- and while a tag is put, in each place a tag that it gave before, or the one that is put,
 abbrev pub PutLaw : Type 0
 PutLaw = (store : Store) (disk : DiskIdentity) (moments : List Content) (start : Content) (block : ℕ) (tag : List ℕ)
     (sector : ℕ) (x : List ℕ) → IsStore store disk moments → AreWhole disk.sectors (given store start)
-    → block < store.geometry.blocks → length tag ≡ store.geometry.shape.tag_size → IsOfPut block tag store start sector x
-    → IsOfTags store.geometry (given_tags store start) (with_block_tag block tag (given_tags store start)) sector x
+    → block < store.geometry.blocks → length tag ≡ store.geometry.shape.tag_size
+    → IsOfPut block tag store start sector x → IsOfTags store.geometry (given_tags store start) (with_block_tag block tag (given_tags store start)) sector x
 
 -- and each byte that is none of that tag as it was given.
 abbrev pub RestLaw : Type 0
 RestLaw = (store : Store) (disk : DiskIdentity) (moments : List Content) (start : Content) (block : ℕ) (tag : List ℕ)
     (sector : ℕ) (x : List ℕ) (at : ℕ) → IsStore store disk moments → AreWhole disk.sectors (given store start)
-    → block < store.geometry.blocks → length tag ≡ store.geometry.shape.tag_size → IsOfPut block tag store start sector x
-    → IsNoByteOf store.geometry block sector at → slice_index x at ≡ slice_index (given store start sector) at
+    → block < store.geometry.blocks → length tag ≡ store.geometry.shape.tag_size
+    → IsOfPut block tag store start sector x → IsNoByteOf store.geometry block sector at
+    → slice_index x at ≡ slice_index (given store start sector) at
 
 -- ---- what reads of the disk give
 
@@ -70,7 +72,8 @@ ReadsTagsLaw = (store : Store) (disk : DiskIdentity) (moments : List Content) (c
 abbrev pub DirectLaw : Type 0
 DirectLaw = (store : Store) (disk : DiskIdentity) (moments : List Content) (c : Content) (sector : ℕ)
     → IsStore store disk moments
-    → ((b i : ℕ) → b < store.geometry.blocks → i < store.geometry.shape.tag_size → sector ≢ (tag_byte_at store.geometry b i).0)
+    → ((b i : ℕ) → b < store.geometry.blocks → i < store.geometry.shape.tag_size
+    → sector ≢ (tag_byte_at store.geometry b i).0)
     → given store c sector ≡ last_image c sector
 
 -- and what is put, is put in no sector of these.
@@ -115,6 +118,6 @@ SyncedLaw = (store : Store) (disk : DiskIdentity) (before after : List Content) 
 
 -- and gives the same tags.
 abbrev pub SameTagsLaw : Type 0
-SameTagsLaw = (store : Store) (disk : DiskIdentity) (moments : List Content) (c d : Content) → IsStore store disk moments
-    → AreWhole disk.sectors (given store c) → AreWhole disk.sectors (given store d) → ReadTagsAlike store.geometry c d
+SameTagsLaw = (store : Store) (disk : DiskIdentity) (moments : List Content) (c d : Content)
+    → IsStore store disk moments → AreWhole disk.sectors (given store c) → AreWhole disk.sectors (given store d) → ReadTagsAlike store.geometry c d
     → (b : ℕ) → b < store.geometry.blocks → given_tags store d b ≡ given_tags store c b

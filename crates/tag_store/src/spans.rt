@@ -71,8 +71,8 @@ pub(crate) fn write_span<D: Disk>(
     ensures marked { MarksSpan at from (length bytes.now) (sectors_of cache.old) (sectors_of cache.new) }
     ensures identity { D.identity disk.new ≡ D.identity disk.old }
 
-    ensures moments { EachSince (λ start. OnlyAdds (IsOfSpan at from bytes.now (sectors_of cache.old) start) start)
-        (D.moments disk.old) (D.moments disk.new) }
+    ensures moments { EachSince (λ start. OnlyAdds
+        (IsOfSpan at from bytes.now (sectors_of cache.old) start) start) (D.moments disk.old) (D.moments disk.new) }
 {
     let size = bytes.len().min(512 - from);
     cache.write_at(disk, at, from, &bytes[..size])?;

@@ -17,7 +17,7 @@ use std::marker::Model;
 
 /// The blocks of a device and their tags, in their places on a disk, with a cache for the sectors of tags.
 ///
-/// All its calls are over one disk, of which nobody else writes a sector of tags. They ask for no memory that they need.
+/// All its calls are over one disk, of which nobody else writes a sector of tags. None of them answers want of memory.
 #[derive(Drop)]
 pub struct Tags {
     geometry: Geometry,
@@ -52,7 +52,8 @@ impl Tags {
         requires block { block < self.old.geometry.blocks }
         requires store { IsStore self.old (D.identity disk.old) (D.moments disk.old) }
 
-        ensures tag { IfOk result (λ tag. HasNow (λ c. tag ≡ given_tags self.old c block) (D.moments disk.old)) }
+        ensures tag { IfOk result (λ tag. HasNow (λ c. tag ≡ given_tags self.old c block)
+            (D.moments disk.old)) }
 
         ensures cause { HasCause (D.faults disk.old) (D.faults disk.new) result }
 
@@ -60,7 +61,8 @@ impl Tags {
         ensures keeps { KeepsStore self.old self.new (D.moments disk.old) (D.moments disk.new) }
         ensures identity { D.identity disk.new ≡ D.identity disk.old }
 
-        ensures moments { EachSince (OnlyAdds (IsOutForTag block self.old)) (D.moments disk.old) (D.moments disk.new) }
+        ensures moments { EachSince (OnlyAdds (IsOutForTag block self.old))
+            (D.moments disk.old) (D.moments disk.new) }
     {
         let (at, from) = self.geometry.tag_at(block);
         let size = self.geometry.shape().tag as usize;
