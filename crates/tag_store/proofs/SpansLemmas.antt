@@ -3,7 +3,7 @@ use Rattle.std.proofs.Common.{◌≡◌, ◌≢◌, ◌⊎◌, inl, inr, ⊎_eli
 use Rattle.std.specs.List.{Contains}
 use Rattle.std.specs.Option.{is_some}
 use Rattle.std.proofs.lemmas.Bool.{cases_Bool, cases_eq, cases_lt, ne_eqb}
-use Rattle.std.proofs.lemmas.List.{take-append-le, take_all, take_rest, drop-append-le, drop_all}
+use Rattle.std.proofs.lemmas.List.{take-append-le, take_all, take_rest, drop-append-le}
 use Rattle.std.proofs.lemmas.Option.{none-some}
 use Rattle.std.proofs.Math.Seq.{take-append-add}
 use Rattle.disk_model.specs.Disk.{Content, Image, IsImage, OnlyAdds, last_image}
@@ -50,11 +50,6 @@ cached-whole disk m sectors is reads whole c told sector low =
     by_held None of read = read
     by_held (Some held) of read = of held refl
 
--- What is read of one sector, and of two.
-pub reads_one : (m : List Content) (at from size : ℕ) (x : List ℕ) (r : HeldSectors) → ((c : Content) → content_now m ≡ Some c → length (cached r c at) ≡ 512) → from + size ≤ 512
-    → HasNow (λ c. x ≡ piece_of from size (cached r c at)) m → HasNow (λ c. x ≡ span_of at from size (cached r c)) m
-reads_one m at from size x r whole fits read c told = read c told ∙ sym (span_of-one (cached r c) at from size (whole c told) fits)
-
 pub reads_two : {a b : List Content} {P : Content → Type 0} (at from first rest size : ℕ) (x y : List ℕ) (r s : HeldSectors) → ((c : Content) → content_now a ≡ Some c → length (cached r c at) ≡ 512)
     → from ≤ 512 → first ≡ 512 - from → size ≡ 512 - from + rest → HasNow (λ c. x ≡ piece_of from first (cached r c at)) a → EachMoment a b P → Keeps r s a b
     → HasNow (λ c. y ≡ piece_of 0 rest (cached s c (at + 1))) b → HasNow (λ c. x ++ y ≡ span_of at from size (cached r c)) a
@@ -77,9 +72,6 @@ pub rest_part : (bytes : List ℕ) (from cut : ℕ) → cut ≡ min (length byte
 rest_part bytes from cut is other =
     let same : cut ≡ 512 - from = omega (arith, is, other) in
     take_rest bytes cut ∙ ap (λ (n : ℕ). drop n bytes) same
-
-pub no_rest : (bytes : List ℕ) (from cut : ℕ) → cut ≡ min (length bytes) (512 - from) → cut ≡ length bytes → drop (512 - from) bytes ≡ []
-no_rest bytes from cut is all = drop_all (512 - from) bytes (omega (arith, is, all))
 
 -- ---- what is held and marked
 
@@ -116,10 +108,6 @@ pub HoldsSpan-two : (at from size : ℕ) (r s t : HeldSectors) → from < 512 �
 HoldsSpan-two at from size r s t begins some short past first second =
     HoldsSpan-also at from size (at + 1) r s t (λ sector same. next_in_span at from size sector begins short past same) (HoldsSpan-one at from size r s begins some first) second
 
--- No sector is marked more,
-MarksSpan-keeps : {a b : List Content} (at from size : ℕ) (r s : HeldSectors) → Keeps r s a b → MarksSpan at from size r s
-MarksSpan-keeps at from size r s keeps = record { each = λ sector marked. inl (keeps.marked sector marked); slots = keeps.slots }
-
 -- so by a step after others,
 MarksSpan-kept : {a b : List Content} (at from size : ℕ) (r s t : HeldSectors) → MarksSpan at from size r s → Keeps s t a b → MarksSpan at from size r t
 MarksSpan-kept at from size r s t first keeps = record {
@@ -144,9 +132,6 @@ MarksSpan-changed at from size which begin piece r s t of first changes = record
 
 MarksSpan-none : (at from size : ℕ) (r : HeldSectors) → MarksSpan at from size r r
 MarksSpan-none at from size r = record { each = λ sector marked. inl refl; slots = refl }
-
-pub MarksSpan-failed : {a b : List Content} (at from size : ℕ) (r s : HeldSectors) → Keeps r s a b → MarksSpan at from size r s
-MarksSpan-failed at from size r s keeps = MarksSpan-keeps at from size r s keeps
 
 pub MarksSpan-one : {a b : List Content} (at from size : ℕ) (piece : List ℕ) (r s : HeldSectors) → from < 512 → 1 ≤ size → Changes at from piece r s a b → MarksSpan at from size r s
 MarksSpan-one at from size piece r s begins some changes =
@@ -178,15 +163,6 @@ pub with_span-first : (at from : ℕ) (bytes : List ℕ) (image : Image) (sector
 with_span-first at from bytes image sector same =
     with_given_piece-other (at + 1) 0 (drop (512 - from) bytes) (with_given_piece at from (take (512 - from) bytes) image) sector (λ e. omega arith)
 
-pub StoresSpan-one : {a b : List Content} (at from : ℕ) (bytes piece : List ℕ) (r s : HeldSectors) → piece ≡ take (512 - from) bytes → drop (512 - from) bytes ≡ [] → Changes at from piece r s a b → StoresSpan at from bytes r s a b
-StoresSpan-one at from bytes piece r s is none changes = record {
-  given = λ c told d told_end sector.
-      changes.given c told d told_end sector
-      ∙ ap (λ (p : List ℕ). with_given_piece at from p (cached r c) sector) is
-      ∙ sym (ap (λ (p : List ℕ). with_given_piece (at + 1) 0 p (with_given_piece at from (take (512 - from) bytes) (cached r c)) sector) none
-      ∙ with_given_piece-none (at + 1) (with_given_piece at from (take (512 - from) bytes) (cached r c)) sector);
-}
-
 pub StoresSpan-two : {a b c : List Content} (W : ℕ → List ℕ → Type 0) (at from : ℕ) (bytes piece rest : List ℕ) (r s t : HeldSectors) → piece ≡ take (512 - from) bytes → rest ≡ drop (512 - from) bytes
     → Changes at from piece r s a b → Changes (at + 1) 0 rest s t b c → EachSince (OnlyAdds W) b c → StoresSpan at from bytes r t a c
 StoresSpan-two W at from bytes piece rest r s t is rest_is first second moments = record {
@@ -197,9 +173,6 @@ StoresSpan-two W at from bytes piece rest r s t is rest_is first second moments 
       ∙ ap (λ (p : List ℕ). with_given_piece (at + 1) 0 p (with_given_piece at from piece (cached r x)) sector) rest_is
       ∙ ap (λ (p : List ℕ). with_given_piece (at + 1) 0 (drop (512 - from) bytes) (with_given_piece at from p (cached r x)) sector) is;
 }
-
-pub StoresPart-none : {a b : List Content} (at from : ℕ) (bytes : List ℕ) (r s : HeldSectors) → Keeps r s a b → StoresPart at from bytes r s a b
-StoresPart-none at from bytes r s keeps = record { given = λ c told d told_end sector. inl (keeps.given c told d told_end sector) }
 
 pub StoresPart-half : {a b c : List Content} (W : ℕ → List ℕ → Type 0) (at from : ℕ) (bytes piece : List ℕ) (r s t : HeldSectors) → piece ≡ take (512 - from) bytes → 512 < from + length bytes
     → Changes at from piece r s a b → Keeps s t b c → EachSince (OnlyAdds W) b c → StoresPart at from bytes r t a c

@@ -2,7 +2,7 @@
 use Rattle.std.proofs.Common.{◌≡◌, inl, inr, ⊎_elim, ℕ, ◌-◌, ◌*◌, ◌<◌, List, length, slice_index, true, refl, sym, ◌∙◌, ap, subst, arith, Option, Some, None}
 use Rattle.std.specs.Option.{is_some}
 use Rattle.std.proofs.lemmas.Bool.{false≢true}
-use Rattle.std.proofs.lemmas.Option.{none-some, same_Some}
+use Rattle.std.proofs.lemmas.Option.{same_Some}
 use Rattle.disk_model.specs.Disk.{AddsSome, Content, Image, IsRun, OnlyAdds, last_candidate}
 use Rattle.disk_model.specs.Identity.{DiskIdentity, IsBound}
 use Rattle.disk_model.specs.Moments.{EachSince, content_now}
@@ -17,10 +17,10 @@ use Rattle.place_model.proofs.TagsLemmas.{tag_byte-no_data}
 use Rattle.buffer_cache.specs.declared.held.Held.{Held}
 use Rattle.buffer_cache.specs.declared.held.HeldSectors.{HeldSectors}
 use Rattle.buffer_cache.specs.Cached.{IsMarkedSector, IsOfDisk, held_or}
-use Rattle.buffer_cache.specs.HeldSectors.{HoldsNoMore, held_in}
+use Rattle.buffer_cache.specs.HeldSectors.{held_in}
 use Rattle.buffer_cache.proofs.CachedLemmas.{IsOfDisk-elsewhere, told_at_end}
-use Rattle.tag_store.specs.Spans.{HoldsSpan, IsFirstOfTwo, IsInSpan, IsOfSpan, IsOutForSpan, IsSpan, MarksSpan, StoresPart, StoresSpan, span_of}
-use Rattle.tag_store.specs.Store.{HoldsTag, IsMarkedTags, IsOfPut, IsOutForTag, IsStore, KeepsButTag, KeepsTags, Store, StoresFirst, StoresTag, given, tags_in}
+use Rattle.tag_store.specs.Spans.{HoldsSpan, IsFirstOfTwo, IsInSpan, IsOfSpan, IsOutForSpan, IsSpan, span_of}
+use Rattle.tag_store.specs.Store.{HoldsTag, IsMarkedTags, IsOfPut, IsOutForTag, IsStore, KeepsTags, Store, given, tags_in}
 
 -- ---- where a tag stands
 
@@ -82,20 +82,6 @@ IsStore-also g disk now r s block size low same is there cache held = record {
       (λ of. HoldsTag-span g block size sector low same of) (held.each sector found e);
 }
 
--- Nothing more is held.
-pub IsStore-no_more : (g : Geometry) (disk now : DiskIdentity) {a b : List Content} (r s : HeldSectors) → IsStore (record { geometry = g; sectors = r }) disk a → now ≡ disk → IsOfDisk s now b → HoldsNoMore r s
-    → IsStore (record { geometry = g; sectors = s }) now b
-IsStore-no_more g disk now r s is there cache held = record {
-  bound = subst (λ (d : DiskIdentity). IsBound d.name) (sym there) is.bound;
-  geometry = subst (λ (d : DiskIdentity). IsGeometry g d.sectors) (sym there) is.geometry;
-  cache = cache;
-  tags_only = λ sector found e. by_before sector found e (held_in r sector) refl;
-}
-  where
-    by_before : (sector : ℕ) (found : Held) → held_in s sector ≡ Some found → (o : Option Held) → held_in r sector ≡ o → HoldsTag g sector
-    by_before sector found e None was = absurd (none-some found (sym (held.each sector was) ∙ e))
-    by_before sector found e (Some held) was = is.tags_only sector held was
-
 -- ---- what may be written
 
 pub IsMarkedTags-held : (store : Store) (disk : DiskIdentity) {m : List Content} (sector : ℕ) (x : List ℕ) → IsStore store disk m → IsMarkedSector store.sectors sector x → IsMarkedTags store sector x
@@ -128,22 +114,6 @@ module _ (g : Geometry) (block : ℕ) (tag : List ℕ) (size : length tag ≡ g.
 
   abbrev new : Store
   new = record { geometry = g; sectors = s }
-
-  pub StoresTag-span : {a b : List Content} → StoresSpan (tag_at g block).0 (tag_at g block).1 tag r s a b → StoresTag block tag old new a b
-  StoresTag-span stored = record { given_ = stored.given }
-
-  pub StoresFirst-part : {a b : List Content} → StoresPart (tag_at g block).0 (tag_at g block).1 tag r s a b → StoresFirst block tag old new a b
-  StoresFirst-part part = record {
-    given_ = λ c told d told_end sector. ⊎_elim inl
-        (λ first. inr (first_of_size (tag_at g block).0 (tag_at g block).1 g.shape.tag_size (length tag) sector (sym size) first.0, first.1)) (part.given c told d told_end sector);
-  }
-
-  pub KeepsButTag-span : MarksSpan (tag_at g block).0 (tag_at g block).1 (length tag) r s → KeepsButTag block old new
-  KeepsButTag-span marks = record {
-    geometry = refl;
-    marked = λ sector marked. ⊎_elim inl (λ of. inr (record { byte = of.byte; low = let low = of.low in omega (arith, size); is = of.is })) (marks.each sector marked);
-    slots = marks.slots;
-  }
 
   pub put_adds : (disk : DiskIdentity) {m a b : List Content} → IsStore old disk m → EachSince (λ start. OnlyAdds (IsOfSpan (tag_at g block).0 (tag_at g block).1 tag r start) start) a b
       → EachSince (λ start. OnlyAdds (IsOfPut block tag old start) start) a b
