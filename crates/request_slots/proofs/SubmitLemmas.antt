@@ -33,7 +33,7 @@ module _ (flight : Flight) (request : Request) (none : fault_of flight request �
   form_is_right = (both_none (form_fault flight request) (slots_fault flight) none).0
 
 -- blocks with some bytes against which nothing is
-blocks_are_there : (flight : Flight) (first count : ℕ) (bytes : List ℕ) → blocks_fault flight first count bytes ≡ None
+pub blocks_are_there : (flight : Flight) (first count : ℕ) (bytes : List ℕ) → blocks_fault flight first count bytes ≡ None
     → (count ≢ 0) × (first + count ≤ flight.blocks) × (length bytes ≡ count * flight.block_size)
 blocks_are_there flight first count bytes none =
     let range = not_then ((count == 0) || ltb flight.blocks (first + count)) (Range first count flight.blocks) _ none in

@@ -43,6 +43,17 @@ fn serve(slots: &mut Slots, ticket: &Ticket, bytes: &[u8]) -> Option<Turn> {
     Some(turn)
 }
 
+/// Ends a read with a fault of its next block.
+fn fail(slots: &mut Slots, ticket: &Ticket) {
+    if !slots.holds(ticket) {
+        return;
+    }
+    if let Turn::Read { block } = slots.turn(ticket) {
+        let (stored, computed) = (Tag::from_bytes(&[1]), Tag::from_bytes(&[2]));
+        slots.put_fault(ticket, block, stored, computed);
+    }
+}
+
 /// The bytes that go back with the reply, where there is one.
 fn taken(slots: &mut Slots, ticket: Ticket) -> Option<Bytes> {
     if !slots.holds(&ticket) {
@@ -115,10 +126,7 @@ fn an_overlapping_request_waits(rt: HostRuntime) -> Result<(), Fail> {
         serve(&mut slots, &read, &[7, 8]),
         Some(Turn::Read { block: 1 })
     );
-    if let (true, Some(Turn::Read { block })) = (slots.holds(&read), turn(&slots, &read)) {
-        let (stored, computed) = (Tag::from_bytes(&[1]), Tag::from_bytes(&[2]));
-        slots.put_fault(&read, block, stored, computed);
-    }
+    fail(&mut slots, &read);
     let buffer = taken(&mut slots, read).expect(&rt, "it is done");
     assert_eq!(rt; buffer.as_slice(), [7, 8, 9, 9].as_slice());
     let bytes = taken(&mut slots, write).expect(&rt, "it is done");
