@@ -1,13 +1,11 @@
 -- The places that slots tell, once a node is added or dropped.
-use Rattle.std.proofs.Common.{◌≡◌, ◌≢◌, inl, inr, ℕ, suc, ◌<◌, ◌≤◌, List, [], ◌∷◌, ◌++◌, length, set, get_or, Option, None, Some, option_map, refl, sym, ◌∙◌, ap, subst, arith, length-set, get_or-set_same, get_or-set_other}
+use Rattle.std.proofs.Common.{◌≡◌, inl, inr, ℕ, ◌<◌, ◌≤◌, List, [], ◌∷◌, ◌++◌, length, set, get_or, Option, None, Some, option_map, refl, sym, ◌∙◌, ap, subst, arith, length-set, get_or-set_same, get_or-set_other}
 use Rattle.std.proofs.lemmas.Bool.{cases_eq}
 use Rattle.std.proofs.lemmas.List.{get_or_at, get_or_append_left, length-append}
 use Rattle.journal_overlay.specs.Nodes.{no_node, node_at, dropped, behind, last_of, TellsPlace}
 use Rattle.journal_overlay.specs.Slots.{last_in, place_in, slot_with}
 use Rattle.journal_overlay.specs.declared.node.Node.{Node}
-use Rattle.journal_overlay.specs.declared.place.Added.{Added}
 use Rattle.journal_overlay.specs.declared.place.Place.{Place}
-use Rattle.journal_overlay.specs.declared.table.Last.{Last}
 use Rattle.journal_overlay.specs.declared.table.Slot.{Slot}
 use Rattle.journal_overlay.specs.declared.table.Slot.TheVariants.{Free, Gone, Told}
 

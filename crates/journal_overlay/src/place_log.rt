@@ -168,8 +168,8 @@ fn drop_node(log: &mut PlaceLog, at: u32) -> Option<u32>
     log.kept -= 1;
     if log.blocks.last(node.added.block) == Some(at) {
         let newest = newest_kept(&log.nodes, node.older);
-        log.blocks
-            .set_last(node.added.block, last_at(&log.nodes, newest));
+        let told = last_at(&log.nodes, newest);
+        log.blocks.set_last(node.added.block, told);
     }
     node.fellow
 }

@@ -12,6 +12,7 @@ ghost use Rattle.journal_overlay.specs.Slots.{bit_of, HasBits, home_of, slot_of,
 
 use crate::place::Place;
 use std::alloc::{AllocError, Global};
+use std::mem::size_of;
 
 /// What keys are multiplied by, so that near ones get homes apart.
 ///
@@ -25,9 +26,7 @@ pub(crate) struct Last {
     pub(crate) place: Place,
 }
 
-/// A slot of the table.
-///
-/// Its parts stand in this order so that it takes 32 bytes.
+/// A slot of the table. Its parts stand in an order in which it takes 32 bytes.
 #[derive(Clone, Copy)]
 pub(crate) enum Slot {
     /// No key came here.
@@ -37,6 +36,8 @@ pub(crate) enum Slot {
     /// This key came here, and stands last here, where this place is.
     Told { at: u32, key: u64, place: Place },
 }
+
+const _: () = prove!(size_of::<Slot>() == 32);
 
 impl Slot {
     /// The slot of a key that stands last here, if it does.

@@ -92,8 +92,8 @@ newest_kept-newest-requires-clause-there c =
     ap length c.deref.ensures.value ∙ ap length c.mark_dropped-node.ensures.dropped ∙ length-set log.nodes.items at (dropped (node_at log.nodes.items at)) in
     omega (arith, older, long, there)
 
-pub last_at-requires : goal.last_at-requires
-last_at-requires c =
+pub last_at-told-requires : goal.last_at-told-requires
+last_at-told-requires c =
     let log = c.args.log.now in let at = c.args.at in let nodes = log.nodes.items in
     let there = within log at c.requires in let n = node_at nodes at in
     let nodes_are : c.deref.result.now ≡ without log at = c.deref.ensures.value ∙ c.mark_dropped-node.ensures.dropped in
@@ -115,8 +115,8 @@ returns-then-eq-clause-whole c =
     let back : IsBack n.added.block n.older at (without log at) = IsBack-drop nodes at there n.added.block at n.older (whole.is_log.index.linked.older at there) in
     let led : IsBack n.added.block c.newest_kept-newest.result at (without log at) × IsHere (kept_of n.added.block) c.newest_kept-newest.result (without log at) =
     rw nodes_are at (c.newest_kept-newest.ensures n.added.block at (rw (nodes_are, node_is) back)) in
-    let last_is : c.last_at.result ≡ last_of (without log at) c.newest_kept-newest.result =
-    c.last_at.ensures ∙ ap (λ (l : List Node). last_of l c.newest_kept-newest.result) (c.deref-then-eq.ensures.value ∙ c.mark_dropped-node.ensures.dropped) in
+    let last_is : c.last_at-told.result ≡ last_of (without log at) c.newest_kept-newest.result =
+    c.last_at-told.ensures ∙ ap (λ (l : List Node). last_of l c.newest_kept-newest.result) (c.deref-then-eq.ensures.value ∙ c.mark_dropped-node.ensures.dropped) in
     let slots : c.set_last.new.self.slots.items ≡ with_last bh bs n.added.block (last_of (without log at) c.newest_kept-newest.result) =
     c.set_last.ensures.slots ∙ ap (λ (l : Option Last). with_last bh bs c.mark_dropped-node.result.added.block l) last_is
     ∙ ap (λ (x : Node). with_last bh bs x.added.block (last_of (without log at) c.newest_kept-newest.result)) node_is in
