@@ -1,0 +1,15 @@
+use Rattle.std.proofs.Common.{◌∙◌, ap, rules}
+use Rattle.clap.specs.Words.{app_of, with_rule}
+use Rattle.command_words.specs.ByClap.{option_rule}
+use Rattle.command_words.specs.Rows.{as_option}
+use Rattle.command_words.proofs.FoldLemmas.{fold_step}
+use Rattle.command_words.proofs.line.with_options.Goals as goal
+
+pub loop-row-preserved : goal.loop-row-preserved
+loop-row-preserved c = record {
+  app = c.in_ok-command.ensures.shape c.option.ensures.local
+      ∙ ap (with_rule (app_of c.loop-row.command)) c.option.ensures.rule
+      ∙ fold_step with_rule (λ option. option_rule (as_option option)) _ (app_of c.loop-row.command) c.args.rows.now
+      c.loop-row.row-index _ (search rules) c.loop-row.invariant.app;
+  local = search rules;
+}
