@@ -1,18 +1,21 @@
 //! Words and the commands that they are.
 
-use crate::{Command, Interleave, TagSize, WordsFault, has_come, parse};
+use crate::{FileName, Interleave, TagSize, WordsFault, has_come, parse};
 use std::alloc::{AllocError, Global};
 use std::test::Fail;
 
-/// Words that are a command, parted by `|`, and a part of what `Debug` shows of it.
+/// Words that are a command, parted by `|`, and a part of what is shown of it.
 ///
 /// Source: what clap 4 makes of such words without settings of its own, and the ends of the values.
 static TAKEN: [(&str, &str); 30] = [
     (
         "run|I|--mode|D",
-        "Run(Run { image: FileName { name: \"I\" }, mode: Direct, hash: Sha256 })",
+        "Run(Run { image: FileName { name: \"I\" }, mode: Direct, hash: Sha256 }), come: true",
     ),
-    ("run|--mode=J|I", "mode: Journal, hash: Sha256"),
+    (
+        "run|--mode=J|I",
+        "mode: Journal, hash: Sha256 }), come: false",
+    ),
     (
         "run|I|--mode|J|--integrity|hmac-sha256|--integrity-key-file|K",
         "hash: HmacSha256 { key_file: FileName { name: \"K\" } }",
@@ -168,11 +171,11 @@ fn words_of(alloc: Global, words: &str) -> Result<Vec<String>, AllocError> {
     Ok(all)
 }
 
-/// What `Debug` shows of the command that these words are. Nothing where they are none.
+/// What `Debug` shows of the command that these words are, and whether it has come. Nothing where they are none.
 fn shown(alloc: Global, words: &str) -> Result<Option<String>, Fail> {
     let words = words_of(alloc, words)?;
     match parse(alloc, words.as_slice()) {
-        Ok(command) => Ok(Some(format!(in alloc; "{command:?}")?)),
+        Ok(command) => Ok(Some(format!(in alloc; "{command:?}, come: {}", has_come(&command))?)),
         Err(WordsFault::Refused) => Ok(None),
         Err(fault) => Err(fault)?,
     }
@@ -198,22 +201,11 @@ fn no_words_are_no_command(rt: HostRuntime) -> Result<(), Fail> {
 }
 
 #[test]
-fn values_are_those_of_the_words(rt: HostRuntime) -> Result<(), Fail> {
-    let words = words_of(rt.alloc(), "format|I|--tag-size|4|--interleave-sectors|16")?;
-    let Command::Format(format) = parse(rt.alloc(), words.as_slice())? else {
-        return Err("another command")?;
-    };
-    assert!(rt; format.image.as_str() == "I");
-    assert!(rt; format.tag_size.number() == 4 && format.interleave.sectors() == 16);
+fn values_are_what_they_are_made_of(rt: HostRuntime) -> Result<(), Fail> {
+    let name = FileName::new(rt.alloc(), "I")?;
+    assert!(rt; name.as_str() == "I");
+    assert!(rt; matches!(TagSize::new(4), Some(size) if size.number() == 4));
+    assert!(rt; matches!(Interleave::new(16), Some(interleave) if interleave.sectors() == 16));
     assert!(rt; TagSize::new(33).is_none() && Interleave::new(24).is_none());
-    Ok(())
-}
-
-#[test]
-fn direct_runs_by_sha256_have_come(rt: HostRuntime) -> Result<(), Fail> {
-    let words = words_of(rt.alloc(), "run|I|--mode|D")?;
-    assert!(rt; has_come(&parse(rt.alloc(), words.as_slice())?));
-    let words = words_of(rt.alloc(), "run|I|--mode|J")?;
-    assert!(rt; !has_come(&parse(rt.alloc(), words.as_slice())?));
     Ok(())
 }

@@ -3,28 +3,30 @@ use Rattle.std.proofs.Common.{◌≡◌, ◌≢◌, inl, inr, ℕ, zero, suc, �
 use Rattle.std.proofs.lemmas.Bool.{cases_Bool, cases_lt, cases_eq, eqb-true, eq-eqb, ne_eqb, and_parts}
 use Rattle.std.proofs.lemmas.List.{length-replicate, get_or-replicate, get_or_past}
 use Rattle.journal_overlay.specs.Index.{IsIndex, TellsLatest, TellsOthers}
-use Rattle.journal_overlay.specs.Nodes.{no_node, node_at, dropped, kept_of, kept_in, IsHere, IsLast, IsBack}
-use Rattle.journal_overlay.specs.Slots.{IsTable, is_used, last_in, slot_of, last_at}
+use Rattle.journal_overlay.specs.Nodes.{no_node, node_at, dropped, kept_of, kept_in, IsHere, IsLast, IsBack, last_of, TellsPlace}
+use Rattle.journal_overlay.specs.Slots.{IsTable, is_used, key_in, last_in, slot_with, slot_of, last_at}
 use Rattle.journal_overlay.specs.declared.node.Node.{Node}
 use Rattle.journal_overlay.specs.declared.place.Added.{Added}
 use Rattle.journal_overlay.specs.declared.table.Slot.{Slot}
-use Rattle.journal_overlay.specs.declared.table.Slot.TheVariants.{Free, Used}
+use Rattle.journal_overlay.specs.declared.table.Last.{Last}
+use Rattle.journal_overlay.specs.declared.table.Slot.TheVariants.{Free}
 use Rattle.journal_overlay.proofs.NodesLemmas.{length-more, IsLast-new, IsLast-old, AreLinked-more, AreLinked-drop, IsLast-block, IsLast-back}
+use Rattle.journal_overlay.proofs.PlacesLemmas.{last_of-at, TellsPlace-with, TellsPlace-set, TellsPlace-more, TellsPlace-new, TellsPlace-drop}
 use Rattle.journal_overlay.proofs.SlotsLemmas.{slot_of-room, slot_of-last, used-set, used-set_used, found-set, last_at-set_same, last_at-set_other}
 
 -- The table with the place where a key stands last.
-abbrev pub with_last : (homes : ℕ) → List Slot → (key : ℕ) → Option ℕ → List Slot
-with_last homes slots key last = set slots (slot_of homes slots key) (Used key last)
+abbrev pub with_last : (homes : ℕ) → List Slot → (key : ℕ) → Option Last → List Slot
+with_last homes slots key last = set slots (slot_of homes slots key) (slot_with key last)
 
 -- A table has room for a key more.
-pub IsTable-more : (room came homes : ℕ) (slots : List Slot) (key : ℕ) (last : Option ℕ) → came < room → IsTable room came homes slots
+pub IsTable-more : (room came homes : ℕ) (slots : List Slot) (key : ℕ) (last : Option Last) → came < room → IsTable room came homes slots
     → IsTable room (suc came) homes (with_last homes slots key last)
 IsTable-more room came homes slots key last less table =
     let there = slot_of-room room came homes slots key table (omega (arith, less)) in
     record {
       some = table.some;
-      room = length-set slots (slot_of homes slots key) (Used key last) ∙ table.room;
-      few = omega (arith, used-set slots (slot_of homes slots key) (Used key last), table.few);
+      room = length-set slots (slot_of homes slots key) (slot_with key last) ∙ table.room;
+      few = omega (arith, used-set slots (slot_of homes slots key) (slot_with key last), table.few);
       found = found-set homes slots key last there table.found;
     }
 
@@ -46,8 +48,8 @@ module _ (room bh : ℕ) (bs : List Slot) (sh : ℕ) (ss : List Slot) (nodes : L
   abbrev after : List Node
   after = nodes ++ n ∷ []
 
-  abbrev here : Option ℕ
-  here = Some (length nodes)
+  abbrev here : Option Last
+  here = Some (record { at = length nodes; place = a.place })
 
   abbrev bs' : List Slot
   bs' = with_last bh bs a.block here
@@ -86,6 +88,8 @@ module _ (room bh : ℕ) (bs : List Slot) (sh : ℕ) (ss : List Slot) (nodes : L
     section_table = subst (λ (came : ℕ). IsTable room came sh ss') count (IsTable-more room (length nodes) sh ss a.place.section here less index.section_table);
     linked = AreLinked-more nodes n index.linked (index.newest a.block) (latest a.place.section);
     newest = newest-more;
+    places = TellsPlace-set bs (slot_of bh bs a.block) (slot_with a.block here) after (slot_of-room room (length nodes) bh bs a.block index.block_table (omega (arith, less)))
+        (TellsPlace-new nodes n a.block) (λ s. TellsPlace-more nodes n (get_or bs s Free) (index.places s));
   }
 
 -- ---- the same by other names
@@ -113,14 +117,14 @@ not_last b m nodes last apart is_last e =
     apart (eqb-true (node_at nodes m).added.block b (and_parts (node_at nodes m).is_kept ((node_at nodes m).added.block == b) here).1)
 
 -- A table stays one where a key that stood somewhere stands elsewhere.
-pub IsTable-moved : (room came homes : ℕ) (slots : List Slot) (key k : ℕ) (last : Option ℕ) → last_at homes slots key ≡ Some k → IsTable room came homes slots
+pub IsTable-moved : (room came homes : ℕ) (slots : List Slot) (key k : ℕ) (last : Option Last) → last_at homes slots key ≡ Some k → IsTable room came homes slots
     → IsTable room came homes (with_last homes slots key last)
 IsTable-moved room came homes slots key k last told table =
     let there = slot_of-last homes slots key k told in
     record {
       some = table.some;
-      room = length-set slots (slot_of homes slots key) (Used key last) ∙ table.room;
-      few = omega (arith, used-set_used slots (slot_of homes slots key) (Used key last) there.1, table.few);
+      room = length-set slots (slot_of homes slots key) (slot_with key last) ∙ table.room;
+      few = omega (arith, used-set_used slots (slot_of homes slots key) (slot_with key last) there.1, table.few);
       found = found-set homes slots key last there.0 table.found;
     }
 
@@ -144,25 +148,38 @@ module _ (room bh : ℕ) (bs : List Slot) (sh : ℕ) (ss : List Slot) (nodes : L
       | inl e ↦ IsLast-block nodes m there b (last_at bh bs b) (λ is. other (ap (last_at bh bs) e ∙ is)) (index.newest b)
       | inr apart ↦ IsLast-block nodes m there b (last_at bh bs b) (not_last b m nodes (last_at bh bs b) apart (index.newest b)) (index.newest b)
     ];
+    places = λ s. TellsPlace-drop nodes m there (get_or bs s Free) (index.places s);
   }
 
-  -- Where it was, the node tells the newest that leads back from it.
-  pub IsIndex-moved : (newest : Option ℕ) → last_at bh bs block ≡ Some m → IsBack block newest m without → IsHere (kept_of block) newest without
-      → IsIndex room bh (with_last bh bs block newest) sh ss without
-  IsIndex-moved newest told back here = record {
-    block_table = subst (λ (came : ℕ). IsTable room came bh (with_last bh bs block newest)) same_length (IsTable-moved room (length nodes) bh bs block m newest told index.block_table);
-    section_table = subst (λ (came : ℕ). IsTable room came sh ss) same_length index.section_table;
-    linked = AreLinked-drop nodes m there index.linked was;
-    newest = λ b. elim (cases_eq b block) [
-      | inl e ↦
-          subst (λ (k : ℕ). IsLast (kept_of k) (last_at bh (with_last bh bs block newest) k) without) (sym e)
-          (subst (λ (o : Option ℕ). IsLast (kept_of block) o without) (sym (last_at-set_same bh bs block newest (slot_of-last bh bs block m told).0 index.block_table.found))
-          (IsLast-back nodes m there block newest (subst (λ (o : Option ℕ). IsLast (kept_of block) o nodes) told (index.newest block)) back here))
-      | inr apart ↦
-          subst (λ (o : Option ℕ). IsLast (kept_of b) o without) (sym (last_at-set_other bh bs block newest (slot_of-last bh bs block m told).0 index.block_table.found b apart))
-          (IsLast-block nodes m there b (last_at bh bs b) (not_last b m nodes (last_at bh bs b) (λ (e : block ≡ b). apart (sym e)) (index.newest b)) (index.newest b))
-    ];
-  }
+  -- Where it was, the table tells the newest that leads back from it.
+  module _ (newest : Option ℕ) (told : last_at bh bs block ≡ Some m) (back : IsBack block newest m without) (here : IsHere (kept_of block) newest without) where
+    abbrev last : Option Last
+    last = last_of without newest
+
+    abbrev slots : List Slot
+    slots = with_last bh bs block last
+
+    own_there : slot_of bh bs block < length bs
+    own_there = (slot_of-last bh bs block m told).0
+
+    pub IsIndex-moved : IsIndex room bh slots sh ss without
+    IsIndex-moved = record {
+      block_table = subst (λ (came : ℕ). IsTable room came bh slots) same_length (IsTable-moved room (length nodes) bh bs block m last told index.block_table);
+      section_table = subst (λ (came : ℕ). IsTable room came sh ss) same_length index.section_table;
+      linked = AreLinked-drop nodes m there index.linked was;
+      newest = λ b. elim (cases_eq b block) [
+        | inl e ↦
+            subst (λ (k : ℕ). IsLast (kept_of k) (last_at bh slots k) without) (sym e)
+            (subst (λ (o : Option ℕ). IsLast (kept_of block) o without) (sym (last_at-set_same bh bs block last own_there index.block_table.found ∙ last_of-at without newest))
+            (IsLast-back nodes m there block newest (subst (λ (o : Option ℕ). IsLast (kept_of block) o nodes) told (index.newest block)) back here))
+        | inr apart ↦
+            subst (λ (o : Option ℕ). IsLast (kept_of b) o without) (sym (last_at-set_other bh bs block last own_there index.block_table.found b apart))
+            (IsLast-block nodes m there b (last_at bh bs b) (not_last b m nodes (last_at bh bs b) (λ (e : block ≡ b). apart (sym e)) (index.newest b)) (index.newest b))
+      ];
+      places = TellsPlace-set bs (slot_of bh bs block) (slot_with block last) without own_there
+          (TellsPlace-with without block newest (omega (arith, back.before, there, same_length)))
+          (λ s. TellsPlace-drop nodes m there (get_or bs s Free) (index.places s));
+    }
 
 -- ---- a section dropped
 
@@ -180,7 +197,7 @@ TellsLatest-none sh ss nodes section k room came table told others none = λ i. 
 -- ---- no node
 
 -- No key came to a table whose slots are all free.
-free_at : (n j : ℕ) → get_or (replicate n Free) j Free ≡ Free
+pub free_at : (n j : ℕ) → get_or (replicate n Free) j Free ≡ Free
 free_at n j = elim (cases_lt j n) [
   | inl less ↦ get_or-replicate n j Free Free less
   | inr past ↦ get_or_past (replicate n Free) j Free (omega (arith, length-replicate {A = Slot} n Free, past))
@@ -195,11 +212,11 @@ IsTable-free room homes n some long = record {
   some = some;
   room = length-replicate n Free ∙ long;
   few = omega (arith, no_used n);
-  found = λ s key last is. absurd (not_used key last (sym is ∙ free_at n s));
+  found = λ s key is. absurd (no_key key (sym (ap key_in (free_at n s)) ∙ is));
 }
   where
-    not_used : (key : ℕ) (last : Option ℕ) → Used key last ≡ Free → ⊥
-    not_used key last e = cc
+    no_key : (key : ℕ) → None ≡ Some key → ⊥
+    no_key key e = cc
 
 last_at-free : (homes n key : ℕ) → last_at homes (replicate n Free) key ≡ None
 last_at-free homes n key = ap last_in (free_at n (slot_of homes (replicate n Free) key))
@@ -214,6 +231,7 @@ IsIndex-free room bh n sh m b_some b_long s_some s_long = record {
   section_table = IsTable-free room sh m s_some s_long;
   linked = record { older = λ k less. absurd (none_less k less); fellow = λ k less. absurd (none_less k less) };
   newest = λ b. subst (λ (o : Option ℕ). IsLast (kept_of b) o []) (sym (last_at-free bh n b)) (none-last (kept_of b) refl);
+  places = λ s. subst (λ (slot : Slot). TellsPlace slot []) (sym (free_at n s)) tt;
 }
   where
     none_less : (k : ℕ) → k < 0 → ⊥

@@ -1,5 +1,6 @@
 mod SlotsLemmas
 mod NodesLemmas
 mod KeptLemmas
+mod PlacesLemmas
 mod IndexLemmas
 mod Worked

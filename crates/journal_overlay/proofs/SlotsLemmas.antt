@@ -1,13 +1,18 @@
 -- What a table of slots tells of each key, once a key came.
-use Rattle.std.proofs.Common.{◌≡◌, ◌≢◌, ◌⊎◌, inl, inr, ℕ, zero, suc, ◌+◌, ◌-◌, ◌*◌, ◌/◌, ◌%◌, ◌^◌, ◌<◌, ◌≤◌, true, false, List, [], ◌∷◌, length, map, drop, set, get_or, replicate, filter, Option, None, Some, refl, sym, ◌∙◌, ap, subst, arith, get_or-set_same, get_or-set_other}
+use Rattle.std.proofs.Common.{◌≡◌, ◌≢◌, ◌⊎◌, inl, inr, ℕ, zero, suc, ◌+◌, ◌-◌, ◌*◌, ◌/◌, ◌%◌, ◌^◌, ◌<◌, ◌≤◌, ◌==◌, true, false, min, max, List, [], ◌∷◌, length, drop, set, get_or, filter, Option, None, Some, option_map, refl, sym, ◌∙◌, ap, subst, arith, get_or-set_same, get_or-set_other}
+use Rattle.std.specs.Int.Bits.{bit_and, bit_or}
+use Rattle.std.specs.Int.{bit_at}
 use Rattle.std.specs.List.{position_or_len}
 use Rattle.std.proofs.Math.Nat.{mul-le-mul_left}
-use Rattle.std.proofs.lemmas.Bool.{cases_lt, cases_eq, eqb-true, eq-eqb, ne_eqb}
+use Rattle.std.proofs.lemmas.Bool.{cases_Bool, cases_lt, cases_eq, eqb-true, eq-eqb, ne_eqb}
+use Rattle.std.proofs.lemmas.Nat.{and_or_self}
+use Rattle.std.proofs.lemmas.Nat.Bits.{same_from_bits, bit_at_and, bit_at_or}
 use Rattle.std.proofs.lemmas.List.{get_or-drop, get_or_past}
 use Rattle.std.proofs.lemmas.List.Sums.{fails_before_first, passes_at_first}
-use Rattle.journal_overlay.specs.Slots.{stops, is_used, last_in, mark_in, mark_of, home_of, slot_of, last_at, EndsAt, IsTable}
+use Rattle.journal_overlay.specs.Slots.{stops, is_used, key_in, last_in, slot_with, home_of, bit_of, HasBit, HasBits, slot_of, last_at, EndsAt, IsTable}
+use Rattle.journal_overlay.specs.declared.table.Last.{Last}
 use Rattle.journal_overlay.specs.declared.table.Slot.{Slot}
-use Rattle.journal_overlay.specs.declared.table.Slot.TheVariants.{Free, Used}
+use Rattle.journal_overlay.specs.declared.table.Slot.TheVariants.{Free, Gone, Told}
 
 abbrev slot_at : List Slot → ℕ → Slot
 slot_at slots k = get_or slots k Free
@@ -15,8 +20,11 @@ slot_at slots k = get_or slots k Free
 true-false : true ≡ false → ⊥
 true-false e = cc
 
-not_free : (key : ℕ) (last : Option ℕ) → Used key last ≡ Free → ⊥
-not_free key last e = cc
+none_some : (k : ℕ) → None ≡ Some k → ⊥
+none_some k e = cc
+
+same_some : (k l : ℕ) → Some k ≡ Some l → k ≡ l
+same_some k l e = cc
 
 -- ---- where a search ends
 
@@ -66,75 +74,97 @@ last_at-ends homes slots key s ends =
     ap (λ (t : ℕ). last_in (slot_at slots t)) (same_end homes slots key (slot_of homes slots key) s (EndsAt-slot_of homes slots key) ends)
 
 -- A slot where the search for a key ends is free, or of this key.
-own_key : (key : ℕ) (slot : Slot) → stops key slot ≡ true → (slot ≡ Free) ⊎ ((last : Option ℕ) × (slot ≡ Used key last))
+pub own_key : (key : ℕ) (slot : Slot) → stops key slot ≡ true → (slot ≡ Free) ⊎ (key_in slot ≡ Some key)
 own_key key Free stop = inl refl
-own_key key (Used own last) stop = inr (last, ap (λ (k : ℕ). Used k last) (eqb-true own key stop))
+own_key key (Gone own) stop = inr (ap (λ (k : ℕ). Some k) (eqb-true own key stop))
+own_key key (Told at own place) stop = inr (ap (λ (k : ℕ). Some k) (eqb-true own key stop))
 
-same_key : (k l : ℕ) (a b : Option ℕ) → Used k a ≡ Used l b → k ≡ l
-same_key k l a b e = cc
+-- A slot of a key ends the search for this key alone.
+stops-key : (key k : ℕ) (slot : Slot) → key_in slot ≡ Some k → stops key slot ≡ (k == key)
+stops-key key k Free is = absurd (none_some k is)
+stops-key key k (Gone own) is = ap (λ (q : ℕ). q == key) (same_some own k is)
+stops-key key k (Told at own place) is = ap (λ (q : ℕ). q == key) (same_some own k is)
 
--- ---- marks
+-- ---- the slot of a key
 
-mark_of-some : (key : ℕ) → 0 < mark_of key
-unfolding mark_of
-mark_of-some key = omega arith
+pub key_in-slot_with : (key : ℕ) (last : Option Last) → key_in (slot_with key last) ≡ Some key
+key_in-slot_with key None = refl
+key_in-slot_with key (Some last) = refl
 
--- A slot whose mark is that of a free one tells no place.
-pub last_in-free_mark : (slot : Slot) → mark_in slot ≡ 0 → last_in slot ≡ None
-last_in-free_mark Free is = refl
-last_in-free_mark (Used own last) is = absurd (none_free own is)
+last_in-slot_with : (key : ℕ) (last : Option Last) → last_in (slot_with key last) ≡ option_map (λ l. l.at) last
+last_in-slot_with key None = refl
+last_in-slot_with key (Some last) = refl
+
+used-key : (slot : Slot) (key : ℕ) → key_in slot ≡ Some key → is_used slot ≡ true
+used-key Free key is = absurd (none_some key is)
+used-key (Gone own) key is = refl
+used-key (Told at own place) key is = refl
+
+-- ---- bits
+
+-- A number has the bits that are added to it,
+pub HasBit-own : (bits bit : ℕ) → HasBit (bit_or bits bit) bit
+HasBit-own bits bit = and_or_self bit bits
+
+-- and those that it had.
+pub HasBit-more : (bits more bit : ℕ) → HasBit bits bit → HasBit (bit_or bits more) bit
+HasBit-more bits more bit had = same_from_bits (bit_and (bit_or bits more) bit) bit (λ i.
+    let was : min (bit_at bits i) (bit_at bit i) ≡ bit_at bit i = sym (bit_at_and bits bit i) ∙ ap (λ (b : ℕ). bit_at b i) had in
+    let now : bit_at (bit_and (bit_or bits more) bit) i ≡ min (max (bit_at bits i) (bit_at more i)) (bit_at bit i) =
+    bit_at_and (bit_or bits more) bit i ∙ ap (λ (b : ℕ). min b (bit_at bit i)) (bit_at_or bits more i) in
+    now ∙ kept (bit_at bits i) (bit_at more i) (bit_at bit i) was)
   where
-    none_free : (key : ℕ) → mark_of key ≡ 0 → ⊥
-    none_free key is = let some = mark_of-some key in omega (arith, some, is)
-
--- A search ends at a slot without a mark.
-pub stops-free_mark : (key : ℕ) (slot : Slot) → mark_in slot ≡ 0 → stops key slot ≡ true
-stops-free_mark key Free is = refl
-stops-free_mark key (Used own last) is = absurd (omega (arith, is, mark_of-some own))
-
--- The marks of free slots.
-pub marks-free : (n : ℕ) → map mark_in (replicate n Free) ≡ replicate n 0
-marks-free zero = refl
-marks-free (suc n) = ap (λ (marks : List ℕ). 0 ∷ marks) (marks-free n)
+    kept : (b m k : ℕ) → min b k ≡ k → min (max b m) k ≡ k
+    kept b m k was = omega (arith, was)
 
 -- ---- how many slots are used
 
 -- One slot more is used at most.
 pub used-set : (slots : List Slot) (s : ℕ) (slot : Slot) → length (filter is_used (set slots s slot)) ≤ suc (length (filter is_used slots))
 used-set [] s slot = omega arith
-used-set (Free ∷ slots) zero Free = omega arith
-used-set (Free ∷ slots) zero (Used key last) = omega arith
-used-set (Used k l ∷ slots) zero Free = omega arith
-used-set (Used k l ∷ slots) zero (Used key last) = omega arith
-used-set (Free ∷ slots) (suc s) slot = used-set slots s slot
-used-set (Used k l ∷ slots) (suc s) slot = omega (arith, used-set slots s slot)
+used-set (x ∷ slots) zero slot = elim (cases_Bool (is_used x)) [
+  | inl used ↦ elim (cases_Bool (is_used slot)) [ inl now ↦ simp (used, now) (omega arith) | inr now ↦ simp (used, now) (omega arith) ]
+  | inr free ↦ elim (cases_Bool (is_used slot)) [ inl now ↦ simp (free, now) (omega arith) | inr now ↦ simp (free, now) (omega arith) ]
+]
+used-set (x ∷ slots) (suc s) slot =
+    let rest = used-set slots s slot in
+    elim (cases_Bool (is_used x)) [
+      | inl used ↦ simp used (omega (arith, rest))
+      | inr free ↦ simp free (omega (arith, rest))
+    ]
 
 -- None more where the slot was used.
 pub used-set_used : (slots : List Slot) (s : ℕ) (slot : Slot) → is_used (slot_at slots s) ≡ true → length (filter is_used (set slots s slot)) ≤ length (filter is_used slots)
 used-set_used [] s slot was = omega arith
-used-set_used (Free ∷ slots) zero slot was = absurd (true-false (sym was))
-used-set_used (Used k l ∷ slots) zero Free was = omega arith
-used-set_used (Used k l ∷ slots) zero (Used key last) was = omega arith
-used-set_used (Free ∷ slots) (suc s) slot was = used-set_used slots s slot was
-used-set_used (Used k l ∷ slots) (suc s) slot was = omega (arith, used-set_used slots s slot was)
+used-set_used (x ∷ slots) zero slot was = elim (cases_Bool (is_used slot)) [
+  | inl now ↦ simp (was, now) (omega arith)
+  | inr now ↦ simp (was, now) (omega arith)
+]
+used-set_used (x ∷ slots) (suc s) slot was =
+    let rest = used-set_used slots s slot was in
+    elim (cases_Bool (is_used x)) [
+      | inl used ↦ simp used (omega (arith, rest))
+      | inr free ↦ simp free (omega (arith, rest))
+    ]
 
 -- Where all slots from one on are used, there are no more slots than that one and the used ones.
 used-from : (slots : List Slot) (h : ℕ) → ((j : ℕ) → h ≤ j → j < length slots → is_used (slot_at slots j) ≡ true) → length slots ≤ h + length (filter is_used slots)
 used-from [] h all = omega arith
-used-from (Free ∷ slots) zero all = absurd (true-false (sym (all 0 (omega arith) (omega arith))))
-used-from (Used k l ∷ slots) zero all =
+used-from (x ∷ slots) zero all =
     let rest = used-from slots 0 (λ j from less. all (suc j) (omega arith) (omega (arith, less))) in
-    omega (arith, rest)
-used-from (Free ∷ slots) (suc h) all =
+    let used : is_used x ≡ true = all 0 (omega arith) (omega arith) in
+    simp used (omega (arith, rest))
+used-from (x ∷ slots) (suc h) all =
     let rest = used-from slots h (λ j from less. all (suc j) (omega (arith, from)) (omega (arith, less))) in
-    omega (arith, rest)
-used-from (Used k l ∷ slots) (suc h) all =
-    let rest = used-from slots h (λ j from less. all (suc j) (omega (arith, from)) (omega (arith, less))) in
-    omega (arith, rest)
+    elim (cases_Bool (is_used x)) [
+      | inl used ↦ simp used (omega (arith, rest))
+      | inr free ↦ simp free (omega (arith, rest))
+    ]
 
 stops-free : (key : ℕ) (slot : Slot) → stops key slot ≡ false → is_used slot ≡ true
 stops-free key Free passes = absurd (true-false passes)
-stops-free key (Used own last) passes = refl
+stops-free key (Gone own) passes = refl
+stops-free key (Told at own place) passes = refl
 
 -- A part of so many homes is less than all of them.
 pub part-below : (x homes : ℕ) → x < 2 ^ 32 → 0 < homes → x * homes % 2 ^ 64 / 2 ^ 32 < homes
@@ -172,37 +202,78 @@ pub slot_of-last : (homes : ℕ) (slots : List Slot) (key k : ℕ) → last_at h
 slot_of-last homes slots key k told = (
   elim (cases_lt (slot_of homes slots key) (length slots)) [
     | inl less ↦ less
-    | inr past ↦ absurd (none_some (sym (ap last_in (get_or_past slots (slot_of homes slots key) Free past)) ∙ told))
+    | inr past ↦ absurd (none_some k (sym (ap last_in (get_or_past slots (slot_of homes slots key) Free past)) ∙ told))
   ],
   used (slot_at slots (slot_of homes slots key)) told,
 )
   where
-    none_some : None ≡ Some k → ⊥
-    none_some e = cc
-
     used : (slot : Slot) → last_in slot ≡ Some k → is_used slot ≡ true
-    used Free e = absurd (none_some e)
-    used (Used own last) e = refl
+    used Free e = absurd (none_some k e)
+    used (Gone own) e = absurd (none_some k e)
+    used (Told at own place) e = refl
 
-module _ (homes : ℕ) (slots : List Slot) (key : ℕ) (last : Option ℕ) (room : slot_of homes slots key < length slots) (found : (s k : ℕ) (l : Option ℕ) → slot_at slots s ≡ Used k l → EndsAt homes slots k s) where
+-- A slot where no key came from its home with its bit is free.
+pub free-without_bit : (homes : ℕ) (bits : List ℕ) (slots : List Slot) (key : ℕ) → HasBits homes bits slots
+    → (HasBit (get_or bits (home_of homes key) 0) (bit_of key) → ⊥) → slot_at slots (slot_of homes slots key) ≡ Free
+free-without_bit homes bits slots key has none = elim (own_key key (slot_at slots (slot_of homes slots key)) (EndsAt-slot_of homes slots key).ends) [
+  | inl free ↦ free
+  | inr own ↦ absurd (none (has (slot_of homes slots key) key own))
+]
+
+-- Once a key has a slot, its home has its bit, and the others have theirs.
+pub HasBits-set : (homes : ℕ) (bits : List ℕ) (slots : List Slot) (key s : ℕ) (last : Option Last) → s < length slots → home_of homes key < length bits
+    → HasBits homes bits slots → HasBits homes (set bits (home_of homes key) (bit_or (get_or bits (home_of homes key) 0) (bit_of key))) (set slots s (slot_with key last))
+HasBits-set homes bits slots key s last there home has t k is = elim (cases_eq t s) [
+  | inl e ↦
+      let own : key_in (slot_at after t) ≡ Some key = ap (λ (i : ℕ). key_in (slot_at after i)) e ∙ ap key_in (get_or-set_same slots s (slot_with key last) Free there) ∙ key_in-slot_with key last in
+      subst (λ (q : ℕ). HasBit (get_or more (home_of homes q) 0) (bit_of q)) (same_some key k (sym own ∙ is))
+      (subst (λ (b : ℕ). HasBit b (bit_of key)) (sym (get_or-set_same bits h with_bit 0 home)) (HasBit-own (get_or bits h 0) (bit_of key)))
+  | inr apart ↦ elim (cases_eq (home_of homes k) h) [
+    | inl e ↦
+        let had : HasBit (get_or bits h 0) (bit_of k) = subst (λ (i : ℕ). HasBit (get_or bits i 0) (bit_of k)) e (has t k (was apart)) in
+        subst (λ (i : ℕ). HasBit (get_or more i 0) (bit_of k)) (sym e)
+        (subst (λ (b : ℕ). HasBit b (bit_of k)) (sym (get_or-set_same bits h with_bit 0 home)) (HasBit-more (get_or bits h 0) (bit_of key) (bit_of k) had))
+    | inr elsewhere ↦ subst (λ (b : ℕ). HasBit b (bit_of k)) (sym (get_or-set_other bits h (home_of homes k) with_bit 0 elsewhere)) (has t k (was apart))
+  ]
+]
+  where
+    h : ℕ
+    h = home_of homes key
+
+    with_bit : ℕ
+    with_bit = bit_or (get_or bits h 0) (bit_of key)
+
+    more : List ℕ
+    more = set bits h with_bit
+
+    after : List Slot
+    after = set slots s (slot_with key last)
+
+    was : t ≢ s → key_in (slot_at slots t) ≡ Some k
+    was apart = ap key_in (sym (get_or-set_other slots s t (slot_with key last) Free apart)) ∙ is
+
+module _ (homes : ℕ) (slots : List Slot) (key : ℕ) (last : Option Last) (room : slot_of homes slots key < length slots) (found : (s k : ℕ) → key_in (slot_at slots s) ≡ Some k → EndsAt homes slots k s) where
   abbrev own : ℕ
   own = slot_of homes slots key
 
   abbrev after : List Slot
-  after = set slots own (Used key last)
+  after = set slots own (slot_with key last)
 
-  at_own : slot_at after own ≡ Used key last
-  at_own = get_or-set_same slots own (Used key last) Free room
+  at_own : slot_at after own ≡ slot_with key last
+  at_own = get_or-set_same slots own (slot_with key last) Free room
+
+  own_is : key_in (slot_at after own) ≡ Some key
+  own_is = ap key_in at_own ∙ key_in-slot_with key last
 
   at_other : (j : ℕ) → j ≢ own → slot_at after j ≡ slot_at slots j
-  at_other j ne = get_or-set_other slots own j (Used key last) Free ne
+  at_other j ne = get_or-set_other slots own j (slot_with key last) Free ne
 
   -- The search for another key ends where it ended.
   kept_end : (k s : ℕ) → EndsAt homes slots k s → k ≢ key → s ≢ own → EndsAt homes after k s
   kept_end k s ends other ne = record {
     from = ends.from;
     passes = λ j from less. elim (cases_eq j own) [
-      | inl e ↦ ap (λ (i : ℕ). stops k (slot_at after i)) e ∙ ap (stops k) at_own ∙ ne_eqb key k (λ (same : key ≡ k). other (sym same))
+      | inl e ↦ ap (λ (i : ℕ). stops k (slot_at after i)) e ∙ stops-key k key (slot_at after own) own_is ∙ ne_eqb key k (λ (same : key ≡ k). other (sym same))
       | inr apart ↦ ap (stops k) (at_other j apart) ∙ ends.passes j from less
     ];
     ends = ap (stops k) (at_other s ne) ∙ ends.ends;
@@ -214,27 +285,27 @@ module _ (homes : ℕ) (slots : List Slot) (key : ℕ) (last : Option ℕ) (room
       record {
         from = ends.from;
         passes = λ j from less. ap (stops key) (at_other j (omega (arith, less))) ∙ ends.passes j from less;
-        ends = ap (stops key) at_own ∙ eq-eqb key key refl;
+        ends = stops-key key key (slot_at after own) own_is ∙ eq-eqb key key refl;
       }
 
   -- Of the key this is told,
-  pub last_at-set_same : last_at homes after key ≡ last
-  last_at-set_same = last_at-ends homes after key own own_end ∙ ap last_in at_own
+  pub last_at-set_same : last_at homes after key ≡ option_map (λ l. l.at) last
+  last_at-set_same = last_at-ends homes after key own own_end ∙ ap last_in at_own ∙ last_in-slot_with key last
 
-  other_key : (s k : ℕ) (l : Option ℕ) → slot_at slots s ≡ Used k l → s ≢ own → k ≢ key
-  other_key s k l is ne same =
-      let ends : EndsAt homes slots key s = subst (λ (q : ℕ). EndsAt homes slots q s) same (found s k l is) in
+  other_key : (s k : ℕ) → key_in (slot_at slots s) ≡ Some k → s ≢ own → k ≢ key
+  other_key s k is ne same =
+      let ends : EndsAt homes slots key s = subst (λ (q : ℕ). EndsAt homes slots q s) same (found s k is) in
       ne (same_end homes slots key s own ends (EndsAt-slot_of homes slots key))
 
   -- every key stands where the search for it ends,
-  pub found-set : (s k : ℕ) (l : Option ℕ) → slot_at after s ≡ Used k l → EndsAt homes after k s
-  found-set s k l is = elim (cases_eq s own) [
+  pub found-set : (s k : ℕ) → key_in (slot_at after s) ≡ Some k → EndsAt homes after k s
+  found-set s k is = elim (cases_eq s own) [
     | inl e ↦
-        let k_is : key ≡ k = same_key key k last l (sym at_own ∙ ap (slot_at after) (sym e) ∙ is) in
+        let k_is : key ≡ k = same_some key k (sym own_is ∙ ap (λ (t : ℕ). key_in (slot_at after t)) (sym e) ∙ is) in
         subst (λ (q : ℕ). EndsAt homes after q s) k_is (subst (λ (t : ℕ). EndsAt homes after key t) (sym e) own_end)
     | inr ne ↦
-        let was : slot_at slots s ≡ Used k l = sym (at_other s ne) ∙ is in
-        kept_end k s (found s k l was) (other_key s k l was ne) ne
+        let was : key_in (slot_at slots s) ≡ Some k = ap key_in (sym (at_other s ne)) ∙ is in
+        kept_end k s (found s k was) (other_key s k was ne) ne
   ]
 
   -- and of any other key what was told.
@@ -242,10 +313,10 @@ module _ (homes : ℕ) (slots : List Slot) (key : ℕ) (last : Option ℕ) (room
   last_at-set_other k other = elim (own_key k (slot_at slots was) was_end.ends) [
     | inl free ↦ elim (own_key k (slot_at after now) now_end.ends) [
       | inl free_now ↦ ap last_in free_now ∙ sym (ap last_in free)
-      | inr there ↦ absurd (no_more free there.0 there.1)
+      | inr there ↦ absurd (no_more free there)
     ]
     | inr there ↦
-        let apart : was ≢ own = λ e. other (eqb-true k key (ap (stops key) (sym there.1) ∙ ap (λ (t : ℕ). stops key (slot_at slots t)) e ∙ (EndsAt-slot_of homes slots key).ends)) in
+        let apart : was ≢ own = λ e. other (eqb-true k key (sym (stops-key key k (slot_at slots was) there) ∙ ap (λ (t : ℕ). stops key (slot_at slots t)) e ∙ (EndsAt-slot_of homes slots key).ends)) in
         last_at-ends homes after k was (kept_end k was was_end other apart) ∙ ap last_in (at_other was apart)
   ]
     where
@@ -261,9 +332,9 @@ module _ (homes : ℕ) (slots : List Slot) (key : ℕ) (last : Option ℕ) (room
       now_end : EndsAt homes after k now
       now_end = EndsAt-slot_of homes after k
 
-      no_more : slot_at slots was ≡ Free → (l : Option ℕ) → slot_at after now ≡ Used k l → ⊥
-      no_more free l is =
-          let apart : now ≢ own = λ e. other (same_key k key l last (sym is ∙ ap (slot_at after) e ∙ at_own)) in
-          let before : slot_at slots now ≡ Used k l = sym (at_other now apart) ∙ is in
-          let same : now ≡ was = same_end homes slots k now was (found now k l before) was_end in
-          not_free k l (sym before ∙ ap (slot_at slots) same ∙ free)
+      no_more : slot_at slots was ≡ Free → key_in (slot_at after now) ≡ Some k → ⊥
+      no_more free is =
+          let apart : now ≢ own = λ e. other (same_some k key (sym is ∙ ap (λ (t : ℕ). key_in (slot_at after t)) e ∙ own_is)) in
+          let before : key_in (slot_at slots now) ≡ Some k = ap key_in (sym (at_other now apart)) ∙ is in
+          let same : now ≡ was = same_end homes slots k now was (found now k before) was_end in
+          none_some k (sym (ap key_in free) ∙ ap (λ (t : ℕ). key_in (slot_at slots t)) (sym same) ∙ before)

@@ -1,20 +1,22 @@
 -- What is told of each block and of each section: its last kept node.
-use Rattle.std.specs.Prelude.{◌≡◌, ◌≢◌, ℕ, ◌<◌, ◌≤◌, ◌^◌, List, length, filter, not, Option, vec_capacity}
+use Rattle.std.specs.Prelude.{◌≡◌, ◌≢◌, ℕ, ◌<◌, ◌≤◌, ◌^◌, List, length, get_or, filter, not, Option, vec_capacity}
 use Rattle.journal_overlay.specs.declared.table.Slot.{Slot}
+use Rattle.journal_overlay.specs.declared.table.Slot.TheVariants.{Free}
 use Rattle.journal_overlay.specs.declared.node.Node.{Node}
 use Rattle.journal_overlay.specs.declared.place_log.PlaceLog.{PlaceLog}
-use Rattle.journal_overlay.specs.Nodes.{AreLinked, IsLast, kept_of, kept_in, kept_places, node_at}
+use Rattle.journal_overlay.specs.Nodes.{AreLinked, IsLast, kept_of, kept_in, kept_places, node_at, TellsPlace}
 use Rattle.journal_overlay.specs.Kept.{is_in}
 use Rattle.journal_overlay.specs.Slots.{IsTable, last_at}
 
 -- The nodes lead to each other, two tables have room for as many keys as there may be nodes, and the first tells of
--- each block its last kept node.
+-- each block its last kept node, with its place.
 pub record IsIndex (room blocks : ℕ) (block_slots : List Slot) (sections : ℕ) (section_slots : List Slot)
     (nodes : List Node) : Type 0 where
   pub block_table : IsTable room (length nodes) blocks block_slots
   pub section_table : IsTable room (length nodes) sections section_slots
   pub linked : AreLinked nodes
   pub newest : (b : ℕ) → IsLast (kept_of b) (last_at blocks block_slots b) nodes
+  pub places : (s : ℕ) → TellsPlace (get_or block_slots s Free) nodes
 
 -- The table tells of each section its last kept node,
 abbrev pub TellsLatest : (homes : ℕ) → List Slot → List Node → Type 0

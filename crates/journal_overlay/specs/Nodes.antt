@@ -1,7 +1,10 @@
 -- The places in order of adding, dropped ones among them, and how each leads to an older one.
-use Rattle.std.specs.Prelude.{◌≡◌, ℕ, suc, ◌<◌, ◌≤◌, ◌==◌, Bool, true, false, ◌&&◌, List, length, map, filter, get_or, Option, Some, None}
+use Rattle.std.specs.Prelude.{◌≡◌, ℕ, suc, ◌<◌, ◌≤◌, ◌==◌, Bool, true, false, ◌&&◌, List, length, map, filter, get_or, Option, Some, None, option_map}
 use Rattle.journal_overlay.specs.declared.place.Added.{Added}
 use Rattle.journal_overlay.specs.declared.node.Node.{Node}
+use Rattle.journal_overlay.specs.declared.table.Last.{Last}
+use Rattle.journal_overlay.specs.declared.table.Slot.{Slot}
+use Rattle.journal_overlay.specs.declared.table.Slot.TheVariants.{Free, Gone, Told}
 use Rattle.journal_overlay.specs.Kept.{added}
 
 -- A node that is not kept, for a place behind the last.
@@ -29,6 +32,16 @@ kept_in section n = n.is_kept && (n.added.place.section == section)
 abbrev pub behind : Option ℕ → ℕ
 behind None = 0
 behind (Some k) = suc k
+
+-- What a table is told of a key that stands last at this node, if there is one.
+abbrev pub last_of : List Node → Option ℕ → Option Last
+last_of nodes at = option_map (λ k. record { at = k; place = (node_at nodes k).added.place }) at
+
+-- The place that a slot tells is that of the node that it tells.
+abbrev pub TellsPlace : Slot → List Node → Type 0
+TellsPlace Free nodes = Unit {0}
+TellsPlace (Gone own) nodes = Unit {0}
+TellsPlace (Told at own place) nodes = (at < length nodes) × ((node_at nodes at).added.place ≡ place)
 
 -- No node from the i-th on and before the k-th passes.
 abbrev pub NoneBetween : (Node → Bool) → (i k : ℕ) → List Node → Type 0

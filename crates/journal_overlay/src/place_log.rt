@@ -3,11 +3,11 @@ ghost use Rattle.std.specs.Prelude.{◌≡◌, ◌+◌, ◌^◌, ◌<◌, ◌≤
 ghost use Rattle.journal_overlay.specs.Slots.{last_at};
 ghost use Rattle.journal_overlay.specs.Index.{IsWhole, IsWholeBut, OthersStay, section_at};
 ghost use Rattle.journal_overlay.specs.Kept.{is_in, newest_of};
-ghost use Rattle.journal_overlay.specs.Nodes.{behind, dropped, kept_places, node_at};
+ghost use Rattle.journal_overlay.specs.Nodes.{behind, dropped, kept_places, last_of, node_at};
 
 use crate::node::{Node, newest_kept};
 use crate::place::{Added, Place};
-use crate::table::Table;
+use crate::table::{Last, Table};
 use std::alloc::{AllocError, Global};
 
 /// The places in order of adding, dropped ones among them, with the last kept node of each block and section.
@@ -49,8 +49,7 @@ impl PlaceLog {
 
         ensures { result ≡ newest_of block (kept_places self.now.nodes.items) }
     {
-        let at = self.blocks.last(block)?;
-        Some(self.nodes[at as usize].added.place)
+        self.blocks.place(block)
     }
 }
 
@@ -74,8 +73,12 @@ pub(crate) fn append(log: &mut PlaceLog, added: Added)
         fellow: log.sections.last(section),
     };
     log.nodes.push_reserved(node);
-    log.blocks.set_last(added.block, Some(at));
-    log.sections.set_last(section, Some(at));
+    let last = Last {
+        at,
+        place: added.place,
+    };
+    log.blocks.set_last(added.block, Some(last));
+    log.sections.set_last(section, Some(last));
     log.kept += 1;
 }
 
@@ -165,9 +168,21 @@ fn drop_node(log: &mut PlaceLog, at: u32) -> Option<u32>
     log.kept -= 1;
     if log.blocks.last(node.added.block) == Some(at) {
         let newest = newest_kept(&log.nodes, node.older);
-        log.blocks.set_last(node.added.block, newest);
+        let told = last_at(&log.nodes, newest);
+        log.blocks.set_last(node.added.block, told);
     }
     node.fellow
+}
+
+/// What the table is told of a key that stands last at this node, if there is one.
+fn last_at(nodes: &[Node], at: Option<u32>) -> Option<Last>
+    requires { behind at ≤ length nodes.now }
+
+    ensures { result ≡ last_of nodes.now at }
+{
+    let at = at?;
+    let place = nodes[at as usize].added.place;
+    Some(Last { at, place })
 }
 
 /// Makes a node one that is not kept, and tells it as it was.

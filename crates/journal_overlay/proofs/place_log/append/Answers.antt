@@ -30,10 +30,10 @@ returns-clause-whole c =
     let index = c.requires.whole.is_log.index in let latest = c.requires.whole.latest in
     let items : c.push_reserved.new.self.items ≡ nodes ++ new_node bh bs sh ss a ∷ [] = rw (c.last.ensures, c.last-2.ensures) at c.push_reserved.ensures.items in
     let at_is : c.len-at.result ≡ length nodes = omega (arith, c.len-at.ensures, log.nodes.ok.0) in
-    let block_slots : c.set_last.new.self.slots.items ≡ with_last bh bs a.block (Some (length nodes)) =
-    c.set_last.ensures.slots ∙ ap (λ (k : ℕ). with_last bh bs a.block (Some k)) at_is in
-    let section_slots : c.set_last-2.new.self.slots.items ≡ with_last sh ss a.place.section (Some (length nodes)) =
-    c.set_last-2.ensures.slots ∙ ap (λ (k : ℕ). with_last sh ss a.place.section (Some k)) at_is in
+    let block_slots : c.set_last.new.self.slots.items ≡ with_last bh bs a.block (Some (record { at = length nodes; place = a.place })) =
+    c.set_last.ensures.slots ∙ ap (λ (k : ℕ). with_last bh bs a.block (Some (record { at = k; place = a.place }))) at_is in
+    let section_slots : c.set_last-2.new.self.slots.items ≡ with_last sh ss a.place.section (Some (record { at = length nodes; place = a.place })) =
+    c.set_last-2.ensures.slots ∙ ap (λ (k : ℕ). with_last sh ss a.place.section (Some (record { at = k; place = a.place }))) at_is in
     record {
       is_log = record {
         few = omega (arith, ap length items, length-more nodes (new_node bh bs sh ss a), c.requires.room);

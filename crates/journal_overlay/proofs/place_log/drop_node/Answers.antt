@@ -3,8 +3,9 @@ use Rattle.std.specs.Option.{option_eq}
 use Rattle.std.proofs.lemmas.Bool.{and_parts, eqb-true, eq-eqb}
 use Rattle.journal_overlay.specs.Index.{IsIndex, IsWholeBut, OthersStay, section_at}
 use Rattle.journal_overlay.specs.Kept.{is_in}
-use Rattle.journal_overlay.specs.Nodes.{node_at, dropped, kept_of, kept_in, behind, IsBack, IsHere}
+use Rattle.journal_overlay.specs.Nodes.{node_at, dropped, kept_of, kept_in, behind, last_of, IsBack, IsHere}
 use Rattle.journal_overlay.specs.Slots.{last_at}
+use Rattle.journal_overlay.specs.declared.table.Last.{Last}
 use Rattle.journal_overlay.specs.declared.node.Node.{Node}
 use Rattle.journal_overlay.specs.declared.place_log.PlaceLog.{PlaceLog}
 use Rattle.journal_overlay.proofs.IndexLemmas.{with_last, IsIndex-drop, IsIndex-moved, IsIndex-same}
@@ -91,6 +92,17 @@ newest_kept-newest-requires-clause-there c =
     ap length c.deref.ensures.value ∙ ap length c.mark_dropped-node.ensures.dropped ∙ length-set log.nodes.items at (dropped (node_at log.nodes.items at)) in
     omega (arith, older, long, there)
 
+pub last_at-told-requires : goal.last_at-told-requires
+last_at-told-requires c =
+    let log = c.args.log.now in let at = c.args.at in let nodes = log.nodes.items in
+    let there = within log at c.requires in let n = node_at nodes at in
+    let nodes_are : c.deref.result.now ≡ without log at = c.deref.ensures.value ∙ c.mark_dropped-node.ensures.dropped in
+    let back : IsBack n.added.block n.older at (without log at) = IsBack-drop nodes at there n.added.block at n.older (c.requires.is_log.index.linked.older at there) in
+    let led = (c.newest_kept-newest.ensures n.added.block at (rw (nodes_are, c.mark_dropped-node.ensures.node) back)).0 in
+    let long : length c.deref-then-eq.result.now ≡ length nodes =
+    ap length c.deref-then-eq.ensures.value ∙ ap length c.mark_dropped-node.ensures.dropped ∙ length-set nodes at (dropped n) in
+    omega (arith, led.before, long, there)
+
 pub returns-then-eq-clause-whole : goal.returns-then-eq-clause-whole
 returns-then-eq-clause-whole c =
     let log = c.args.log.now in let at = c.args.at in let nodes = log.nodes.items in let whole = c.requires in
@@ -103,8 +115,11 @@ returns-then-eq-clause-whole c =
     let back : IsBack n.added.block n.older at (without log at) = IsBack-drop nodes at there n.added.block at n.older (whole.is_log.index.linked.older at there) in
     let led : IsBack n.added.block c.newest_kept-newest.result at (without log at) × IsHere (kept_of n.added.block) c.newest_kept-newest.result (without log at) =
     rw nodes_are at (c.newest_kept-newest.ensures n.added.block at (rw (nodes_are, node_is) back)) in
-    let slots : c.set_last.new.self.slots.items ≡ with_last bh bs n.added.block c.newest_kept-newest.result =
-    c.set_last.ensures.slots ∙ ap (λ (x : Node). with_last bh bs x.added.block c.newest_kept-newest.result) node_is in
+    let last_is : c.last_at-told.result ≡ last_of (without log at) c.newest_kept-newest.result =
+    c.last_at-told.ensures ∙ ap (λ (l : List Node). last_of l c.newest_kept-newest.result) (c.deref-then-eq.ensures.value ∙ c.mark_dropped-node.ensures.dropped) in
+    let slots : c.set_last.new.self.slots.items ≡ with_last bh bs n.added.block (last_of (without log at) c.newest_kept-newest.result) =
+    c.set_last.ensures.slots ∙ ap (λ (l : Option Last). with_last bh bs c.mark_dropped-node.result.added.block l) last_is
+    ∙ ap (λ (x : Node). with_last bh bs x.added.block (last_of (without log at) c.newest_kept-newest.result)) node_is in
     whole_after log _ at _ whole c.mark_dropped-node.ensures.dropped c.mark_dropped-node.ensures.capacity refl (omega (arith, counted log at whole)) refl refl
     (ap (λ (x : Node). x.fellow) node_is)
     (IsIndex-same log.room bh _ _ _ log.sections.homes _ log.sections.slots.items _ (without log at) _ c.set_last.ensures.homes slots refl refl refl

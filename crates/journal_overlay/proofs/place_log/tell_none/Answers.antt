@@ -27,7 +27,7 @@ returns-clause-whole c =
         small = whole.is_log.small;
         counted = whole.is_log.counted;
         index = IsIndex-same log.room log.blocks.homes _ log.blocks.slots.items _ sh _ _ _ log.nodes.items _ refl refl c.set_last.ensures.homes c.set_last.ensures.slots refl
-            (record { block_table = index.block_table; section_table = IsTable-moved log.room _ sh ss section some.0 None some.1 index.section_table; linked = index.linked; newest = index.newest });
+            (record { block_table = index.block_table; section_table = IsTable-moved log.room _ sh ss section some.0 None some.1 index.section_table; linked = index.linked; newest = index.newest; places = index.places });
       };
       latest = TellsLatest-same sh _ _ _ log.nodes.items _ c.set_last.ensures.homes c.set_last.ensures.slots refl
           (TellsLatest-none sh ss log.nodes.items section some.0 log.room _ index.section_table some.1 whole.others whole.last_is);
