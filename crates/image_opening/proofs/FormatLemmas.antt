@@ -1,7 +1,7 @@
 -- What an image tells, by what was read of it.
-use Rattle.std.proofs.Common.{◌≡◌, ◌≢◌, inl, inr, ℕ, ◌<◌, true, false, refl, sym, ◌∙◌, ap, subst, Result, Option, Ok, Err, List, [], length, IfOk}
+use Rattle.std.proofs.Common.{◌≡◌, ◌≢◌, inl, inr, ℕ, ◌<◌, false, refl, sym, ◌∙◌, ap, subst, Result, Option, Ok, Err, List, [], length, IfOk}
 use Rattle.std.proofs.lemmas.Bool.{ne_eqb, cases_Bool}
-use Rattle.disk_model.specs.Disk.{Content, Image, IsImage, last_image}
+use Rattle.disk_model.specs.Disk.{Content, Image, last_image}
 use Rattle.disk_model.specs.Moments.{HasNow}
 use Rattle.image_model.specs.declared.flags.TheConstants.{DIRTY_BITMAP}
 use Rattle.image_model.specs.declared.super_fields.SuperFault.{SuperFault}
@@ -9,12 +9,12 @@ use Rattle.image_model.specs.declared.super_fields.SuperFault.TheVariants.{Magic
 use Rattle.image_model.specs.Openable.{first_sector}
 use Rattle.image_model.specs.Superblock.{Superblock, has_flag, superblock_of}
 use Rattle.image_model.proofs.SuperblockLemmas.{superblock_of-no_magic}
-use Rattle.place_model.specs.Format.{DiskFormat, format_on}
+use Rattle.place_model.specs.Format.{DiskFormat}
 use Rattle.place_model.proofs.FormatLemmas.{read_format_law}
 use Rattle.image_opening.specs.declared.open_fault.OpenFault.{OpenFault}
 use Rattle.image_opening.specs.declared.open_fault.OpenFault.TheVariants.{Super}
 use Rattle.image_opening.specs.declared.reading.ImageFormat.{ImageFormat}
-use Rattle.image_opening.specs.Format.{told_fields, fields_of, in_direct_mode, IsFormat, IsReadNow, IsDirectFormat, IsOpenedNow, disk_format}
+use Rattle.image_opening.specs.Format.{told_fields, fields_of, in_direct_mode, IsFormat, IsReadNow, IsOpenedNow, disk_format}
 
 -- Fields that are told are those of the superblock.
 told_fields-ok : (r : Result Superblock SuperFault) (s : Superblock) → told_fields r ≡ Ok s → r ≡ Ok s

@@ -1,4 +1,4 @@
-use Rattle.std.proofs.Common.{sym, rules}
+use Rattle.std.proofs.Common.{rules}
 use Rattle.disk_model.specs.Disk.{last_image}
 use Rattle.image_opening.proofs.FormatLemmas.{read_now}
 use Rattle.image_opening.proofs.reading.read_format.Goals as goal
