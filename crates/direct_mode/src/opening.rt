@@ -1,23 +1,21 @@
 //! The first sync of an opening, and a store that is made behind it.
-ghost use Rattle.std.specs.Prelude.{◌≡◌, ◌<◌, ℕ, List, Option, length, IfOk};
+ghost use Rattle.std.specs.Prelude.{◌≡◌, ℕ, List, Option, IfOk, OnOk};
 ghost use Rattle.disk_model.specs.Causes.{HasCause};
-ghost use Rattle.disk_model.specs.Disk.{EachImage, last_image};
+ghost use Rattle.disk_model.specs.Disk.{newest_only};
 ghost use Rattle.disk_model.specs.Identity.{IsBound};
-ghost use Rattle.disk_model.specs.Moments.{EachSince, HasNow};
+ghost use Rattle.disk_model.specs.Moments.{IsChangedBy};
 ghost use Rattle.image_model.specs.Geometry.{IsGeometry};
-ghost use Rattle.place_model.specs.Format.{format_on};
-ghost use Rattle.place_model.specs.Kind.{CanOpenPlaced, placed_kind};
-ghost use Rattle.direct_laws.specs.MomentLaws.{IsOpenedOn};
 ghost use Rattle.buffer_cache.specs.Cache.{sectors_of};
 ghost use Rattle.buffer_cache.specs.HeldSectors.{no_sectors};
-ghost use Rattle.tag_store.specs.Store.{IsStore, given_tags};
+ghost use Rattle.direct_mode.specs.Opening.{CanOpenRead, IsLeftOpening, IsOpened, IsToOpen};
+ghost use Rattle.tag_store.specs.Store.{IsStore};
 
 use buffer_cache::Cache;
 use layout::Geometry;
 use sector_disk::{Disk, Failed};
 use tag_store::Tags;
 
-/// Syncs a disk whose image can be opened, and makes a store for its tags.
+/// Syncs a disk whose image can be opened, and makes a store for its tags over a cache that holds nothing.
 ///
 /// # Errors
 ///
@@ -27,22 +25,20 @@ pub fn settle<D: Disk>(disk: &mut D, geometry: Geometry, cache: Cache) -> Result
     requires places { IsGeometry geometry (D.identity disk.old).sectors }
     requires fresh { (slots : ℕ) × (sectors_of cache ≡ no_sectors slots) }
 
+    ensures made { IfOk result (λ tags. tags ≡ record { geometry = geometry; sectors = sectors_of cache }) }
     ensures opened { IfOk result (λ tags. (key : Option (List ℕ))
-        → HasNow (λ c. CanOpenPlaced key (D.identity disk.old).sectors (last_image c)) (D.moments disk.old)
-        → HasNow (λ c. (format_on key (D.identity disk.old).sectors (last_image c)).geometry ≡ geometry) (D.moments disk.old)
-        → HasNow (λ start. IsOpenedOn key (D.identity disk.old).sectors (last_image start) (given_tags tags)
-        (D.moments disk.new)) (D.moments disk.old)) }
+        → IsToOpen key (D.identity disk.old).sectors geometry (D.moments disk.old)
+        → IsOpened key (D.identity disk.old).sectors tags (D.moments disk.old) (D.moments disk.new)) }
+    ensures store { IfOk result (λ tags. IsStore tags (D.identity disk.new) (D.moments disk.new)) }
+    ensures synced { OnOk result (IsChangedBy newest_only (D.moments disk.old) (D.moments disk.new)) }
 
     ensures cause { HasCause (D.faults disk.old) (D.faults disk.new) result }
 
-    ensures store { IfOk result (λ tags. IsStore tags (D.identity disk.new) (D.moments disk.new)) }
     ensures identity { D.identity disk.new ≡ D.identity disk.old }
 
     ensures moments { (key : Option (List ℕ))
-        → HasNow (λ c. CanOpenPlaced key (D.identity disk.old).sectors (last_image c)) (D.moments disk.old)
-        → let kind = placed_kind key (D.identity disk.old).sectors in
-        EachSince (λ start. let image = last_image start in
-        EachImage (kind.MayBeLeft image (kind.opened image).history)) (D.moments disk.old) (D.moments disk.new) }
+        → CanOpenRead key (D.identity disk.old).sectors (D.moments disk.old)
+        → IsLeftOpening key (D.identity disk.old).sectors (D.moments disk.old) (D.moments disk.new) }
 {
     disk.sync()?;
     Ok(Tags::new(geometry, cache))
