@@ -42,8 +42,8 @@ module _ (w : ServedWrite) (block : ℕ) (bytes tag : List ℕ) (flushes : Bool)
       let next = next_of w in
       let then_ = subst (λ (x : BlockWrite). HasCells (after_block flushes x w.disk) awaiting new b) write_is cells in
       let served = served_block_law w.format w.state w.disk w.place w.asked w.first w.blocks w.fua w.entry awaiting (given_tags new) a b writes.device writes.opened writes.served writes.request
-          (subst (λ (x : BlockWrite). StandsThrough (with_write w.disk x) a b) write_is through)
-          (subst (λ (t : Bool). KeepsNow (after_block t next w.disk) awaiting (given_tags new) b) writes.flushes_ then_.now) in
+      (subst (λ (x : BlockWrite). StandsThrough (with_write w.disk x) a b) write_is through)
+      (subst (λ (t : Bool). KeepsNow (after_block t next w.disk) awaiting (given_tags new) b) writes.flushes_ then_.now) in
       record {
         device = subst (λ (t : Bool). KeepsDevice w.format w.state (Serve (suc w.place)) w.entry w.disk (after_block t next w.disk) a b) (sym writes.flushes_) served;
         cells = then_;

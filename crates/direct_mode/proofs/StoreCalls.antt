@@ -1,5 +1,5 @@
 -- What the calls of a store of tags say, in the words of direct mode.
-use Rattle.std.proofs.Common.{◌≡◌, inl, inr, ⊎_elim, ℕ, ◌+◌, ◌*◌, ◌/◌, ◌<◌, refl, sym, ◌∙◌, ap, subst, arith, Option, Some, None, List, length, slice_index}
+use Rattle.std.proofs.Common.{◌≡◌, inl, inr, ⊎_elim, ℕ, ◌<◌, refl, sym, ◌∙◌, ap, subst, arith, Option, Some, None, List, length, slice_index}
 use Rattle.std.specs.List.{Contains}
 use Rattle.std.specs.Option.{option_map}
 use Rattle.std.proofs.lemmas.Option.{same_Some}
@@ -10,7 +10,7 @@ use Rattle.disk_model.proofs.DiskLemmas.{AddsSome-adds, OnlyAdds-join, OnlyAdds-
 use Rattle.disk_model.proofs.MomentsLemmas.{EachMoment-join, EachMoment-weaker, FromStart-weaker}
 use Rattle.image_model.specs.Geometry.{Geometry, data_at, tag_at}
 use Rattle.place_model.specs.Blocks.{IsBlockWrite}
-use Rattle.place_model.specs.Tags.{IsOfTags, with_block_tag}
+use Rattle.place_model.specs.Tags.{with_block_tag}
 use Rattle.place_model.proofs.BlocksLemmas.{KeepsOthers-data}
 use Rattle.direct_model.specs.DirectDisk.{DirectDisk}
 use Rattle.direct_laws.specs.CallLaws.{AddsTags, GivesTags, ReadsTagsNow}
@@ -19,7 +19,7 @@ use Rattle.buffer_cache.specs.declared.held.Held.{Held}
 use Rattle.buffer_cache.specs.Cached.{IsAmidWriteBack, IsWrittenBack, held_or}
 use Rattle.buffer_cache.specs.HeldSectors.{held_in}
 use Rattle.buffer_cache.proofs.CachedLemmas.{changed_now, told_at_end}
-use Rattle.tag_store.specs.Store.{HoldsTag, IsFirstOfTag, IsOfPut, IsOutForTag, IsStore, KeepsButTag, KeepsStore, Store, StoresTag, given, given_tags, tags_in, with_tag}
+use Rattle.tag_store.specs.Store.{IsFirstOfTag, IsOfPut, IsOutForTag, IsStore, KeepsButTag, KeepsStore, Store, StoresTag, given, given_tags, with_tag}
 use Rattle.tag_store.specs.StoreLaws.{AreWhole}
 use Rattle.tag_store.proofs.CallerLemmas.{back_adds_tags, back_reads_tags, get_adds_tags, keeps_gives_tags, keeps_others, put_adds_tags, put_gives_tags, put_keeps_others}
 use Rattle.tag_store.proofs.SpansLemmas.{first_in_span}
@@ -121,7 +121,7 @@ module _ (store : Store) (disk now : DiskIdentity) (block : ℕ) (bytes tag : Li
       let span = tag-span store.geometry disk.sectors block store.geometry.shape.tag_size is.geometry block_.low refl in
       let came = same_at_end store disk now block bytes is there block_.size data_ middle told_middle in
       let holds = HoldsTag-span store.geometry block store.geometry.shape.tag_size sector block_.low refl
-          (first_in_span (tag_at store.geometry block).0 (tag_at store.geometry block).1 store.geometry.shape.tag_size sector span.begins span.some first.is) in
+      (first_in_span (tag_at store.geometry block).0 (tag_at store.geometry block).1 store.geometry.shape.tag_size sector span.begins span.some first.is) in
       let same : middle sector ≡ start sector = came.2 sector holds ∙ ap (λ (c : Content). c sector) (same_Some came.0 start (sym came.1 ∙ told)) in
       ap (λ (xs : List (List ℕ)). with_tag store.geometry block tag (given store (λ s. xs)) sector) same
 

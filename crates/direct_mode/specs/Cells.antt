@@ -37,7 +37,7 @@ block_write ticket block bytes = record { ticket = ticket; block = block; bytes 
 
 -- ---- what may be written
 
--- The bytes may be written to the sector while the block is: they are its own there, or what a put of its tag may write.
+-- The bytes may be written to the sector while the block is: its own bytes there, or what a put of its tag writes.
 abbrev pub IsOfBlock : (block : ℕ) → (bytes tag : List ℕ) → Store → Content → ℕ → List ℕ → Type 0
 IsOfBlock block bytes tag store start sector x = IsOfRun (data_at store.geometry block) bytes sector x
     ⊎ IsOfPut block tag store start sector x

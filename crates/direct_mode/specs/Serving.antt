@@ -16,7 +16,7 @@ use Rattle.direct_laws.specs.ServeLaws.{KeepsDevice}
 use Rattle.direct_mode.specs.Cells.{HasCells}
 use Rattle.tag_store.specs.Store.{Store}
 
--- The device with its disk, the image that it was opened on, and the request with its place among those in flight.
+-- The device with its disk, the image that it was opened on, and the request with its place.
 pub record ServedWrite : Type 0 where
   pub format : DeviceFormat
   pub state : DeviceState
@@ -32,7 +32,7 @@ pub record ServedWrite : Type 0 where
 abbrev pub next_of : ServedWrite → BlockWrite
 next_of w = next_write w.place w.first w.blocks w.asked.served
 
--- These are its next block with the tag of that, and all is flushed where it is the last one of a write with a flush.
+-- These are its next block with its tag, and all is flushed where it is the last one of a write with a flush.
 pub record WritesNext (w : ServedWrite) (block : ℕ) (bytes tag : List ℕ) (flushes : Bool) (store : Store)
     (moments : List Content) : Type 0 where
   pub device : IsDirectDevice w.format w.state w.disk

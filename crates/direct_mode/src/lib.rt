@@ -5,6 +5,8 @@ mod flushing;
 mod opening;
 mod reading;
 mod serving;
+#[cfg(test)]
+mod tests;
 mod writing;
 
 pub use flushing::flush;

@@ -1,4 +1,4 @@
-use Rattle.std.proofs.Common.{suc, sym, ◌∙◌, subst, Bool}
+use Rattle.std.proofs.Common.{suc, sym, subst, Bool}
 use Rattle.std.proofs.lemmas.Result.{on_ok_weaker}
 use Rattle.direct_model.specs.Steps.{with_write}
 use Rattle.direct_laws.specs.EventLaws.{after_block}
