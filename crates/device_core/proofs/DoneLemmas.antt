@@ -1,9 +1,9 @@
 -- After each serve the device is the one after its event.
-use Rattle.std.proofs.Common.{◌≡◌, ◌≢◌, inl, inr, ⊎_elim, ℕ, zero, suc, ◌+◌, ◌*◌, ◌<◌, ◌≤◌, ◌==◌, ◌++◌, Bool, true, false, if◌then◌else◌, List, [], ◌∷◌, length, take, drop, set, get_or, slice_get, Option, None, Some, IfSome, refl, sym, ◌∙◌, ap, subst, arith}
+use Rattle.std.proofs.Common.{◌≡◌, ℕ, zero, suc, ◌+◌, ◌*◌, ◌<◌, ◌++◌, Bool, true, false, if◌then◌else◌, List, [], ◌∷◌, length, take, drop, set, get_or, slice_get, Option, None, Some, IfSome, refl, sym, ◌∙◌, ap, subst, arith}
 use Rattle.std.specs.List.{list_any}
 use Rattle.std.specs.Str.{bytes_eq}
-use Rattle.std.proofs.lemmas.Bool.{cases_Bool, true≢false}
-use Rattle.std.proofs.lemmas.Option.{none-some, same_Some}
+use Rattle.std.proofs.lemmas.Bool.{true≢false}
+use Rattle.std.proofs.lemmas.Option.{none-some}
 use Rattle.disk_model.specs.Disk.{Content, Reads}
 use Rattle.disk_model.specs.Moments.{EachMoment, HasNow, content_now}
 use Rattle.image_model.specs.Geometry.{Geometry, data_at}
@@ -27,7 +27,7 @@ use Rattle.direct_model.specs.Steps.{after_flush, with_write}
 use Rattle.direct_laws.specs.CallLaws.{StandsThrough}
 use Rattle.direct_laws.specs.Device.{IsDirectDevice}
 use Rattle.direct_laws.specs.EventLaws.{after_block}
-use Rattle.direct_laws.specs.MomentLaws.{IsLeftNow, kind_of}
+use Rattle.direct_laws.specs.MomentLaws.{IsLeftNow}
 use Rattle.direct_laws.specs.ServeLaws.{KeepsDevice}
 use Rattle.direct_laws.proofs.CallLemmas.{any_awaiting_law, block_read_law, none_awaits_law, still_law}
 use Rattle.direct_laws.proofs.DeviceLemmas.{serving-works}
@@ -36,23 +36,20 @@ use Rattle.direct_laws.proofs.ServeLemmas.{failed_flush_law, failed_read_law, se
 use Rattle.direct_mode.specs.Cells.{HasCells, KeepsDisk}
 use Rattle.direct_mode.specs.Serving as WriteModel
 use Rattle.direct_mode.specs.Serving.{HasFailed, HasServed, ServedWrite, WritesNext}
-use Rattle.tag_store.specs.Store.{Store, given_tags}
-use Rattle.hmac_tag.specs.TagMaker.{TagRule}
+use Rattle.tag_store.specs.Store.{given_tags}
 use Rattle.request_slots.specs.Flight.{Flight, bytes_in, is_in_flight, is_of, slot_of, turn_of}
 use Rattle.request_slots.specs.InFlight.{IsFlightOf, blocks_read, bytes_now, request_with, slot_for}
 use Rattle.request_slots.specs.Serving.{next_bytes, with_block_counted, with_block_read, with_change, with_fault, with_finish}
 use Rattle.request_slots.specs.declared.slot.Slot.{Slot}
 use Rattle.request_slots.specs.declared.turn.Turn.{Turn}
-use Rattle.request_slots.specs.declared.turn.Turn.TheVariants as Turns
 use Rattle.request_slots.proofs.ServeEventLemmas.{flight_fault, flight_flushed, flight_read, flight_written, got_none}
-use Rattle.device_core.specs.declared.answers.Served.{Served}
 use Rattle.device_core.specs.declared.answers.Served.TheVariants as Serves
 use Rattle.device_core.specs.declared.condition.Condition.{Condition}
 use Rattle.device_core.specs.declared.condition.Condition.TheVariants as Conditions
 use Rattle.device_core.specs.declared.parts.Parts.{Parts}
-use Rattle.device_core.specs.Answers.{HasFailedIn, IsServedAs, served_answer, served_by, tag_by}
-use Rattle.device_core.specs.Device.{HasDone, IsDevice, Standing, condition_of, rule_on, standing_after}
-use Rattle.device_core.proofs.TurnLemmas.{IsNextFlush, IsNextRead, IsNextWrite, IsPlaced, IsTurnOf, answer_is, placed, slot-is, turn_is}
+use Rattle.device_core.specs.Answers.{HasFailedIn, IsServedAs, served_by}
+use Rattle.device_core.specs.Device.{HasDone, IsDevice, Standing, condition_of, rule_on}
+use Rattle.device_core.proofs.TurnLemmas.{IsTurnOf, answer_is, placed, slot-is, turn_is}
 
 -- ---- an event that is done
 
@@ -262,7 +259,7 @@ module _ (w : Standing) (parts : Parts) (a : List Content) (is : IsDevice w Cond
       served_flush new b e slots maker through has =
           let flight = subst (λ (x : Flight). IsFlightOf f x requests_then) (sym slots) (flight_flushed f (cells_now f.blocks.tag s.history) parts.slots s.progress.requests k r is.flight there unfinished e) in
           let as_told = served_done new b (after_flush w.disk) flight maker
-              (served_flush_law f s w.disk k r w.entry s.progress.regions.awaiting (given_tags new.tags) a b is.device is.opened is_served e through has.now) refl s.progress.regions.awaiting has in
+          (served_flush_law f s w.disk k r w.entry s.progress.regions.awaiting (given_tags new.tags) a b is.device is.opened is_served e through has.now) refl s.progress.regions.awaiting has in
           record {
             answer = ap (λ (x : Model.EventResult). x.answer) result_is ∙ ap (λ (q : Asks.Request). Model.answer_by (Model.with_block_of f (cells_now f.blocks.tag s.history) r q).state) e;
             done = as_told.done;
@@ -315,8 +312,8 @@ module _ (w : Standing) (parts : Parts) (a : List Content) (is : IsDevice w Cond
           let awaiting = s.progress.regions.awaiting in
           let whole : length bytes ≡ f.blocks.block_size = size ∙ is.flight.block_size in
           let told = (block_read_law f s w.disk awaiting (given_tags parts.tags) a block bytes stored is.device works cells.now (subst (λ (n : ℕ). block < n) is.flight.blocks low)
-              ((none_awaits_law f s w.disk w.entry is.device is.reads).1 awaiting block) whole
-              (subst (λ (g : Geometry). HasNow (Reads (data_at g block) bytes) a) (sym cells.geometry) reads) tag is.told is.is_told).1 in
+          ((none_awaits_law f s w.disk w.entry is.device is.reads).1 awaiting block) whole
+          (subst (λ (g : Geometry). HasNow (Reads (data_at g block) bytes) a) (sym cells.geometry) reads) tag is.told is.is_told).1 in
           served_done new b w.disk (subst (λ (x : Flight). IsFlightOf f x requests_then) (sym slots) (flight_put first count block bytes stored computed e block_ whole computed_ told)) maker
           (served_kept_law f s (Model.Serve (suc k)) w.disk w.entry a b is.device is.opened (serve_read_law f s w.disk k r first count is.device is_served e) kept.through) refl awaiting kept.cells
 

@@ -1,5 +1,5 @@
 -- What a serve of a ticket in flight does, by what is done next for it.
-use Rattle.std.proofs.Common.{◌≡◌, ℕ, suc, ◌*◌, ◌<◌, ◌^◌, ◌≤◌, Bool, true, false, if◌then◌else◌, List, length, Option, IfSome, refl, sym, ◌∙◌, ap, subst, arith}
+use Rattle.std.proofs.Common.{◌≡◌, ℕ, suc, ◌*◌, ◌<◌, ◌^◌, ◌≤◌, Bool, true, false, if◌then◌else◌, List, length, IfSome, refl, sym, ◌∙◌, ap, subst, arith}
 use Rattle.std.specs.Str.{bytes_eq}
 use Rattle.std.proofs.lemmas.Nat.{mul-le}
 use Rattle.disk_model.specs.Disk.{Content, Reads}
@@ -13,7 +13,6 @@ use Rattle.image_model.proofs.TagLemmas.{length-tag_of}
 use Rattle.place_model.specs.Format.{tagger_of}
 use Rattle.direct_model.specs.Steps.{after_flush}
 use Rattle.direct_laws.specs.CallLaws.{StandsThrough}
-use Rattle.direct_laws.specs.ServeLaws.{KeepsDevice}
 use Rattle.direct_mode.specs.Cells.{HasCells, IsBlock, IsTaggedBlock, KeepsDisk}
 use Rattle.direct_mode.specs.Serving.{HasFailed, HasServed, ServedWrite, WritesNext}
 use Rattle.tag_store.specs.Store.{given_tags}
@@ -124,11 +123,11 @@ module _ (w : Standing) (parts : Parts) (a : List Content) (is : IsDevice w Cond
         let bytes = mid.buffer.items in
         let computed = tag_by mid.maker mid.spb block bytes in
         let told : computed ≡ tagger_of w.disk.format block bytes =
-            ap (λ (rule : TagRule). tag_by rule mid.spb block bytes) maker ∙ ap (λ (n : ℕ). tag_by parts.maker n block bytes) spb ∙ rule_told disk ready block bytes in
+        ap (λ (rule : TagRule). tag_by rule mid.spb block bytes) maker ∙ ap (λ (n : ℕ). tag_by parts.maker n block bytes) spb ∙ rule_told disk ready block bytes in
         let in_flight : new.slots ≡ (if bytes_eq stored computed then with_change (suc next.k) (with_block_read parts.slots.block_size bytes) parts.slots
-            else with_change (suc next.k) (with_fault block stored computed) parts.slots) =
-            ap (λ (p : Parts). p.slots) new_ ∙ ap (λ (x : Flight). if bytes_eq stored computed then with_change ticket (with_block_read x.block_size bytes) x else with_change ticket (with_fault block stored computed) x) slots
-            ∙ ap (λ (t : ℕ). if bytes_eq stored computed then with_change t (with_block_read parts.slots.block_size bytes) parts.slots else with_change t (with_fault block stored computed) parts.slots) next.ticket_ in
+        else with_change (suc next.k) (with_fault block stored computed) parts.slots) =
+        ap (λ (p : Parts). p.slots) new_ ∙ ap (λ (x : Flight). if bytes_eq stored computed then with_change ticket (with_block_read x.block_size bytes) x else with_change ticket (with_fault block stored computed) x) slots
+        ∙ ap (λ (t : ℕ). if bytes_eq stored computed then with_change t (with_block_read parts.slots.block_size bytes) parts.slots else with_change t (with_fault block stored computed) parts.slots) next.ticket_ in
         subst (λ (t : ℕ). IsServedAs w t (served_by (turn_of new.slots t)) new a b) (sym next.ticket_)
         (served_read w parts a is next.k next.asked next.there next.turn_.unfinished next.turn_.unheld next.turn_.first next.turn_.count block bytes stored computed new b next.turn_.request next.turn_.block_
         low size told in_flight (ap (λ (p : Parts). p.maker) new_ ∙ maker)

@@ -1,13 +1,12 @@
 -- What is done next for a request in flight, as `device_model` has it.
-use Rattle.std.proofs.Common.{◌≡◌, ◌⊎◌, inl, inr, ℕ, zero, suc, ◌+◌, ◌==◌, ◌||◌, ◌&&◌, Bool, true, false, if◌then◌else◌, List, [], ◌∷◌, length, find, slice_get, Option, None, Some, refl, sym, ◌∙◌, ap, subst, arith}
+use Rattle.std.proofs.Common.{◌≡◌, ◌⊎◌, inl, inr, ℕ, suc, ◌+◌, ◌==◌, ◌||◌, ◌&&◌, Bool, true, false, if◌then◌else◌, List, [], ◌∷◌, find, slice_get, Option, None, Some, refl, sym, ◌∙◌, ap, subst, arith}
 use Rattle.std.specs.List.{list_any}
-use Rattle.std.proofs.lemmas.Bool.{cases_Bool, eqb-true, false≢true, true≢false}
-use Rattle.std.proofs.lemmas.Option.{none-some}
+use Rattle.std.proofs.lemmas.Bool.{cases_Bool, eqb-true, false≢true}
 use Rattle.device_model.specs.Mode.{DeviceFormat}
 use Rattle.device_model.specs.Progress as Model
 use Rattle.device_model.specs.Request as Asks
 use Rattle.range_lock.specs.Asks.{holder_of}
-use Rattle.request_slots.specs.Flight.{Flight, asks_in, count_in, is_in_flight, is_of, is_unfinished, next_of, slot_of, turn_behind, turn_in, turn_of}
+use Rattle.request_slots.specs.Flight.{Flight, asks_in, count_in, is_in_flight, is_of, next_of, slot_of, turn_behind, turn_in, turn_of}
 use Rattle.request_slots.specs.InFlight.{IsFlightOf, bytes_now, request_with, slot_for, slots_of}
 use Rattle.request_slots.specs.Serving.{changed, with_change}
 use Rattle.request_slots.specs.declared.slot.Slot.{Slot}

@@ -1,16 +1,23 @@
 -- What the calls of a device answer, as the events of `device_model` do.
-use Rattle.std.specs.Prelude.{◌≡◌, ℕ, ◌*◌, List, if◌then◌else◌, Result, Ok, Err}
+use Rattle.std.specs.Prelude.{◌≡◌, ℕ, suc, ◌*◌, ◌≤◌, List, if◌then◌else◌, Option, Some, Result, Ok, Err}
 use Rattle.std.specs.Str.{bytes_eq}
+use Rattle.disk_model.specs.Causes.{Rose}
 use Rattle.disk_model.specs.Disk.{Content}
 use Rattle.image_model.specs.Tag.{tag_of}
 use Rattle.device_model.specs.Progress as Model
 use Rattle.device_model.specs.Request as Asks
+use Rattle.direct_model.specs.DirectDisk.{DirectDisk}
+use Rattle.direct_laws.specs.ServeLaws.{KeepsDevice}
 use Rattle.hmac_tag.specs.TagMaker.{TagRule}
 use Rattle.request_slots.specs.declared.reply.Reply.{Reply}
 use Rattle.request_slots.specs.declared.turn.Turn.{Turn}
 use Rattle.request_slots.specs.declared.turn.Turn.TheVariants as Turns
+use Rattle.request_slots.specs.declared.request.Request.{Request}
+use Rattle.request_slots.specs.declared.submit_fault.SubmitFault.{SubmitFault}
+use Rattle.request_slots.specs.declared.submit_fault.SubmitFault.TheVariants as SubmitFaults
 use Rattle.request_slots.specs.Flight.{Flight}
-use Rattle.request_slots.specs.InFlight.{as_reply, returned_in}
+use Rattle.request_slots.specs.InFlight.{as_reply, as_submission, returned_in, submit_answer}
+use Rattle.request_slots.specs.Submitting.{fault_of}
 use Rattle.request_slots.specs.Serving.{with_block_read, with_change, with_fault}
 use Rattle.device_core.specs.declared.answers.Actor.{Actor}
 use Rattle.device_core.specs.declared.answers.Actor.TheVariants as Actors
@@ -82,7 +89,33 @@ abbrev pub condition_by : {T : Type 0} → Result T StepFault → Condition
 condition_by (Ok done) = Conditions.Working
 condition_by (Err fault) = Conditions.Broken
 
+-- The count of faults never falls, and `Disk` comes only where it rose.
+pub record HasStepCause {T : Type 0} (before after : ℕ) (result : Result T StepFault) : Type 0 where
+  pub later : before ≤ after
+  pub failed : result ≡ Err Faults.Disk → Rose before after
+
+-- The device answers an event so, and is the one after it.
+pub record IsDone (w : Standing) (event : Model.Event) (answer : Model.Answer) (condition : Condition)
+    (parts : Parts) (before after : List Content) : Type 0 where
+  pub answers : Answers w event answer
+  pub done : HasDone w event condition parts before after
+
+-- A serve is such an event, where the disk failed in it or not.
+abbrev pub HasServed : Standing → (ticket : ℕ) → Result Served StepFault → Condition → Parts
+    → (before after : List Content) → Type 0
+HasServed w ticket result condition parts before after =
+    IsDone w (event_by (Model.Serve ticket) (Model.FailedServe ticket) result)
+    (answer_by served_answer result) condition parts before after
+
 -- ---- other calls
+
+-- The device ends with an event that answers so: its disk is then this one. At each moment of the call each image can be
+-- opened, and may be left within the event; and at its end by the history then.
+pub record HasEnded (w : Standing) (event : Model.Event) (answer : Model.Answer) (before after : List Content)
+    : Type 0 where
+  pub answers : Answers w event answer
+  pub disk : DirectDisk
+  pub keeps : KeepsDevice w.format w.state event w.entry w.disk disk before after
 
 abbrev pub actor_of : Actor → Model.Actor
 actor_of Actors.Commit = Model.Commit
@@ -95,8 +128,30 @@ abbrev pub moved_answer : Moved → Model.Answer
 moved_answer Moves.Did = Model.Did
 moved_answer Moves.Idle = Model.Idle
 
+-- Why a request is refused, if it is. A broken device takes none.
+abbrev pub submit_fault : Condition → Flight → Request → Option SubmitFault
+submit_fault Conditions.Working flight request = fault_of flight request
+submit_fault Conditions.Broken flight request = Some SubmitFaults.Broken
+
+-- A submission is answered so, and no disk is called.
+abbrev pub HasSubmitted : Standing → Request → Condition → (old new : Parts) → List Content → Type 0
+HasSubmitted w request condition old new moments =
+    IsDone w (Model.Submit (as_submission request))
+    (submit_answer (submit_fault condition old.slots request) (suc old.slots.submitted)) condition new moments moments
+
 -- A reply is taken, or the request is not done.
 abbrev pub IsTaken : Result Reply ℕ → Model.Answer → Type 0
 IsTaken (Ok reply) answer = (request : Asks.Request)
     × (answer ≡ Model.Replied request (as_reply reply) (returned_in reply))
 IsTaken (Err ticket) answer = answer ≡ Model.NotDone
+
+-- It is so in this call, and no disk is called.
+pub record HasTaken (w : Standing) (ticket : ℕ) (result : Result Reply ℕ) (condition : Condition)
+    (parts : Parts) (moments : List Content) : Type 0 where
+  pub taken : IsTaken result (Model.event_result w.format w.state (Model.Take ticket)).answer
+  pub done : HasDone w (Model.Take ticket) condition parts moments moments
+
+-- What a step of a device in this condition answers: in direct mode there is nothing to do.
+abbrev pub step_answer : Condition → Result Moved StepFault
+step_answer Conditions.Working = Ok Moves.Idle
+step_answer Conditions.Broken = Err Faults.Broken

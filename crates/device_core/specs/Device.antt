@@ -1,5 +1,5 @@
 -- Which device of `device_model` a device is, by what it keeps beside its disk and what the disk tells.
-use Rattle.std.specs.Prelude.{◌≡◌, ℕ, ◌*◌, ◌<◌, List, Some, length}
+use Rattle.std.specs.Prelude.{◌≡◌, ℕ, ◌*◌, List, Some, length}
 use Rattle.disk_model.specs.Disk.{Content, Image}
 use Rattle.disk_model.specs.Identity.{DiskIdentity}
 use Rattle.disk_model.specs.Moments.{content_now}

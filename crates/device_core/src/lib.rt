@@ -5,10 +5,15 @@
 #![tactic(auto)]
 
 mod answers;
+mod closing;
 mod condition;
+mod device;
 mod parts;
 mod serving;
+mod stepping;
+mod submitting;
 
 pub use answers::{Actor, Moved, Served, StepFault};
 pub use condition::Condition;
+pub use device::Device;
 pub use parts::Parts;

@@ -1,28 +1,63 @@
 //! Serving a request: one block is read or written, or all is flushed.
-ghost use Rattle.std.specs.Prelude.{◌≡◌, ◌*◌, ◌<◌, ◌^◌, true, length, IfOk, OnErr};
+ghost use Rattle.std.specs.Prelude.{◌≡◌, ◌↔◌, Err, ◌*◌, ◌<◌, ◌^◌, true, length, IfOk, OnErr};
 ghost use Rattle.disk_model.specs.Causes.{HasCause};
 ghost use Rattle.request_slots.specs.Flight.{is_in_flight, turn_of};
 ghost use Rattle.request_slots.specs.declared.turn.Turn.TheVariants as Turns;
 ghost use Rattle.device_core.specs.declared.condition.Condition.TheVariants.{Working};
-ghost use Rattle.device_core.specs.Answers.{HasFailedIn, IsServedAs, after_read, served_by};
+ghost use Rattle.device_core.specs.Answers.{HasFailedIn, HasServed, HasStepCause, IsServedAs, after_read, condition_by, served_by};
 ghost use Rattle.device_core.specs.Device.{IsDevice, IsReady, KeepsFlight, Standing};
 
-use crate::{Parts, Served};
+use crate::{Condition, Parts, Served, StepFault};
 use direct_mode::{flush, read_block, serve_block};
 use hmac_tag::Tag;
 use request_slots::{Ticket, Turn};
 use sector_disk::{Disk, Failed};
+
+/// Does what is next for a request. A broken device makes no call of its disk.
+///
+/// # Errors
+///
+/// - `Disk`: the disk failed. The device is broken from then on.
+/// - `Broken`: the device is.
+pub(crate) fn serve<D: Disk>(
+    disk: &mut D,
+    parts: &mut Parts,
+    condition: &mut Condition,
+    ticket: &Ticket,
+) -> Result<Served, StepFault>
+    requires ready { IsReady parts.old (D.identity disk.old) (D.moments disk.old) }
+    requires there { is_in_flight ticket.now parts.old.slots ≡ true }
+
+    ensures served { (w : Standing) → IsDevice w condition.old parts.old (D.moments disk.old)
+        → HasServed w ticket.now result condition.new parts.new (D.moments disk.old) (D.moments disk.new) }
+
+    ensures cause { HasStepCause (D.faults disk.old) (D.faults disk.new) result }
+    ensures broken { (condition.old ≡ Condition.Broken) ↔ (result ≡ Err StepFault.Broken) }
+
+    ensures ready { IsReady parts.new (D.identity disk.new) (D.moments disk.new) }
+    ensures flight { KeepsFlight parts.old.slots parts.new.slots }
+    ensures condition { condition.new ≡ condition_by result }
+    ensures identity { D.identity disk.new ≡ D.identity disk.old }
+    ensures kept { condition.old ≡ Condition.Broken → disk.new ≡ disk.old }
+{
+    match *condition {
+        Condition::Broken => Err(StepFault::Broken),
+        Condition::Working => match serve_next(disk, parts, ticket) {
+            Ok(served) => Ok(served),
+            Err(_) => {
+                *condition = Condition::Broken;
+                Err(StepFault::Disk)
+            }
+        },
+    }
+}
 
 /// Does what is next for a request of a device that works.
 ///
 /// # Errors
 ///
 /// - `Failed`: the disk failed. The device is broken then.
-pub(crate) fn serve_next<D: Disk>(
-    disk: &mut D,
-    parts: &mut Parts,
-    ticket: &Ticket,
-) -> Result<Served, Failed>
+fn serve_next<D: Disk>(disk: &mut D, parts: &mut Parts, ticket: &Ticket) -> Result<Served, Failed>
     requires ready { IsReady parts.old (D.identity disk.old) (D.moments disk.old) }
     requires there { is_in_flight ticket.now parts.old.slots ≡ true }
 
@@ -109,11 +144,7 @@ fn serve_write<D: Disk>(
 }
 
 /// Flushes all that was written.
-fn serve_flush<D: Disk>(
-    disk: &mut D,
-    parts: &mut Parts,
-    ticket: &Ticket,
-) -> Result<Served, Failed>
+fn serve_flush<D: Disk>(disk: &mut D, parts: &mut Parts, ticket: &Ticket) -> Result<Served, Failed>
     requires ready { IsReady parts.old (D.identity disk.old) (D.moments disk.old) }
     requires there { is_in_flight ticket.now parts.old.slots ≡ true }
     requires turn { turn_of parts.old.slots ticket.now ≡ Turns.Flush }

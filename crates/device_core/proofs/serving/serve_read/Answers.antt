@@ -1,11 +1,10 @@
-use Rattle.std.proofs.Common.{rules, ◌≡◌, ℕ, List, length, refl, sym, ◌∙◌, ap, subst}
+use Rattle.std.proofs.Common.{rules, ◌≡◌, ℕ, List, length, refl, sym, ◌∙◌, subst}
 use Rattle.std.specs.Vec.{with_items}
 use Rattle.std.proofs.lemmas.List.{with_items_is}
 use Rattle.disk_model.specs.Disk.{Reads}
 use Rattle.disk_model.specs.Moments.{HasNow}
 use Rattle.image_model.specs.Geometry.{data_at}
 use Rattle.direct_mode.proofs.ServingLemmas.{on_err_always}
-use Rattle.request_slots.specs.Flight.{Flight}
 use Rattle.device_core.specs.declared.answers.Served.{Served}
 use Rattle.device_core.specs.declared.parts.Parts.{Parts}
 use Rattle.device_core.specs.Answers.{IsServedAs}

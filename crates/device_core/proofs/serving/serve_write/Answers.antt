@@ -1,4 +1,4 @@
-use Rattle.std.proofs.Common.{refl, sym, ◌∙◌, ap, subst, arith, List, ℕ}
+use Rattle.std.proofs.Common.{refl, sym, ◌∙◌, subst, arith, List, ℕ}
 use Rattle.direct_mode.proofs.ServingLemmas.{on_err_always}
 use Rattle.direct_mode.specs.Cells.{IsTaggedBlock}
 use Rattle.request_slots.specs.Serving.{with_block_counted}
