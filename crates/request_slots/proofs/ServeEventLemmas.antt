@@ -247,7 +247,7 @@ read_taken block_size first count t a request done size read (ModelReply.TagFaul
     )
 
 -- A write and a flush read nothing.
-got_none : (block_size : ℕ) (a : Asks.Asked) → HasRead block_size a → is_fault a.reply ≡ false → blocks_read a a.request ≡ 0 → a.got ≡ []
+pub got_none : (block_size : ℕ) (a : Asks.Asked) → HasRead block_size a → is_fault a.reply ≡ false → blocks_read a a.request ≡ 0 → a.got ≡ []
 got_none block_size a read right none = no_length a.got (read.size right ∙ ap (λ (n : ℕ). n * block_size) none)
   where
     no_length : (xs : List ℕ) → length xs ≡ 0 * block_size → xs ≡ []

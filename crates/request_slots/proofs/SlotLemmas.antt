@@ -1,12 +1,13 @@
 -- One slot that goes on: its ticket, what it asks for, and that it fits.
-use Rattle.std.proofs.Common.{◌≡◌, ◌≢◌, ◌⊎◌, inl, inr, ℕ, suc, ◌+◌, ◌*◌, ◌^◌, ◌<◌, ◌≤◌, ◌==◌, Bool, true, false, if◌then◌else◌, List, length, refl, sym, ◌∙◌, ap, subst, arith, length-append, length-take, length-drop}
+use Rattle.std.proofs.Common.{◌≡◌, ◌≢◌, ◌⊎◌, inl, inr, ℕ, suc, ◌+◌, ◌*◌, ◌^◌, ◌<◌, ◌≤◌, ◌==◌, Bool, true, false, if◌then◌else◌, List, length, drop, refl, sym, ◌∙◌, ap, subst, arith, length-append, length-take, length-drop}
 use Rattle.std.proofs.Math.Nat.{mul-le-mul_right}
 use Rattle.std.proofs.Math.Numerals.{lt_of_le_of_ne}
 use Rattle.range_lock.specs.Asks.{ask_for}
 use Rattle.std.proofs.lemmas.Bool.{cases_Bool, false≢true, eqb-false}
+use Rattle.std.proofs.lemmas.List.{length-take-le}
 use Rattle.std.proofs.lemmas.Nat.{mul-le}
-use Rattle.request_slots.specs.Flight.{bytes_in, count_in, first_in, has_blocks, is_unfinished, is_open, ask_of, IsSlotOf}
-use Rattle.request_slots.specs.Serving.{with_piece, with_read_piece, with_block_counted, with_block_read, with_fault, with_finish}
+use Rattle.request_slots.specs.Flight.{bytes_in, count_in, first_in, has_blocks, is_unfinished, is_open, ask_of, next_of, IsSlotOf, IsTurnWithin}
+use Rattle.request_slots.specs.Serving.{next_bytes, with_piece, with_read_piece, with_block_counted, with_block_read, with_fault, with_finish}
 use Rattle.request_slots.specs.declared.request.Request.{Request}
 use Rattle.request_slots.specs.declared.request.Request.TheVariants.{Read, Write, Flush}
 use Rattle.request_slots.specs.declared.slot.Outcome.TheVariants.{Finished}
@@ -129,3 +130,26 @@ pub ask_of-read : (size : ℕ) (piece : List ℕ) (x : Slot) → ask_of (with_bl
 ask_of-read size piece x =
     ap (λ (n : ℕ). ask_for x.ticket n (count_in (with_read_piece (x.served * size) piece x.request))) (first-read_piece (x.served * size) piece x.request)
     ∙ ap (λ (n : ℕ). ask_for x.ticket (first_in x.request) n) (count-read_piece (x.served * size) piece x.request)
+
+-- ---- what is done next
+
+-- the bytes of the next block are as many as a block has
+pub whole-next : (size : ℕ) (x : Slot) → x.served * size + size ≤ length (bytes_in x.request) → length (next_bytes size x) ≡ size
+whole-next size x room =
+    length-take-le size (drop (x.served * size) (bytes_in x.request))
+    (subst (λ (n : ℕ). size ≤ n) (sym (length-drop (x.served * size) (bytes_in x.request))) (omega (arith, room)))
+
+-- its next block is one of so many
+pub next-within : (blocks size submitted : ℕ) (x : Slot) → IsSlotOf blocks size submitted x → is_unfinished x ≡ true
+    → (r : Request) → x.request ≡ r → IsTurnWithin blocks (next_of x r)
+next-within blocks size submitted x fits still (Read first count buffer) is =
+    let under : x.served < count_in x.request = fits.left (ap has_blocks is) still in
+    let there : first_in x.request + count_in x.request ≤ blocks = fits.there in
+    let first_is : first_in x.request ≡ first = ap first_in is in
+    omega (arith, under, there, first_is)
+next-within blocks size submitted x fits still (Write first count bytes fua) is =
+    let under : x.served < count_in x.request = fits.left (ap has_blocks is) still in
+    let there : first_in x.request + count_in x.request ≤ blocks = fits.there in
+    let first_is : first_in x.request ≡ first = ap first_in is in
+    omega (arith, under, there, first_is)
+next-within blocks size submitted x fits still Flush is = tt

@@ -128,6 +128,14 @@ IsWrite (Turns.Read block) = ⊥
 IsWrite (Turns.Write block is_flushed) = Unit {0}
 IsWrite Turns.Flush = ⊥
 
+-- Its block, if there is one, is one of so many.
+abbrev pub IsTurnWithin : (blocks : ℕ) → Turn → Type 0
+IsTurnWithin blocks Turns.Finished = Unit {0}
+IsTurnWithin blocks (Turns.Held by) = Unit {0}
+IsTurnWithin blocks (Turns.Read block) = block < blocks
+IsTurnWithin blocks (Turns.Write block is_flushed) = block < blocks
+IsTurnWithin blocks Turns.Flush = Unit {0}
+
 -- ---- what is true of all
 
 -- Its blocks are blocks of the device, with as many bytes as they have, no more of them are served, and where it is unfinished

@@ -37,7 +37,7 @@ impl Model for Slots {
 }
 
 impl Slots {
-    ghost use Rattle.request_slots.specs.Flight.{is_in_flight, is_of, no_requests, slot_of, turn_of, IsRead, IsWrite};
+    ghost use Rattle.request_slots.specs.Flight.{is_in_flight, is_of, no_requests, slot_of, turn_of, IsRead, IsTurnWithin, IsWrite};
     ghost use Rattle.request_slots.specs.Serving.{with_change, with_block_read, with_block_counted, with_fault, with_finish, next_bytes};
     ghost use Rattle.request_slots.specs.Submitting.{answer_by, after_submit, blocks_fault, fault_of, slots_fault};
     ghost use Rattle.request_slots.specs.Taking.{taken_by, after_take};
@@ -126,7 +126,8 @@ impl Slots {
     pub fn turn(&self, ticket: &Ticket) -> Turn
         requires { is_in_flight ticket.now self.now ≡ true }
 
-        ensures { result ≡ turn_of self.now ticket.now }
+        ensures turn { result ≡ turn_of self.now ticket.now }
+        ensures inside { IsTurnWithin self.now.blocks result }
     {
         let slot = &self.slots[self.place_of(ticket)];
         if !slot.is_unfinished() {
@@ -143,8 +144,9 @@ impl Slots {
         requires there { is_in_flight ticket.now self.now ≡ true }
         requires writes { IsWrite (turn_of self.now ticket.now) }
 
-        ensures { IfSome (slot_of ticket.now self.now)
+        ensures bytes { IfSome (slot_of ticket.now self.now)
             (λ slot. result.now ≡ next_bytes self.now.block_size slot) }
+        ensures size { length result.now ≡ self.now.block_size }
     {
         self.slots[self.place_of(ticket)].next_bytes(self.block_size)
     }

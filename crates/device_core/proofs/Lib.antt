@@ -1,0 +1,4 @@
+pub mod TurnLemmas
+pub mod DoneLemmas
+pub mod ServeLemmas
+pub mod EventLemmas

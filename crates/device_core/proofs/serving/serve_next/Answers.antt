@@ -1,0 +1,9 @@
+use Rattle.std.proofs.Common.{refl, sym, ◌∙◌}
+use Rattle.device_core.proofs.ServeLemmas.{serve_finished, serve_held}
+use Rattle.device_core.proofs.serving.serve_next.Goals as goal
+
+pub returns-in-Finished-clause-served : goal.returns-in-Finished-clause-served
+returns-in-Finished-clause-served g c w is = serve_finished w c.args.parts.now (g.D.Disk.moments c.args.disk.now) is c.args.ticket.now c.requires.there (g.D.Disk.moments c.args.disk.now) refl (sym c.turn.ensures.turn ∙ c.in-Finished.is)
+
+pub returns-in-Held-clause-served : goal.returns-in-Held-clause-served
+returns-in-Held-clause-served g c w is = serve_held w c.args.parts.now (g.D.Disk.moments c.args.disk.now) is c.args.ticket.now c.requires.there (g.D.Disk.moments c.args.disk.now) c.in-Held.by refl (sym c.turn.ensures.turn ∙ c.in-Held.is)

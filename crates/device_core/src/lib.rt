@@ -1,0 +1,19 @@
+//! A device in direct mode, with up to sixteen requests in flight, over a disk that it is lent.
+//!
+//! A contract sees a device as what it keeps beside its disk, and what the disk tells of its content. `specs/Device.antt`,
+//! the file to read first, says which device of `device_model` that is; each call is then one event of it.
+#![tactic(auto)]
+
+mod answers;
+mod closing;
+mod condition;
+mod device;
+mod parts;
+mod serving;
+mod stepping;
+mod submitting;
+
+pub use answers::{Actor, Moved, Served, StepFault};
+pub use condition::Condition;
+pub use device::Device;
+pub use parts::Parts;
