@@ -67,8 +67,8 @@ pub(crate) fn write_span<D: Disk>(
         (D.moments disk.old) (D.moments disk.new)) }
 
     ensures cache { IsOfDisk (sectors_of cache.new) (D.identity disk.new) (D.moments disk.new) }
-    ensures held { HoldsSpan at from (length bytes.now) (sectors_of cache.old) (sectors_of cache.new) }
-    ensures marked { MarksSpan at from (length bytes.now) (sectors_of cache.old) (sectors_of cache.new) }
+    ensures sectors { HoldsSpan at from (length bytes.now) (sectors_of cache.old) (sectors_of cache.new)
+        × MarksSpan at from (length bytes.now) (sectors_of cache.old) (sectors_of cache.new) }
     ensures identity { D.identity disk.new ≡ D.identity disk.old }
 
     ensures moments { EachSince (λ start. OnlyAdds

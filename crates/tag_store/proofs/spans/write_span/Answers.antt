@@ -36,19 +36,17 @@ returns-clause-err g c =
     (first_part c.args.bytes.now c.args.from c.min-size.result (omega arith)) past
     c.in_ok-write_at.ensures.written keeps c.write_at-2.ensures.moments) c.write_at-2.ensures.err
 
-pub returns-clause-held : goal.returns-clause-held
-returns-clause-held g c =
-    HoldsSpan-two c.args.at c.args.from (length c.args.bytes.now) (sectors_of c.args.cache.now) (sectors_of c.write_at.new.self) (sectors_of c.write_at-2.new.self)
-    c.requires.span.begins c.requires.span.some c.requires.span.short (omega arith) c.write_at.ensures.held c.write_at-2.ensures.held
-
-pub returns-clause-marked : goal.returns-clause-marked
-returns-clause-marked g c =
-    let past : 512 < c.args.from + length c.args.bytes.now = omega arith in
-    by_result c.write_at-2.result (c.write_at-2.ensures.written) (c.write_at-2.ensures.err)
-    (λ written. MarksSpan-two c.args.at c.args.from (length c.args.bytes.now) _ _ (sectors_of c.args.cache.now) (sectors_of c.write_at.new.self) (sectors_of c.write_at-2.new.self)
-    c.requires.span.begins c.requires.span.some c.requires.span.short past c.in_ok-write_at.ensures.written written)
-    (λ keeps. MarksSpan-half c.args.at c.args.from (length c.args.bytes.now) _ (sectors_of c.args.cache.now) (sectors_of c.write_at.new.self) (sectors_of c.write_at-2.new.self)
-    c.requires.span.begins c.requires.span.some c.in_ok-write_at.ensures.written keeps)
+pub returns-clause-sectors : goal.returns-clause-sectors
+returns-clause-sectors g c =
+    let past : 512 < c.args.from + length c.args.bytes.now = omega arith in (
+      HoldsSpan-two c.args.at c.args.from (length c.args.bytes.now) (sectors_of c.args.cache.now) (sectors_of c.write_at.new.self) (sectors_of c.write_at-2.new.self)
+          c.requires.span.begins c.requires.span.some c.requires.span.short (omega arith) c.write_at.ensures.held c.write_at-2.ensures.held,
+      by_result c.write_at-2.result (c.write_at-2.ensures.written) (c.write_at-2.ensures.err)
+          (λ written. MarksSpan-two c.args.at c.args.from (length c.args.bytes.now) _ _ (sectors_of c.args.cache.now) (sectors_of c.write_at.new.self) (sectors_of c.write_at-2.new.self)
+          c.requires.span.begins c.requires.span.some c.requires.span.short past c.in_ok-write_at.ensures.written written)
+          (λ keeps. MarksSpan-half c.args.at c.args.from (length c.args.bytes.now) _ (sectors_of c.args.cache.now) (sectors_of c.write_at.new.self) (sectors_of c.write_at-2.new.self)
+          c.requires.span.begins c.requires.span.some c.in_ok-write_at.ensures.written keeps),
+    )
 
 pub returns-clause-moments : goal.returns-clause-moments
 returns-clause-moments g c =

@@ -19,7 +19,7 @@ returns-clause-store g c =
     let low = subst (λ (s : Store). c.args.block < s.geometry.blocks) (sym c.self.view_is) c.requires.block in
     let size = subst (λ (s : Store). length c.args.tag.now ≡ s.geometry.shape.tag_size) (sym c.self.view_is) c.requires.size in
     IsStore-also c.self.inside.geometry _ _ (sectors_of c.self.inside.cache) (sectors_of c.write_span.new.cache) c.args.block _ low size
-    is c.write_span.ensures.identity c.write_span.ensures.cache (rw (c.tag_at-at.ensures, c.bytes.ensures.bytes) at c.write_span.ensures.held)
+    is c.write_span.ensures.identity c.write_span.ensures.cache (rw (c.tag_at-at.ensures, c.bytes.ensures.bytes) at c.write_span.ensures.sectors.0)
 
 pub returns-clause-moments : goal.returns-clause-moments
 returns-clause-moments g c =
