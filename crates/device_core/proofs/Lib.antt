@@ -2,3 +2,4 @@ pub mod TurnLemmas
 pub mod DoneLemmas
 pub mod ServeLemmas
 pub mod EventLemmas
+pub mod OpeningLemmas

@@ -1,18 +1,26 @@
 //! The device.
-ghost use Rattle.std.specs.Prelude.{◌≡◌, ◌↔◌, ◌+◌, ◌<◌, ◌^◌, Err, IsTrue, suc, true};
+ghost use Rattle.std.specs.Prelude.{◌≡◌, ◌↔◌, ◌+◌, ◌<◌, ◌^◌, Err, IfErr, IfOk, IsTrue, suc, true};
 ghost use Rattle.request_slots.specs.Flight.{is_in_flight, slot_of};
 ghost use Rattle.request_slots.specs.Submitting.{after_submit};
 ghost use Rattle.request_slots.specs.Submitting as Submitting;
 ghost use Rattle.request_slots.specs.Taking.{after_take, taken_by};
 ghost use Rattle.device_model.specs.Progress.{Close, FailedClose, IsClosed, Step};
+ghost use Rattle.disk_model.specs.Causes.{Rose};
+ghost use Rattle.disk_model.specs.Identity.{IsBound};
+ghost use Rattle.hmac_tag.specs.TagMaker.{key_of};
+ghost use Rattle.device_core.specs.Opening.{HasOpened, IsRefused, IsSameDisk};
 ghost use Rattle.device_core.specs.Answers.{HasEnded, HasServed, HasStepCause, HasSubmitted, HasTaken, IsDone, actor_of, answer_by, condition_by, event_by, moved_answer, step_answer, submit_fault};
 ghost use Rattle.device_core.specs.Device.{IsDevice, IsReady, KeepsFlight, Standing};
 
 use crate::{
-    Actor, Condition, Moved, Parts, Served, StepFault, closing, serving, stepping, submitting,
+    Actor, Condition, Moved, Parts, Served, StepFault, closing, opening, serving, stepping,
+    submitting,
 };
+use hmac_tag::Hash;
+use image_opening::OpenFault;
 use request_slots::{Reply, Request, SubmitFault, Ticket};
 use sector_disk::Disk;
+use std::alloc::Global;
 
 /// A device in direct mode, over a disk that it is lent until it is closed or gives that back.
 #[derive(Drop)]
@@ -22,7 +30,54 @@ pub struct Device<'d, D: Disk> {
     pub(crate) condition: Condition,
 }
 
+/// Why a device was not opened, with the disk that it was lent.
+#[derive(Drop)]
+pub struct Refused<'d, D: Disk> {
+    pub fault: OpenFault,
+    pub disk: &'d mut D,
+}
+
 impl<'d, D: Disk> Device<'d, D> {
+    /// Opens a device on a disk, by superblock and geometry alone, whose tags are made by this hash. It takes all memory
+    /// that it ever takes.
+    ///
+    /// # Errors
+    ///
+    /// The disk comes back with the first of these.
+    ///
+    /// - `Disk`: the disk failed.
+    /// - `Super`: the superblock is refused. A disk without a sector has no magic.
+    /// - `Geom`: the disk has no room for what the superblock tells.
+    /// - `Mode`: there is a bitmap.
+    /// - `Memory`: there is none for what the device keeps.
+    pub fn open(alloc: Global, disk: &'d mut D, hash: Hash) -> Result<Device<'d, D>, Refused<'d, D>>
+        requires { IsBound (D.identity disk.old).name }
+
+        ensures opened { IfOk result (λ d. HasOpened (key_of hash) (D.identity disk.old) d.parts
+            (D.moments disk.old) (D.moments d.disk.now)) }
+        ensures works { IfOk result (λ d. d.condition ≡ Condition.Working) }
+        ensures same { IfOk result (λ d. IsSameDisk (D.identity disk.old) (D.identity d.disk.now)
+            (D.faults disk.old) (D.faults d.disk.now)) }
+        ensures same_disk { IfOk result (λ d. d.disk.ghost_name ≡ disk.entry.ghost_name) }
+
+        ensures cause { IfErr result (λ r. r.fault ≡ OpenFault.Disk
+            → Rose (D.faults disk.old) (D.faults r.disk.now)) }
+        ensures refused { IfErr result (λ r. IsRefused (key_of hash) (D.identity disk.old) r.fault
+            (D.moments disk.old) (D.moments r.disk.now)) }
+        ensures same_back { IfErr result (λ r. IsSameDisk (D.identity disk.old) (D.identity r.disk.now)
+            (D.faults disk.old) (D.faults r.disk.now)) }
+        ensures same_disk_back { IfErr result (λ r. r.disk.ghost_name ≡ disk.entry.ghost_name) }
+    {
+        match opening::open(alloc, disk, hash) {
+            Ok(parts) => Ok(Device {
+                disk,
+                parts,
+                condition: Condition::Working,
+            }),
+            Err(fault) => Err(Refused { fault, disk }),
+        }
+    }
+
     /// How many blocks it has.
     pub fn blocks(&self) -> u64
         ensures { result ≡ self.now.parts.slots.blocks }
@@ -101,13 +156,13 @@ impl<'d, D: Disk> Device<'d, D> {
             (D.moments self.old.disk.now) (D.moments self.new.disk.now) }
 
         ensures cause { HasStepCause (D.faults self.old.disk.now) (D.faults self.new.disk.now) result }
-        ensures broken { (self.old.condition ≡ Condition.Broken) ↔ (result ≡ Err StepFault.Broken) }
+        ensures broken { ((self.old.condition ≡ Condition.Broken) ↔ (result ≡ Err StepFault.Broken))
+            × (self.old.condition ≡ Condition.Broken → self.new.disk.now ≡ self.old.disk.now) }
 
         ensures ready { IsReady self.new.parts (D.identity self.new.disk.now) (D.moments self.new.disk.now) }
         ensures flight { KeepsFlight self.old.parts.slots self.new.parts.slots }
         ensures condition { self.new.condition ≡ condition_by result }
         ensures identity { D.identity self.new.disk.now ≡ D.identity self.old.disk.now }
-        ensures kept { self.old.condition ≡ Condition.Broken → self.new.disk.now ≡ self.old.disk.now }
         ensures same_disk { self.new.disk.ghost_name ≡ self.old.disk.ghost_name }
     {
         serving::serve(self.disk, &mut self.parts, &mut self.condition, ticket)

@@ -8,6 +8,7 @@ mod answers;
 mod closing;
 mod condition;
 mod device;
+mod opening;
 mod parts;
 mod serving;
 mod stepping;
@@ -15,5 +16,5 @@ mod submitting;
 
 pub use answers::{Actor, Moved, Served, StepFault};
 pub use condition::Condition;
-pub use device::Device;
+pub use device::{Device, Refused};
 pub use parts::Parts;
