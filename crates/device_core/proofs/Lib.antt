@@ -3,3 +3,4 @@ pub mod DoneLemmas
 pub mod ServeLemmas
 pub mod EventLemmas
 pub mod OpeningLemmas
+pub mod ReadyLemmas

@@ -132,6 +132,8 @@ impl<'d, D: Disk> Device<'d, D> {
             → HasSubmitted w request self.new.condition self.old.parts self.new.parts
             (D.moments self.new.disk.now) }
 
+        ensures ready { IsReady self.old.parts (D.identity self.old.disk.now) (D.moments self.old.disk.now)
+            → IsReady self.new.parts (D.identity self.new.disk.now) (D.moments self.new.disk.now) }
         ensures condition { self.new.condition ≡ self.old.condition }
         ensures disk { self.new.disk.now ≡ self.old.disk.now }
         ensures same_disk { self.new.disk.ghost_name ≡ self.old.disk.ghost_name }
@@ -185,6 +187,8 @@ impl<'d, D: Disk> Device<'d, D> {
             → IsDevice w self.old.condition self.old.parts (D.moments self.old.disk.now)
             → HasTaken w ticket result self.new.condition self.new.parts (D.moments self.new.disk.now) }
 
+        ensures ready { IsReady self.old.parts (D.identity self.old.disk.now) (D.moments self.old.disk.now)
+            → IsReady self.new.parts (D.identity self.new.disk.now) (D.moments self.new.disk.now) }
         ensures condition { self.new.condition ≡ self.old.condition }
         ensures disk { self.new.disk.now ≡ self.old.disk.now }
         ensures same_disk { self.new.disk.ghost_name ≡ self.old.disk.ghost_name }

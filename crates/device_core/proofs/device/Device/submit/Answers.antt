@@ -1,4 +1,13 @@
+use Rattle.std.proofs.Common.{◌≡◌, sym, subst}
+use Rattle.device_core.specs.Device.{IsReady}
+use Rattle.device_core.specs.declared.parts.Parts.{Parts}
+use Rattle.device_core.proofs.ReadyLemmas.{ready-same, submit-same}
 use Rattle.device_core.proofs.device.Device.submit.Goals as goal
 
 pub returns-clause-done : goal.returns-clause-done
 returns-clause-done g c w is = c.submit.ensures.done w (g.D.Disk.moments c.args.self.now.disk.now) is
+
+pub returns-clause-ready : goal.returns-clause-ready
+returns-clause-ready g c ready =
+    subst (λ (p : Parts). IsReady p (g.D.Disk.identity c.args.self.now.disk.now) (g.D.Disk.moments c.args.self.now.disk.now)) (sym c.submit.ensures.submitted)
+    (ready-same c.args.self.now.parts _ _ _ (submit-same _ c.args.request c.args.self.now.parts.slots) ready)
