@@ -13,6 +13,8 @@ mod parts;
 mod serving;
 mod stepping;
 mod submitting;
+#[cfg(test)]
+mod tests;
 
 pub use answers::{Actor, Moved, Served, StepFault};
 pub use condition::Condition;
