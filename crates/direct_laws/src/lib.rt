@@ -75,8 +75,8 @@ pub fn cells_are_kept()
     ensures moved { KeepsMoved }
 {}
 
-/// Each image, also within a call, can be read and has placed cells that may be left of the device, whatever the journal
-/// says.
+/// Each image, also within a call, can be read and has placed cells that may be left of the device,
+/// whatever the journal says.
 pub fn placed_cut_is_left()
     ensures standing { StandingPlacedLaw }
     ensures reopens { ReopensPlacedLaw }
