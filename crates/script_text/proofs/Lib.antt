@@ -6,4 +6,9 @@ pub mod RunsLemmas
 pub mod ReadLemmas
 pub mod TextLemmas
 pub mod WorkloadLemmas
+pub mod DecideLemmas
+pub mod FitLemmas
+pub mod TotalLemmas
+pub mod QuietLemmas
+pub mod ScriptRunLemmas
 mod Worked

@@ -80,16 +80,26 @@ says bytes (StepLine actor) other words writable = (kept bytes (line_words (Step
 
 -- ---- for callers
 
+-- Few bytes, all of them text, that are no comment are the line of their words,
+pub line_by_words : (bytes : List ℕ) (line : ScriptLine) → length bytes ≤ most_line → IsText bytes → ((tail : List ℕ) → bytes ≢ 35 ∷ tail)
+    → words_in bytes ≡ line_words line → IsWritable line → IsLine bytes line
+line_by_words bytes line short text other words writable = record { short = short; text = text; says = says bytes line other words writable }
+
+-- or have the fault of their words.
+pub refused_by_words : (bytes : List ℕ) (fault : WordsFault) → length bytes ≤ most_line → IsText bytes → ((tail : List ℕ) → bytes ≢ 35 ∷ tail)
+    → IsFaultOfWords (words_in bytes) fault → IsFaultOf bytes fault
+refused_by_words bytes fault short text other bad =
+    let some = kept bytes (words_in bytes) other refl (some_fault (words_in bytes) fault bad) in
+    fault_by_words bytes fault short text some bad (by_words (words_in bytes) fault bad)
+
 -- What few bytes, all of them text, are read as where they are no comment.
 pub read_by_words : (bytes rest : List ℕ) (result : Result Line LineFault) → length bytes ≤ most_line → IsText bytes → ((tail : List ℕ) → bytes ≢ 35 ∷ tail)
     → rest ≡ bytes → IfOk result (λ line. (words_in rest ≡ line_words (line_of line)) × IsWritable (line_of line))
     → IfErr result (λ fault. IsFaultOfWords (words_in rest) (fault_of fault)) → IsReadAs bytes (read_of result)
 read_by_words bytes rest (Ok line) short text other same (words, writable) fault =
-    record { short = short; text = text; says = says bytes (line_of line) other (subst (λ (bs : List ℕ). words_in bs ≡ line_words (line_of line)) same words) writable }
+    line_by_words bytes (line_of line) short text other (subst (λ (bs : List ℕ). words_in bs ≡ line_words (line_of line)) same words) writable
 read_by_words bytes rest (Err fault) short text other same line bad =
-    let here = subst (λ (bs : List ℕ). IsFaultOfWords (words_in bs) (fault_of fault)) same bad in
-    let some = kept bytes (words_in bytes) other refl (some_fault (words_in bytes) (fault_of fault) here) in
-    fault_by_words bytes (fault_of fault) short text some here (by_words (words_in bytes) (fault_of fault) here)
+    refused_by_words bytes (fault_of fault) short text other (subst (λ (bs : List ℕ). IsFaultOfWords (words_in bs) (fault_of fault)) same bad)
 
 -- What is read says what it is.
 pub line_from_read : (bytes : List ℕ) (result : Result Line LineFault) → IsReadAs bytes (read_of result) → IfOk result (λ line. IsLine bytes (line_of line))

@@ -32,7 +32,7 @@ IsTextOf-stretch_text text stretch is = subst (λ (bytes : List ℕ). IsTextOf b
 byte_in-decoded : (digits bytes : List ℕ) → decode_of digits ≡ Ok bytes → byte_in digits ≡ slice_index bytes 0
 byte_in-decoded digits bytes is = ap (λ (r : Result (List ℕ) FromHexError). elim r [ Ok bs ↦ slice_index bs 0 | Err e ↦ 0 ]) is
 
-byte_in-encode_lower : (byte : ℕ) → byte < 256 → byte_in (encode_lower (byte ∷ [])) ≡ byte
+pub byte_in-encode_lower : (byte : ℕ) → byte < 256 → byte_in (encode_lower (byte ∷ [])) ≡ byte
 byte_in-encode_lower byte fits = byte_in-decoded (encode_lower (byte ∷ [])) (byte ∷ []) (decode_of-encode_lower (byte ∷ []) (one_byte byte fits))
 
 -- A stretch is read from its text.

@@ -4,3 +4,5 @@ pub mod Verb
 pub mod Told
 pub mod Workload
 pub mod Plain
+pub mod Laws
+pub mod RunLaws

@@ -1,7 +1,8 @@
 //! The lines of a script as values, and the text of what is told.
 //!
 //! A contract sees a line and a fault as those of the grammar (`specs/Line.antt`, the file to read first), and what is told
-//! as its text (`specs/Told.antt`). The grammar itself stands in `device_model`, `specs/Grammar.antt`.
+//! as its text (`specs/Told.antt`). The grammar itself stands in `device_model`, `specs/Grammar.antt`. That any bytes are
+//! read by it, and that every script has a run, are laws (`specs/Laws.antt`, `specs/RunLaws.antt`).
 #![tactic(auto)]
 
 mod generator;
@@ -9,7 +10,9 @@ mod grammar;
 mod line;
 mod pieces;
 mod places;
+mod reading_laws;
 mod reply;
+mod run_laws;
 mod runs;
 mod stretches;
 #[cfg(test)]
@@ -22,6 +25,8 @@ mod words;
 pub use generator::workload;
 pub use grammar::{MOST_LINE, read_line};
 pub use line::{Actor, Ask, Line, LineFault};
+pub use reading_laws::{bytes_have_a_reading, scripts_have_a_run};
 pub use reply::reply_text;
+pub use run_laws::{runs_are_split, runs_come_into_their_lines, runs_come_step_by_step};
 pub use runs::{Run, Runs};
 pub use told::Told;
