@@ -1,0 +1,4 @@
+mod ToldLemmas
+pub mod LinesLemmas
+mod RunLemmas
+mod Worked

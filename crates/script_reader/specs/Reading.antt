@@ -1,0 +1,43 @@
+-- What a contract sees of a `LineReader`, and the bounds that it keeps.
+-- Own: how many bytes are read at a time.
+use Rattle.std.specs.Prelude.{◌≡◌, ◌≢◌, ◌⊎◌, ℕ, ◌+◌, ◌<◌, ◌≤◌, List, ◌++◌, length}
+use Rattle.std.specs.List.{All, Contains}
+use Rattle.device_model.specs.ScriptBytes.{most_script}
+
+-- A reader of lines: the bytes that it has read and not taken, its line, and how many bytes it took so far.
+pub record Reading : Type 0 where
+  pub unread : List ℕ
+  pub line : List ℕ
+  pub taken : ℕ
+
+-- At most so many bytes are read at a time.
+abbrev pub most_piece : ℕ
+most_piece = 65536
+
+-- It took no byte beyond the bound of a script, and has read one at most. It reads one piece ahead at most.
+pub record IsWithin (reading : Reading) : Type 0 where
+  pub taken : reading.taken ≤ most_script
+  pub read : reading.taken + length reading.unread ≤ most_script + 1
+  pub ahead : length reading.unread ≤ most_piece
+
+-- What it has read settles what it tells next: a newline is in it, or the byte beyond the bound of a script.
+abbrev pub IsSettled : Reading → Type 0
+IsSettled reading = Contains reading.unread 10 ⊎ (most_script < reading.taken + length reading.unread)
+
+-- ---- what a call takes of the bytes that are to come: `before` when it begins, and `after` when it has ended
+
+-- It took some of them from the front, and counted these. None is lost.
+pub record TakesBytes (old new : Reading) (before after : List ℕ) : Type 0 where
+  pub bytes : List ℕ
+  pub taken : before ≡ bytes ++ after
+  pub counted : new.taken ≡ old.taken + length bytes
+
+-- No byte of it is a newline.
+abbrev pub HasNoNewline : List ℕ → Type 0
+HasNoNewline bytes = All (λ byte. byte ≢ 10) bytes
+
+-- It took the bytes of its line alone, and the line does not end in them.
+pub record BeginsLine (old new : Reading) (before after : List ℕ) : Type 0 where
+  pub plain : HasNoNewline new.line
+  pub bytes : before ≡ new.line ++ after
+  pub counted : new.taken ≡ old.taken + length new.line
