@@ -78,6 +78,7 @@ module _ (w : Standing) (condition : Condition) (parts : Parts) (a : List Conten
       let reads = subst (λ (x : DiskFormat). IsReadAs x w.entry) (sym same) is.reads in
       record {
         disk = d;
+        format = same;
         device = record {
           device = keeps.device;
           reads = reads;

@@ -4,3 +4,5 @@ pub mod ServeLemmas
 pub mod EventLemmas
 pub mod OpeningLemmas
 pub mod ReadyLemmas
+pub mod LeftLemmas
+pub mod Worked

@@ -1,29 +1,27 @@
 -- What is open after an opening.
-use Rattle.std.proofs.Common.{◌≡◌, ◌≢◌, ℕ, ◌*◌, List, length, Option, Some, None, Result, Ok, Err, refl, sym, ◌∙◌, ap, subst}
+use Rattle.std.proofs.Common.{◌≡◌, ℕ, ◌*◌, List, length, Option, Some, refl, sym, ◌∙◌, ap, subst}
 use Rattle.std.specs.Option.{option_map}
 use Rattle.std.proofs.lemmas.Option.{none-some}
 use Rattle.disk_model.specs.Disk.{Content, last_image, newest_only}
 use Rattle.disk_model.specs.Identity.{DiskIdentity}
-use Rattle.disk_model.specs.Moments.{EachSince, HasNow, IsChangedBy, content_now}
+use Rattle.disk_model.specs.Moments.{HasNow, IsChangedBy, content_now}
 use Rattle.disk_model.proofs.MomentsLemmas.{EachMoment-kept}
 use Rattle.image_model.specs.Cells.{salt_of}
 use Rattle.image_model.specs.Geometry.{Geometry}
-use Rattle.device_model.specs.Request as Asks
 use Rattle.place_model.specs.Format.{DiskFormat, format_on}
 use Rattle.place_model.proofs.FormatLemmas.{reads_on}
 use Rattle.direct_laws.proofs.MomentLemmas.{left_now_law}
 use Rattle.direct_mode.specs.Opening.{CanOpenRead, IsLeftOpening, IsOpened, IsToOpen}
-use Rattle.tag_store.specs.Store.{IsStore, Store}
+use Rattle.tag_store.specs.Store.{IsStore}
 use Rattle.hmac_tag.specs.TagMaker.{TagRule}
 use Rattle.image_opening.specs.declared.reading.ImageFormat.{ImageFormat}
 use Rattle.image_opening.specs.Format.{IsOpenedNow, disk_format}
 use Rattle.request_slots.specs.Flight.{Flight, no_requests}
 use Rattle.device_core.specs.declared.condition.Condition.TheVariants as Conditions
 use Rattle.device_core.specs.declared.parts.Parts.{Parts}
-use Rattle.device_core.specs.Device.{IsDevice, IsReady, rule_on}
+use Rattle.device_core.specs.Device.{IsDevice, rule_on}
 use Rattle.image_opening.specs.declared.open_fault.OpenFault.TheVariants as OpenFaults
 use Rattle.device_core.specs.Opening.{HasOpened, IsRefused, opened_standing}
-use Rattle.device_core.proofs.DoneLemmas.{IsTold}
 
 -- A disk that is as it was has been left as before an opening.
 pub left_kept : (key : Option (List ℕ)) (sectors : ℕ) (a b : List Content) → b ≡ a → IsLeftOpening key sectors a b
@@ -87,6 +85,7 @@ module _ (key : Option (List ℕ)) (disk : DiskIdentity) (format : ImageFormat) 
       buffer = buffer ∙ sym (ap (λ (x : Flight). x.block_size) slots);
     };
     requests = slots ∙ ap (λ (g : Geometry). no_requests g.blocks (512 * g.shape.spb)) (sym geometry);
+    can = λ c told. (opens c told).opens;
     left = left;
   }
 

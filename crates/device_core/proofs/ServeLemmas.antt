@@ -15,9 +15,10 @@ use Rattle.direct_model.specs.Steps.{after_flush}
 use Rattle.direct_laws.specs.CallLaws.{StandsThrough}
 use Rattle.direct_mode.specs.Cells.{HasCells, IsBlock, IsTaggedBlock, KeepsDisk}
 use Rattle.direct_mode.specs.Serving.{HasFailed, HasServed, ServedWrite, WritesNext}
-use Rattle.tag_store.specs.Store.{given_tags}
+use Rattle.tag_store.specs.Store.{IsStore, given_tags}
 use Rattle.hmac_tag.specs.TagMaker.{TagRule}
-use Rattle.request_slots.specs.Flight.{Flight, is_in_flight, slot_of, turn_of}
+use Rattle.range_lock.specs.declared.ask.Ask.{Ask}
+use Rattle.request_slots.specs.Flight.{Flight, ask_of, is_in_flight, slot_of, turn_of}
 use Rattle.request_slots.specs.Serving.{next_bytes, with_block_counted, with_block_read, with_change, with_fault, with_finish}
 use Rattle.request_slots.specs.declared.slot.Slot.{Slot}
 use Rattle.request_slots.specs.declared.turn.Turn.TheVariants as Turns
@@ -26,7 +27,8 @@ use Rattle.device_core.specs.declared.condition.Condition.TheVariants as Conditi
 use Rattle.device_core.specs.declared.parts.Parts.{Parts}
 use Rattle.device_core.specs.Answers.{HasFailedIn, IsServedAs, after_read, served_by, tag_by}
 use Rattle.device_core.specs.Device.{IsDevice, IsReady, KeepsFlight, Standing}
-use Rattle.device_core.proofs.TurnLemmas.{in_flight-changed}
+use Rattle.request_slots.proofs.SlotLemmas.{ask_of-read}
+use Rattle.device_core.proofs.TurnLemmas.{asks-changed, in_flight-changed}
 use Rattle.device_core.proofs.DoneLemmas.{IsNext, failed_flush, failed_read, failed_write, next_of_ticket, served_finished, served_flush, served_held, served_read, served_write, writes_next}
 
 -- ---- what is ready
@@ -55,12 +57,14 @@ module _ (parts : Parts) (disk : DiskIdentity) (moments : List Content) (ready :
 
 -- ---- which are in flight
 
-pub keeps_flight : (ticket : ℕ) (change : Slot → Slot) → ((x : Slot) → (change x).ticket ≡ x.ticket) → (flight : Flight) → KeepsFlight flight (with_change ticket change flight)
+-- A change that keeps the blocks that a request asks for keeps which are in flight.
+pub keeps_flight : (ticket : ℕ) (change : Slot → Slot) → ((x : Slot) → ask_of (change x) ≡ ask_of x) → (flight : Flight) → KeepsFlight flight (with_change ticket change flight)
 keeps_flight ticket change same flight = record {
   blocks = refl;
   block_size = refl;
   submitted = refl;
-  same = λ t. in_flight-changed ticket t change same flight;
+  same = λ t. in_flight-changed ticket t change (λ x. ap (λ (ask : Ask). ask.ticket) (same x)) flight;
+  asks = asks-changed ticket change same flight.slots;
 }
 
 pub keeps_read : (ticket block : ℕ) (stored : List ℕ) (parts : Parts) → KeepsFlight parts.slots (after_read ticket block stored parts)
@@ -68,8 +72,23 @@ keeps_read ticket block stored parts = by (bytes_eq stored (tag_by parts.maker p
   where
     by : (b : Bool) → KeepsFlight parts.slots (if b then with_change ticket (with_block_read parts.slots.block_size parts.buffer.items) parts.slots
         else with_change ticket (with_fault block stored (tag_by parts.maker parts.spb block parts.buffer.items)) parts.slots)
-    by true = keeps_flight ticket (with_block_read parts.slots.block_size parts.buffer.items) (λ x. refl) parts.slots
+    by true = keeps_flight ticket (with_block_read parts.slots.block_size parts.buffer.items) (λ x. ask_of-read parts.slots.block_size parts.buffer.items x) parts.slots
     by false = keeps_flight ticket (with_fault block stored (tag_by parts.maker parts.spb block parts.buffer.items)) (λ x. refl) parts.slots
+
+-- After a read of a block it is ready.
+pub ready_read : (old new : Parts) (disk now : DiskIdentity) (a b : List Content) → IsReady old disk a
+    → IsStore new.tags now b → new.tags.geometry ≡ old.tags.geometry → KeepsFlight old.slots new.slots
+    → new.spb ≡ old.spb → new.maker ≡ old.maker → length new.buffer.items ≡ old.slots.block_size
+    → IsReady new now b
+ready_read old new disk now a b ready store same flight spb maker size = record {
+  store = store;
+  blocks = flight.blocks ∙ ready.blocks ∙ ap (λ (g : Geometry). g.blocks) (sym same);
+  block_size = flight.block_size ∙ ready.block_size ∙ ap (λ (g : Geometry). 512 * g.shape.spb) (sym same);
+  spb = spb ∙ ready.spb ∙ ap (λ (g : Geometry). g.shape.spb) (sym same);
+  tag_size = ap (λ (rule : TagRule). rule.size) maker ∙ ready.tag_size
+      ∙ ap (λ (g : Geometry). g.shape.tag_size) (sym same);
+  buffer = size ∙ sym flight.block_size;
+}
 
 -- ---- a serve
 

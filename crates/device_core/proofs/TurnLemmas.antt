@@ -1,12 +1,13 @@
 -- What is done next for a request in flight, as `device_model` has it.
-use Rattle.std.proofs.Common.{◌≡◌, ◌⊎◌, inl, inr, ℕ, suc, ◌+◌, ◌==◌, ◌||◌, ◌&&◌, Bool, true, false, if◌then◌else◌, List, [], ◌∷◌, find, slice_get, Option, None, Some, refl, sym, ◌∙◌, ap, subst, arith}
+use Rattle.std.proofs.Common.{◌≡◌, ◌⊎◌, inl, inr, ℕ, suc, ◌+◌, ◌==◌, ◌||◌, ◌&&◌, Bool, true, false, if◌then◌else◌, List, [], ◌∷◌, find, map, slice_get, Option, None, Some, refl, sym, ◌∙◌, ap, subst, arith}
 use Rattle.std.specs.List.{list_any}
 use Rattle.std.proofs.lemmas.Bool.{cases_Bool, eqb-true, false≢true}
 use Rattle.device_model.specs.Mode.{DeviceFormat}
 use Rattle.device_model.specs.Progress as Model
 use Rattle.device_model.specs.Request as Asks
 use Rattle.range_lock.specs.Asks.{holder_of}
-use Rattle.request_slots.specs.Flight.{Flight, asks_in, count_in, is_in_flight, is_of, next_of, slot_of, turn_behind, turn_in, turn_of}
+use Rattle.range_lock.specs.declared.ask.Ask.{Ask}
+use Rattle.request_slots.specs.Flight.{Flight, ask_of, asks_in, count_in, is_in_flight, is_of, next_of, slot_of, turn_behind, turn_in, turn_of}
 use Rattle.request_slots.specs.InFlight.{IsFlightOf, bytes_now, request_with, slot_for, slots_of}
 use Rattle.request_slots.specs.Serving.{changed, with_change}
 use Rattle.request_slots.specs.declared.slot.Slot.{Slot}
@@ -192,3 +193,17 @@ in_flight-slots ticket t change same (x ∷ slots) =
 pub in_flight-changed : (ticket t : ℕ) (change : Slot → Slot) → ((x : Slot) → (change x).ticket ≡ x.ticket) → (flight : Flight)
     → is_in_flight t (with_change ticket change flight) ≡ is_in_flight t flight
 in_flight-changed ticket t change same flight = in_flight-slots ticket t change same flight.slots
+
+-- So does one that keeps the blocks with it, of what is asked.
+asks-one : (change : Slot → Slot) → ((x : Slot) → ask_of (change x) ≡ ask_of x) → (x : Slot) (slots others : List Slot)
+    → map ask_of others ≡ map ask_of slots → (b : Bool) → map ask_of (if b then change x ∷ slots else x ∷ others) ≡ map ask_of (x ∷ slots)
+asks-one change same x slots others rest true =
+    ap (λ (a : Ask). a ∷ map ask_of slots) (same x)
+asks-one change same x slots others rest false =
+    ap (λ (l : List Ask). ask_of x ∷ l) rest
+
+pub asks-changed : (ticket : ℕ) (change : Slot → Slot) → ((x : Slot) → ask_of (change x) ≡ ask_of x) → (slots : List Slot)
+    → map ask_of (changed ticket change slots) ≡ map ask_of slots
+asks-changed ticket change same [] = refl
+asks-changed ticket change same (x ∷ slots) =
+    asks-one change same x slots (changed ticket change slots) (asks-changed ticket change same slots) (is_of ticket x)

@@ -1,13 +1,15 @@
 -- What the calls of a device answer, as the events of `device_model` do.
-use Rattle.std.specs.Prelude.{◌≡◌, ℕ, suc, ◌*◌, ◌≤◌, List, if◌then◌else◌, Option, Some, Result, Ok, Err}
+use Rattle.std.specs.Prelude.{◌≡◌, ℕ, suc, ◌-◌, ◌*◌, ◌≤◌, Bool, List, if◌then◌else◌, Option, Some, None, Result, Ok, Err}
 use Rattle.std.specs.Str.{bytes_eq}
 use Rattle.disk_model.specs.Causes.{Rose}
 use Rattle.disk_model.specs.Disk.{Content}
+use Rattle.disk_model.specs.Identity.{DiskIdentity}
 use Rattle.image_model.specs.Tag.{tag_of}
 use Rattle.device_model.specs.Progress as Model
 use Rattle.device_model.specs.Request as Asks
 use Rattle.direct_model.specs.DirectDisk.{DirectDisk}
 use Rattle.direct_laws.specs.ServeLaws.{KeepsDevice}
+use Rattle.direct_mode.specs.Places.{WritesPlaces}
 use Rattle.hmac_tag.specs.TagMaker.{TagRule}
 use Rattle.request_slots.specs.declared.reply.Reply.{Reply}
 use Rattle.request_slots.specs.declared.turn.Turn.{Turn}
@@ -15,7 +17,8 @@ use Rattle.request_slots.specs.declared.turn.Turn.TheVariants as Turns
 use Rattle.request_slots.specs.declared.request.Request.{Request}
 use Rattle.request_slots.specs.declared.submit_fault.SubmitFault.{SubmitFault}
 use Rattle.request_slots.specs.declared.submit_fault.SubmitFault.TheVariants as SubmitFaults
-use Rattle.request_slots.specs.Flight.{Flight}
+use Rattle.request_slots.specs.declared.slot.Slot.{Slot}
+use Rattle.request_slots.specs.Flight.{Flight, count_in, is_unfinished, slot_of, turn_of}
 use Rattle.request_slots.specs.InFlight.{as_reply, as_submission, returned_in, submit_answer}
 use Rattle.request_slots.specs.Submitting.{fault_of}
 use Rattle.request_slots.specs.Serving.{with_block_read, with_change, with_fault}
@@ -30,7 +33,7 @@ use Rattle.device_core.specs.declared.answers.StepFault.TheVariants as Faults
 use Rattle.device_core.specs.declared.condition.Condition.{Condition}
 use Rattle.device_core.specs.declared.condition.Condition.TheVariants as Conditions
 use Rattle.device_core.specs.declared.parts.Parts.{Parts}
-use Rattle.device_core.specs.Device.{Answers, HasDone, Standing}
+use Rattle.device_core.specs.Device.{Answers, HasDone, IsReady, KeepsFlight, Standing}
 
 -- ---- a serve
 
@@ -46,6 +49,29 @@ abbrev pub served_answer : Served → Model.Answer
 served_answer (Serves.Held by) = Model.HeldBy by
 served_answer Serves.Did = Model.Did
 served_answer Serves.Done = Model.Done
+
+-- How often a request is still served at most: once for each block that is not served yet, and once more.
+abbrev pub turns_in : Option Slot → ℕ
+turns_in None = 0
+turns_in (Some slot) = if is_unfinished slot then suc (count_in slot.request - slot.served) else 0
+
+-- That of the request of this ticket: none where it is done, or not in flight.
+abbrev pub turns_left : ℕ → Flight → ℕ
+turns_left ticket flight = turns_in (slot_of ticket flight)
+
+-- A write of this block is done next for the request of this ticket.
+pub record IsWrittenNext (flight : Flight) (ticket block : ℕ) : Type 0 where
+  pub is_flushed : Bool
+  pub turn : turn_of flight ticket ≡ Turns.Write block is_flushed
+
+-- After a serve what is kept is ready for the same disk, with the same requests in flight, and nothing else was
+-- written but what the request writes next, and sectors of tags.
+pub record KeepsParts (ticket : ℕ) (old new : Parts) (disk now : DiskIdentity) (before after : List Content)
+    : Type 0 where
+  pub ready : IsReady new now after
+  pub flight : KeepsFlight old.slots new.slots
+  pub identity : now ≡ disk
+  pub writes : WritesPlaces (IsWrittenNext old.slots ticket) old.tags.geometry new.tags.geometry before after
 
 -- The tag of a block's bytes, by the rule.
 abbrev pub tag_by : TagRule → (spb block : ℕ) → List ℕ → List ℕ

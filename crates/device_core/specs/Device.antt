@@ -1,5 +1,5 @@
 -- Which device of `device_model` a device is, by what it keeps beside its disk and what the disk tells.
-use Rattle.std.specs.Prelude.{◌≡◌, ℕ, ◌*◌, List, Some, length}
+use Rattle.std.specs.Prelude.{◌≡◌, ℕ, ◌*◌, List, Some, length, map}
 use Rattle.disk_model.specs.Disk.{Content, Image}
 use Rattle.disk_model.specs.Identity.{DiskIdentity}
 use Rattle.disk_model.specs.Moments.{content_now}
@@ -13,7 +13,7 @@ use Rattle.direct_laws.specs.MomentLaws.{HasBlocksOf, IsLeftNow, IsLeftThrough, 
 use Rattle.hmac_tag.specs.TagMaker.{TagRule}
 use Rattle.tag_store.specs.Store.{IsStore}
 use Rattle.direct_mode.specs.Cells.{HasCells}
-use Rattle.request_slots.specs.Flight.{Flight, is_in_flight}
+use Rattle.request_slots.specs.Flight.{Flight, ask_of, is_in_flight}
 use Rattle.request_slots.specs.InFlight.{IsFlightOf}
 use Rattle.device_core.specs.declared.condition.Condition.{Condition}
 use Rattle.device_core.specs.declared.condition.Condition.TheVariants as Conditions
@@ -31,12 +31,13 @@ pub record IsReady (parts : Parts) (disk : DiskIdentity) (moments : List Content
   pub tag_size : parts.maker.size ≡ parts.tags.geometry.shape.tag_size
   pub buffer : length parts.buffer.items ≡ parts.slots.block_size
 
--- The same requests are in flight, each as far as it is.
+-- The same requests are in flight, for the same blocks, each as far as it is.
 pub record KeepsFlight (old new : Flight) : Type 0 where
   pub blocks : new.blocks ≡ old.blocks
   pub block_size : new.block_size ≡ old.block_size
   pub submitted : new.submitted ≡ old.submitted
   pub same : (ticket : ℕ) → is_in_flight ticket new ≡ is_in_flight ticket old
+  pub asks : map ask_of new.slots ≡ map ask_of old.slots
 
 -- ---- which device it is
 
@@ -83,11 +84,12 @@ pub record IsDevice (w : Standing) (condition : Condition) (parts : Parts) (mome
 
 -- ---- an event
 
--- After a call the device is the one after an event. At each moment of the call each image can be opened, and may be left
--- within the event.
+-- After a call the device is the one after an event, and its disk has the format that it had. At each moment of the
+-- call each image can be opened, and may be left within the event.
 pub record HasDone (w : Standing) (event : Model.Event) (condition : Condition) (parts : Parts)
     (before after : List Content) : Type 0 where
   pub disk : DirectDisk
+  pub format : disk.format ≡ w.disk.format
   pub device : IsDevice (standing_after w event disk) condition parts after
   pub through : IsLeftThrough (kind_of w.disk) w.entry w.format w.state event before after
 

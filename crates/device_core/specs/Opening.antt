@@ -35,13 +35,14 @@ opened_standing key sectors image = record {
   entry = image;
 }
 
--- The device is open on the image that reads gave. At each moment each image can be opened, and may be left of it before its
--- first request.
+-- The device is open on the image that reads gave, which is one that can be opened. At each moment each image can be opened,
+-- and may be left of it before its first request.
 pub record HasOpened (key : Option (List ℕ)) (disk : DiskIdentity) (parts : Parts) (before after : List Content)
     : Type 0 where
   pub device : HasNow (λ start. IsDevice (opened_standing key disk.sectors (last_image start)) Working parts after) before
   pub ready : IsReady parts disk after
   pub requests : parts.slots ≡ no_requests parts.tags.geometry.blocks (512 * parts.tags.geometry.shape.spb)
+  pub can : CanOpenRead key disk.sectors before
   pub left : IsLeftOpening key disk.sectors before after
 
 -- The disk is not opened. The image tells why, where the disk did not fail and there was memory; and where it did not fail

@@ -1,6 +1,9 @@
 //! The end of a device.
 ghost use Rattle.std.specs.Prelude.{◌≡◌, ◌↔◌, Err};
+ghost use Rattle.disk_model.specs.Disk.{OnlyAdds};
+ghost use Rattle.disk_model.specs.Moments.{EachSince};
 ghost use Rattle.device_model.specs.Progress.{Close, FailedClose, IsClosed};
+ghost use Rattle.direct_mode.specs.Places.{IsNoBlock, IsOfPlaces};
 ghost use Rattle.device_core.specs.Answers.{HasEnded, HasStepCause, answer_by, event_by};
 ghost use Rattle.device_core.specs.Device.{IsDevice, IsReady, Standing};
 
@@ -30,6 +33,9 @@ pub(crate) fn close<D: Disk>(
 
     ensures identity { D.identity disk.new ≡ D.identity disk.old }
     ensures kept { condition ≡ Condition.Broken → disk.new ≡ disk.old }
+
+    ensures writes { EachSince (OnlyAdds (IsOfPlaces parts.old.tags.geometry IsNoBlock))
+        (D.moments disk.old) (D.moments disk.new) }
 {
     match condition {
         Condition::Broken => Err(StepFault::Broken),

@@ -1,15 +1,18 @@
 //! The device.
-ghost use Rattle.std.specs.Prelude.{◌≡◌, ◌↔◌, ◌+◌, ◌<◌, ◌^◌, Err, IfErr, IfOk, IsTrue, suc, true};
+ghost use Rattle.std.specs.Prelude.{◌≡◌, ◌↔◌, ◌+◌, ◌<◌, ◌^◌, Err, IfErr, IfOk, IsTrue, Ok, suc, true};
 ghost use Rattle.request_slots.specs.Flight.{is_in_flight, slot_of};
 ghost use Rattle.request_slots.specs.Submitting.{after_submit};
 ghost use Rattle.request_slots.specs.Submitting as Submitting;
 ghost use Rattle.request_slots.specs.Taking.{after_take, taken_by};
 ghost use Rattle.device_model.specs.Progress.{Close, FailedClose, IsClosed, Step};
 ghost use Rattle.disk_model.specs.Causes.{Rose};
+ghost use Rattle.disk_model.specs.Disk.{OnlyAdds, newest_only};
+ghost use Rattle.disk_model.specs.Moments.{EachSince};
 ghost use Rattle.disk_model.specs.Identity.{IsBound};
 ghost use Rattle.hmac_tag.specs.TagMaker.{key_of};
+ghost use Rattle.direct_mode.specs.Places.{IsNoBlock, IsOfPlaces, WritesPlaces};
 ghost use Rattle.device_core.specs.Opening.{HasOpened, IsRefused, IsSameDisk};
-ghost use Rattle.device_core.specs.Answers.{HasEnded, HasServed, HasStepCause, HasSubmitted, HasTaken, IsDone, actor_of, answer_by, condition_by, event_by, moved_answer, step_answer, submit_fault};
+ghost use Rattle.device_core.specs.Answers.{HasEnded, HasServed, HasStepCause, HasSubmitted, HasTaken, IsDone, IsWrittenNext, actor_of, answer_by, condition_by, event_by, moved_answer, step_answer, submit_fault, turns_left};
 ghost use Rattle.device_core.specs.Device.{IsDevice, IsReady, KeepsFlight, Standing};
 
 use crate::{
@@ -59,6 +62,8 @@ impl<'d, D: Disk> Device<'d, D> {
         ensures same { IfOk result (λ d. IsSameDisk (D.identity disk.old) (D.identity d.disk.now)
             (D.faults disk.old) (D.faults d.disk.now)) }
         ensures same_disk { IfOk result (λ d. d.disk.ghost_name ≡ disk.entry.ghost_name) }
+        ensures synced { IfOk result (λ d. EachSince (λ start c. c ≡ newest_only start)
+            (D.moments disk.old) (D.moments d.disk.now)) }
 
         ensures cause { IfErr result (λ r. r.fault ≡ OpenFault.Disk
             → Rose (D.faults disk.old) (D.faults r.disk.now)) }
@@ -67,6 +72,8 @@ impl<'d, D: Disk> Device<'d, D> {
         ensures same_back { IfErr result (λ r. IsSameDisk (D.identity disk.old) (D.identity r.disk.now)
             (D.faults disk.old) (D.faults r.disk.now)) }
         ensures same_disk_back { IfErr result (λ r. r.disk.ghost_name ≡ disk.entry.ghost_name) }
+        ensures synced_back { IfErr result (λ r. EachSince (λ start c. c ≡ newest_only start)
+            (D.moments disk.old) (D.moments r.disk.now)) }
     {
         match opening::open(alloc, disk, hash) {
             Ok(parts) => Ok(Device {
@@ -156,6 +163,8 @@ impl<'d, D: Disk> Device<'d, D> {
             → IsDevice w self.old.condition self.old.parts (D.moments self.old.disk.now)
             → HasServed w ticket.now result self.new.condition self.new.parts
             (D.moments self.old.disk.now) (D.moments self.new.disk.now) }
+        ensures goes_on { result ≡ Ok Served.Did
+            → turns_left ticket.now self.new.parts.slots < turns_left ticket.now self.old.parts.slots }
 
         ensures cause { HasStepCause (D.faults self.old.disk.now) (D.faults self.new.disk.now) result }
         ensures broken { ((self.old.condition ≡ Condition.Broken) ↔ (result ≡ Err StepFault.Broken))
@@ -166,6 +175,10 @@ impl<'d, D: Disk> Device<'d, D> {
         ensures condition { self.new.condition ≡ condition_by result }
         ensures identity { D.identity self.new.disk.now ≡ D.identity self.old.disk.now }
         ensures same_disk { self.new.disk.ghost_name ≡ self.old.disk.ghost_name }
+
+        ensures writes { WritesPlaces (IsWrittenNext self.old.parts.slots ticket.now)
+            self.old.parts.tags.geometry self.new.parts.tags.geometry
+            (D.moments self.old.disk.now) (D.moments self.new.disk.now) }
     {
         serving::serve(self.disk, &mut self.parts, &mut self.condition, ticket)
     }
@@ -237,6 +250,9 @@ impl<'d, D: Disk> Device<'d, D> {
         ensures identity { D.identity result.1.now ≡ D.identity self.entry.disk.now }
         ensures kept { self.entry.condition ≡ Condition.Broken → result.1.now ≡ self.entry.disk.now }
         ensures same_disk { result.1.ghost_name ≡ self.entry.disk.ghost_name }
+
+        ensures writes { EachSince (OnlyAdds (IsOfPlaces self.entry.parts.tags.geometry IsNoBlock))
+            (D.moments self.entry.disk.now) (D.moments result.1.now) }
     {
         let Device {
             disk,

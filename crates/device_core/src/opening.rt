@@ -1,5 +1,7 @@
 //! Opening a device: the first sector is read and judged, all memory is taken, and then the disk is synced.
 ghost use Rattle.std.specs.Prelude.{◌≡◌, IfErr, IfOk};
+ghost use Rattle.disk_model.specs.Disk.{newest_only};
+ghost use Rattle.disk_model.specs.Moments.{EachSince};
 ghost use Rattle.disk_model.specs.Identity.{IsBound};
 ghost use Rattle.image_model.specs.Cells.{salt_of};
 ghost use Rattle.hmac_tag.specs.TagMaker.{key_of};
@@ -52,6 +54,8 @@ pub(crate) fn open<D: Disk>(alloc: Global, disk: &mut D, hash: Hash) -> Result<P
         (D.moments disk.old) (D.moments disk.new)) }
 
     ensures identity { D.identity disk.new ≡ D.identity disk.old }
+
+    ensures synced { EachSince (λ start c. c ≡ newest_only start) (D.moments disk.old) (D.moments disk.new) }
 {
     let format = read_direct_format(disk)?;
     let room = take_room(alloc, &format.geometry)?;

@@ -1,11 +1,11 @@
 //! Serving a request: one block is read or written, or all is flushed.
-ghost use Rattle.std.specs.Prelude.{◌≡◌, ◌↔◌, Err, ◌*◌, ◌<◌, ◌^◌, true, length, IfOk, OnErr};
+ghost use Rattle.std.specs.Prelude.{◌≡◌, ◌↔◌, Err, Ok, ◌*◌, ◌<◌, ◌^◌, true, length, IfOk, OnErr, OnOk};
 ghost use Rattle.disk_model.specs.Causes.{HasCause};
-ghost use Rattle.request_slots.specs.Flight.{is_in_flight, turn_of};
+ghost use Rattle.request_slots.specs.Flight.{FitsFlight, is_in_flight, turn_of};
 ghost use Rattle.request_slots.specs.declared.turn.Turn.TheVariants as Turns;
 ghost use Rattle.device_core.specs.declared.condition.Condition.TheVariants.{Working};
-ghost use Rattle.device_core.specs.Answers.{HasFailedIn, HasServed, HasStepCause, IsServedAs, after_read, condition_by, served_by};
-ghost use Rattle.device_core.specs.Device.{IsDevice, IsReady, KeepsFlight, Standing};
+ghost use Rattle.device_core.specs.Answers.{HasFailedIn, HasServed, HasStepCause, IsServedAs, KeepsParts, after_read, condition_by, served_by, turns_left};
+ghost use Rattle.device_core.specs.Device.{IsDevice, IsReady, Standing};
 
 use crate::{Condition, Parts, Served, StepFault};
 use direct_mode::{flush, read_block, serve_block};
@@ -30,14 +30,15 @@ pub(crate) fn serve<D: Disk>(
 
     ensures served { (w : Standing) → IsDevice w condition.old parts.old (D.moments disk.old)
         → HasServed w ticket.now result condition.new parts.new (D.moments disk.old) (D.moments disk.new) }
+    ensures goes_on { result ≡ Ok Served.Did
+        → turns_left ticket.now parts.new.slots < turns_left ticket.now parts.old.slots }
 
     ensures cause { HasStepCause (D.faults disk.old) (D.faults disk.new) result }
     ensures broken { (condition.old ≡ Condition.Broken) ↔ (result ≡ Err StepFault.Broken) }
 
-    ensures ready { IsReady parts.new (D.identity disk.new) (D.moments disk.new) }
-    ensures flight { KeepsFlight parts.old.slots parts.new.slots }
+    ensures keeps { KeepsParts ticket.now parts.old parts.new (D.identity disk.old) (D.identity disk.new)
+        (D.moments disk.old) (D.moments disk.new) }
     ensures condition { condition.new ≡ condition_by result }
-    ensures identity { D.identity disk.new ≡ D.identity disk.old }
     ensures kept { condition.old ≡ Condition.Broken → disk.new ≡ disk.old }
 {
     match *condition {
@@ -64,14 +65,15 @@ fn serve_next<D: Disk>(disk: &mut D, parts: &mut Parts, ticket: &Ticket) -> Resu
     ensures served { IfOk result (λ served. (w : Standing)
         → IsDevice w Working parts.old (D.moments disk.old)
         → IsServedAs w ticket.now served parts.new (D.moments disk.old) (D.moments disk.new)) }
+    ensures goes_on { IfOk result (λ served. served ≡ Served.Did
+        → turns_left ticket.now parts.new.slots < turns_left ticket.now parts.old.slots) }
 
     ensures cause { HasCause (D.faults disk.old) (D.faults disk.new) result }
     ensures err { OnErr result ((w : Standing) → IsDevice w Working parts.old (D.moments disk.old)
         → HasFailedIn w ticket.now parts.new (D.moments disk.old) (D.moments disk.new)) }
 
-    ensures ready { IsReady parts.new (D.identity disk.new) (D.moments disk.new) }
-    ensures flight { KeepsFlight parts.old.slots parts.new.slots }
-    ensures identity { D.identity disk.new ≡ D.identity disk.old }
+    ensures keeps { KeepsParts ticket.now parts.old parts.new (D.identity disk.old) (D.identity disk.new)
+        (D.moments disk.old) (D.moments disk.new) }
 {
     match parts.slots.turn(ticket) {
         Turn::Finished => Ok(Served::Done),
@@ -93,18 +95,20 @@ fn serve_read<D: Disk>(
     requires there { is_in_flight ticket.now parts.old.slots ≡ true }
     requires turn { turn_of parts.old.slots ticket.now ≡ Turns.Read block }
     requires within { block < parts.old.slots.blocks }
+    requires fits { FitsFlight ticket.now parts.old.slots }
 
     ensures served { IfOk result (λ served. (w : Standing)
         → IsDevice w Working parts.old (D.moments disk.old)
         → IsServedAs w ticket.now served parts.new (D.moments disk.old) (D.moments disk.new)) }
+    ensures fewer { OnOk result
+        (turns_left ticket.now parts.new.slots < turns_left ticket.now parts.old.slots) }
 
     ensures cause { HasCause (D.faults disk.old) (D.faults disk.new) result }
     ensures err { OnErr result ((w : Standing) → IsDevice w Working parts.old (D.moments disk.old)
         → HasFailedIn w ticket.now parts.new (D.moments disk.old) (D.moments disk.new)) }
 
-    ensures ready { IsReady parts.new (D.identity disk.new) (D.moments disk.new) }
-    ensures flight { KeepsFlight parts.old.slots parts.new.slots }
-    ensures identity { D.identity disk.new ≡ D.identity disk.old }
+    ensures keeps { KeepsParts ticket.now parts.old parts.new (D.identity disk.old) (D.identity disk.new)
+        (D.moments disk.old) (D.moments disk.new) }
 {
     let stored = read_block(disk, &mut parts.tags, block, &mut parts.buffer)?;
     put_read(parts, ticket, block, stored);
@@ -123,18 +127,20 @@ fn serve_write<D: Disk>(
     requires there { is_in_flight ticket.now parts.old.slots ≡ true }
     requires turn { turn_of parts.old.slots ticket.now ≡ Turns.Write block is_flushed }
     requires within { block < parts.old.slots.blocks }
+    requires fits { FitsFlight ticket.now parts.old.slots }
 
     ensures served { IfOk result (λ served. (w : Standing)
         → IsDevice w Working parts.old (D.moments disk.old)
         → IsServedAs w ticket.now served parts.new (D.moments disk.old) (D.moments disk.new)) }
+    ensures fewer { OnOk result
+        (turns_left ticket.now parts.new.slots < turns_left ticket.now parts.old.slots) }
 
     ensures cause { HasCause (D.faults disk.old) (D.faults disk.new) result }
     ensures err { OnErr result ((w : Standing) → IsDevice w Working parts.old (D.moments disk.old)
         → HasFailedIn w ticket.now parts.new (D.moments disk.old) (D.moments disk.new)) }
 
-    ensures ready { IsReady parts.new (D.identity disk.new) (D.moments disk.new) }
-    ensures flight { KeepsFlight parts.old.slots parts.new.slots }
-    ensures identity { D.identity disk.new ≡ D.identity disk.old }
+    ensures keeps { KeepsParts ticket.now parts.old parts.new (D.identity disk.old) (D.identity disk.new)
+        (D.moments disk.old) (D.moments disk.new) }
 {
     let bytes = parts.slots.next_bytes(ticket);
     let tag = parts.maker.tag(block * parts.spb, bytes);
@@ -152,14 +158,15 @@ fn serve_flush<D: Disk>(disk: &mut D, parts: &mut Parts, ticket: &Ticket) -> Res
     ensures served { IfOk result (λ served. (w : Standing)
         → IsDevice w Working parts.old (D.moments disk.old)
         → IsServedAs w ticket.now served parts.new (D.moments disk.old) (D.moments disk.new)) }
+    ensures fewer { OnOk result
+        (turns_left ticket.now parts.new.slots < turns_left ticket.now parts.old.slots) }
 
     ensures cause { HasCause (D.faults disk.old) (D.faults disk.new) result }
     ensures err { OnErr result ((w : Standing) → IsDevice w Working parts.old (D.moments disk.old)
         → HasFailedIn w ticket.now parts.new (D.moments disk.old) (D.moments disk.new)) }
 
-    ensures ready { IsReady parts.new (D.identity disk.new) (D.moments disk.new) }
-    ensures flight { KeepsFlight parts.old.slots parts.new.slots }
-    ensures identity { D.identity disk.new ≡ D.identity disk.old }
+    ensures keeps { KeepsParts ticket.now parts.old parts.new (D.identity disk.old) (D.identity disk.new)
+        (D.moments disk.old) (D.moments disk.new) }
 {
     flush(disk, &mut parts.tags)?;
     parts.slots.finish(ticket);

@@ -1,2 +1,3 @@
 pub mod StoreCalls
 pub mod ServingLemmas
+pub mod PlacesLemmas

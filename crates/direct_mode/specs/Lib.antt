@@ -1,3 +1,4 @@
 pub mod Cells
 pub mod Opening
+pub mod Places
 pub mod Serving

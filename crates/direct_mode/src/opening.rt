@@ -3,7 +3,7 @@ ghost use Rattle.std.specs.Prelude.{◌≡◌, ℕ, List, Option, IfOk, OnOk};
 ghost use Rattle.disk_model.specs.Causes.{HasCause};
 ghost use Rattle.disk_model.specs.Disk.{newest_only};
 ghost use Rattle.disk_model.specs.Identity.{IsBound};
-ghost use Rattle.disk_model.specs.Moments.{IsChangedBy};
+ghost use Rattle.disk_model.specs.Moments.{EachSince, IsChangedBy};
 ghost use Rattle.image_model.specs.Geometry.{IsGeometry};
 ghost use Rattle.buffer_cache.specs.Cache.{sectors_of};
 ghost use Rattle.buffer_cache.specs.HeldSectors.{no_sectors};
@@ -39,6 +39,7 @@ pub fn settle<D: Disk>(disk: &mut D, geometry: Geometry, cache: Cache) -> Result
     ensures moments { (key : Option (List ℕ))
         → CanOpenRead key (D.identity disk.old).sectors (D.moments disk.old)
         → IsLeftOpening key (D.identity disk.old).sectors (D.moments disk.old) (D.moments disk.new) }
+    ensures newest { EachSince (λ start c. c ≡ newest_only start) (D.moments disk.old) (D.moments disk.new) }
 {
     disk.sync()?;
     Ok(Tags::new(geometry, cache))

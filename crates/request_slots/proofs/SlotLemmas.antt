@@ -68,7 +68,7 @@ first-read_piece from piece (Read first count buffer) = refl
 first-read_piece from piece (Write first count bytes fua) = refl
 first-read_piece from piece Flush = refl
 
-count-read_piece : (from : ℕ) (piece : List ℕ) (r : Request) → count_in (with_read_piece from piece r) ≡ count_in r
+pub count-read_piece : (from : ℕ) (piece : List ℕ) (r : Request) → count_in (with_read_piece from piece r) ≡ count_in r
 count-read_piece from piece (Read first count buffer) = refl
 count-read_piece from piece (Write first count bytes fua) = refl
 count-read_piece from piece Flush = refl

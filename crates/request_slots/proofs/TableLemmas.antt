@@ -1,5 +1,5 @@
 -- The table around the request of a ticket, and after a change of it.
-use Rattle.std.proofs.Common.{◌≡◌, ◌⊎◌, inl, inr, ℕ, suc, ◌+◌, ◌<◌, ◌≤◌, not, Bool, true, false, if◌then◌else◌, List, ◌∷◌, ◌++◌, length, set, get_or, find, Option, None, Some, refl, sym, ◌∙◌, ap, subst, arith, length-append, [], unwrap_or, position, ltb}
+use Rattle.std.proofs.Common.{◌≡◌, ◌⊎◌, inl, inr, ℕ, suc, ◌+◌, ◌<◌, ◌≤◌, not, Bool, true, false, if◌then◌else◌, List, ◌∷◌, ◌++◌, length, set, get_or, find, Option, None, Some, IfSome, refl, sym, ◌∙◌, ap, subst, arith, length-append, [], unwrap_or, position, ltb}
 use Rattle.std.specs.List.{AllByRecursion, position_or_len, remove}
 use Rattle.std.specs.Global.{Vec}
 use Rattle.std.specs.Vec.{with_item, vec_len, vec_capacity}
@@ -11,7 +11,7 @@ use Rattle.range_lock.specs.Asks.{Slots, answer_by, ask_for, holder_of}
 use Rattle.range_lock.specs.declared.ask.Asked.{Asked}
 use Rattle.range_lock.specs.declared.ask.Asked.TheVariants.{Granted, Held}
 use Rattle.range_lock.specs.declared.ask.Ask.{Ask}
-use Rattle.request_slots.specs.Flight.{Flight, is_in_flight, is_of, is_unfinished, ask_of, asks_in, first_in, count_in, newly_slotted, slot_of, turn_of, turn_in, turn_behind, next_of, has_blocks, IsSlotOf, IsRead, IsWrite, AreAbove}
+use Rattle.request_slots.specs.Flight.{FitsFlight, Flight, is_in_flight, is_of, is_unfinished, ask_of, asks_in, first_in, count_in, newly_slotted, slot_of, turn_of, turn_in, turn_behind, next_of, has_blocks, IsSlotOf, IsRead, IsWrite, AreAbove}
 use Rattle.request_slots.specs.Serving.{changed, with_change}
 use Rattle.request_slots.specs.Taking.{after_take, without}
 use Rattle.request_slots.specs.Table.{flight_of, with_unlocked, IsTable}
@@ -145,7 +145,7 @@ next-blocks x (Write first count bytes fua) next = refl
 next-blocks x Flush (inl reads) = absurd reads
 next-blocks x Flush (inr writes) = absurd writes
 
-behind-blocks : (x : Slot) (by : Option ℕ) → HasNext (turn_behind x by) → has_blocks x.request ≡ true
+pub behind-blocks : (x : Slot) (by : Option ℕ) → HasNext (turn_behind x by) → has_blocks x.request ≡ true
 behind-blocks x (Some ticket) (inl reads) = absurd reads
 behind-blocks x (Some ticket) (inr writes) = absurd writes
 behind-blocks x None next = next-blocks x x.request next
@@ -188,6 +188,15 @@ turn_of-asked table flight t at number is here view still same answer asked =
 pub slot_of-view : (table : Inside) (flight : Flight) (t at : ℕ) (is : IsTable table) (here : IsAt table t at) → flight_of table ≡ flight
     → slot_of t flight ≡ Some here.split.own
 slot_of-view table flight t at is here view = sym (ap (slot_of t) view) ∙ slot_of-own table t at is here
+
+-- and that it fits
+pub fits-view : (table : Inside) (flight : Flight) (t at : ℕ) (is : IsTable table) (here : IsAt table t at)
+    → flight_of table ≡ flight → FitsFlight t flight
+fits-view table flight t at is here view =
+    subst (λ (o : Option Slot). IfSome o (IsSlotOf flight.blocks flight.block_size flight.submitted))
+    (sym (slot_of-view table flight t at is here view))
+    (subst (λ (f : Flight). IsSlotOf f.blocks f.block_size f.submitted here.split.own) view
+    (fits-own table t at is here))
 
 -- where one is, the request is unfinished, and has blocks
 module _ (table : Inside) (flight : Flight) (t at : ℕ) (is : IsTable table) (here : IsAt table t at) (view : flight_of table ≡ flight)

@@ -1,5 +1,5 @@
 -- What a contract sees of the requests in flight, and what is done next for each.
-use Rattle.std.specs.Prelude.{◌≡◌, ℕ, suc, ◌+◌, ◌*◌, ◌<◌, ◌≤◌, ◌==◌, Bool, true, false, ◌&&◌, if◌then◌else◌, List, [], ◌∷◌, length, find, Option, Some, None}
+use Rattle.std.specs.Prelude.{◌≡◌, ℕ, suc, ◌+◌, ◌*◌, ◌<◌, ◌≤◌, ◌==◌, Bool, true, false, ◌&&◌, if◌then◌else◌, List, [], ◌∷◌, length, find, Option, Some, None, IfSome}
 use Rattle.std.specs.List.{list_any}
 use Rattle.range_lock.specs.Asks.{ask_for, holder_of}
 use Rattle.range_lock.specs.declared.ask.Ask.{Ask}
@@ -146,6 +146,11 @@ pub record IsSlotOf (blocks block_size submitted : ℕ) (slot : Slot) : Type 0 w
   pub bytes : length (bytes_in slot.request) ≡ count_in slot.request * block_size
   pub counted : slot.served ≤ count_in slot.request
   pub left : has_blocks slot.request ≡ true → is_unfinished slot ≡ true → slot.served < count_in slot.request
+
+-- The request of this ticket is such, if it is in flight.
+abbrev pub FitsFlight : ℕ → Flight → Type 0
+FitsFlight ticket flight =
+    IfSome (slot_of ticket flight) (IsSlotOf flight.blocks flight.block_size flight.submitted)
 
 -- The tickets are above this one, and ascend.
 abbrev pub AreAbove : ℕ → List Slot → Type 0

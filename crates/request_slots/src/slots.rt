@@ -37,7 +37,7 @@ impl Model for Slots {
 }
 
 impl Slots {
-    ghost use Rattle.request_slots.specs.Flight.{is_in_flight, is_of, no_requests, slot_of, turn_of, IsRead, IsTurnWithin, IsWrite};
+    ghost use Rattle.request_slots.specs.Flight.{is_in_flight, is_of, no_requests, slot_of, turn_of, FitsFlight, IsRead, IsTurnWithin, IsWrite};
     ghost use Rattle.request_slots.specs.Serving.{with_change, with_block_read, with_block_counted, with_fault, with_finish, next_bytes};
     ghost use Rattle.request_slots.specs.Submitting.{answer_by, after_submit, blocks_fault, fault_of, slots_fault};
     ghost use Rattle.request_slots.specs.Taking.{taken_by, after_take};
@@ -128,6 +128,7 @@ impl Slots {
 
         ensures turn { result ≡ turn_of self.now ticket.now }
         ensures inside { IsTurnWithin self.now.blocks result }
+        ensures fits { FitsFlight ticket.now self.now }
     {
         let slot = &self.slots[self.place_of(ticket)];
         if !slot.is_unfinished() {

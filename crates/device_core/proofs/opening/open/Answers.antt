@@ -1,5 +1,8 @@
-use Rattle.std.proofs.Common.{◌≡◌, List, Option, ℕ, sym, ◌∙◌, ap, subst}
+use Rattle.std.proofs.Common.{◌≡◌, List, Option, ℕ, ◌∙◌, ap, subst}
 use Rattle.std.proofs.lemmas.Result.{err_from_is_err_and}
+use Rattle.disk_model.specs.Disk.{Content, newest_only}
+use Rattle.disk_model.specs.Moments.{EachSince}
+use Rattle.disk_model.proofs.MomentsLemmas.{EachMoment-kept}
 use Rattle.disk_model.specs.Identity.{DiskIdentity}
 use Rattle.image_model.specs.Cells.{salt_of}
 use Rattle.image_model.specs.Geometry.{Shape}
@@ -41,3 +44,21 @@ returns-clause-opened g c =
     (c.in_ok-tags.ensures.opened key to_open) c.in_ok-tags.ensures.synced
     (subst (λ (x : DiskIdentity). IsStore c.in_ok-tags.tags x (g.D.Disk.moments last)) c.settle.ensures.identity c.in_ok-tags.ensures.store)
     (c.settle.ensures.moments key to_open.can))
+
+pub returns-in_err-format-clause-synced : goal.returns-in_err-format-clause-synced
+returns-in_err-format-clause-synced g c = EachMoment-kept _ c.read_direct_format.ensures.kept
+
+pub returns-in_err-room-clause-synced : goal.returns-in_err-room-clause-synced
+returns-in_err-room-clause-synced g c = EachMoment-kept _ c.read_direct_format.ensures.kept
+
+pub returns-in_err-tags-clause-synced : goal.returns-in_err-tags-clause-synced
+returns-in_err-tags-clause-synced g c =
+    let last = g.D.Disk.moments c.settle.new.disk in
+    subst (λ (m : List Content). EachSince (λ start c. c ≡ newest_only start) m last)
+    c.read_direct_format.ensures.kept c.settle.ensures.newest
+
+pub returns-clause-synced : goal.returns-clause-synced
+returns-clause-synced g c =
+    let last = g.D.Disk.moments c.settle.new.disk in
+    subst (λ (m : List Content). EachSince (λ start c. c ≡ newest_only start) m last)
+    c.read_direct_format.ensures.kept c.settle.ensures.newest

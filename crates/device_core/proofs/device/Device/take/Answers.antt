@@ -1,4 +1,4 @@
-use Rattle.std.proofs.Common.{◌≡◌, sym, subst}
+use Rattle.std.proofs.Common.{sym, subst}
 use Rattle.device_core.specs.Device.{IsReady}
 use Rattle.device_core.specs.declared.parts.Parts.{Parts}
 use Rattle.device_core.proofs.ReadyLemmas.{ready-same, take-same}

@@ -3,7 +3,7 @@ use Rattle.request_slots.specs.Flight.{Flight, IsTurnWithin, is_unfinished, firs
 use Rattle.request_slots.specs.declared.slot.Slot.{Slot}
 use Rattle.request_slots.specs.declared.turn.Turn.{Turn}
 use Rattle.request_slots.proofs.SlotLemmas.{block-low, next-within, served-low}
-use Rattle.request_slots.proofs.TableLemmas.{at-place, at-low, fits-own, lent-own, turn_by, turn_of-own, turn_of-asked, turn_asked}
+use Rattle.request_slots.proofs.TableLemmas.{at-place, at-low, fits-own, fits-view, lent-own, turn_by, turn_of-own, turn_of-asked, turn_asked}
 use Rattle.request_slots.proofs.slots.Slots.turn.Goals as goal
 
 pub index-slot-requires : goal.index-slot-requires
@@ -57,3 +57,18 @@ returns-in-Granted-clause-inside c =
     subst (λ (t : Turn). IsTurnWithin c.args.self.now.blocks t) (sym (c.next.ensures ∙ ap (λ (x : Slot). next_of x x.request) is))
     (subst (λ (n : ℕ). IsTurnWithin n (next_of here.split.own here.split.own.request)) (ap (λ (f : Flight). f.blocks) c.self.view_is)
     (next-within _ _ _ here.split.own (fits-own c.self.inside c.args.ticket.now _ c.self.invariant here) still here.split.own.request refl))
+
+pub returns-then-not-is_unfinished-clause-fits : goal.returns-then-not-is_unfinished-clause-fits
+returns-then-not-is_unfinished-clause-fits c =
+    let here = at-place c.self.inside _ c.args.ticket.now _ c.self.view_is c.requires c.place_of.ensures in
+    fits-view c.self.inside c.args.self.now c.args.ticket.now _ c.self.invariant here c.self.view_is
+
+pub returns-in-Held-clause-fits : goal.returns-in-Held-clause-fits
+returns-in-Held-clause-fits c =
+    let here = at-place c.self.inside _ c.args.ticket.now _ c.self.view_is c.requires c.place_of.ensures in
+    fits-view c.self.inside c.args.self.now c.args.ticket.now _ c.self.invariant here c.self.view_is
+
+pub returns-in-Granted-clause-fits : goal.returns-in-Granted-clause-fits
+returns-in-Granted-clause-fits c =
+    let here = at-place c.self.inside _ c.args.ticket.now _ c.self.view_is c.requires c.place_of.ensures in
+    fits-view c.self.inside c.args.self.now c.args.ticket.now _ c.self.invariant here c.self.view_is
