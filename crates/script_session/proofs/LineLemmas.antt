@@ -1,0 +1,60 @@
+-- What a line has come to when it ends.
+use Rattle.std.proofs.Common.{◌≡◌, ℕ, List, [], Option, sym, ◌∙◌, ap, subst, append-nil}
+use Rattle.disk_model.specs.Disk.{Content}
+use Rattle.device_model.specs.Progress.{Event}
+use Rattle.device_model.specs.Script.{MeaningFault, ScriptLine, meaning_fault}
+use Rattle.device_core.specs.declared.condition.Condition.TheVariants as Conditions
+use Rattle.device_core.specs.declared.parts.Parts.{Parts}
+use Rattle.device_core.specs.Device.{IsDevice, Standing}
+use Rattle.script_session.specs.declared.line_answer.LineAnswer.{LineAnswer}
+use Rattle.script_session.specs.declared.tags_found.TagsFound.{TagsFound}
+use Rattle.script_session.specs.declared.tickets.Tickets.{Tickets}
+use Rattle.script_session.specs.LineRun.{HasAnswered, HasRun, HasRunLine, IsCutLine, IsCutOff, IsHalfTold, IsRunnable, events_of, held_with}
+use Rattle.script_session.specs.Meaning.{fault_on}
+use Rattle.script_session.specs.Tickets.{AreInFlight, numbers_of}
+use Rattle.script_session.specs.Told.{answer_found, answer_told, finds_fault}
+use Rattle.stream_io.specs.Stream.{AddsPrefix}
+use Rattle.script_session.proofs.RunLemmas.{cut_run}
+use Rattle.script_session.proofs.TicketLemmas.{fault-is}
+
+module _ (w : Standing) (parts : Parts) (a : List Content) (is : IsDevice w Conditions.Working parts a) (tickets : Tickets) (are : AreInFlight tickets parts.slots)
+    (blocks size : ℕ) (blocks_is : blocks ≡ parts.slots.blocks) (size_is : size ≡ parts.slots.block_size) (line : ScriptLine) where
+  -- A line is judged as the model judges it.
+  pub judged : (fault : Option MeaningFault) → fault ≡ fault_on blocks size (numbers_of tickets) line
+      → meaning_fault w.format w.state.progress line ≡ fault
+  judged fault told =
+      sym (told ∙ ap (λ (n : ℕ). fault_on n size (numbers_of tickets) line) blocks_is
+      ∙ ap (λ (n : ℕ). fault_on parts.slots.blocks n (numbers_of tickets) line) size_is
+      ∙ fault-is w.format parts.slots w.state.progress is.flight tickets are line)
+
+cut_done : (w : Standing) (events : List Event) (parts : Parts) (a b : List Content) → HasRun w events parts a b
+    → IsCutOff w events a b
+cut_done w events parts a b run =
+    subst (λ (l : List Event). IsCutOff w l a b) (append-nil events) (cut_run w events [] parts a b run)
+
+module _ (w : Standing) (line : ScriptLine) (runnable : IsRunnable w line) (a b : List Content) (before now : Option (List ℕ)) where
+  pub line_cut : IsCutOff w (events_of w line) a b → now ≡ before → IsCutLine w line a b before now
+  line_cut cut told = record { runnable = runnable; cut = cut; told = told }
+
+  module _ (answer : LineAnswer) (parts : Parts) (answered : HasAnswered w (events_of w line) answer parts a b) where
+    -- All is done and told,
+    pub line_told : (found : TagsFound) → found ≡ answer_found answer
+        → now ≡ held_with (answer_told answer) before → HasRunLine w line found parts a b before now
+    line_told found found_is told = record {
+      runnable = runnable;
+      run = answered.run;
+      found_ = ap finds_fault found_is ∙ answered.found;
+      told = told ∙ ap (λ (t : List ℕ). held_with t before) answered.text;
+    }
+
+    -- or nothing is told,
+    pub line_untold : now ≡ before → IsCutLine w line a b before now
+    line_untold told = record { runnable = runnable; cut = cut_done w (events_of w line) parts a b answered.run; told = told }
+
+    -- or a part.
+    pub line_half : AddsPrefix (answer_told answer) before now → IsHalfTold w line parts a b before now
+    line_half told = record {
+      runnable = runnable;
+      run = answered.run;
+      told = subst (λ (t : List ℕ). AddsPrefix t before now) answered.text told;
+    }

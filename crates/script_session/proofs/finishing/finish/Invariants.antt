@@ -1,0 +1,24 @@
+use Rattle.std.proofs.Common.{◌≡◌, ◌≤◌, true}
+use Rattle.device_core.specs.declared.condition.Condition.TheVariants.{Working}
+use Rattle.device_core.specs.Answers.{turns_left}
+use Rattle.device_core.specs.Device.{IsDevice, IsReady, KeepsFlight, Standing}
+use Rattle.request_slots.specs.Flight.{is_in_flight}
+use Rattle.script_session.proofs.WayLemmas.{IsOnWay}
+use Rattle.script_session.proofs.finishing.finish.Given as goal
+
+abbrev pub invariant-turns : goal.invariant-turns
+invariant-turns g l = record {
+  ready : IsReady l.device.parts (g.D.Disk.identity l.device.disk.now) (g.D.Disk.moments l.device.disk.now);
+  works : l.device.condition ≡ Working;
+  there : is_in_flight l.ticket l.device.parts.slots ≡ true;
+  flight : KeepsFlight l.initial.device.parts.slots l.device.parts.slots;
+  identity : g.D.Disk.identity l.device.disk.now ≡ g.D.Disk.identity l.initial.device.disk.now;
+  later : g.D.Counted.faults l.initial.device.disk.now ≤ g.D.Counted.faults l.device.disk.now;
+  same_disk : l.device.disk.ghost_name ≡ l.initial.device.disk.ghost_name;
+  way : (w : Standing) → IsDevice w Working l.initial.device.parts (g.D.Disk.moments l.initial.device.disk.now)
+      → IsOnWay w l.ticket l.device.parts (g.D.Disk.moments l.initial.device.disk.now)
+      (g.D.Disk.moments l.device.disk.now);
+}
+
+abbrev pub decreases-turns : goal.decreases-turns
+decreases-turns g l = turns_left l.ticket l.device.parts.slots

@@ -1,0 +1,10 @@
+-- When a line is stopped.
+use Rattle.std.specs.Prelude.{◌≡◌, ℕ, ◌≤◌, Result, Err}
+use Rattle.disk_model.specs.Causes.{Rose}
+use Rattle.script_session.specs.declared.stop.Stop.{Stop}
+use Rattle.script_session.specs.declared.stop.Stop.TheVariants as Stops
+
+-- The count of faults never falls, and the disk stops a line only where it rose.
+pub record HasStopCause {T : Type 0} (before after : ℕ) (result : Result T Stop) : Type 0 where
+  pub later : before ≤ after
+  pub failed : result ≡ Err Stops.Disk → Rose before after

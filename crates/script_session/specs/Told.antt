@@ -1,0 +1,85 @@
+-- What is told of a line that was run.
+use Rattle.std.specs.Prelude.{◌≡◌, ℕ, Bool, true, false, List, []}
+use Rattle.device_model.specs.Progress as progress
+use Rattle.device_model.specs.Reply.{Bytes, TagFault}
+use Rattle.device_model.specs.Request as request
+use Rattle.device_model.specs.Script as script
+use Rattle.device_model.specs.Transcript.{read_text, write_text}
+use Rattle.request_slots.specs.declared.reply.Reply.{Reply}
+use Rattle.request_slots.specs.declared.reply.Reply.TheVariants as replies
+use Rattle.request_slots.specs.declared.submit_fault.SubmitFault.{SubmitFault}
+use Rattle.request_slots.specs.declared.submit_fault.SubmitFault.TheVariants as refusals
+use Rattle.device_core.specs.declared.answers.Served.{Served}
+use Rattle.device_core.specs.declared.answers.Served.TheVariants as serves
+use Rattle.script_session.specs.declared.line_answer.LineAnswer.{LineAnswer}
+use Rattle.script_session.specs.declared.line_answer.LineAnswer.TheVariants.{Nothing, Ticket, SlotsFull, ReadOnly, HeldBy, Did, Done, Idle, NotDone, Replied}
+use Rattle.script_session.specs.declared.tags_found.TagsFound.{TagsFound}
+use Rattle.script_session.specs.declared.tags_found.TagsFound.TheVariants.{Matching, Differing}
+
+-- The line tells a block whose stored tag is not the tag of its bytes.
+abbrev pub finds_fault : TagsFound → Bool
+finds_fault Matching = false
+finds_fault Differing = true
+
+-- The text of a reply to a request for `count` blocks from block `first` on. Those do not show in a fault.
+abbrev pub reply_told : (first count : ℕ) → Reply → List ℕ
+reply_told first count (replies.Read buffer) = read_text first count (Bytes buffer)
+reply_told first count (replies.TagFault block stored computed buffer) =
+    read_text 0 0 (TagFault block stored computed)
+reply_told first count (replies.Written bytes) = write_text first count
+reply_told first count replies.Flushed = script.reply_text request.Flush (Bytes [])
+
+-- The text of an answer.
+abbrev pub answer_told : LineAnswer → List ℕ
+answer_told Nothing = []
+answer_told (Ticket ticket) = script.answer_text (progress.Ticket ticket)
+answer_told SlotsFull = script.answer_text progress.SlotsFull
+answer_told ReadOnly = script.answer_text progress.ReadOnly
+answer_told (HeldBy by) = script.answer_text (progress.HeldBy by)
+answer_told Did = script.answer_text progress.Did
+answer_told Done = script.answer_text progress.Done
+answer_told Idle = script.answer_text progress.Idle
+answer_told NotDone = script.answer_text progress.NotDone
+answer_told (Replied first count reply) = reply_told first count reply
+
+abbrev pub reply_found : Reply → TagsFound
+reply_found (replies.Read buffer) = Matching
+reply_found (replies.TagFault block stored computed buffer) = Differing
+reply_found (replies.Written bytes) = Matching
+reply_found replies.Flushed = Matching
+
+-- Whether it tells such a block.
+abbrev pub answer_found : LineAnswer → TagsFound
+answer_found Nothing = Matching
+answer_found (Ticket ticket) = Matching
+answer_found SlotsFull = Matching
+answer_found ReadOnly = Matching
+answer_found (HeldBy by) = Matching
+answer_found Did = Matching
+answer_found Done = Matching
+answer_found Idle = Matching
+answer_found NotDone = Matching
+answer_found (Replied first count reply) = reply_found reply
+
+-- What is told of a serve.
+abbrev pub served_line : Served → LineAnswer
+served_line (serves.Held by) = HeldBy by
+served_line serves.Did = Did
+served_line serves.Done = Done
+
+-- What is told of a request that is refused.
+abbrev pub refused_answer : SubmitFault → LineAnswer
+refused_answer refusals.Broken = Nothing
+refused_answer refusals.ReadOnly = ReadOnly
+refused_answer (refusals.Range first count blocks) = Nothing
+refused_answer (refusals.Length have need) = Nothing
+refused_answer (refusals.SlotsFull slots) = SlotsFull
+
+abbrev pub IsNoTicket : progress.Answer → Type 0
+IsNoTicket (progress.Ticket ticket) = ⊥
+IsNoTicket answer = Unit {0}
+
+-- It is told that a request got this ticket where it did, and else something else.
+abbrev pub IsTicketOf : LineAnswer → progress.Answer → Type 0
+IsTicketOf (Ticket ticket) answer = answer ≡ progress.Ticket ticket
+IsTicketOf line answer = IsNoTicket answer

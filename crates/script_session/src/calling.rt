@@ -1,0 +1,227 @@
+//! The calls that a line makes of a device, one by one.
+ghost use Rattle.std.specs.Prelude.{◌≡◌, ◌+◌, ◌<◌, ◌^◌, ◌∷◌, [], ℕ, true, vec_len, vec_capacity, IfOk, OnErr, OnOk};
+ghost use Rattle.std.specs.List.{list_any};
+ghost use Rattle.disk_model.specs.Causes.{HasCause};
+ghost use Rattle.device_model.specs.Progress.{Serve, Step, Submit, Take};
+ghost use Rattle.device_core.specs.Answers as Core;
+ghost use Rattle.device_core.specs.declared.condition.Condition.TheVariants.{Working};
+ghost use Rattle.device_core.specs.Device.{IsDevice, IsReady, Standing};
+ghost use Rattle.request_slots.specs.Flight.{count_in, first_in};
+ghost use Rattle.request_slots.specs.InFlight.{as_submission};
+ghost use Rattle.script_text.specs.Line.{actor_of};
+ghost use Rattle.script_session.specs.declared.line_answer.LineAnswer.TheVariants.{Ticket};
+ghost use Rattle.script_session.specs.LineRun.{HasAnswered, IsCutOff, TellsTicket};
+ghost use Rattle.script_session.specs.Told.{refused_answer, served_line};
+ghost use Rattle.script_session.specs.Tickets.{AreInFlight, Stays, is_of};
+
+use crate::Tickets;
+use crate::finishing::serve;
+use crate::line_answer::LineAnswer;
+use crate::tickets::Waiting;
+use device_core::{Actor, Device, Moved, Served};
+use request_slots::{Request, SubmitFault};
+use sector_disk::{Disk, Failed};
+
+/// Submits a request. Its ticket comes last, where it gets one; there is room for it.
+pub(crate) fn submit<'d, D: Disk>(
+    device: &mut Device<'d, D>,
+    tickets: &mut Tickets,
+    request: Request,
+) -> LineAnswer
+    requires ready { IsReady device.old.parts (D.identity device.old.disk.now) (D.moments device.old.disk.now) }
+    requires works { device.old.condition ≡ Working }
+    requires tickets { AreInFlight tickets.old device.old.parts.slots }
+    requires room { vec_len tickets.old.waiting < vec_capacity tickets.old.waiting }
+    requires number { device.old.parts.slots.submitted + 1 < 2 ^ 64 }
+
+    ensures answered { (w : Standing) → IsDevice w Working device.old.parts (D.moments device.old.disk.now)
+        → HasAnswered w (Submit (as_submission request) ∷ []) result device.new.parts
+        (D.moments device.old.disk.now) (D.moments device.new.disk.now) }
+    ensures ticket { (w : Standing) → IsDevice w Working device.old.parts (D.moments device.old.disk.now)
+        → TellsTicket w (as_submission request) result }
+    ensures held { (ticket : ℕ) → result ≡ Ticket ticket
+        → list_any (is_of ticket) tickets.new.waiting.items ≡ true }
+
+    ensures works { device.new.condition ≡ Working }
+    ensures stays { Stays device.old.parts device.new.parts tickets.new (D.identity device.old.disk.now)
+        (D.identity device.new.disk.now) (D.moments device.new.disk.now) }
+    ensures disk { device.new.disk.now ≡ device.old.disk.now }
+    ensures same_disk { device.new.disk.ghost_name ≡ device.old.disk.ghost_name }
+{
+    let (first, count) = blocks_of(&request);
+    match device.submit(request) {
+        Ok(ticket) => {
+            let number = ticket.number();
+            tickets.waiting.push_reserved(Waiting {
+                ticket,
+                first,
+                count,
+            });
+            LineAnswer::Ticket { ticket: number }
+        }
+        Err(refusal) => refused(refusal.1),
+    }
+}
+
+/// Serves the request of a ticket once.
+///
+/// # Errors
+///
+/// - `Failed`: the disk failed. The device is broken then.
+pub(crate) fn serve_one<'d, D: Disk>(
+    device: &mut Device<'d, D>,
+    tickets: &Tickets,
+    number: u64,
+) -> Result<LineAnswer, Failed>
+    requires ready { IsReady device.old.parts (D.identity device.old.disk.now) (D.moments device.old.disk.now) }
+    requires works { device.old.condition ≡ Working }
+    requires tickets { AreInFlight tickets.now device.old.parts.slots }
+    requires number { list_any (is_of number) tickets.now.waiting.items ≡ true }
+
+    ensures answered { IfOk result (λ answer. (w : Standing)
+        → IsDevice w Working device.old.parts (D.moments device.old.disk.now)
+        → HasAnswered w (Serve number ∷ []) answer device.new.parts
+        (D.moments device.old.disk.now) (D.moments device.new.disk.now)) }
+
+    ensures cause { HasCause (D.faults device.old.disk.now) (D.faults device.new.disk.now) result }
+    ensures err { OnErr result ((w : Standing)
+        → IsDevice w Working device.old.parts (D.moments device.old.disk.now)
+        → IsCutOff w (Serve number ∷ []) (D.moments device.old.disk.now) (D.moments device.new.disk.now)) }
+
+    ensures works { OnOk result (device.new.condition ≡ Working) }
+    ensures stays { Stays device.old.parts device.new.parts tickets.now (D.identity device.old.disk.now)
+        (D.identity device.new.disk.now) (D.moments device.new.disk.now) }
+    ensures same_disk { device.new.disk.ghost_name ≡ device.old.disk.ghost_name }
+{
+    let served = serve(device, tickets.ticket_of(number))?;
+    Ok(served_answer(served))
+}
+
+/// Takes the reply of the request of a ticket, which is then no more in flight. One that is not done stays so.
+pub(crate) fn take<'d, D: Disk>(
+    device: &mut Device<'d, D>,
+    tickets: &mut Tickets,
+    number: u64,
+) -> LineAnswer
+    requires ready { IsReady device.old.parts (D.identity device.old.disk.now) (D.moments device.old.disk.now) }
+    requires works { device.old.condition ≡ Working }
+    requires tickets { AreInFlight tickets.old device.old.parts.slots }
+    requires number { list_any (is_of number) tickets.old.waiting.items ≡ true }
+
+    ensures answered { (w : Standing) → IsDevice w Working device.old.parts (D.moments device.old.disk.now)
+        → HasAnswered w (Take number ∷ []) result device.new.parts
+        (D.moments device.old.disk.now) (D.moments device.new.disk.now) }
+
+    ensures works { device.new.condition ≡ Working }
+    ensures stays { Stays device.old.parts device.new.parts tickets.new (D.identity device.old.disk.now)
+        (D.identity device.new.disk.now) (D.moments device.new.disk.now) }
+    ensures submitted { device.new.parts.slots.submitted ≡ device.old.parts.slots.submitted }
+    ensures disk { device.new.disk.now ≡ device.old.disk.now }
+    ensures same_disk { device.new.disk.ghost_name ≡ device.old.disk.ghost_name }
+{
+    let place = tickets.place_of(number);
+    let Waiting {
+        ticket,
+        first,
+        count,
+    } = tickets.waiting.remove(place);
+    match device.take(ticket) {
+        Ok(reply) => LineAnswer::Replied {
+            first,
+            count,
+            reply,
+        },
+        Err(ticket) => {
+            let waiting = Waiting {
+                ticket,
+                first,
+                count,
+            };
+            tickets.waiting.insert(place, waiting).unwrap();
+            LineAnswer::NotDone
+        }
+    }
+}
+
+/// Lets an actor do its next step.
+///
+/// # Errors
+///
+/// - `Failed`: the disk failed. The device is broken then.
+pub(crate) fn step<'d, D: Disk>(
+    device: &mut Device<'d, D>,
+    actor: script_text::Actor,
+) -> Result<LineAnswer, Failed>
+    requires works { device.old.condition ≡ Working }
+
+    ensures answered { IfOk result (λ answer. (w : Standing)
+        → IsDevice w Working device.old.parts (D.moments device.old.disk.now)
+        → HasAnswered w (Step (actor_of actor) ∷ []) answer device.new.parts
+        (D.moments device.old.disk.now) (D.moments device.new.disk.now)) }
+    ensures cause { HasCause (D.faults device.old.disk.now) (D.faults device.new.disk.now) result }
+    ensures err { OnErr result ((w : Standing)
+        → IsDevice w Working device.old.parts (D.moments device.old.disk.now)
+        → IsCutOff w (Step (actor_of actor) ∷ [])
+        (D.moments device.old.disk.now) (D.moments device.new.disk.now)) }
+
+    ensures works { OnOk result (device.new.condition ≡ Working) }
+    ensures parts { device.new.parts ≡ device.old.parts }
+    ensures disk { device.new.disk.now ≡ device.old.disk.now }
+    ensures same_disk { device.new.disk.ghost_name ≡ device.old.disk.ghost_name }
+{
+    match device.step(core_actor(actor)) {
+        Ok(Moved::Did) => Ok(LineAnswer::Did),
+        Ok(Moved::Idle) => Ok(LineAnswer::Idle),
+        Err(_) => Err(Failed),
+    }
+}
+
+/// What is told of a serve.
+fn served_answer(served: Served) -> LineAnswer
+    ensures { result ≡ served_line served }
+{
+    match served {
+        Served::Held { by } => LineAnswer::HeldBy { by },
+        Served::Did => LineAnswer::Did,
+        Served::Done => LineAnswer::Done,
+    }
+}
+
+/// The actor of the device.
+fn core_actor(actor: script_text::Actor) -> Actor
+    ensures { Core.actor_of result ≡ actor_of actor }
+{
+    match actor {
+        script_text::Actor::Commit => Actor::Commit,
+        script_text::Actor::Place => Actor::Place,
+        script_text::Actor::Settle => Actor::Settle,
+        script_text::Actor::Clean => Actor::Clean,
+        script_text::Actor::Recalc => Actor::Recalc,
+    }
+}
+
+/// The blocks that a request is for: the first, and how many. A flush is for none, and tells 0 and 0.
+fn blocks_of(request: &Request) -> (u64, u64)
+    ensures first { result.0 ≡ first_in request.now }
+    ensures count { result.1 ≡ count_in request.now }
+{
+    match request {
+        Request::Read { first, count, .. } | Request::Write { first, count, .. } => {
+            (*first, *count)
+        }
+        Request::Flush => (0, 0),
+    }
+}
+
+/// What is told of a request that is refused. A line of a wrong range or length is refused before.
+fn refused(fault: SubmitFault) -> LineAnswer
+    ensures { result ≡ refused_answer fault }
+{
+    match fault {
+        SubmitFault::ReadOnly => LineAnswer::ReadOnly,
+        SubmitFault::SlotsFull { .. } => LineAnswer::SlotsFull,
+        SubmitFault::Broken | SubmitFault::Range { .. } | SubmitFault::Length { .. } => {
+            LineAnswer::Nothing
+        }
+    }
+}

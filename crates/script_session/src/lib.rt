@@ -1,0 +1,26 @@
+//! One line of a script, run on a device, and what it tells.
+//!
+//! A contract says of the device which one of `device_model` it is, and what the line does to that one
+//! (`specs/LineRun.antt`, the file to read first). A line is judged before anything is done; its text is told once
+//! all that it does is done.
+#![tactic(auto)]
+
+mod asking;
+mod calling;
+mod finishing;
+mod line_answer;
+mod line_end;
+mod meaning;
+mod running;
+mod stop;
+mod tags_found;
+mod telling;
+#[cfg(test)]
+mod tests;
+mod tickets;
+
+pub use line_end::LineEnd;
+pub use meaning::MeaningFault;
+pub use running::run_line;
+pub use tags_found::TagsFound;
+pub use tickets::Tickets;

@@ -1,0 +1,210 @@
+//! Runs one line of a script.
+ghost use Rattle.std.specs.Prelude.{◌≡◌, ◌≢◌, ◌+◌, ◌<◌, ◌^◌, ◌∷◌, [], ℕ, Err, IfErr, IfOk, None, OnErr, OnOk, false, true};
+ghost use Rattle.std.specs.List.{list_any};
+ghost use Rattle.device_model.specs.Progress.{Submit};
+ghost use Rattle.device_model.specs.Script.{AskLine, submission_of};
+ghost use Rattle.disk_model.specs.Causes.{HasCause};
+ghost use Rattle.device_core.specs.declared.condition.Condition.TheVariants.{Working};
+ghost use Rattle.device_core.specs.Device.{IsDevice, IsReady, Standing};
+ghost use Rattle.script_text.specs.Line.{ask_of, line_of};
+ghost use Rattle.script_session.specs.declared.line_answer.LineAnswer.TheVariants.{Ticket};
+ghost use Rattle.script_session.specs.declared.line_end.LineEnd.TheVariants as Ends;
+ghost use Rattle.script_session.specs.declared.meaning.MeaningFault.{MeaningFault};
+ghost use Rattle.script_session.specs.LineRun.{HasAnswered, HasEnded, HasLineCause, HasRunLine, IsCutOff, TellsTicket, events_of};
+ghost use Rattle.script_session.specs.Meaning.{fault_on};
+ghost use Rattle.script_session.specs.Stop.{HasStopCause};
+ghost use Rattle.script_session.specs.Tickets.{AreInFlight, Stays, is_of, numbers_of};
+
+use crate::calling::{serve_one, step, submit, take};
+use crate::finishing::{finish, finish_all};
+use crate::line_answer::LineAnswer;
+use crate::stop::Stop;
+use crate::telling::{TellFault, tags_found, tell};
+use crate::{LineEnd, TagsFound, Tickets, asking, meaning};
+use device_core::Device;
+use script_text::{Ask, Line};
+use sector_disk::{Disk, Memory};
+use std::alloc::Global;
+use stream_io::Sink;
+
+/// Runs one line of a script on a device that works, and prints what it is told. It is judged first, and its text
+/// is printed once all that it does is done.
+///
+/// # Errors
+///
+/// - `Refused`: it has no meaning here. Nothing was done.
+/// - `Disk`: the disk failed. Nothing is printed, and the device is broken.
+/// - `Sink`: `out` failed. All is done, and a part of the text is printed.
+/// - `Memory`: there is none for a request or for the text. Nothing is printed.
+pub fn run_line<'d, D: Disk, O: Sink>(
+    alloc: Global,
+    device: &mut Device<'d, D>,
+    tickets: &mut Tickets,
+    line: &Line<'_>,
+    out: &mut O,
+) -> Result<TagsFound, LineEnd>
+    requires ready { IsReady device.old.parts (D.identity device.old.disk.now) (D.moments device.old.disk.now) }
+    requires works { device.old.condition ≡ Working }
+    requires tickets { AreInFlight tickets.old device.old.parts.slots }
+    requires number { device.old.parts.slots.submitted + 1 < 2 ^ 64 }
+
+    ensures ran { IfOk result (λ found. (w : Standing)
+        → IsDevice w Working device.old.parts (D.moments device.old.disk.now)
+        → HasRunLine w (line_of line.now) found device.new.parts (D.moments device.old.disk.now)
+        (D.moments device.new.disk.now) (O.held out.old) (O.held out.new)) }
+
+    ensures ended { IfErr result (λ end. (w : Standing)
+        → IsDevice w Working device.old.parts (D.moments device.old.disk.now)
+        → HasEnded w (line_of line.now) end device.new.parts (D.moments device.old.disk.now)
+        (D.moments device.new.disk.now) (O.held out.old) (O.held out.new)) }
+    ensures refused { (fault : MeaningFault) → result ≡ Err (Ends.Refused fault)
+        → (device.new.parts ≡ device.old.parts) × (device.new.disk.now ≡ device.old.disk.now)
+        × (tickets.new ≡ tickets.old) × (out.new ≡ out.old) }
+    ensures cause { HasLineCause (D.faults device.old.disk.now) (D.faults device.new.disk.now)
+        (O.faults out.old) (O.faults out.new) result }
+
+    ensures works { result ≢ Err Ends.Disk → device.new.condition ≡ Working }
+    ensures stays { Stays device.old.parts device.new.parts tickets.new (D.identity device.old.disk.now)
+        (D.identity device.new.disk.now) (D.moments device.new.disk.now) }
+    ensures same_disk { device.new.disk.ghost_name ≡ device.old.disk.ghost_name }
+{
+    if let Some(fault) = meaning::fault_of(line, device.blocks(), device.block_size(), tickets) {
+        return Err(LineEnd::Refused(fault));
+    }
+    let answer = match answer_of(alloc, device, tickets, line) {
+        Ok(answer) => answer,
+        Err(Stop::Disk) => return Err(LineEnd::Disk),
+        Err(Stop::Memory) => return Err(LineEnd::Memory),
+    };
+    match tell(alloc, &answer, out) {
+        Ok(()) => Ok(tags_found(&answer)),
+        Err(TellFault::Memory) => Err(LineEnd::Memory),
+        Err(TellFault::Sink) => Err(LineEnd::Sink),
+    }
+}
+
+/// Does what a line asks for that is not refused.
+///
+/// # Errors
+///
+/// - `Disk`: the disk failed. The device is broken then.
+/// - `Memory`: there is none for a request.
+fn answer_of<'d, D: Disk>(
+    alloc: Global,
+    device: &mut Device<'d, D>,
+    tickets: &mut Tickets,
+    line: &Line<'_>,
+) -> Result<LineAnswer, Stop>
+    requires ready { IsReady device.old.parts (D.identity device.old.disk.now) (D.moments device.old.disk.now) }
+    requires works { device.old.condition ≡ Working }
+    requires tickets { AreInFlight tickets.old device.old.parts.slots }
+    requires number { device.old.parts.slots.submitted + 1 < 2 ^ 64 }
+    requires runnable { fault_on device.old.parts.slots.blocks device.old.parts.slots.block_size
+        (numbers_of tickets.old) (line_of line.now) ≡ None }
+
+    ensures answered { IfOk result (λ answer. (w : Standing)
+        → IsDevice w Working device.old.parts (D.moments device.old.disk.now)
+        → HasAnswered w (events_of w (line_of line.now)) answer device.new.parts
+        (D.moments device.old.disk.now) (D.moments device.new.disk.now)) }
+
+    ensures cause { HasStopCause (D.faults device.old.disk.now) (D.faults device.new.disk.now) result }
+    ensures err { OnErr result ((w : Standing)
+        → IsDevice w Working device.old.parts (D.moments device.old.disk.now)
+        → IsCutOff w (events_of w (line_of line.now))
+        (D.moments device.old.disk.now) (D.moments device.new.disk.now)) }
+
+    ensures works { result ≢ Err Stop.Disk → device.new.condition ≡ Working }
+    ensures stays { Stays device.old.parts device.new.parts tickets.new (D.identity device.old.disk.now)
+        (D.identity device.new.disk.now) (D.moments device.new.disk.now) }
+    ensures same_disk { device.new.disk.ghost_name ≡ device.old.disk.ghost_name }
+{
+    match *line {
+        Line::Skip => Ok(LineAnswer::Nothing),
+        Line::Ask { start: true, ask } => Ok(start(alloc, device, tickets, &ask)?),
+        Line::Ask { start: false, ask } => ask_whole(alloc, device, tickets, &ask),
+        Line::Serve { ticket } => Ok(serve_one(device, tickets, ticket)?),
+        Line::Take { ticket } => Ok(take(device, tickets, ticket)),
+        Line::Step { actor } => Ok(step(device, actor)?),
+    }
+}
+
+/// Serves what is in flight to its end, then submits a request, serves it to its end and takes its reply.
+///
+/// # Errors
+///
+/// - `Disk`: the disk failed. The device is broken then.
+/// - `Memory`: there is none for the request.
+fn ask_whole<'d, D: Disk>(
+    alloc: Global,
+    device: &mut Device<'d, D>,
+    tickets: &mut Tickets,
+    ask: &Ask<'_>,
+) -> Result<LineAnswer, Stop>
+    requires ready { IsReady device.old.parts (D.identity device.old.disk.now) (D.moments device.old.disk.now) }
+    requires works { device.old.condition ≡ Working }
+    requires tickets { AreInFlight tickets.old device.old.parts.slots }
+    requires number { device.old.parts.slots.submitted + 1 < 2 ^ 64 }
+
+    ensures answered { IfOk result (λ answer. (w : Standing)
+        → IsDevice w Working device.old.parts (D.moments device.old.disk.now)
+        → HasAnswered w (events_of w (AskLine false (ask_of ask.now))) answer device.new.parts
+        (D.moments device.old.disk.now) (D.moments device.new.disk.now)) }
+
+    ensures cause { HasStopCause (D.faults device.old.disk.now) (D.faults device.new.disk.now) result }
+    ensures err { OnErr result ((w : Standing)
+        → IsDevice w Working device.old.parts (D.moments device.old.disk.now)
+        → IsCutOff w (events_of w (AskLine false (ask_of ask.now)))
+        (D.moments device.old.disk.now) (D.moments device.new.disk.now)) }
+
+    ensures works { result ≢ Err Stop.Disk → device.new.condition ≡ Working }
+    ensures stays { Stays device.old.parts device.new.parts tickets.new (D.identity device.old.disk.now)
+        (D.identity device.new.disk.now) (D.moments device.new.disk.now) }
+    ensures same_disk { device.new.disk.ghost_name ≡ device.old.disk.ghost_name }
+{
+    finish_all(device, tickets)?;
+    let answer = start(alloc, device, tickets, ask)?;
+    let LineAnswer::Ticket { ticket } = answer else {
+        return Ok(answer);
+    };
+    finish(device, tickets.ticket_of(ticket))?;
+    Ok(take(device, tickets, ticket))
+}
+
+/// Submits the request of an ask.
+///
+/// # Errors
+///
+/// - `Memory`: there is none for it. Nothing was done.
+fn start<'d, D: Disk>(
+    alloc: Global,
+    device: &mut Device<'d, D>,
+    tickets: &mut Tickets,
+    ask: &Ask<'_>,
+) -> Result<LineAnswer, Memory>
+    requires ready { IsReady device.old.parts (D.identity device.old.disk.now) (D.moments device.old.disk.now) }
+    requires works { device.old.condition ≡ Working }
+    requires tickets { AreInFlight tickets.old device.old.parts.slots }
+    requires number { device.old.parts.slots.submitted + 1 < 2 ^ 64 }
+
+    ensures answered { IfOk result (λ answer. (w : Standing)
+        → IsDevice w Working device.old.parts (D.moments device.old.disk.now)
+        → HasAnswered w (Submit (submission_of w.format.blocks.block_size (ask_of ask.now)) ∷ []) answer
+        device.new.parts (D.moments device.old.disk.now) (D.moments device.new.disk.now)) }
+    ensures ticket { IfOk result (λ answer. (w : Standing)
+        → IsDevice w Working device.old.parts (D.moments device.old.disk.now)
+        → TellsTicket w (submission_of w.format.blocks.block_size (ask_of ask.now)) answer) }
+    ensures held { IfOk result (λ answer. (ticket : ℕ) → answer ≡ Ticket ticket
+        → list_any (is_of ticket) tickets.new.waiting.items ≡ true) }
+
+    ensures err { OnErr result (device.new.parts ≡ device.old.parts) }
+
+    ensures works { device.new.condition ≡ Working }
+    ensures stays { Stays device.old.parts device.new.parts tickets.new (D.identity device.old.disk.now)
+        (D.identity device.new.disk.now) (D.moments device.new.disk.now) }
+    ensures disk { device.new.disk.now ≡ device.old.disk.now }
+    ensures same_disk { device.new.disk.ghost_name ≡ device.old.disk.ghost_name }
+{
+    tickets.make_room()?;
+    let request = asking::request_of(alloc, ask, device.block_size())?;
+    Ok(submit(device, tickets, request))
+}

@@ -1,0 +1,118 @@
+//! Lines on the small image in memory, and what they tell.
+ghost use Rattle.std.specs.Prelude.{◌≤◌};
+ghost use Rattle.disk_model.specs.Identity.{IsBound};
+
+use crate::{LineEnd, MeaningFault, TagsFound, Tickets, run_line};
+use device_core::Device;
+use hmac_tag::Hash;
+use script_text::{Ask, Line};
+use sector_disk::{Disk, MemDisk};
+use std::alloc::Global;
+use std::test::Fail;
+use stream_io::MemSink;
+
+/// Bytes 0 to 31 of the small image, as `integritysetup format --integrity-legacy-hmac` writes them: 80 blocks of
+/// 512 bytes, and tags of 32.
+const SMALL_BYTES: [u8; 32] = [
+    0x69, 0x6e, 0x74, 0x65, 0x67, 0x72, 0x74, 0x00, 0x04, 0x03, 0x20, 0x00, 0x01, 0x00, 0x00, 0x00,
+    0x50, 0x00, 0x00, 0x00, 0x00, 0x00, 0x00, 0x00, 0x08, 0x00, 0x00, 0x00, 0x00, 0x0f, 0x00, 0x00,
+];
+
+/// The small image on a disk of so many sectors, with zeros behind the first.
+fn small_disk(alloc: Global, sectors: u64) -> Result<MemDisk, Fail>
+    requires { 1 ≤ sectors }
+{
+    let mut bytes = [0; 512];
+    bytes[..32].copy_from_slice(&SMALL_BYTES);
+    let mut disk = MemDisk::new(alloc, sectors, 20)?;
+    disk.write_run(0, &bytes)?;
+    Ok(disk)
+}
+
+/// Runs lines with a device of its own, up to the first that is ended. None where the device is not opened.
+fn run_lines<D: Disk>(
+    alloc: Global,
+    disk: &mut D,
+    lines: &[Line<'_>],
+    out: &mut MemSink,
+) -> Option<Result<TagsFound, LineEnd>>
+    requires { IsBound (D.identity disk.old).name }
+{
+    let Ok(mut device) = Device::open(alloc, disk, Hash::Sha256) else {
+        return None;
+    };
+    let mut tickets = Tickets::new(alloc);
+    let mut last = TagsFound::Matching;
+    for line in lines {
+        if !device.has_ticket() {
+            break;
+        }
+        match run_line(alloc, &mut device, &mut tickets, line, out) {
+            Ok(found) => last = found,
+            Err(end) => {
+                let _ = device.close();
+                return Some(Err(end));
+            }
+        }
+    }
+    let _ = device.close();
+    Some(Ok(last))
+}
+
+#[test]
+fn a_request_in_flight_is_told_when_it_is_taken(rt: HostRuntime) -> Result<(), Fail> {
+    let mut disk = small_disk(rt.alloc(), 256)?;
+    let mut out = MemSink::new(rt.alloc(), 200)?;
+    let fill = Ask::Fill {
+        first: 5,
+        count: 1,
+        byte: 0xaa,
+        fua: false,
+    };
+    let read = Ask::Read { first: 5, count: 1 };
+    let lines = [
+        Line::Ask {
+            start: false,
+            ask: fill,
+        },
+        Line::Ask {
+            start: true,
+            ask: read,
+        },
+        Line::Take { ticket: 2 },
+        Line::Serve { ticket: 2 },
+        Line::Take { ticket: 2 },
+    ];
+    let ended = run_lines(rt.alloc(), &mut disk, &lines, &mut out);
+    assert_eq!(rt; ended, Some(Ok(TagsFound::Matching)));
+    let told = "ok write 5 1\nticket 2\nnot done\ndone\nok read 5 1 aa*512\n";
+    assert_eq!(rt; out.bytes(), told.as_bytes());
+    Ok(())
+}
+
+#[test]
+fn a_line_of_no_such_block_is_refused(rt: HostRuntime) -> Result<(), Fail> {
+    let mut disk = small_disk(rt.alloc(), 256)?;
+    let mut out = MemSink::new(rt.alloc(), 200)?;
+    let lines = [
+        Line::Ask {
+            start: false,
+            ask: Ask::Read { first: 6, count: 1 },
+        },
+        Line::Ask {
+            start: false,
+            ask: Ask::Read {
+                first: 79,
+                count: 2,
+            },
+        },
+    ];
+    let ended = run_lines(rt.alloc(), &mut disk, &lines, &mut out);
+    let fault = MeaningFault::Range {
+        first: 79,
+        count: 2,
+    };
+    assert_eq!(rt; ended, Some(Err(LineEnd::Refused(fault))));
+    assert!(rt; out.bytes().starts_with(b"fault block 6 stored 00"));
+    Ok(())
+}
