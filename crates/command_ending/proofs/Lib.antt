@@ -1,0 +1,3 @@
+pub mod HexadecimalLemmas
+pub mod PiecesLemmas
+pub mod TextLemmas

@@ -1,0 +1,107 @@
+-- Lines by their pieces.
+use Rattle.std.proofs.Common.{◌≡◌, ℕ, List, [], ◌++◌, refl, sym, ap, ◌∙◌, subst, append_assoc, codes, false, Result, OnOk, OnErr, Option}
+use Rattle.std.specs.Option.{option_map}
+use Rattle.std.proofs.lemmas.Result.{on_ok_weaker, on_err_weaker}
+use Rattle.device_model.specs.Ending.{ImageFault, LineFault, RefusedImage, RefusedLine, fault_text, hexadecimal}
+use Rattle.std.specs.Fmt.{digits}
+use Rattle.stream_io.specs.Stream.{with_bytes, AddsPrefix}
+use Rattle.command_ending.specs.Ended.{Puts, image_line, image_line_of, numbered_line, script_line_of}
+
+-- What is said of some bytes is said of the same ones.
+pub as_written : {T E : Type 0} (r : Result T E) (a b : List ℕ) (old new : Option (List ℕ)) → a ≡ b
+    → OnOk r (new ≡ option_map (with_bytes a) old) → OnOk r (new ≡ option_map (with_bytes b) old)
+as_written r a b old new is =
+    on_ok_weaker r (λ held. held ∙ ap (λ (x : List ℕ). option_map (with_bytes x) old) is)
+
+pub as_prefix : {T E : Type 0} (r : Result T E) (a b : List ℕ) (old new : Option (List ℕ)) → a ≡ b
+    → OnErr r (AddsPrefix a old new) → OnErr r (AddsPrefix b old new)
+as_prefix r a b old new is = on_err_weaker r (subst (λ (x : List ℕ). AddsPrefix x old new) is)
+
+pub same_put : {T E : Type 0} {r : Result T E} {a b : List ℕ} {old new : Option (List ℕ)} → a ≡ b
+    → Puts a old new r → Puts b old new r
+same_put {r = r} {a = a} {b = b} {old = old} {new = new} is put = record {
+  written = as_written r a b old new is put.written;
+  err = as_prefix r a b old new is put.err;
+}
+
+three_parts : (a b c d : List ℕ) → ((a ++ b) ++ c) ++ d ≡ a ++ (b ++ (c ++ d))
+three_parts a b c d = append_assoc (a ++ b) c d ∙ append_assoc a b (c ++ d)
+
+-- ---- lines of an image
+
+pub text_line : (text : List ℕ) → codes "fault image " ++ (text ++ (codes "\n" ++ [])) ≡ image_line text
+unfolding image_line
+text_line text = refl
+
+pub number_line : (name digits number : List ℕ) → digits ≡ number
+    → codes "fault image " ++ (name ++ (digits ++ (codes "\n" ++ []))) ≡ image_line (name ++ number)
+number_line name digits number is =
+    ap (λ (x : List ℕ). codes "fault image " ++ (name ++ (x ++ codes "\n"))) is
+    ∙ ap (λ (x : List ℕ). codes "fault image " ++ x) (sym (append_assoc name number (codes "\n")))
+    ∙ text_line (name ++ number)
+
+pub numbers_line : (name one other a b : List ℕ) → a ≡ one → b ≡ other
+    → codes "fault image " ++ (name ++ (a ++ (codes " " ++ (b ++ (codes "\n" ++ [])))))
+    ≡ image_line (name ++ one ++ codes " " ++ other)
+numbers_line name one other a b is_one is_other =
+    ap (λ (x : List ℕ). codes "fault image " ++ (name ++ (x ++ (codes " " ++ (b ++ codes "\n"))))) is_one
+    ∙ ap (λ (x : List ℕ). codes "fault image " ++ (name ++ (one ++ (codes " " ++ (x ++ codes "\n"))))) is_other
+    ∙ ap (λ (x : List ℕ). codes "fault image " ++ x)
+    (sym (three_parts (name ++ one) (codes " ") other (codes "\n") ∙ append_assoc name one _))
+    ∙ text_line (name ++ one ++ codes " " ++ other)
+
+pub flags_line : (name d : List ℕ) (flags : ℕ) → d ≡ digits 16 false flags
+    → codes "fault image " ++ (name ++ (codes "0x" ++ (d ++ (codes "\n" ++ []))))
+    ≡ image_line (name ++ hexadecimal flags)
+flags_line name d flags is =
+    ap (λ (x : List ℕ). codes "fault image " ++ (name ++ (codes "0x" ++ (x ++ codes "\n")))) is
+    ∙ ap (λ (x : List ℕ). codes "fault image " ++ x) (sym (append_assoc name (hexadecimal flags) (codes "\n")))
+    ∙ text_line (name ++ hexadecimal flags)
+
+-- ---- lines of a script
+
+pub script_line : (number text : List ℕ)
+    → codes "fault line " ++ (number ++ (codes " " ++ (text ++ codes "\n"))) ≡ numbered_line number text
+unfolding numbered_line
+script_line number text =
+    ap (λ (x : List ℕ). codes "fault line " ++ x) (sym (three_parts number (codes " ") text (codes "\n")))
+
+pub value_line : (number name value v : List ℕ) → v ≡ value
+    → codes "fault line " ++ (number ++ (codes " " ++ (name ++ (v ++ (codes "\n" ++ [])))))
+    ≡ numbered_line number (name ++ value)
+value_line number name value v is =
+    ap (λ (x : List ℕ). codes "fault line " ++ (number ++ (codes " " ++ (name ++ (x ++ codes "\n"))))) is
+    ∙ ap (λ (x : List ℕ). codes "fault line " ++ (number ++ (codes " " ++ x)))
+    (sym (append_assoc name value (codes "\n")))
+    ∙ script_line number (name ++ value)
+
+pub range_line : (number one other a b : List ℕ) → a ≡ one → b ≡ other
+    → codes "fault line " ++ (number ++ (codes " range " ++ (a ++ (codes " " ++ (b ++ (codes "\n" ++ []))))))
+    ≡ numbered_line number (codes "range " ++ one ++ codes " " ++ other)
+range_line number one other a b is_one is_other =
+    let after : List ℕ → List ℕ = λ x. codes "fault line " ++ (number ++ (codes " range " ++ x)) in
+    ap (λ (x : List ℕ). after (x ++ (codes " " ++ (b ++ codes "\n")))) is_one
+    ∙ ap (λ (x : List ℕ). after (one ++ (codes " " ++ (x ++ codes "\n")))) is_other
+    ∙ ap after (sym (three_parts one (codes " ") other (codes "\n")))
+    ∙ script_line number (codes "range " ++ one ++ codes " " ++ other)
+
+pub form_line : (digits number name word text : List ℕ) → digits ≡ number → name ++ word ≡ text
+    → codes "fault line " ++ (digits ++ (codes " " ++ (name ++ (word ++ (codes "\n" ++ [])))))
+    ≡ numbered_line number text
+form_line digits number name word text is_number is_text =
+    ap (λ (x : List ℕ). codes "fault line " ++ (x ++ (codes " " ++ (name ++ (word ++ codes "\n"))))) is_number
+    ∙ ap (λ (x : List ℕ). codes "fault line " ++ (number ++ (codes " " ++ x)))
+    (sym (append_assoc name word (codes "\n")))
+    ∙ ap (λ (x : List ℕ). codes "fault line " ++ (number ++ (codes " " ++ (x ++ codes "\n")))) is_text
+    ∙ script_line number text
+
+-- ---- as an ending's last line
+
+pub image_told : (fault : ImageFault) → image_line_of fault ≡ fault_text (RefusedImage fault)
+unfolding image_line
+image_told fault = refl
+
+pub line_told : (number : ℕ) (fault : LineFault)
+    → script_line_of number fault ≡ fault_text (RefusedLine number fault)
+unfolding numbered_line
+line_told number fault = refl

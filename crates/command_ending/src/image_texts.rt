@@ -1,0 +1,123 @@
+//! The last line of a command whose image is refused.
+ghost use Rattle.std.specs.Prelude.{◌≡◌, ◌++◌, codes};
+ghost use Rattle.std.specs.Fmt.{decimal};
+ghost use Rattle.disk_model.specs.Causes.{HasCause};
+ghost use Rattle.device_model.specs.Ending.{BySuperblock, ByGeometry, hexadecimal};
+ghost use Rattle.command_ending.specs.Ended.{Puts, image_fault_of, image_line, image_line_of};
+
+use crate::ImageFault;
+use crate::hexadecimal::hexadecimal;
+use crate::pieces::put_pieces;
+use image_model::{GeomFault, SuperFault};
+use itoa::Buffer;
+use sector_disk::Failed;
+use stream_io::Sink;
+
+/// Writes the line of an image that is refused.
+///
+/// # Errors
+///
+/// - `Failed`: the sink failed. It has taken some of the line from the front, or none, and not all.
+pub(crate) fn put_image_fault<O: Sink>(out: &mut O, fault: ImageFault) -> Result<(), Failed>
+    ensures line { Puts (image_line_of (image_fault_of fault)) (O.held out.old) (O.held out.new) result }
+    ensures cause { HasCause (O.faults out.old) (O.faults out.new) result }
+{
+    match fault {
+        ImageFault::Super(fault) => put_super_fault(out, fault),
+        ImageFault::Geom(fault) => put_geom_fault(out, fault),
+        ImageFault::Mode { flags } => put_flags(out, b"mode ", flags),
+    }
+}
+
+/// Writes the line of a superblock that is not accepted.
+fn put_super_fault<O: Sink>(out: &mut O, fault: SuperFault) -> Result<(), Failed>
+    ensures line { Puts (image_line_of (BySuperblock fault)) (O.held out.old) (O.held out.new) result }
+    ensures cause { HasCause (O.faults out.old) (O.faults out.new) result }
+{
+    match fault {
+        SuperFault::Magic => put_text(out, b"magic"),
+        SuperFault::Version { v } => put_number(out, b"version ", u64::from(v)),
+        SuperFault::JournalMac { flags } => put_flags(out, b"journal mac ", flags),
+        SuperFault::Inline { flags } => put_flags(out, b"inline ", flags),
+        SuperFault::Flags { unknown } => put_flags(out, b"flags ", unknown),
+        SuperFault::Interleave { v } => put_number(out, b"interleave ", u64::from(v)),
+        SuperFault::BlockSize { v } => put_number(out, b"block size ", u64::from(v)),
+        SuperFault::TagSize { v } => put_number(out, b"tag size ", u64::from(v)),
+        SuperFault::Sections { v } => put_number(out, b"sections ", u64::from(v)),
+        SuperFault::Provided { v } => put_number(out, b"provided ", v),
+    }
+}
+
+/// Writes the line of a disk that has no room for what the superblock tells.
+fn put_geom_fault<O: Sink>(out: &mut O, fault: GeomFault) -> Result<(), Failed>
+    ensures line { Puts (image_line_of (ByGeometry fault)) (O.held out.old) (O.held out.new) result }
+    ensures cause { HasCause (O.faults out.old) (O.faults out.new) result }
+{
+    match fault {
+        GeomFault::DeviceTooLarge { have } => put_number(out, b"device too large ", have),
+        GeomFault::JournalTooLarge { sectors } => put_number(out, b"journal too large ", sectors),
+        GeomFault::TooSmall { have, need } => put_numbers(out, b"too small ", have, need),
+        GeomFault::BitmapTooLarge { need, have } => put_numbers(
+            out,
+            b"bitmap too large ",
+            need,
+            have,
+        ),
+    }
+}
+
+/// Writes the line of a fault without a number.
+fn put_text<O: Sink>(out: &mut O, text: &[u8]) -> Result<(), Failed>
+    ensures line { Puts (image_line text.now) (O.held out.old) (O.held out.new) result }
+    ensures cause { HasCause (O.faults out.old) (O.faults out.new) result }
+{
+    put_pieces(out, &[b"fault image ", text, b"\n"])
+}
+
+/// Writes the line of a fault with a number.
+fn put_number<O: Sink>(out: &mut O, name: &[u8], number: u64) -> Result<(), Failed>
+    ensures line { Puts (image_line (name.now ++ decimal number)) (O.held out.old) (O.held out.new) result }
+    ensures cause { HasCause (O.faults out.old) (O.faults out.new) result }
+{
+    let mut digits = Buffer::new();
+    put_pieces(
+        out,
+        &[
+            b"fault image ",
+            name,
+            digits.format(number).as_bytes(),
+            b"\n",
+        ],
+    )
+}
+
+/// Writes the line of a fault with two numbers.
+fn put_numbers<O: Sink>(out: &mut O, name: &[u8], one: u64, other: u64) -> Result<(), Failed>
+    ensures line { Puts (image_line (name.now ++ decimal one ++ codes " " ++ decimal other))
+        (O.held out.old) (O.held out.new) result }
+    ensures cause { HasCause (O.faults out.old) (O.faults out.new) result }
+{
+    let mut digits = Buffer::new();
+    let mut others = Buffer::new();
+    let one = digits.format(one).as_bytes();
+    let other = others.format(other).as_bytes();
+    put_pieces(out, &[b"fault image ", name, one, b" ", other, b"\n"])
+}
+
+/// Writes the line of a fault with flags.
+fn put_flags<O: Sink>(out: &mut O, name: &[u8], flags: u32) -> Result<(), Failed>
+    ensures line { Puts (image_line (name.now ++ hexadecimal flags)) (O.held out.old) (O.held out.new) result }
+    ensures cause { HasCause (O.faults out.old) (O.faults out.new) result }
+{
+    let mut digits = [0; 8];
+    put_pieces(
+        out,
+        &[
+            b"fault image ",
+            name,
+            b"0x",
+            hexadecimal(flags, &mut digits),
+            b"\n",
+        ],
+    )
+}
