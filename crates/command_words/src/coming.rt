@@ -3,9 +3,9 @@ ghost use Rattle.std.specs.Prelude.{◌≡◌};
 ghost use Rattle.command_words.specs.Come.{has_come};
 
 use crate::command::{Command, Run};
-use crate::values::{HashChoice, Mode};
+use crate::values::Mode;
 
-/// Whether the program has the command: it has `run` in direct mode by SHA-256, and no other.
+/// Whether the program has the command: it has `run` in direct mode, and no other.
 pub fn has_come(command: &Command) -> bool
     ensures { result ≡ has_come command.now }
 {
@@ -13,7 +13,6 @@ pub fn has_come(command: &Command) -> bool
         command,
         Command::Run(Run {
             mode: Mode::Direct,
-            hash: HashChoice::Sha256,
             ..
         })
     )
