@@ -1,10 +1,7 @@
-mod SmallImage
-mod CellsLemmas
-mod ScriptLemmas
-mod LinesLemmas
-mod GrammarLemmas
-pub mod TextRoom
-mod ScriptStepsLemmas
-mod TopLemmas
-mod SmallDiskLemmas
-mod StandsForLemmas
+pub mod ClosingLemmas
+pub mod KeyLemmas
+pub mod LoopLemmas
+pub mod RunningLemmas
+pub mod StartLemmas
+pub mod TakenLemmas
+pub mod TopLemmas

@@ -1,112 +1,132 @@
--- What the top call does: how a disk narrows, what a run prints that did nothing, and how its last line follows.
-use Rattle.std.proofs.Common.{◌≡◌, ◌⊎◌, inl, inr, ℕ, ◌≤◌, Bool, true, List, length, refl, sym, ◌∙◌, ap, subst, arith, append-nil, true≢false, Option, Some, None, Result, Ok, Err, IsSomeAnd, OnOk, OnErr, is_ok}
-use Rattle.std.specs.Option.{option_map}
-use Rattle.std.specs.List.{Contains}
+-- The last line of a command, its status, and what both tell.
+use Rattle.std.proofs.Common.{◌≡◌, ◌⊎◌, inl, inr, ℕ, ◌≤◌, Bool, true, false, List, [], ◌∷◌, ◌++◌, take, refl, sym, ◌∙◌, ap, subst, arith, append_assoc, append-nil, Option, Some, None, Result, Ok, Err, OnOk, OnErr}
+use Rattle.std.specs.Option.{option_map, IsSomeAnd}
 use Rattle.disk_model.specs.Causes.{Rose}
-use Rattle.disk_model.specs.Disk.{Content, IsImage, last_image, newest_only, Reads, OnlyAdds}
+use Rattle.disk_model.specs.Disk.{Content}
 use Rattle.disk_model.specs.Identity.{NamedDisk}
-use Rattle.disk_model.specs.Moments.{content_now, EachMoment, FromStart}
-use Rattle.disk_model.proofs.DiskLemmas.{newest_only-image, Reads-one, OnlyAdds-join}
-use Rattle.disk_model.proofs.MomentsLemmas.{EachMoment-weaker}
-use Rattle.stream_io.specs.Stream.{with_bytes, AddsPrefix}
+use Rattle.disk_model.specs.Moments.{content_now, EachMoment}
 use Rattle.device_model.specs.Ending.{Ending, Complete, fault_text, status_of}
-use Rattle.integrity_tool.specs.Ended.{ending_of}
-use Rattle.integrity_tool.specs.Cuts.{RunsAndLeaves}
-use Rattle.integrity_tool.specs.Top.{Start, HasForm, EndsBeforeScript, Leaves, Tells, NarrowsImages}
-use Rattle.integrity_tool.specs.Words.{IsRunWords}
-use Rattle.integrity_tool.specs.declared.ended.Ended.{Ended}
-use Rattle.integrity_tool.specs.declared.ended.Ended.TheVariants.{Image as ImageEnds, Disk as DiskEnds}
-
--- ---- results
-
-pub when_ok : {T E P : Type 0} (r : Result T E) → is_ok r ≡ true → OnOk r P → P
-when_ok (Ok v) ok told = told
-when_ok (Err e) ok told = absurd (true≢false (sym ok))
-
-pub on_any : {T E P : Type 0} (r : Result T E) → P → OnOk r P
-on_any (Ok v) told = told
-on_any (Err e) told = tt
+use Rattle.stream_io.specs.Stream.{with_bytes, AddsPrefix}
+use Rattle.script_session.specs.LineRun.{held_with}
+use Rattle.command_ending.specs.Ended.{ending_of}
+use Rattle.command_ending.specs.declared.ended.Ended.{Ended}
+use Rattle.command_ending.specs.declared.ended.Ended.TheVariants as Endings
+use Rattle.integrity_tool.specs.CommandRun.{Outset, Faults, HasCauseIn, IsLastLine, Tells}
+use Rattle.integrity_tool.specs.Opening.{HasRunOn}
+use Rattle.integrity_tool.specs.Top.{HasCommandCause, IsBeforeScript}
 
 -- ---- the disk
 
--- What is read of the first sector of a synced disk is what its last image had there.
-pub first_sector : (c : Content) (sector : List ℕ) → length sector ≡ 512 → Reads 0 sector (newest_only c) → sector ≡ last_image c 0
-first_sector c sector long reads = Reads-one 0 sector (newest_only c) long reads
+-- A disk that tells its content tells it at the end of a call.
+pub told_at_end : {a b : List Content} {P : Content → Type 0} (c : Content) → content_now a ≡ Some c → EachMoment a b P
+    → (d : Content) × (content_now b ≡ Some d)
+told_at_end {a} {b} {P} c told each = by each.since each.grows
+  where
+    by : (since : List Content) → b ≡ since ++ a → (d : Content) × (content_now b ≡ Some d)
+    by [] grows = (c, ap content_now grows ∙ told)
+    by (d ∷ since) grows = (d, ap content_now grows)
 
--- A synced disk has an image that it had before.
-pub narrows_synced : (c : Content) → IsImage c (last_image c) → NarrowsImages c (newest_only c)
-narrows_synced c last = record {
-  each = λ image is sector. subst (λ (x : List ℕ). Contains (c sector) x) (sym (newest_only-image c image is sector)) (last sector);
-}
+-- ---- causes
 
-pub each_of_sync : {a b : List Content} (start now : Content) → content_now a ≡ Some now → NarrowsImages start (newest_only now) → EachMoment a b (FromStart a (λ s c. c ≡ newest_only s)) → EachMoment a b (NarrowsImages start)
-each_of_sync {a} start now told narrows each =
-    EachMoment-weaker
-    (λ c from. subst (λ (later : Content). NarrowsImages start later) (sym (subst (λ (o : Option Content). IsSomeAnd o (λ s. c ≡ newest_only s)) told from)) narrows)
-    each
+pub rose_later : (a b c : ℕ) → Rose a b → b ≤ c → Rose a c
+rose_later a b c rose later = omega (arith, rose, later)
 
-pub NarrowsImages-same : (c : Content) → NarrowsImages c c
-NarrowsImages-same c = record { each = λ image is. is }
+pub rose_earlier : (a b c : ℕ) → a ≤ b → Rose b c → Rose a c
+rose_earlier a b c later rose = omega (arith, rose, later)
 
--- What is added since the start of the call, where the disk tells its content.
-pub adds_from : {a b : List Content} (W : ℕ → List ℕ → Type 0) (first now : Content) → content_now a ≡ Some now → OnlyAdds W first now → EachMoment a b (FromStart a (OnlyAdds W)) → EachMoment a b (OnlyAdds W first)
-adds_from W first now told adds each =
-    EachMoment-weaker (λ d from. OnlyAdds-join W first now d adds (subst (λ (o : Option Content). IsSomeAnd o (λ start. OnlyAdds W start d)) told from)) each
+-- The sink's count may rise further, with the last line.
+pub cause_later : (disk key script one other : Type 0) → (one → other) → (ended : Ended) → HasCommandCause disk key script one ended → HasCommandCause disk key script other ended
+cause_later disk key script one other later Endings.Words cause = tt
+cause_later disk key script one other later (Endings.Key refusal) cause = tt
+cause_later disk key script one other later (Endings.Line number refusal) cause = tt
+cause_later disk key script one other later Endings.Length cause = tt
+cause_later disk key script one other later (Endings.Image fault) cause = tt
+cause_later disk key script one other later Endings.Disk cause = cause
+cause_later disk key script one other later Endings.KeySource cause = cause
+cause_later disk key script one other later Endings.Script cause = cause
+cause_later disk key script one other later Endings.Sink cause = later cause
+cause_later disk key script one other later Endings.Memory cause = tt
 
--- ---- what is printed
+pub cause_in : (faults : Faults) (ended : Ended) → HasCommandCause faults.disk faults.key faults.script faults.sink ended → HasCauseIn faults (ending_of ended)
+cause_in faults Endings.Words cause = tt
+cause_in faults (Endings.Key refusal) cause = tt
+cause_in faults (Endings.Line number refusal) cause = tt
+cause_in faults Endings.Length cause = tt
+cause_in faults (Endings.Image fault) cause = tt
+cause_in faults Endings.Disk cause = cause
+cause_in faults Endings.KeySource cause = cause
+cause_in faults Endings.Script cause = cause
+cause_in faults Endings.Sink cause = cause
+cause_in faults Endings.Memory cause = tt
 
--- Nothing was run and nothing printed, and the disk is as it was or synced.
-pub nothing_run : (start : Start) (before : List ℕ) (ending : Ending) (now : Option Content) → EndsBeforeScript start ending → IsSomeAnd now (NarrowsImages start.content)
-    → IsSomeAnd (Some before) (λ after. IsSomeAnd now (Leaves start before after ending))
-nothing_run start before ending None ends narrows = absurd narrows
-nothing_run start before ending (Some d) ends narrows = inl (record { ends = ends; text = refl; images = narrows })
+-- ---- statuses
 
--- A disk that was bound, and then judged, is refused for one of two reasons.
-pub refused_nothing_run : (start : Start) (before : List ℕ) (ended : Ended) (now : Option Content) → IsRunWords start.words → (ended ≡ ImageEnds → ¬ HasForm start) → (ended ≡ ImageEnds) ⊎ (ended ≡ DiskEnds) → IsSomeAnd now (NarrowsImages start.content)
-    → IsSomeAnd (Some before) (λ after. IsSomeAnd now (Leaves start before after (ending_of ended)))
-refused_nothing_run start before ended now words image ends narrows = elim ends [
-  | inl is ↦ subst (λ (x : Ended). IsSomeAnd (Some before) (λ after. IsSomeAnd now (Leaves start before after (ending_of x)))) (sym is) (nothing_run start before (ending_of ImageEnds) now (words, image is) narrows)
-  | inr is ↦ subst (λ (x : Ended). IsSomeAnd (Some before) (λ after. IsSomeAnd now (Leaves start before after (ending_of x)))) (sym is) (nothing_run start before (ending_of DiskEnds) now words narrows)
-]
+pub record HasStatusCause (disk key script sink : Type 0) (status : ℕ) : Type 0 where
+  pub low : status ≤ 7
+  pub of_disk : status ≡ 4 → disk
+  pub of_sources : status ≡ 5 → key ⊎ script
+  pub of_sink : status ≡ 6 → sink
 
--- A script was run.
-pub ran_leaves : (start : Start) (before : List ℕ) (ending : Ending) (held : Option (List ℕ)) (now : Option Content) → IsRunWords start.words → HasForm start
-    → IsSomeAnd held (λ after. IsSomeAnd now (RunsAndLeaves (last_image start.content) start.script before after ending))
-    → IsSomeAnd held (λ after. IsSomeAnd now (Leaves start before after ending))
-ran_leaves start before ending None now words form runs = absurd runs
-ran_leaves start before ending (Some after) None words form runs = absurd runs
-ran_leaves start before ending (Some after) (Some d) words form runs = inr (record { words = words; form = form; leaves = runs })
+pub status_cause : (disk key script sink : Type 0) (ended : Ended) → HasCommandCause disk key script sink ended → HasStatusCause disk key script sink (status_of (ending_of ended))
+status_cause disk key script sink Endings.Words cause = record { low = omega arith; of_disk = λ is. absurd (omega (arith, is)); of_sources = λ is. absurd (omega (arith, is)); of_sink = λ is. absurd (omega (arith, is)) }
+status_cause disk key script sink (Endings.Key refusal) cause = record { low = omega arith; of_disk = λ is. absurd (omega (arith, is)); of_sources = λ is. absurd (omega (arith, is)); of_sink = λ is. absurd (omega (arith, is)) }
+status_cause disk key script sink (Endings.Line number refusal) cause = record { low = omega arith; of_disk = λ is. absurd (omega (arith, is)); of_sources = λ is. absurd (omega (arith, is)); of_sink = λ is. absurd (omega (arith, is)) }
+status_cause disk key script sink Endings.Length cause = record { low = omega arith; of_disk = λ is. absurd (omega (arith, is)); of_sources = λ is. absurd (omega (arith, is)); of_sink = λ is. absurd (omega (arith, is)) }
+status_cause disk key script sink (Endings.Image fault) cause = record { low = omega arith; of_disk = λ is. absurd (omega (arith, is)); of_sources = λ is. absurd (omega (arith, is)); of_sink = λ is. absurd (omega (arith, is)) }
+status_cause disk key script sink Endings.Disk cause = record { low = omega arith; of_disk = λ is. cause; of_sources = λ is. absurd (omega (arith, is)); of_sink = λ is. absurd (omega (arith, is)) }
+status_cause disk key script sink Endings.KeySource cause = record { low = omega arith; of_disk = λ is. absurd (omega (arith, is)); of_sources = λ is. inl cause; of_sink = λ is. absurd (omega (arith, is)) }
+status_cause disk key script sink Endings.Script cause = record { low = omega arith; of_disk = λ is. absurd (omega (arith, is)); of_sources = λ is. inr cause; of_sink = λ is. absurd (omega (arith, is)) }
+status_cause disk key script sink Endings.Sink cause = record { low = omega arith; of_disk = λ is. absurd (omega (arith, is)); of_sources = λ is. absurd (omega (arith, is)); of_sink = λ is. cause }
+status_cause disk key script sink Endings.Memory cause = record { low = omega arith; of_disk = λ is. absurd (omega (arith, is)); of_sources = λ is. absurd (omega (arith, is)); of_sink = λ is. absurd (omega (arith, is)) }
 
 -- ---- the last line
 
-pub Rose-earlier : (a b c : ℕ) → a ≤ b → Rose b c → Rose a c
-Rose-earlier a b c below rose = omega (arith, below, rose)
+tells_line : (outset : Outset) (start : Content) (script : List ℕ) (ending : Ending) (moments : List Content) (held_before held after : Option (List ℕ)) (before : List ℕ)
+    (d : Content) (status : ℕ) (faults : Faults) (line : List ℕ) → HasRunOn outset start script ending moments held_before held → held_before ≡ Some before
+    → content_now moments ≡ Some d → status ≡ status_of ending → HasCauseIn faults ending → IsLastLine faults.sink ending line → after ≡ option_map (with_bytes line) held
+    → IsSomeAnd after (λ text. IsSomeAnd (content_now moments) (Tells outset start script before text status faults))
+tells_line outset start script ending moments held_before held after before d status faults line run is_before told is_status cause last is_after =
+    let all : after ≡ Some ((before ++ run.text) ++ line) =
+    is_after ∙ ap (option_map (with_bytes line)) run.told ∙ ap (λ (o : Option (List ℕ)). option_map (with_bytes line) (held_with run.text o)) is_before in
+    subst (λ (o : Option (List ℕ)). IsSomeAnd o (λ text. IsSomeAnd (content_now moments) (Tells outset start script before text status faults))) (sym all)
+    (subst (λ (o : Option Content). IsSomeAnd o (Tells outset start script before ((before ++ run.text) ++ line) status faults)) (sym told) (record {
+      run = run.run;
+      is_run = run.is_run;
+      text = run.text;
+      changes = run.changes;
+      ending = ending;
+      ended = run.ended;
+      cause = cause;
+      is_status = is_status;
+      line = line;
+      last = last;
+      printed = append_assoc before run.text line;
+      left = run.left d told;
+    }))
+
+no_line : (held : Option (List ℕ)) → held ≡ option_map (with_bytes []) held
+no_line None = refl
+no_line (Some bytes) = ap (λ (x : List ℕ). Some x) (sym (append-nil bytes))
 
 -- A run that came to its end has no last line.
-pub tells_complete : (start : Start) (before : List ℕ) (found_fault : Bool) (status : ℕ) (SinkRose : Type 0) (held : Option (List ℕ)) (now : Option Content) → status ≡ status_of (Complete found_fault)
-    → IsSomeAnd held (λ after. IsSomeAnd now (Leaves start before after (Complete found_fault))) → IsSomeAnd held (λ after. IsSomeAnd now (Tells start before after status SinkRose))
-tells_complete start before found_fault status SinkRose None now is leaves = absurd leaves
-tells_complete start before found_fault status SinkRose (Some after) None is leaves = absurd leaves
-tells_complete start before found_fault status SinkRose (Some after) (Some d) is leaves = record {
-  ending = Complete found_fault;
-  is_status = is;
-  run = after;
-  leaves = leaves;
-  last = inl (sym (append-nil after));
-}
+pub tells_complete : (outset : Outset) (start : Content) (script : List ℕ) (found : Bool) (moments : List Content) (held_before held : Option (List ℕ)) (before : List ℕ)
+    (d : Content) (status : ℕ) (faults : Faults) → HasRunOn outset start script (Complete found) moments held_before held → held_before ≡ Some before
+    → content_now moments ≡ Some d → status ≡ status_of (Complete found)
+    → IsSomeAnd held (λ text. IsSomeAnd (content_now moments) (Tells outset start script before text status faults))
+tells_complete outset start script found moments held_before held before d status faults run is_before told is_status =
+    tells_line outset start script (Complete found) moments held_before held held before d status faults [] run is_before told is_status tt (inl refl) (no_line held)
 
 -- One that was ended early has one, or where the sink failed a part of it.
-pub tells_early : (start : Start) (before : List ℕ) (ending : Ending) (status : ℕ) (SinkRose : Type 0) (held later : Option (List ℕ)) (now : Option Content) (E : Type 0) (result : Result (Unit {0}) E) → status ≡ status_of ending
-    → IsSomeAnd held (λ after. IsSomeAnd now (Leaves start before after ending)) → OnOk result (later ≡ option_map (with_bytes (fault_text ending)) held) → OnErr result SinkRose → OnErr result (AddsPrefix (fault_text ending) held later)
-    → IsSomeAnd later (λ after. IsSomeAnd now (Tells start before after status SinkRose))
-tells_early start before ending status SinkRose None later now E result is leaves written rose err = absurd leaves
-tells_early start before ending status SinkRose (Some run) later None E result is leaves written rose err = absurd leaves
-tells_early start before ending status SinkRose (Some run) later (Some d) E (Ok v) is leaves written rose err =
-    subst (λ (o : Option (List ℕ)). IsSomeAnd o (λ after. Tells start before after status SinkRose d)) (sym written)
-    (record { ending = ending; is_status = is; run = run; leaves = leaves; last = inl refl })
-tells_early start before ending status SinkRose (Some run) later (Some d) E (Err e) is leaves written rose err =
-    subst (λ (o : Option (List ℕ)). IsSomeAnd o (λ after. Tells start before after status SinkRose d)) (sym err.held)
-    (record { ending = ending; is_status = is; run = run; leaves = leaves; last = inr (rose, err.count, err.short, refl) })
+pub tells_early : (outset : Outset) (start : Content) (script : List ℕ) (ending : Ending) (moments : List Content) (held_before held after : Option (List ℕ)) (before : List ℕ)
+    (d : Content) (status : ℕ) (faults : Faults) {T E : Type 0} (result : Result T E) → HasRunOn outset start script ending moments held_before held → held_before ≡ Some before
+    → content_now moments ≡ Some d → status ≡ status_of ending → HasCauseIn faults ending
+    → OnOk result (after ≡ option_map (with_bytes (fault_text ending)) held) → OnErr result faults.sink → OnErr result (AddsPrefix (fault_text ending) held after)
+    → IsSomeAnd after (λ text. IsSomeAnd (content_now moments) (Tells outset start script before text status faults))
+tells_early outset start script ending moments held_before held after before d status faults (Ok x) run is_before told is_status cause written rose err =
+    tells_line outset start script ending moments held_before held after before d status faults (fault_text ending) run is_before told is_status cause (inl refl) written
+tells_early outset start script ending moments held_before held after before d status faults (Err e) run is_before told is_status cause written rose err =
+    tells_line outset start script ending moments held_before held after before d status faults (take err.count (fault_text ending)) run is_before told is_status cause
+    (inr (rose, err.count, err.short, refl)) err.held
 
 -- ---- a disk that is bound, and what stood under its name
 
@@ -114,12 +134,20 @@ pub told_there : {first : NamedDisk} {sectors : ℕ} {before : List Content} {co
     → content_now first.moments ≡ Some content → content_now before ≡ Some content
 told_there is told = sym (ap (λ (n : NamedDisk). content_now n.moments) is) ∙ told
 
-pub of_there : {first : NamedDisk} {sectors : ℕ} {before : List Content} → first ≡ record { sectors = sectors; moments = before } → (P : ℕ → Type 0) → P sectors → P first.sectors
-of_there is P p = subst P (sym (ap (λ (n : NamedDisk). n.sectors) is)) p
+-- The status of an image that is refused comes of that alone,
+pub image_refused : (ended : Ended) → status_of (ending_of ended) ≡ 3 → IsBeforeScript ended
+image_refused Endings.Words is = tt
+image_refused (Endings.Key refusal) is = tt
+image_refused (Endings.Line number refusal) is = absurd (omega (arith, is))
+image_refused Endings.Length is = absurd (omega (arith, is))
+image_refused (Endings.Image fault) is = tt
+image_refused Endings.Disk is = absurd (omega (arith, is))
+image_refused Endings.KeySource is = tt
+image_refused Endings.Script is = absurd (omega (arith, is))
+image_refused Endings.Sink is = absurd (omega (arith, is))
+image_refused Endings.Memory is = absurd (omega (arith, is))
 
-pub held_there : {first last : NamedDisk} {sectors later : ℕ} {before after : List Content} → first ≡ record { sectors = sectors; moments = before }
-    → (held : Option (List ℕ)) (P : ℕ → List ℕ → Content → Type 0) → last ≡ record { sectors = later; moments = after }
-    → IsSomeAnd held (λ text. IsSomeAnd (content_now after) (P sectors text)) → IsSomeAnd held (λ text. IsSomeAnd (content_now last.moments) (P first.sectors text))
-held_there {first} {last} {sectors} {later} {before} {after} is held P ends holds =
-    subst (λ (n : NamedDisk). IsSomeAnd held (λ text. IsSomeAnd (content_now last.moments) (P n.sectors text))) (sym is)
-    (subst (λ (n : NamedDisk). IsSomeAnd held (λ text. IsSomeAnd (content_now n.moments) (P sectors text))) (sym ends) holds)
+-- and a run that came to its end has another one.
+pub complete_is_low : (found : Bool) → status_of (Complete found) ≤ 1
+complete_is_low true = omega arith
+complete_is_low false = omega arith

@@ -1,66 +1,54 @@
--- What a contract sees of a `LineReader`, and what it finds in a script.
--- Own: the bounds of a script and of a line.
-use Rattle.std.specs.Prelude.{◌≡◌, ◌≢◌, ℕ, ◌+◌, ◌<◌, ◌≤◌, List, [], ◌∷◌, ◌++◌, length, Option, None, Some}
-use Rattle.integrity_tool.specs.Script.{HasNoNewline, TakesLine}
-use Rattle.integrity_tool.specs.declared.line_reader.NextLine.{NextLine}
-use Rattle.integrity_tool.specs.declared.line_reader.NextLine.TheVariants.{Line, End, LongLine, LongScript}
-use Rattle.device_model.specs.Grammar.{most_line}
-use Rattle.device_model.specs.ScriptBytes.{most_script}
+-- What the reading and the run of one line leave.
+use Rattle.std.specs.Prelude.{◌≡◌, ℕ, Bool, true, false, List, ◌∷◌, ◌++◌, Option, Result, Ok, Err}
+use Rattle.disk_model.specs.Disk.{Content}
+use Rattle.device_model.specs.Grammar.{ReadLine, Means, IsReadAs}
+use Rattle.device_model.specs.Script.{ScriptLine}
+use Rattle.device_model.specs.ScriptRun.{run_from}
+use Rattle.device_core.specs.declared.parts.Parts.{Parts}
+use Rattle.device_core.specs.Device.{Standing}
+use Rattle.script_reader.specs.Lines.{FindsEnd, FindsLongLine, FindsLongScript, FindsWholeLine}
+use Rattle.script_reader.specs.Reading.{Reading}
+use Rattle.script_session.specs.declared.line_end.LineEnd.{LineEnd}
+use Rattle.script_session.specs.declared.line_end.LineEnd.TheVariants as Ends
+use Rattle.script_session.specs.declared.tags_found.TagsFound.{TagsFound}
+use Rattle.script_session.specs.LineRun.{HasRunLine}
+use Rattle.command_ending.specs.Ended.{ending_of}
+use Rattle.command_ending.specs.declared.ended.Ended.{Ended}
+use Rattle.command_ending.specs.declared.ended.Ended.TheVariants as Endings
+use Rattle.command_ending.specs.declared.form_fault.FormFault.TheVariants.{TooLong}
+use Rattle.command_ending.specs.declared.line_refusal.LineRefusal.TheVariants as Refusals
+use Rattle.integrity_tool.specs.Running.{IsStopped}
 
--- A reader of lines: the bytes that it has read and not taken, its line, and how many bytes it took since it was made.
-pub record LineReading : Type 0 where
-  pub unread : List ℕ
-  pub line : List ℕ
-  pub taken : ℕ
+-- What ended a run with the end of its line of this number.
+abbrev pub ended_by : ℕ → LineEnd → Ended
+ended_by number (Ends.Refused fault) = Endings.Line number (Refusals.Meaning fault)
+ended_by number Ends.Disk = Endings.Disk
+ended_by number Ends.Sink = Endings.Sink
+ended_by number Ends.Memory = Endings.Memory
 
--- ---- what a reader finds in the bytes that are to come: `before` when it begins, and `after` when it has ended
+-- What stands next in a script: a line; its end; a line that is too long; or bytes beyond its bound.
+abbrev pub HasAdvanced : ℕ → (old new : Reading) → (left later : List ℕ) → Result Bool Ended → Type 0
+HasAdvanced number old new left later (Ok true) = FindsWholeLine old new (old.unread ++ left)
+    (new.unread ++ later)
+HasAdvanced number old new left later (Ok false) = FindsEnd old new (old.unread ++ left) (new.unread ++ later)
+HasAdvanced number old new left later (Err (Endings.Line n refusal)) =
+    (n ≡ number) × (refusal ≡ Refusals.Form TooLong) × FindsLongLine old new (old.unread ++ left)
+HasAdvanced number old new left later (Err Endings.Length) = FindsLongScript old new (old.unread ++ left)
+HasAdvanced number old new left later (Err ended) = ended ≡ Endings.Script
 
--- It took the bytes of its line alone, and the line does not end in them.
-pub record BeginsLine (old new : LineReading) (before after : List ℕ) : Type 0 where
-  pub plain : HasNoNewline new.line
-  pub bytes : before ≡ new.line ++ after
-  pub counted : new.taken ≡ old.taken + length new.line
+-- The bytes are a line, which was run.
+pub record HasRunBytes (w : Standing) (bytes : List ℕ) (found : TagsFound) (parts : Parts)
+    (before after : List Content) (held_before held : Option (List ℕ)) : Type 0 where
+  pub line : ScriptLine
+  pub read : IsReadAs bytes (Means line)
+  pub run : HasRunLine w line found parts before after held_before held
 
--- It took a line, with its newline where it has one.
-pub record FindsWholeLine (old new : LineReading) (before after : List ℕ) : Type 0 where
-  pub takes : TakesLine before new.line after
-  pub short : length new.line ≤ most_line
-  pub counted : new.taken + length after ≡ old.taken + length before
-
--- It took one byte more than a line may have.
-pub record FindsLongLine (old new : LineReading) (before after : List ℕ) : Type 0 where
-  pub begins : BeginsLine old new before after
-  pub long : length new.line ≡ most_line + 1
-
--- It took all bytes of a script that are run. The line does not end in them, and more bytes are to come.
-pub record FindsLongScript (old new : LineReading) (before after : List ℕ) : Type 0 where
-  pub begins : BeginsLine old new before after
-  pub short : length new.line ≤ most_line
-  pub bound : new.taken ≡ most_script
-  pub more : after ≢ []
-
--- What is told is what it found.
-abbrev pub FindsLine : NextLine → LineReading → LineReading → List ℕ → List ℕ → Type 0
-FindsLine Line old new before after = FindsWholeLine old new before after
-FindsLine End old new before after = (before ≡ []) × (after ≡ []) × (new.taken ≡ old.taken)
-FindsLine LongLine old new before after = FindsLongLine old new before after
-FindsLine LongScript old new before after = FindsLongScript old new before after
-
--- ---- one run of the unread bytes
-
--- The line grew by a run of the unread bytes, and `ending` was taken behind it.
-pub record TakesRun (ending : List ℕ) (old new : LineReading) : Type 0 where
-  pub run : List ℕ
-  pub plain : HasNoNewline run
-  pub unread : old.unread ≡ run ++ (ending ++ new.unread)
-  pub line : new.line ≡ old.line ++ run
-  pub taken : new.taken ≡ old.taken + length run + length ending
-  pub within : new.taken ≤ most_script
-
--- What is told of a run is what it ended at. Nothing is told where the line goes on behind the unread bytes.
-abbrev pub EndsRun : Option NextLine → LineReading → LineReading → Type 0
-EndsRun (Some Line) old new = TakesRun (10 ∷ []) old new × (length new.line ≤ most_line)
-EndsRun (Some End) old new = ⊥
-EndsRun (Some LongLine) old new = TakesRun [] old new × (length new.line ≡ most_line + 1)
-EndsRun (Some LongScript) old new = (new ≡ old) × (old.taken ≡ most_script)
-EndsRun None old new = TakesRun [] old new × (length new.line ≤ most_line) × (old.taken < new.taken)
+-- The run of a script that goes on with these bytes is stopped with them, whatever stands behind them and was
+-- found before.
+abbrev pub IsStoppedByBytes : Standing → (number : ℕ) → List ℕ → Ended → (before after : List Content)
+    → (held_before held : Option (List ℕ)) → Type 0
+IsStoppedByBytes w number bytes ended before after held_before held =
+    (too_long found : Bool) (read : ReadLine) (lines : List ReadLine) → IsReadAs bytes read
+    → IsStopped w (run_from w.format too_long number w.state found (read ∷ lines))
+    (ending_of ended) before after
+    held_before held

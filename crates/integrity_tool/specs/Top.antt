@@ -1,73 +1,54 @@
--- What the top call promises of its status, its text and its disk.
-use Rattle.std.specs.Prelude.{◌≡◌, ◌⊎◌, ℕ, ◌<◌, List, ◌++◌, length, take}
-use Rattle.disk_model.specs.Disk.{Content, Image, IsImage, last_image}
-use Rattle.device_model.specs.Ending.{Ending, RefusedWords, RefusedImage, DiskFailed, NoMemory, status_of, fault_text}
-use Rattle.device_model.specs.Transcript.{Line}
-use Rattle.integrity_tool.specs.Form.{IsOfForm, small_blocks}
-use Rattle.integrity_tool.specs.Cuts.{IsLeftBy, RunsAndLeaves}
-use Rattle.integrity_tool.specs.Script.{BeginsWith, BeginsWithNone}
-use Rattle.integrity_tool.specs.Words.{IsRunWords}
-use Rattle.device_model.specs.ScriptBytes.{most_script}
+-- What the top call is given, and what ends it.
+use Rattle.std.specs.Prelude.{◌≡◌, ℕ, List, Option, Some}
+use Rattle.disk_model.specs.Disk.{Content, last_image}
+use Rattle.disk_model.specs.Identity.{NamedDisk}
+use Rattle.disk_model.specs.Moments.{content_now}
+use Rattle.command_ending.specs.declared.ended.Ended.{Ended}
+use Rattle.command_ending.specs.declared.ended.Ended.TheVariants as Endings
+use Rattle.integrity_tool.specs.Asked.{asked_of, key_file_of_asked}
+use Rattle.integrity_tool.specs.CommandRun.{Outset}
+use Rattle.integrity_tool.specs.Keyed.{HasFile}
+use Rattle.integrity_tool.specs.Outset.{outset_of}
 
--- What a run is given: the words, how many sectors the disk has and what they hold, and the script.
-pub record Start : Type 0 where
+-- The words; the bytes of the key file, where they name one; how many sectors the image has that they name, and what it
+-- holds; and the script.
+pub record Given : Type 0 where
   pub words : List (List ℕ)
+  pub key_bytes : List ℕ
   pub sectors : ℕ
   pub content : Content
   pub script : List ℕ
 
-abbrev pub start_of : List (List ℕ) → ℕ → Content → List ℕ → Start
-start_of words sectors content script = record { words = words; sectors = sectors; content = content; script = script }
+-- What a command with this starts on.
+abbrev pub outset_in : Given → Outset
+outset_in given = outset_of given.words given.key_bytes given.sectors (last_image given.content)
 
--- The disk's image is of the form that there is.
-abbrev pub HasForm : Start → Type 0
-HasForm start = IsOfForm start.sectors (last_image start.content)
+-- It is given this, where the source of keys, the disk and the source of the script tell what they have.
+pub record IsGiven (words : List (List ℕ)) (keys : List ℕ → Option (List ℕ)) (image : NamedDisk)
+    (script : Option (List ℕ)) (given : Given) : Type 0 where
+  pub words_are : given.words ≡ words
+  pub key : HasFile (key_file_of_asked (asked_of words)) keys given.key_bytes
+  pub sectors : given.sectors ≡ image.sectors
+  pub content : content_now image.moments ≡ Some given.content
+  pub script_is : script ≡ Some given.script
 
--- The script is refused: behind lines that can be run stands something that begins with none, or it is too long.
-abbrev pub IsRefusedScript : List ℕ → Type 0
-IsRefusedScript script =
-    ((lines : List Line) × (rest : List ℕ) × BeginsWith small_blocks.blocks script lines rest × BeginsWithNone small_blocks.blocks rest)
-    ⊎ (most_script < length script)
+-- What is outside ends a command only where its count rose.
+abbrev pub HasCommandCause : (disk_rose key_rose script_rose sink_rose : Type 0) → Ended → Type 0
+HasCommandCause disk_rose key_rose script_rose sink_rose Endings.Disk = disk_rose
+HasCommandCause disk_rose key_rose script_rose sink_rose Endings.KeySource = key_rose
+HasCommandCause disk_rose key_rose script_rose sink_rose Endings.Script = script_rose
+HasCommandCause disk_rose key_rose script_rose sink_rose Endings.Sink = sink_rose
+HasCommandCause disk_rose key_rose script_rose sink_rose ended = Unit {0}
 
--- Each image of the later content is one of the first.
-pub record NarrowsImages (first later : Content) : Type 0 where
-  pub each : (image : Image) → IsImage later image → IsImage first image
-
--- This ends a run before its script: words that are no run's, the disk, want of memory, or an image of another form.
-abbrev pub EndsBeforeScript : Start → Ending → Type 0
-EndsBeforeScript start RefusedWords = ¬ IsRunWords start.words
-EndsBeforeScript start (RefusedImage fault) = IsRunWords start.words × ¬ HasForm start
-EndsBeforeScript start DiskFailed = IsRunWords start.words
-EndsBeforeScript start NoMemory = IsRunWords start.words
-EndsBeforeScript start ending = ⊥
-
--- The run ended before its script: nothing was printed, and the images are among those at its start.
-pub record EndsFirst (start : Start) (before after : List ℕ) (ending : Ending) (later : Content) : Type 0 where
-  pub ends : EndsBeforeScript start ending
-  pub text : after ≡ before
-  pub images : NarrowsImages start.content later
-
--- The script was run: with the words of a run, and on an image of the form. What was printed and left is by its lines.
-pub record RunsScript (start : Start) (before after : List ℕ) (ending : Ending) (later : Content) : Type 0 where
-  pub words : IsRunWords start.words
-  pub form : HasForm start
-  pub leaves : RunsAndLeaves (last_image start.content) start.script before after ending later
-
--- What a run printed and left, before its script or by it.
-abbrev pub Leaves : Start → List ℕ → List ℕ → Ending → Content → Type 0
-Leaves start before after ending later = EndsFirst start before after ending later ⊎ RunsScript start before after ending later
-
--- What a moment of a run left: one of the images at its start, or with the words of a run and on an image of the form one
--- that a cut may leave of some lines of the script.
-abbrev pub MayBeLeft : Start → Content → Type 0
-MayBeLeft start later =
-    NarrowsImages start.content later
-    ⊎ (IsRunWords start.words × HasForm start × IsLeftBy (last_image start.content) start.script later)
-
--- The sink got the run, and then the last line of what ended it early: whole, or where the sink failed not all of it.
-pub record Tells (start : Start) (before after : List ℕ) (status : ℕ) (SinkRose : Type 0) (later : Content) : Type 0 where
-  pub ending : Ending
-  pub is_status : status ≡ status_of ending
-  pub run : List ℕ
-  pub leaves : Leaves start before run ending later
-  pub last : (after ≡ run ++ fault_text ending) ⊎ (SinkRose × (count : ℕ) × (count < length (fault_text ending)) × (after ≡ run ++ take count (fault_text ending)))
+-- It ended a command before its script: nothing of that is read.
+abbrev pub IsBeforeScript : Ended → Type 0
+IsBeforeScript Endings.Words = Unit {0}
+IsBeforeScript (Endings.Key refusal) = Unit {0}
+IsBeforeScript (Endings.Line number refusal) = ⊥
+IsBeforeScript Endings.Length = ⊥
+IsBeforeScript (Endings.Image fault) = Unit {0}
+IsBeforeScript Endings.Disk = ⊥
+IsBeforeScript Endings.KeySource = Unit {0}
+IsBeforeScript Endings.Script = ⊥
+IsBeforeScript Endings.Sink = ⊥
+IsBeforeScript Endings.Memory = ⊥

@@ -1,23 +1,15 @@
 //! The program as one call: what it does with its words, its disk, its key, its script and its output.
 //!
-//! `integrity` is the call, and its contract is the promise. `specs/Outcome.antt` is the file to read first.
+//! `integrity` is the call, and its contract is the promise. `specs/CommandRun.antt` is the file to read first.
 #![tactic(auto)]
 
-mod ended;
-mod line;
-mod line_reader;
-mod pieces;
-mod reading;
+mod asked;
+mod closing;
+mod keyed;
+mod lines;
+mod opening;
 mod running;
-mod small_image;
-mod stretches;
-#[cfg(test)]
-mod tests;
-mod text;
 mod top_call;
-mod words;
-mod writing;
 
-pub use ended::end_without_memory;
-pub use line_reader::{MOST_LINE, MOST_SCRIPT};
+pub use command_ending::end_without_memory;
 pub use top_call::integrity;

@@ -1,29 +1,109 @@
-use Rattle.std.proofs.Common.{ℕ, List, refl, sym, subst, map}
+use Rattle.std.proofs.Common.{refl}
+use Rattle.std.proofs.Common.{◌≡◌, ℕ, List, Some, None, Err, sym, ap, ◌∙◌, subst, map}
+use Rattle.std.specs.Option.{ForSome, option_map}
 use Rattle.std.specs.String.{string_bytes}
-use Rattle.disk_model.specs.Disk.{Content, last_image}
-use Rattle.disk_model.specs.Identity.{DiskIdentity, IsBoundTo}
-use Rattle.integrity_tool.specs.Form.{IsOfForm}
-use Rattle.integrity_tool.specs.ScriptSteps.{ending_by}
-use Rattle.integrity_tool.specs.Top.{Leaves, start_of}
-use Rattle.integrity_tool.specs.Words.{image_word}
-use Rattle.std.proofs.lemmas.Result.{on_ok_weaker}
-use Rattle.integrity_tool.proofs.TopLemmas.{told_there, of_there, held_there}
+use Rattle.std.proofs.lemmas.Result.{err_from_is_err_and}
+use Rattle.disk_model.specs.Identity.{DiskIdentity, IsBoundTo, IsThere, NamedDisk}
+use Rattle.disk_model.specs.Moments.{content_now}
+use Rattle.device_model.specs.Ending.{DiskFailed}
+use Rattle.hmac_tag.specs.TagMaker.{key_of}
+use Rattle.integrity_tool.specs.Asked.{asked_in, asked_of, image_name, image_of}
+use Rattle.integrity_tool.specs.Running.{ending_by}
+use Rattle.integrity_tool.proofs.StartLemmas.{outside_first, ran_given, stopped_at_key, stopped_at_words, words_first}
+use Rattle.integrity_tool.proofs.TopLemmas.{told_there}
+use Rattle.integrity_tool.proofs.TakenLemmas.{none_taken}
 use Rattle.integrity_tool.proofs.top_call.run.Goals as goal
 
-pub returns-clause-runs : goal.returns-clause-runs
-returns-clause-runs g c content told script told_script before told_before =
+pub returns-in_err-command-clause-runs : goal.returns-in_err-command-clause-runs
+returns-in_err-command-clause-runs g c given is =
     let words = map string_bytes c.args.words.now in
-    let found = rw c.in-Some.ensures.image at c.in_ok-bind_image.ensures.found in
-    let bound = rw c.in-Some.ensures.image at c.in_ok-bind_image.ensures.bound in
-    let is = found.is content told in
-    let run = c.in-Some.ensures.some.0 refl in
-    let ends = g.met.D.Disk.named_if_bound c.run_image.new.disk (image_word words) (subst (λ (d : DiskIdentity). IsBoundTo (image_word words) d.name) (sym c.run_image.ensures.identity) bound) in
-    held_there is _ (λ (sectors : ℕ) (after : List ℕ). Leaves (start_of words sectors content script) before after (ending_by c.run_image.result)) ends
-    (c.run_image.ensures.runs words run content (told_there is told) script told_script before told_before)
+    let image = g.D.Disk.named c.args.disk.now (image_name words) in
+    let p = err_from_is_err_and c.from_residual.result c.from_residual.ensures.1 in
+    rw (p.1, p.2) (stopped_at_words given words (g.K.NamedSource.named c.args.key.now) image (g.S.Source.left c.args.script.now) is (g.O.Sink.held c.args.out.now) _
+    c.in_err-command.ensures.errors (λ e. c.in_err-command.ensures.words (ap (λ x. Err x) e)))
 
-pub returns-clause-form : goal.returns-clause-form
-returns-clause-form g c =
-    let found = rw c.in-Some.ensures.image at c.in_ok-bind_image.ensures.found in
-    on_ok_weaker c.run_image.result (λ form content told.
-    let is = found.is content told in
-    of_there is (λ (sectors : ℕ). IsOfForm sectors (last_image content)) (form content (told_there is told))) c.run_image.ensures.form
+pub returns-in_default-clause-runs : goal.returns-in_default-clause-runs
+returns-in_default-clause-runs g c given is =
+    let words = map string_bytes c.args.words.now in
+    let image = g.D.Disk.named c.args.disk.now (image_name words) in
+    let none : asked_of words ≡ None = c.in_ok-command.ensures.command ∙ sym c.run_in.ensures ∙ ap (option_map _) c.in_default.is in
+    words_first given words (g.K.NamedSource.named c.args.key.now) image (g.S.Source.left c.args.script.now) is (g.O.Sink.held c.args.out.now) none
+
+pub returns-in_err-hash-clause-runs : goal.returns-in_err-hash-clause-runs
+returns-in_err-hash-clause-runs g c given is =
+    let words = map string_bytes c.args.words.now in
+    let image = g.D.Disk.named c.args.disk.now (image_name words) in
+    let run = c.in-Some.run'.now in
+    let asks : asked_of words ≡ Some (asked_in run) = c.in_ok-command.ensures.command ∙ sym c.run_in.ensures ∙ ap (option_map _) c.in-Some.is in
+    let p = err_from_is_err_and c.from_residual-in_err-hash.result c.from_residual-in_err-hash.ensures.1 in
+    rw (p.1, p.2) (stopped_at_key given words (g.K.NamedSource.named c.args.key.now) image (g.S.Source.left c.args.script.now) is (g.O.Sink.held c.args.out.now) (asked_in run) asks _ _ _
+    c.in_err-hash.ensures.refused)
+
+pub returns-in_err-bind_image-clause-runs : goal.returns-in_err-bind_image-clause-runs
+returns-in_err-bind_image-clause-runs g c given is =
+    let words = map string_bytes c.args.words.now in
+    let old = g.D.Disk.named c.args.disk.now in
+    let new = g.D.Disk.named c.bind_image.new.disk in
+    let run = c.in-Some.run'.now in
+    let asks : asked_of words ≡ Some (asked_in run) = c.in_ok-command.ensures.command ∙ sym c.run_in.ensures ∙ ap (option_map _) c.in-Some.is in
+    let name : image_name words ≡ c.as_str.result.now = ap image_of asks ∙ sym c.as_str.ensures in
+    let same : new (image_name words) ≡ old (image_name words) =
+    subst (λ (n : List ℕ). ForSome (content_now (old n).moments) (λ d. new n ≡ old n)) (sym name) c.bind_image.ensures.same given.content is.content in
+    let p = err_from_is_err_and c.from_residual-in_err-bind_image.result c.from_residual-in_err-bind_image.ensures.1 in
+    rw (p.1, p.2, c.in_err-bind_image.ensures.disk.0) (outside_first given words (g.K.NamedSource.named c.args.key.now) (old (image_name words)) (g.S.Source.left c.args.script.now) is (g.O.Sink.held c.args.out.now)
+    DiskFailed tt (new (image_name words)) (ap (λ (n : NamedDisk). n.moments) same))
+
+pub returns-clause-runs : goal.returns-clause-runs
+returns-clause-runs g c given is =
+    let words = map string_bytes c.args.words.now in
+    let old = g.D.Disk.named c.args.disk.now in
+    let mid = c.bind_image.new.disk in
+    let run = c.in-Some.run'.now in
+    let asks : asked_of words ≡ Some (asked_in run) = c.in_ok-command.ensures.command ∙ sym c.run_in.ensures ∙ ap (option_map _) c.in-Some.is in
+    let name : image_name words ≡ c.as_str.result.now = ap image_of asks ∙ sym c.as_str.ensures in
+    let found = subst (λ (n : List ℕ). IsThere (old n) (g.D.Disk.identity mid).sectors (g.D.Disk.moments mid)) (sym name) c.in_ok-bind_image.ensures.found in
+    let bound = subst (λ (n : List ℕ). IsBoundTo n (g.D.Disk.identity mid).name) (sym name) c.in_ok-bind_image.ensures.bound in
+    let there = found.is given.content is.content in
+    let ends = g.met.D.Disk.named_if_bound c.run_image.new.disk (image_name words) (subst (λ (d : DiskIdentity). IsBoundTo (image_name words) d.name) (sym c.run_image.ensures.identity) bound) in
+    ran_given given words (g.K.NamedSource.named c.args.key.now) (old (image_name words)) (g.S.Source.left c.args.script.now) is (g.O.Sink.held c.args.out.now) (asked_in run) asks
+    (key_of c.in_ok-hash.hash) c.in_ok-hash.ensures.hash (g.D.Disk.identity mid).sectors (g.D.Disk.moments mid) (g.D.Disk.moments c.run_image.new.disk)
+    (g.D.Disk.named c.run_image.new.disk (image_name words)) there (ap (λ (n : NamedDisk). n.moments) ends) (ending_by c.run_image.result) (g.O.Sink.held c.run_image.new.out)
+    (c.run_image.ensures.runs given.script is.script_is given.content (told_there there is.content))
+
+pub returns-in_err-bind_image-clause-sectors : goal.returns-in_err-bind_image-clause-sectors
+returns-in_err-bind_image-clause-sectors g c content told =
+    let words = map string_bytes c.args.words.now in
+    let old = g.D.Disk.named c.args.disk.now in
+    let new = g.D.Disk.named c.bind_image.new.disk in
+    let run = c.in-Some.run'.now in
+    let asks : asked_of words ≡ Some (asked_in run) = c.in_ok-command.ensures.command ∙ sym c.run_in.ensures ∙ ap (option_map _) c.in-Some.is in
+    let name : image_name words ≡ c.as_str.result.now = ap image_of asks ∙ sym c.as_str.ensures in
+    let same : new (image_name words) ≡ old (image_name words) =
+    subst (λ (n : List ℕ). ForSome (content_now (old n).moments) (λ d. new n ≡ old n)) (sym name) c.bind_image.ensures.same content told in
+    ap (λ (n : NamedDisk). n.sectors) same
+
+pub returns-clause-sectors : goal.returns-clause-sectors
+returns-clause-sectors g c content told =
+    let words = map string_bytes c.args.words.now in
+    let old = g.D.Disk.named c.args.disk.now in
+    let mid = c.bind_image.new.disk in
+    let run = c.in-Some.run'.now in
+    let asks : asked_of words ≡ Some (asked_in run) = c.in_ok-command.ensures.command ∙ sym c.run_in.ensures ∙ ap (option_map _) c.in-Some.is in
+    let name : image_name words ≡ c.as_str.result.now = ap image_of asks ∙ sym c.as_str.ensures in
+    let found = subst (λ (n : List ℕ). IsThere (old n) (g.D.Disk.identity mid).sectors (g.D.Disk.moments mid)) (sym name) c.in_ok-bind_image.ensures.found in
+    let bound = subst (λ (n : List ℕ). IsBoundTo n (g.D.Disk.identity mid).name) (sym name) c.in_ok-bind_image.ensures.bound in
+    let there = found.is content told in
+    let ends = g.met.D.Disk.named_if_bound c.run_image.new.disk (image_name words) (subst (λ (d : DiskIdentity). IsBoundTo (image_name words) d.name) (sym c.run_image.ensures.identity) bound) in
+    ap (λ (n : NamedDisk). n.sectors) ends ∙ ap (λ (d : DiskIdentity). d.sectors) c.run_image.ensures.identity ∙ sym (ap (λ (n : NamedDisk). n.sectors) there)
+
+pub returns-in_err-command-clause-taken : goal.returns-in_err-command-clause-taken
+returns-in_err-command-clause-taken g c = none_taken _ _ refl
+
+pub returns-in_default-clause-taken : goal.returns-in_default-clause-taken
+returns-in_default-clause-taken g c = none_taken _ _ refl
+
+pub returns-in_err-hash-clause-taken : goal.returns-in_err-hash-clause-taken
+returns-in_err-hash-clause-taken g c = none_taken _ _ refl
+
+pub returns-in_err-bind_image-clause-taken : goal.returns-in_err-bind_image-clause-taken
+returns-in_err-bind_image-clause-taken g c = none_taken _ _ refl

@@ -1,0 +1,169 @@
+-- What stops a run at its close.
+use Rattle.std.proofs.Common.{Result, Ok, Err, is_err, ◌≡◌, inl, inr, ℕ, ◌<◌, true, false}
+use Rattle.std.proofs.Common.{List, [], length, take, refl, sym, ◌∙◌, ap, subst, arith}
+use Rattle.std.proofs.Common.{append-nil, length-take, Option}
+use Rattle.disk_model.specs.Disk.{Content, Image, EachImage}
+use Rattle.disk_model.specs.Moments.{EachMoment}
+use Rattle.disk_model.proofs.MomentsLemmas.{EachMoment-weaker}
+use Rattle.device_model.specs.Device.{DeviceKind}
+use Rattle.device_model.specs.Ending.{Complete, DiskFailed, SinkFailed}
+use Rattle.device_model.specs.History.{Change, History, with_changes}
+use Rattle.device_model.specs.Mode.{DeviceFormat}
+use Rattle.device_model.specs.Progress as Model
+use Rattle.device_model.specs.Progress.{DeviceState, Event, Close, FailedClose, after_event, event_result}
+use Rattle.device_model.specs.Progress.{result_in}
+use Rattle.device_model.specs.ScriptRun.{ScriptStep, changes_in, close_step}
+use Rattle.device_model.specs.ScriptRun.{only_ends, texts_of}
+use Rattle.device_model.specs.Transcript.{closed_text}
+use Rattle.direct_model.specs.DirectDisk.{DirectDisk}
+use Rattle.direct_laws.specs.MomentLaws.{IsLeftNow, IsLeftThrough, kind_of}
+use Rattle.direct_laws.specs.ServeLaws.{KeepsDevice}
+use Rattle.direct_laws.specs.Within.{IsWithin}
+use Rattle.stream_io.specs.Stream.{AddsPrefix}
+use Rattle.script_text.proofs.ScriptRunLemmas.{came_into}
+use Rattle.script_text.proofs.ScriptRunLemmas.{run_is_whole}
+use Rattle.device_core.specs.declared.condition.Condition.{Condition}
+use Rattle.device_core.specs.declared.parts.Parts.{Parts}
+use Rattle.device_core.specs.Device.{IsDevice, Standing}
+use Rattle.device_core.specs.Answers as answers
+use Rattle.device_core.specs.Answers.{answer_by, event_by}
+use Rattle.device_core.specs.declared.answers.StepFault.{StepFault}
+use Rattle.device_core.specs.declared.answers.StepFault.TheVariants as faults
+use Rattle.script_session.specs.declared.tags_found.TagsFound.{TagsFound}
+use Rattle.script_session.specs.Told.{finds_fault}
+use Rattle.script_session.proofs.RunLemmas.{EachMoment-both}
+use Rattle.script_session.specs.LineRun.{IsLeftWithin}
+use Rattle.script_session.specs.LineRun.{held_with}
+use Rattle.integrity_tool.specs.Running.{IsStopped, only_close}
+use Rattle.integrity_tool.proofs.RunningLemmas.{left_wider, told_nothing}
+
+-- ---- what a close does
+
+-- At each moment of an event some of its first changes are made.
+since_event : (kind : DeviceKind) (entry : Image) (f : DeviceFormat) (s : DeviceState) (event : Event)
+    (a b : List Content)
+    → IsLeftThrough kind entry f s event a b
+    → EachMoment a b (IsLeftWithin kind entry s.history (event_result f s event).changes)
+since_event kind entry f s event a b through = EachMoment-weaker
+    (λ (c : Content) (both : EachImage kind.CanOpen c × IsWithin (kind.MayBeLeft entry) f s event c). record {
+      made = both.1.within.kept;
+      opens = both.0;
+      left = subst (λ (h : History). EachImage (kind.MayBeLeft entry h) c) both.1.within.is both.1.each;
+    })
+    (EachMoment-both through.opens through.left)
+
+failed_close_in : (f : DeviceFormat) (s : DeviceState) (c : Model.Condition)
+    → (result_in f s c FailedClose).changes ≡ []
+failed_close_in f s Model.Working = refl
+failed_close_in f s Model.Broken = refl
+failed_close_in f s Model.Closed = refl
+
+-- A close in which the disk fails does nothing to the history.
+failed_close : (f : DeviceFormat) (s : DeviceState) → (event_result f s FailedClose).changes ≡ []
+failed_close f s = failed_close_in f s s.condition
+
+module _ (w : Standing) (found : TagsFound) (disk : DirectDisk) (a b : List Content)
+    (held_a held_b : Option (List ℕ)) where
+  abbrev closing : ScriptStep
+  closing = close_step w.format w.state
+
+  abbrev kind : DeviceKind
+  kind = kind_of w.disk
+
+  texts_closed : texts_of (only_close w found).steps ≡ closed_text
+  texts_closed = (run_is_whole closing (only_ends (Complete (finds_fault found)))).0 ∙ append-nil closed_text
+
+  changes_closed : changes_in (only_close w found).steps ≡ closing.changes
+  changes_closed = (run_is_whole closing (only_ends (Complete (finds_fault found)))).1
+      ∙ append-nil closing.changes
+
+  since_close : KeepsDevice w.format w.state Close w.entry w.disk disk a b
+      → EachMoment a b (IsLeftWithin kind w.entry w.state.history (changes_in (only_close w found).steps))
+  since_close keeps = subst (λ (l : List Change). EachMoment a b (IsLeftWithin kind w.entry w.state.history l))
+      (sym changes_closed) (since_event kind w.entry w.format w.state Close a b keeps.through)
+
+  -- The device is closed, and that is printed: all is done.
+  pub stopped_by_close : KeepsDevice w.format w.state Close w.entry w.disk disk a b
+      → held_b ≡ held_with closed_text held_a
+      → IsStopped w (only_close w found) (Complete (finds_fault found)) a b held_a held_b
+  stopped_by_close keeps told = record {
+    text = closed_text;
+    changes = closing.changes;
+    ended = inl (record {
+      whole = record { is_text = sym texts_closed; is_changes = sym changes_closed };
+      is = refl;
+    });
+    since = since_close keeps;
+    now = keeps.now;
+    told = told;
+  }
+
+  -- It is closed, and the sink failed.
+  pub stopped_in_closed : KeepsDevice w.format w.state Close w.entry w.disk disk a b
+      → AddsPrefix closed_text held_a held_b → IsStopped w (only_close w found) SinkFailed a b held_a held_b
+  stopped_in_closed keeps told = record {
+    text = take told.count closed_text;
+    changes = closing.changes;
+    ended = inr (record {
+      came = (came_into closing (only_ends (Complete (finds_fault found)))).text told.count told.short;
+      short = λ complete.
+          let less : told.count < length closed_text = told.short in
+          let all : length (texts_of (only_close w found).steps)
+          ≡ length closed_text = ap length texts_closed in
+          let some = length-take told.count closed_text in
+          omega arith;
+      outside = tt;
+    });
+    since = since_close keeps;
+    now = keeps.now;
+    told = told.held;
+  }
+
+  -- The disk failed in the close, and nothing is printed.
+  pub stopped_in_close : KeepsDevice w.format w.state FailedClose w.entry w.disk disk a b → held_b ≡ held_a
+      → IsStopped w (only_close w found) DiskFailed a b held_a held_b
+  stopped_in_close keeps told = record {
+    text = [];
+    changes = [];
+    ended = inr (record {
+      came = (came_into closing (only_ends (Complete (finds_fault found)))).changes 0 (λ none. absurd (cc));
+      short = λ complete.
+          let all : length (texts_of (only_close w found).steps)
+          ≡ length closed_text = ap length texts_closed in
+          omega arith;
+      outside = tt;
+    });
+    since = EachMoment-weaker (λ (c : Content) left. left_wider kind w.entry w.state.history []
+        (changes_in (only_close w found).steps) c
+        (subst (λ (l : List Change). IsLeftWithin kind w.entry w.state.history l c)
+        (failed_close w.format w.state) left))
+        (since_event kind w.entry w.format w.state FailedClose a b keeps.through);
+    now = subst (λ (l : List Change). IsLeftNow kind w.entry (with_changes l w.state.history) b)
+        (failed_close w.format w.state) keeps.now;
+    told = told ∙ told_nothing held_a;
+  }
+
+-- ---- what a close answers
+
+-- The device is closed where the close did not fail.
+pub closed_device : {T : Type 0} (w : Standing) (a b : List Content) (result : Result T StepFault)
+    → is_err result ≡ false
+    → answers.HasEnded w (event_by Close FailedClose result) (answer_by (λ done. Model.IsClosed) result) a b
+    → answers.HasEnded w Close Model.IsClosed a b
+closed_device w a b (Ok done) not ended = ended
+closed_device w a b (Err fault) not ended = absurd (cc)
+
+-- Where it failed and the device works the disk failed in it.
+pub failed_device : {T : Type 0} (w : Standing) (a b : List Content) (result : Result T StepFault)
+    → is_err result ≡ true
+    → (result ≡ Err faults.Broken → ⊥)
+    → answers.HasEnded w (event_by Close FailedClose result) (answer_by (λ done. Model.IsClosed) result) a b
+    → answers.HasEnded w FailedClose Model.DiskFailed a b
+failed_device w a b (Ok done) failed works ended = absurd (cc)
+failed_device w a b (Err faults.Disk) failed works ended = ended
+failed_device w a b (Err faults.Broken) failed works ended = absurd (works refl)
+
+-- A device is what it is in the condition that it has.
+pub in_condition : (w : Standing) (one other : Condition) (parts : Parts) (a : List Content) → one ≡ other
+    → IsDevice w other parts a → IsDevice w one parts a
+in_condition w one other parts a same is = subst (λ (x : Condition). IsDevice w x parts a) (sym same) is

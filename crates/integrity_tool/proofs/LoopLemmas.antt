@@ -1,0 +1,365 @@
+-- A run of a script before its next line, behind that, and at its end.
+use Rattle.std.proofs.Common.{Result, Ok, Err, map, ◌≡◌, ℕ, suc, ◌+◌, ◌<◌, ◌≤◌, Bool, true, false, List, []}
+use Rattle.std.proofs.Common.{◌∷◌, ◌++◌, length, refl, sym, ◌∙◌, ap, subst, arith, Option, Some, None}
+use Rattle.std.specs.Prelude.{◌||◌, ltb}
+use Rattle.std.specs.List.{AllZip}
+use Rattle.std.specs.Option.{ForSome, IsSomeAnd}
+use Rattle.std.proofs.lemmas.Bool.{le-ltb, lt-ltb}
+use Rattle.disk_model.specs.Causes.{Rose}
+use Rattle.disk_model.specs.Disk.{Content}
+use Rattle.device_model.specs.Ending.{RefusedLine, RefusedLength, ScriptFailed, ByWords}
+use Rattle.device_model.specs.Grammar.{ReadLine, Means, Refused, IsReadAs}
+use Rattle.device_model.specs.LineFault.{TooLong}
+use Rattle.device_model.specs.Script.{line_outcome}
+use Rattle.device_model.specs.ScriptBytes.{most_script}
+use Rattle.device_model.specs.ScriptRun.{IsRunOf, ScriptRun, line_step, run_from, with_step}
+use Rattle.device_model.proofs.UniqueReading.{read_once}
+use Rattle.script_text.proofs.ScriptRunLemmas.{run_is_split}
+use Rattle.script_reader.specs.Lines.{FindsEnd, FindsWholeLine}
+use Rattle.script_reader.specs.Reading.{Reading}
+use Rattle.script_reader.proofs.LinesLemmas.{is_too_long-script, lines_left-script}
+use Rattle.device_core.specs.declared.condition.Condition.TheVariants as Conditions
+use Rattle.device_core.specs.declared.parts.Parts.{Parts}
+use Rattle.device_core.specs.Device.{IsDevice, Standing}
+use Rattle.script_session.specs.declared.tags_found.TagsFound.{TagsFound}
+use Rattle.script_session.specs.declared.tags_found.TagsFound.TheVariants.{Matching}
+use Rattle.request_slots.specs.Flight.{Flight, ask_of}
+use Rattle.script_session.specs.declared.tickets.Tickets.{Tickets}
+use Rattle.script_session.specs.Tickets.{AreInFlight, ask_by}
+use Rattle.script_session.specs.LineRun.{events_of, standing_behind}
+use Rattle.script_session.specs.Told.{finds_fault}
+use Rattle.command_ending.specs.Ended.{ending_of}
+use Rattle.command_ending.specs.declared.ended.Ended.{Ended}
+use Rattle.command_ending.specs.declared.ended.Ended.TheVariants as Endings
+use Rattle.command_ending.specs.declared.line_refusal.LineRefusal.{LineRefusal}
+use Rattle.integrity_tool.specs.Lines.{HasAdvanced, HasRunBytes, IsStoppedByBytes}
+use Rattle.integrity_tool.specs.Running.{HasEndCause, IsAt, IsAtClose, IsStopped, Leads, is_beyond}
+use Rattle.integrity_tool.specs.Running.{lines_behind, only_close}
+use Rattle.integrity_tool.proofs.RunningLemmas.{stopped_at_lines, stopped_by_itself, stopped_further}
+
+-- ---- at the start
+
+-- A run that is told by what it is leads to itself.
+leads_at_start : (w : Standing) (run other : ScriptRun) (a : List Content) (held : Option (List ℕ)) → run
+    ≡ other
+    → Leads w other a held w run a held
+leads_at_start w run other a held is ending later held_later stopped =
+    subst (λ (r : ScriptRun). IsStopped w r ending a later held held_later) (sym is) stopped
+
+-- A run stands before its first line where nothing is read yet.
+pub at_start : (w : Standing) (parts : Parts) (a : List Content) (held : Option (List ℕ)) (script : List ℕ)
+    (run : ScriptRun)
+    (reader : Reading) (left : Option (List ℕ)) → IsDevice w Conditions.Working parts a → left ≡ Some script
+    → IsRunOf w.format w.state script run → reader ≡ record { unread = []; line = []; taken = 0 }
+    → IsSomeAnd left (λ later. IsAt w run a held 1 Matching reader later parts a held)
+at_start w parts a held script run reader left is told is_run none =
+    subst (λ (o : Option (List ℕ)). IsSomeAnd o
+    (λ later. IsAt w run a held 1 Matching reader later parts a held)) (sym told)
+    (subst (λ (r : Reading). IsAt w run a held 1 Matching r script parts a held) (sym none) (record {
+      here = w;
+      device = is;
+      lines = is_run.lines;
+      read = subst (λ (l : List (List ℕ)). AllZip IsReadAs l is_run.lines)
+          (sym (lines_left-script script)) is_run.read;
+      leads = leads_at_start w run _ a held
+          (is_run.is ∙ ap (λ (b : Bool). run_from w.format b 1 w.state false is_run.lines)
+          (is_too_long-script script));
+    }))
+
+-- ---- at a line
+
+module _ (there : Standing) (run : ScriptRun) (start : List Content) (held_start : Option (List ℕ)) where
+  -- A run stands before some lines that are read as these.
+  record StandsBefore (here : Standing) (beyond : Bool) (number : ℕ) (found : TagsFound) (bytes : List (List ℕ))
+      (now : List Content) (held : Option (List ℕ)) : Type 0 where
+    pub lines : List ReadLine
+    pub read : AllZip IsReadAs bytes lines
+    pub leads : Leads here (run_from here.format beyond number here.state (finds_fault found) lines) now held
+        there run start held_start
+
+  -- Behind its first line, which was run, it stands before the others.
+  behind_line : (here : Standing) (beyond : Bool) (number : ℕ) (found told found_b : TagsFound) (bytes : List ℕ)
+      (others : List (List ℕ)) (parts : Parts) (now later : List Content) (held held_b : Option (List ℕ))
+      (ran : HasRunBytes here bytes told parts now later held held_b)
+      → finds_fault found_b ≡ (finds_fault found || finds_fault told) → (lines : List ReadLine)
+      → AllZip IsReadAs (bytes ∷ others) lines
+      → Leads here (run_from here.format beyond number here.state (finds_fault found) lines) now held
+      there run start held_start
+      → StandsBefore (standing_behind here (events_of here ran.line) ran.run.run.disk) beyond
+      (suc number) found_b others
+      later held_b
+  behind_line here beyond number found told found_b bytes others parts now later held held_b ran either [] read
+      leads =
+      absurd read
+  behind_line here beyond number found told found_b bytes others parts now later held held_b ran either
+      (first ∷ lines) read leads =
+      let f = here.format in
+      let s = here.state in
+      let outcome = line_outcome f s ran.line in
+      let means : first ≡ Means ran.line = read_once bytes first (Means ran.line) read.0 ran.read in
+      let rest = run_from f beyond (suc number) outcome.after
+      (finds_fault found || outcome.finds_fault) lines in
+      let split : run_from f beyond number s (finds_fault found) (first ∷ lines)
+      ≡ with_step (line_step outcome) rest =
+      ap (λ (r : ReadLine). run_from f beyond number s (finds_fault found) (r ∷ lines)) means
+      ∙ (run_is_split f number s (finds_fault found)).goes_on beyond ran.line lines ran.run.runnable in
+      let same : finds_fault found_b ≡ (finds_fault found || outcome.finds_fault) =
+      either ∙ ap (λ (b : Bool). finds_fault found || b) ran.run.found_ in
+      let next = standing_behind here (events_of here ran.line) ran.run.run.disk in
+      record {
+        lines = lines;
+        read = read.1;
+        leads = λ ending last held_last stopped.
+            leads ending last held_last
+            (subst (λ (r : ScriptRun). IsStopped here r ending now last held held_last) (sym split)
+            (stopped_further here ran.line told parts now later held held_b ran.run rest ending last held_last
+            (subst (λ (b : Bool). IsStopped next
+            (run_from f beyond (suc number) outcome.after b lines) ending later last
+            held_b held_last) same stopped)));
+      }
+
+  -- What stops it with its first line stops the whole run.
+  stopped_line : (here : Standing) (beyond : Bool) (number : ℕ) (found : TagsFound) (bytes : List ℕ)
+      (others : List (List ℕ)) (now later : List Content) (held held_b : Option (List ℕ)) (ended : Ended)
+      → IsStoppedByBytes here number bytes ended now later held held_b → (lines : List ReadLine)
+      → AllZip IsReadAs (bytes ∷ others) lines
+      → Leads here (run_from here.format beyond number here.state (finds_fault found) lines) now held
+      there run start held_start → IsStopped there run (ending_of ended) start later held_start held_b
+  stopped_line here beyond number found bytes others now later held held_b ended stopped [] read leads = absurd
+      read
+  stopped_line here beyond number found bytes others now later held held_b ended stopped
+      (first ∷ lines) read leads =
+      leads (ending_of ended) later held_b (stopped beyond (finds_fault found) first lines read.0)
+
+  -- So does a line that is too long.
+  long_line : (here : Standing) (parts : Parts) (now : List Content)
+      → IsDevice here Conditions.Working parts now
+      → (beyond : Bool) (number : ℕ) (found : TagsFound) (bytes : List ℕ) (others : List (List ℕ))
+      (held : Option (List ℕ)) → IsReadAs bytes (Refused TooLong) → (lines : List ReadLine)
+      → AllZip IsReadAs (bytes ∷ others) lines
+      → Leads here (run_from here.format beyond number here.state (finds_fault found) lines) now held
+      there run start held_start
+      → IsStopped there run (RefusedLine number (ByWords TooLong)) start now held_start held
+  long_line here parts now is beyond number found bytes others held long [] read leads = absurd read
+  long_line here parts now is beyond number found bytes others held long (first ∷ lines) read leads =
+      leads (RefusedLine number (ByWords TooLong)) now held
+      (stopped_by_itself here Conditions.Working parts now is _ (RefusedLine number (ByWords TooLong)) held
+      (ap (λ (r : ReadLine). run_from here.format beyond number here.state (finds_fault found) (r ∷ lines))
+      (read_once bytes first (Refused TooLong) read.0 long)))
+
+  -- A script that is too long ends where no line is left.
+  long_script : (here : Standing) (parts : Parts) (now : List Content)
+      → IsDevice here Conditions.Working parts now
+      → (beyond : Bool) → beyond ≡ true → (number : ℕ) (found : TagsFound) (held : Option (List ℕ))
+      (lines : List ReadLine) → AllZip IsReadAs [] lines
+      → Leads here (run_from here.format beyond number here.state (finds_fault found) lines) now held
+      there run start held_start → IsStopped there run RefusedLength start now held_start held
+  long_script here parts now is beyond long number found held [] read leads =
+      leads RefusedLength now held
+      (stopped_by_itself here Conditions.Working parts now is _ RefusedLength held
+      (ap (λ (b : Bool). run_from here.format b number here.state (finds_fault found) []) long))
+  long_script here parts now is beyond long number found held (first ∷ lines) read leads = absurd read
+
+  -- Where no line is left of another script the close is.
+  no_line : (here : Standing) (now : List Content) (beyond : Bool) → beyond ≡ false
+      → (number : ℕ) (found : TagsFound)
+      (held : Option (List ℕ)) (lines : List ReadLine) → AllZip IsReadAs [] lines
+      → Leads here (run_from here.format beyond number here.state (finds_fault found) lines) now held
+      there run start held_start → Leads here (only_close here found) now held there run start held_start
+  no_line here now beyond short number found held [] read leads =
+      subst (λ (r : ScriptRun). Leads here r now held there run start held_start)
+      (ap (λ (b : Bool). run_from here.format b number here.state (finds_fault found) []) short) leads
+  no_line here now beyond short number found held (first ∷ lines) read leads = absurd read
+
+  -- ---- for callers
+
+  module _ (number : ℕ) (found : TagsFound) (old new : Reading) (left later : List ℕ) (parts : Parts)
+      (now : List Content) (held : Option (List ℕ))
+      (at : IsAt there run start held_start number found old left parts now held) where
+    -- A line is found and run: the run stands before the next one.
+    pub line_done : (parts_b : Parts) (now_b : List Content) (held_b : Option (List ℕ))
+        (told found_b : TagsFound)
+        (number_b : ℕ) → FindsWholeLine old new (old.unread ++ left) (new.unread ++ later)
+        → HasRunBytes at.here new.line told parts_b now now_b held held_b
+        → finds_fault found_b ≡ (finds_fault found || finds_fault told) → number_b ≡ number + 1
+        → IsAt there run start held_start number_b found_b new later parts_b now_b held_b
+    line_done parts_b now_b held_b told found_b number_b finds ran either next =
+        let same : is_beyond old left ≡ is_beyond new later = ap (ltb most_script) (sym finds.counted) in
+        let is_next : suc number ≡ number_b = omega arith in
+        let behind = behind_line at.here (is_beyond old left) number found told found_b new.line
+        (lines_behind new later)
+        parts_b now now_b held held_b ran either at.lines
+        (subst (λ (l : List (List ℕ)). AllZip IsReadAs l at.lines) finds.next at.read) at.leads in
+        let here = standing_behind at.here (events_of at.here ran.line) ran.run.run.disk in
+        record {
+          here = here;
+          device = ran.run.run.device;
+          lines = behind.lines;
+          read = behind.read;
+          leads = subst (λ (n : ℕ). Leads here
+              (run_from here.format (is_beyond new later) n here.state (finds_fault found_b) behind.lines) now_b
+              held_b
+              there run start held_start) is_next
+              (subst (λ (b : Bool). Leads here
+              (run_from here.format b (suc number) here.state (finds_fault found_b) behind.lines) now_b held_b
+              there run start held_start) same behind.leads);
+        }
+
+    -- A line is found and stops the run.
+    pub line_stopped : (now_b : List Content) (held_b : Option (List ℕ)) (ended : Ended)
+        → FindsWholeLine old new (old.unread ++ left) (new.unread ++ later)
+        → IsStoppedByBytes at.here number new.line ended now now_b held held_b
+        → IsStopped there run (ending_of ended) start now_b held_start held_b
+    line_stopped now_b held_b ended finds stopped =
+        stopped_line at.here (is_beyond old left) number found new.line
+        (lines_behind new later) now now_b held held_b ended
+        stopped at.lines (subst (λ (l : List (List ℕ)). AllZip IsReadAs l at.lines) finds.next at.read) at.leads
+
+    -- The end is found: the close is left.
+    pub end_found : FindsEnd old new (old.unread ++ left) (new.unread ++ later)
+        → IsAtClose there run start held_start found parts now held
+    end_found finds = record {
+      here = at.here;
+      device = at.device;
+      leads = no_line at.here now (is_beyond old left)
+          (at_most_is (old.taken + length (old.unread ++ left)) finds.within)
+          number found held at.lines
+          (subst (λ (l : List (List ℕ)). AllZip IsReadAs l at.lines) finds.none at.read) at.leads;
+    }
+      where
+        at_most_is : (n : ℕ) → n ≤ most_script → ltb most_script n ≡ false
+        at_most_is n within = le-ltb most_script n within
+
+    source_failed : (ended : Ended) → ended ≡ Endings.Script
+        → IsStopped there run (ending_of ended) start now held_start held
+    source_failed ended is =
+        subst (λ (e : Ended). IsStopped there run (ending_of e) start now held_start held) (sym is)
+        (at.leads ScriptFailed now held
+        (stopped_at_lines at.here Conditions.Working parts now at.device ScriptFailed held tt
+        (is_beyond old left) number (finds_fault found) at.lines))
+
+    -- What else is found stops the run.
+    pub advance_stopped : (ended : Ended) → HasAdvanced number old new left later (Err ended)
+        → IsStopped there run (ending_of ended) start now held_start held
+    advance_stopped (Endings.Line n refusal) (same, form, finds) =
+        subst (λ (m : ℕ). IsStopped there run (ending_of (Endings.Line m refusal)) start now held_start held)
+        (sym same)
+        (subst (λ (r : LineRefusal). IsStopped there run
+        (ending_of (Endings.Line number r)) start now held_start held)
+        (sym form)
+        (long_line at.here parts now at.device
+        (is_beyond old left) number found finds.bytes finds.others held finds.long
+        at.lines (subst (λ (l : List (List ℕ)). AllZip IsReadAs l at.lines) finds.next at.read) at.leads))
+    advance_stopped Endings.Length finds =
+        long_script at.here parts now at.device (is_beyond old left)
+        (beyond_is (old.taken + length (old.unread ++ left)) finds.beyond) number found held
+        at.lines (subst (λ (l : List (List ℕ)). AllZip IsReadAs l at.lines) finds.none at.read) at.leads
+      where
+        beyond_is : (n : ℕ) → most_script < n → ltb most_script n ≡ true
+        beyond_is n beyond = lt-ltb most_script n beyond
+    advance_stopped Endings.Words is = source_failed Endings.Words is
+    advance_stopped (Endings.Key refusal) is = source_failed (Endings.Key refusal) is
+    advance_stopped (Endings.Image fault) is = source_failed (Endings.Image fault) is
+    advance_stopped Endings.Disk is = source_failed Endings.Disk is
+    advance_stopped Endings.KeySource is = source_failed Endings.KeySource is
+    advance_stopped Endings.Script is = source_failed Endings.Script is
+    advance_stopped Endings.Sink is = source_failed Endings.Sink is
+    advance_stopped Endings.Memory is = source_failed Endings.Memory is
+
+-- ---- causes
+
+-- A count that rose later rose since it was lower.
+rose_since : (before between after : ℕ) → before ≤ between → Rose between after → Rose before after
+rose_since before between after later rose = omega arith
+
+-- What has its cause in a source has it in the source since its count was lower.
+pub source_cause : (before between after : ℕ) (disk sink : Type 0) (ended : Ended) → before ≤ between
+    → HasEndCause ⊥ (Rose between after) ⊥ ended → HasEndCause disk (Rose before after) sink ended
+source_cause before between after disk sink Endings.Disk later cause = absurd cause
+source_cause before between after disk sink Endings.Script later cause =
+    rose_since before between after later cause
+source_cause before between after disk sink Endings.Sink later cause = absurd cause
+source_cause before between after disk sink Endings.Words later cause = tt
+source_cause before between after disk sink (Endings.Key refusal) later cause = tt
+source_cause before between after disk sink (Endings.Line number refusal) later cause = tt
+source_cause before between after disk sink Endings.Length later cause = tt
+source_cause before between after disk sink (Endings.Image fault) later cause = tt
+source_cause before between after disk sink Endings.KeySource later cause = tt
+source_cause before between after disk sink Endings.Memory later cause = tt
+
+-- ---- a turn of the loop
+
+-- No request is in flight of a device that has just been opened.
+pub none_in_flight : (tickets : Tickets) (flight : Flight) → tickets.waiting.items ≡ [] → flight.slots ≡ []
+    → AreInFlight tickets flight
+none_in_flight tickets flight none empty = record { asks = ap (map ask_by) none ∙ sym (ap (map ask_of) empty) }
+
+module _ (w : Standing) (run : ScriptRun) (start : List Content) (held_start : Option (List ℕ)) (number : ℕ)
+    (found : TagsFound) (old new : Reading) (parts : Parts) (now : List Content) (held : Option (List ℕ)) where
+  -- The run stands before its line, where this is left of the script.
+  abbrev pub StandsAt : Option (List ℕ) → Type 0
+  StandsAt before = IsSomeAnd before (λ left. IsAt w run start held_start number found old left parts now held)
+
+  -- Then its line was looked for.
+  abbrev pub Advances : (before after : Option (List ℕ)) → Result Bool Ended → Type 0
+  Advances before after result =
+      ForSome before (λ left. IsSomeAnd after (λ later. HasAdvanced number old new left later result))
+
+  pub turn_stopped : (before after : Option (List ℕ)) (ended : Ended) → StandsAt before
+      → Advances before after (Err ended) → IsStopped w run (ending_of ended) start now held_start held
+  turn_stopped None after ended at advanced = absurd at
+  turn_stopped (Some left) None ended at advanced = absurd (advanced left refl)
+  turn_stopped (Some left) (Some later) ended at advanced =
+      advance_stopped w run start held_start number found old new left later parts now held at ended
+      (advanced left refl)
+
+  pub turn_stopped_in_line : (before after : Option (List ℕ)) (more : Bool) (bytes : List ℕ)
+      (now_b : List Content)
+      (held_b : Option (List ℕ)) (ended : Ended) → StandsAt before → Advances before after (Ok more) → more
+      ≡ true
+      → bytes ≡ new.line
+      → ((here : Standing) → IsDevice here Conditions.Working parts now
+      → IsStoppedByBytes here number bytes ended now now_b held held_b)
+      → IsStopped w run (ending_of ended) start now_b held_start held_b
+  turn_stopped_in_line None after more bytes now_b held_b ended at advanced is same stopped = absurd at
+  turn_stopped_in_line (Some left) None more bytes now_b held_b ended at advanced is same stopped =
+      absurd (advanced left refl)
+  turn_stopped_in_line (Some left)
+      (Some later) false bytes now_b held_b ended at advanced is same stopped = absurd (cc)
+  turn_stopped_in_line (Some left) (Some later) true bytes now_b held_b ended at advanced is same stopped =
+      line_stopped w run start held_start number found old new left later parts now held at now_b held_b ended
+      (advanced left refl)
+      (subst (λ (l : List ℕ). IsStoppedByBytes at.here number l ended now now_b held held_b) same
+      (stopped at.here at.device))
+
+  pub turn_done : (before after : Option (List ℕ)) (more : Bool) (bytes : List ℕ) (parts_b : Parts)
+      (now_b : List Content) (held_b : Option (List ℕ)) (told found_b : TagsFound) → StandsAt before
+      → Advances before after (Ok more) → more ≡ true → bytes ≡ new.line
+      → ((here : Standing) → IsDevice here Conditions.Working parts now
+      → HasRunBytes here bytes told parts_b now now_b held held_b)
+      → finds_fault found_b ≡ (finds_fault found || finds_fault told)
+      → IsSomeAnd after (λ later. IsAt w run start held_start
+      (number + 1) found_b new later parts_b now_b held_b)
+  turn_done None after more bytes parts_b now_b held_b told found_b at advanced is same ran either = absurd at
+  turn_done (Some left) None more bytes parts_b now_b held_b told found_b at advanced is same ran either =
+      absurd (advanced left refl)
+  turn_done (Some left)
+      (Some later) false bytes parts_b now_b held_b told found_b at advanced is same ran either =
+      absurd (cc)
+  turn_done (Some left)
+      (Some later) true bytes parts_b now_b held_b told found_b at advanced is same ran either =
+      line_done w run start held_start number found old new left later parts now held at parts_b now_b held_b
+      told
+      found_b (number + 1) (advanced left refl)
+      (subst (λ (l : List ℕ). HasRunBytes at.here l told parts_b now now_b held held_b) same
+      (ran at.here at.device))
+      either refl
+
+  pub turn_ended : (before after : Option (List ℕ)) (more : Bool) → StandsAt before
+      → Advances before after (Ok more)
+      → more ≡ false → IsAtClose w run start held_start found parts now held
+  turn_ended None after more at advanced is = absurd at
+  turn_ended (Some left) None more at advanced is = absurd (advanced left refl)
+  turn_ended (Some left) (Some later) true at advanced is = absurd (cc)
+  turn_ended (Some left) (Some later) false at advanced is =
+      end_found w run start held_start number found old new left later parts now held at (advanced left refl)

@@ -1,0 +1,375 @@
+-- What stops the rest of a run, behind a line and at a line.
+use Rattle.std.proofs.Common.{◌≡◌, inl, inr, ℕ, zero, suc, ◌+◌, ◌<◌, Bool, true, false}
+use Rattle.std.proofs.Common.{List, [], ◌∷◌, ◌++◌, length, take, refl, sym, ◌∙◌, ap, subst, arith, append_assoc}
+use Rattle.std.proofs.Common.{append-nil, length-append, length-take, Option, Some, None}
+use Rattle.std.specs.Prelude.{◌||◌}
+use Rattle.std.specs.Option.{IsSomeAnd}
+use Rattle.std.proofs.lemmas.List.Sums.{fold-append}
+use Rattle.std.proofs.lemmas.Option.{same_Some}
+use Rattle.std.proofs.Math.Seq.{take-append-add}
+use Rattle.disk_model.specs.Disk.{Content, Image, EachImage}
+use Rattle.disk_model.specs.Moments.{EachMoment, HasNow, content_now}
+use Rattle.disk_model.proofs.MomentsLemmas.{EachMoment-then, EachMoment-weaker, no_moment}
+use Rattle.device_model.specs.Device.{DeviceKind}
+use Rattle.device_model.specs.Ending.{Ending, Complete, RefusedLine, DiskFailed, SinkFailed, NoMemory, ByWords}
+use Rattle.device_model.specs.Ending.{ByMeaning}
+use Rattle.device_model.specs.Grammar.{ReadLine, Means, Refused}
+use Rattle.device_model.specs.LineFault.{WordsFault}
+use Rattle.device_model.specs.History.{Change, History, with_change, with_changes}
+use Rattle.device_model.specs.Mode.{DeviceFormat}
+use Rattle.device_model.specs.Progress.{DeviceState}
+use Rattle.device_model.specs.Script.{MeaningFault, ScriptLine, line_outcome, meaning_fault}
+use Rattle.device_model.specs.ScriptRun.{IsCameTo, ScriptRun, ScriptStep, changes_in, close_step, line_step}
+use Rattle.device_model.specs.ScriptRun.{only_ends, run_from, texts_of, with_step}
+use Rattle.device_model.specs.Transcript.{closed_text}
+use Rattle.device_model.proofs.ScriptLemmas.{history-after}
+use Rattle.place_model.specs.Format.{DiskFormat}
+use Rattle.place_model.specs.Kind.{placed_kind}
+use Rattle.direct_laws.specs.MomentLaws.{IsLeftNow, kind_of}
+use Rattle.script_text.proofs.ScriptRunLemmas.{came_further, came_into, came_into_line, came_to_nothing}
+use Rattle.script_text.proofs.ScriptRunLemmas.{run_is_split, run_is_whole}
+use Rattle.device_core.specs.declared.condition.Condition.{Condition}
+use Rattle.device_core.specs.declared.parts.Parts.{Parts}
+use Rattle.device_core.specs.Device.{IsDevice, Standing}
+use Rattle.script_session.specs.declared.tags_found.TagsFound.{TagsFound}
+use Rattle.script_session.specs.declared.line_end.LineEnd.{LineEnd}
+use Rattle.script_session.specs.declared.line_end.LineEnd.TheVariants as Ends
+use Rattle.script_session.specs.declared.meaning.MeaningFault as session
+use Rattle.script_session.specs.Meaning.{meaning_of}
+use Rattle.command_ending.specs.Ended.{ending_of}
+use Rattle.command_ending.specs.declared.ended.Ended.{Ended}
+use Rattle.script_session.specs.LineRun.{HasEnded, HasRunLine, IsCutLine, IsHalfTold, IsLeftWithin, events_of}
+use Rattle.script_session.specs.LineRun.{held_with, standing_behind}
+use Rattle.integrity_tool.specs.CommandRun.{IsComplete, IsEndedBy, IsFromOutside}
+use Rattle.integrity_tool.specs.Lines.{ended_by}
+use Rattle.integrity_tool.specs.Running.{IsStopped}
+
+-- What follows, of a value that is there.
+pub and_weaker : {X : Type 0} (P Q : X → Type 0) (o : Option X) → ((x : X) → P x → Q x) → IsSomeAnd o P
+    → IsSomeAnd o Q
+and_weaker P Q None f is = is
+and_weaker P Q (Some x) f is = f x is
+
+-- ---- moments
+
+-- Some of the first of some changes are some of the first of more.
+take_within : (made : ℕ) (xs ys : List Change) → (m : ℕ) × (take m (xs ++ ys) ≡ take made xs)
+take_within zero xs ys = (0, refl)
+take_within (suc made) [] ys = (0, refl)
+take_within (suc made) (x ∷ xs) ys =
+    let rest = take_within made xs ys in
+    (suc rest.0, ap (λ (l : List Change). x ∷ l) rest.1)
+
+module _ (kind : DeviceKind) (entry : Image) where
+  pub left_wider : (h : History) (xs ys : List Change) (c : Content) → IsLeftWithin kind entry h xs c
+      → IsLeftWithin kind entry h (xs ++ ys) c
+  left_wider h xs ys c is =
+      let m = take_within is.made xs ys in
+      record {
+        made = m.0;
+        opens = is.opens;
+        left = subst (λ (l : List Change). EachImage (kind.MayBeLeft entry (with_changes l h)) c)
+            (sym m.1) is.left;
+      }
+
+  pub left_behind : (h : History) (xs ys : List Change) (c : Content)
+      → IsLeftWithin kind entry (with_changes xs h) ys c → IsLeftWithin kind entry h (xs ++ ys) c
+  left_behind h xs ys c is = record {
+    made = length xs + is.made;
+    opens = is.opens;
+    left = subst (λ (x : History). EachImage (kind.MayBeLeft entry x) c)
+        (sym (ap (λ (l : List Change). with_changes l h) (take-append-add xs ys is.made)
+        ∙ fold-append with_change h xs (take is.made ys))) is.left;
+  }
+
+-- Once a disk tells its content it tells it later too.
+told_later : (since before : List Content) (told : Content) → content_now before ≡ Some told
+    → (later : Content) × (content_now (since ++ before) ≡ Some later)
+told_later [] before told is = (told, is)
+told_later (c ∷ since) before told is = (c, refl)
+
+-- What holds of the content now holds of the one that the disk tells.
+now_of : (P : Content → Type 0) (moments : List Content) (told : Content) → content_now moments ≡ Some told
+    → P told
+    → HasNow P moments
+now_of P moments told is has x is_x = subst P (same_Some _ _ (sym is ∙ is_x)) has
+
+-- ---- texts
+
+-- What a sink holds behind no text is what it held.
+pub told_nothing : (held : Option (List ℕ)) → held ≡ held_with [] held
+told_nothing None = refl
+told_nothing (Some bytes) = ap (λ (l : List ℕ). Some l) (sym (append-nil bytes))
+
+told_further : (one more : List ℕ) (held : Option (List ℕ))
+    → held_with more (held_with one held) ≡ held_with (one ++ more) held
+told_further one more None = refl
+told_further one more (Some bytes) = ap (λ (l : List ℕ). Some l) (append_assoc bytes one more)
+
+-- ---- behind a step
+
+-- What ended a run ended it behind a step too.
+ended_further : (step : ScriptStep) (rest : ScriptRun) (text : List ℕ) (changes : List Change) (ending : Ending)
+    → IsEndedBy rest text changes ending
+    → IsEndedBy (with_step step rest) (step.text ++ text) (step.changes ++ changes) ending
+ended_further step rest text changes ending (inl done) = inl (record {
+  whole = record {
+    is_text = ap (λ (l : List ℕ). step.text ++ l) done.whole.is_text ∙ sym (run_is_whole step rest).0;
+    is_changes = ap (λ (l : List Change). step.changes ++ l) done.whole.is_changes
+        ∙ sym (run_is_whole step rest).1;
+  };
+  is = done.is;
+})
+ended_further step rest text changes ending (inr cut) = inr (record {
+  came = came_further step rest text changes cut.came;
+  short = λ complete.
+      let less : length text < length (texts_of rest.steps) = cut.short complete in
+      let one : length (step.text ++ text) ≡ length step.text + length text = length-append step.text text in
+      let all : length (texts_of (with_step step rest).steps)
+      ≡ length step.text + length (texts_of rest.steps) =
+      ap length (run_is_whole step rest).0 ∙ length-append step.text (texts_of rest.steps) in
+      omega arith;
+  outside = cut.outside;
+})
+
+-- ---- behind a line
+
+-- What stops the run behind a line that was run stops it with the line.
+pub stopped_further : (w : Standing) (line : ScriptLine) (found : TagsFound) (parts : Parts)
+    (a b : List Content)
+    (held_a held_b : Option (List ℕ)) (ran : HasRunLine w line found parts a b held_a held_b)
+    (rest : ScriptRun) (ending : Ending) (c : List Content) (held_c : Option (List ℕ))
+    → IsStopped (standing_behind w (events_of w line) ran.run.disk) rest ending b c held_b held_c
+    → IsStopped w (with_step (line_step (line_outcome w.format w.state line)) rest) ending a c held_a held_c
+stopped_further w line found parts a b held_a held_b ran rest ending c held_c stopped =
+    let step = line_step (line_outcome w.format w.state line) in
+    let there = standing_behind w (events_of w line) ran.run.disk in
+    let kind = kind_of w.disk in
+    let h = w.state.history in
+    let history : there.state.history ≡ with_changes step.changes h =
+    history-after w.format w.state (events_of w line) in
+    let all : changes_in (with_step step rest).steps ≡ step.changes ++ changes_in rest.steps =
+    (run_is_whole step rest).1 in
+    let wider = λ (x : Content) (is : IsLeftWithin kind w.entry h step.changes x).
+    subst (λ (l : List Change). IsLeftWithin kind w.entry h l x) (sym all)
+    (left_wider kind w.entry h step.changes (changes_in rest.steps) x is) in
+    let behind = λ (x : Content)
+    (is : IsLeftWithin (kind_of there.disk) w.entry there.state.history (changes_in rest.steps) x).
+    subst (λ (l : List Change). IsLeftWithin kind w.entry h l x) (sym all)
+    (left_behind kind w.entry h step.changes (changes_in rest.steps) x
+    (subst (λ (y : History). IsLeftWithin kind w.entry y (changes_in rest.steps) x) history
+    (subst (λ (f : DiskFormat). IsLeftWithin (placed_kind f.key f.sectors) w.entry there.state.history
+    (changes_in rest.steps) x) ran.run.format is))) in
+    record {
+      text = step.text ++ stopped.text;
+      changes = step.changes ++ stopped.changes;
+      ended = ended_further step rest stopped.text stopped.changes ending stopped.ended;
+      since = EachMoment-then (EachMoment-weaker wider ran.run.since) (EachMoment-weaker behind stopped.since);
+      now = subst (λ (y : History). IsLeftNow kind w.entry y c)
+          (ap (with_changes stopped.changes) history
+          ∙ sym (fold-append with_change h step.changes stopped.changes))
+          (subst (λ (f : DiskFormat). IsLeftNow (placed_kind f.key f.sectors) w.entry
+          (with_changes stopped.changes there.state.history) c) ran.run.format stopped.now);
+      told = stopped.told ∙ ap (held_with stopped.text) ran.told ∙ told_further step.text stopped.text held_a;
+    }
+
+-- ---- where nothing is done
+
+-- What is left of a run that comes to its own end prints something: `closed` stands at its end.
+pub complete_prints : (f : DeviceFormat) (too_long : Bool) (number : ℕ) (s : DeviceState) (found : Bool)
+    (lines : List ReadLine) → IsComplete (run_from f too_long number s found lines)
+    → 0 < length (texts_of (run_from f too_long number s found lines).steps)
+complete_prints f true number s found [] (fault, is) = absurd (cc)
+complete_prints f false number s found [] complete =
+    let step = close_step f s in
+    let all : length (texts_of (with_step step (only_ends (Complete found))).steps) ≡ length closed_text + 0 =
+    ap length (run_is_whole step (only_ends (Complete found))).0 ∙ length-append closed_text [] in
+    omega arith
+complete_prints f too_long number s found (Refused fault ∷ lines) (told, is) = absurd (cc)
+complete_prints f too_long number s found (Means line ∷ lines) complete =
+    let outcome = line_outcome f s line in
+    by (meaning_fault f s.progress line) refl
+    (complete_prints f too_long (suc number) outcome.after (found || outcome.finds_fault) lines)
+  where
+    Prints : ScriptRun → Type 0
+    Prints run = IsComplete run → 0 < length (texts_of run.steps)
+
+    by : (fault : Option MeaningFault) → meaning_fault f s.progress line ≡ fault
+        → Prints (run_from f too_long (suc number) (line_outcome f s line).after
+        (found || (line_outcome f s line).finds_fault) lines)
+        → 0 < length (texts_of (run_from f too_long number s found (Means line ∷ lines)).steps)
+    by (Some fault) is prints =
+        let ended : (run_from f too_long number s found (Means line ∷ lines)).ending
+        ≡ RefusedLine number (ByMeaning fault) =
+        ap (λ (run : ScriptRun). run.ending)
+        ((run_is_split f number s found).by_meaning too_long line fault lines is) in
+        let own = complete.1 in
+        absurd (cc)
+    by None is prints =
+        let outcome = line_outcome f s line in
+        let step = line_step outcome in
+        let rest = run_from f too_long (suc number) outcome.after (found || outcome.finds_fault) lines in
+        let split : run_from f too_long number s found (Means line ∷ lines) ≡ with_step step rest =
+        (run_is_split f number s found).goes_on too_long line lines is in
+        let behind : 0 < length (texts_of rest.steps) =
+        prints (complete.0, sym (ap (λ (run : ScriptRun). run.ending) split) ∙ complete.1) in
+        let all : length (texts_of (run_from f too_long number s found (Means line ∷ lines)).steps)
+        ≡ length step.text + length (texts_of rest.steps) =
+        ap (λ (run : ScriptRun). length (texts_of run.steps)) split
+        ∙ ap length (run_is_whole step rest).0 ∙ length-append step.text (texts_of rest.steps) in
+        omega arith
+
+-- Something outside stops the rest of a run before any of it is done.
+pub stopped_before : (w : Standing) (condition : Condition) (parts : Parts) (a : List Content)
+    → IsDevice w condition parts a → (rest : ScriptRun) (ending : Ending) (held : Option (List ℕ))
+    → IsCameTo rest [] [] → (IsComplete rest → 0 < length (texts_of rest.steps)) → IsFromOutside ending
+    → IsStopped w rest ending a a held held
+stopped_before w condition parts a is rest ending held came prints outside = record {
+  text = [];
+  changes = [];
+  ended = inr (record { came = came; short = prints; outside = outside });
+  since = no_moment a _;
+  now = is.left;
+  told = told_nothing held;
+}
+
+-- The same, where lines are left.
+pub stopped_at_lines : (w : Standing) (condition : Condition) (parts : Parts) (a : List Content)
+    → IsDevice w condition parts a → (ending : Ending) (held : Option (List ℕ)) → IsFromOutside ending
+    → (too_long : Bool) (number : ℕ) (found : Bool) (lines : List ReadLine)
+    → IsStopped w (run_from w.format too_long number w.state found lines) ending a a held held
+stopped_at_lines w condition parts a is ending held outside too_long number found lines =
+    stopped_before w condition parts a is (run_from w.format too_long number w.state found lines) ending held
+    (came_to_nothing w.format too_long number w.state found lines)
+    (complete_prints w.format too_long number w.state found lines) outside
+
+-- A run that only ends so is stopped by that.
+pub stopped_by_itself : (w : Standing) (condition : Condition) (parts : Parts) (a : List Content)
+    → IsDevice w condition parts a → (rest : ScriptRun) (ending : Ending) (held : Option (List ℕ))
+    → rest ≡ only_ends ending → IsStopped w rest ending a a held held
+stopped_by_itself w condition parts a is rest ending held only =
+    subst (λ (run : ScriptRun). IsStopped w run ending a a held held) (sym only) (record {
+      text = [];
+      changes = [];
+      ended = inl (record { whole = record { is_text = refl; is_changes = refl }; is = refl });
+      since = no_moment a _;
+      now = is.left;
+      told = told_nothing held;
+    })
+
+-- ---- within a line
+
+module _ (w : Standing) (condition : Condition) (parts : Parts) (a : List Content)
+    (is : IsDevice w condition parts a)
+    (line : ScriptLine) (parts_b : Parts) (b : List Content) (held_a held_b : Option (List ℕ))
+    (too_long : Bool) (number : ℕ) (found : Bool) (lines : List ReadLine) where
+  abbrev step : ScriptStep
+  step = line_step (line_outcome w.format w.state line)
+
+  abbrev behind : ScriptRun
+  behind = run_from w.format too_long (suc number) (line_outcome w.format w.state line).after
+      (found || (line_outcome w.format w.state line).finds_fault) lines
+
+  abbrev run : ScriptRun
+  run = run_from w.format too_long number w.state found (Means line ∷ lines)
+
+  split : meaning_fault w.format w.state.progress line ≡ None → run ≡ with_step step behind
+  split runnable = (run_is_split w.format number w.state found).goes_on too_long line lines runnable
+
+  -- Each moment of the line is one of the run.
+  since_line : meaning_fault w.format w.state.progress line ≡ None
+      → EachMoment a b (IsLeftWithin (kind_of w.disk) w.entry w.state.history step.changes)
+      → EachMoment a b (IsLeftWithin (kind_of w.disk) w.entry w.state.history (changes_in run.steps))
+  since_line runnable since = EachMoment-weaker (λ (x : Content) left.
+      subst (λ (l : List Change). IsLeftWithin (kind_of w.disk) w.entry w.state.history l x)
+      (sym (ap (λ (r : ScriptRun). changes_in r.steps) (split runnable) ∙ (run_is_whole step behind).1))
+      (left_wider (kind_of w.disk) w.entry w.state.history step.changes (changes_in behind.steps) x left)) since
+
+  -- A line that is cut off stops the run.
+  pub stopped_in_line : (ending : Ending) → IsFromOutside ending → IsCutLine w line a b held_a held_b
+      → IsStopped w run ending a b held_a held_b
+  stopped_in_line ending outside cut =
+      let later = told_later cut.cut.since.since a is.told is.is_told in
+      let told : content_now b ≡ Some later.0 = ap content_now cut.cut.since.grows ∙ later.1 in
+      let left = cut.cut.now later.0 told in
+      record {
+        text = [];
+        changes = take left.made step.changes;
+        ended = inr (record {
+          came = came_into_line w.format too_long number w.state found line lines left.made cut.runnable;
+          short = complete_prints w.format too_long number w.state found (Means line ∷ lines);
+          outside = outside;
+        });
+        since = since_line cut.runnable cut.cut.since;
+        now = record { opens = now_of _ b later.0 told left.opens; left = now_of _ b later.0 told left.left };
+        told = cut.told ∙ told_nothing held_a;
+      }
+
+  -- So does one that is half told.
+  pub stopped_in_text : (ending : Ending) → IsFromOutside ending → IsHalfTold w line parts_b a b held_a held_b
+      → IsStopped w run ending a b held_a held_b
+  stopped_in_text ending outside half = record {
+    text = take half.told.count step.text;
+    changes = step.changes;
+    ended = inr (record {
+      came = subst (λ (r : ScriptRun). IsCameTo r (take half.told.count step.text) step.changes)
+          (sym (split half.runnable)) ((came_into step behind).text half.told.count half.told.short);
+      short = λ complete.
+          let less : half.told.count < length step.text = half.told.short in
+          let all : length (texts_of run.steps) ≡ length step.text + length (texts_of behind.steps) =
+          ap (λ (r : ScriptRun). length (texts_of r.steps)) (split half.runnable)
+          ∙ ap length (run_is_whole step behind).0 ∙ length-append step.text (texts_of behind.steps) in
+          let some = length-take half.told.count step.text in
+          omega arith;
+      outside = outside;
+    });
+    since = since_line half.runnable half.run.since;
+    now = subst (λ (y : History). IsLeftNow (kind_of w.disk) w.entry y b)
+        (history-after w.format w.state (events_of w line))
+        (subst (λ (f : DiskFormat). IsLeftNow (placed_kind f.key f.sectors) w.entry
+        (standing_behind w (events_of w line) half.run.disk).state.history b) half.run.format
+        half.run.device.left);
+    told = half.told.held;
+  }
+
+  -- So does the end of a line, whichever it is.
+  pub stopped_by_end : (end : LineEnd) → HasEnded w line end parts_b a b held_a held_b
+      → ((fault : session.MeaningFault) → end ≡ Ends.Refused fault → (b ≡ a) × (held_b ≡ held_a))
+      → IsStopped w run (ending_of (ended_by number end)) a b held_a held_b
+  stopped_by_end (Ends.Refused fault) refused kept =
+      let same = kept fault refl in
+      subst (λ (x : List Content). IsStopped w run
+      (RefusedLine number (ByMeaning (meaning_of fault))) a x held_a held_b)
+      (sym same.0)
+      (subst (λ (x : Option (List ℕ)).
+      IsStopped w run (RefusedLine number (ByMeaning (meaning_of fault))) a a held_a x) (sym same.1)
+      (stopped_by_itself w condition parts a is run (RefusedLine number (ByMeaning (meaning_of fault))) held_a
+      ((run_is_split w.format number w.state found).by_meaning too_long line (meaning_of fault) lines refused)))
+  stopped_by_end Ends.Disk cut kept = stopped_in_line DiskFailed tt cut
+  stopped_by_end Ends.Sink half kept = stopped_in_text SinkFailed tt half
+  stopped_by_end Ends.Memory cut kept = stopped_in_line NoMemory tt cut
+
+  -- The same, of bytes that are this line.
+  pub stopped_by_line : (read : ReadLine) → read ≡ Means line → (end : LineEnd) (ended : Ended)
+      → ended ≡ ended_by number end → HasEnded w line end parts_b a b held_a held_b
+      → ((fault : session.MeaningFault) → end ≡ Ends.Refused fault → (b ≡ a) × (held_b ≡ held_a))
+      → IsStopped w (run_from w.format too_long number w.state found (read ∷ lines))
+      (ending_of ended) a b held_a held_b
+  stopped_by_line read means end ended by has kept =
+      subst (λ (r : ReadLine). IsStopped w (run_from w.format too_long number w.state found (r ∷ lines))
+      (ending_of ended) a b held_a held_b) (sym means)
+      (subst (λ (e : Ended). IsStopped w run (ending_of e) a b held_a held_b) (sym by)
+      (stopped_by_end end has kept))
+
+-- Bytes that are no line stop the run.
+pub stopped_by_words : (w : Standing) (condition : Condition) (parts : Parts) (a : List Content)
+    → IsDevice w condition parts a → (held : Option (List ℕ)) (too_long : Bool) (number : ℕ) (found : Bool)
+    (lines : List ReadLine) (read : ReadLine) (fault told : WordsFault) → read ≡ Refused fault → told ≡ fault
+    → IsStopped w (run_from w.format too_long number w.state found (read ∷ lines))
+    (RefusedLine number (ByWords told))
+    a a held held
+stopped_by_words w condition parts a is held too_long number found lines read fault told refused same =
+    stopped_by_itself w condition parts a is (run_from w.format too_long number w.state found (read ∷ lines))
+    (RefusedLine number (ByWords told)) held
+    (ap (λ (r : ReadLine). run_from w.format too_long number w.state found (r ∷ lines)) refused
+    ∙ ap (λ (f : WordsFault). only_ends (RefusedLine number (ByWords f))) (sym same))

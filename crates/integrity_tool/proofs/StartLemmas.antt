@@ -1,0 +1,347 @@
+-- A command that runs no line: what it starts on, what it leaves, and what its run is.
+use Rattle.std.proofs.Common.{◌≡◌, ◌⊎◌, inl, inr, ℕ, ◌<◌, Bool, false, List, [], length, refl, sym, ◌∙◌, ap, subst, if◌then◌else◌, Option, Some, None, unwrap_or, Result, Ok, Err}
+use Rattle.std.specs.Option.{IsSomeAnd}
+use Rattle.disk_model.specs.Disk.{Content, Image, last_image, newest_only}
+use Rattle.disk_model.specs.Moments.{content_now, EachMoment, EachSince, HasNow}
+use Rattle.disk_model.proofs.MomentsLemmas.{EachMoment-kept, EachMoment-then, EachMoment-weaker, content_at_end}
+use Rattle.device_model.specs.Device.{DeviceKind}
+use Rattle.disk_model.specs.Identity.{DiskIdentity, NamedDisk}
+use Rattle.device_model.specs.Ending.{Ending, Complete, DiskFailed, KeyFailed, NoMemory, RefusedWords, RefusedKey, KeyRefusal}
+use Rattle.device_model.specs.Mode.{DeviceFormat}
+use Rattle.device_model.specs.Progress.{DeviceState}
+use Rattle.device_model.specs.ScriptBytes.{is_too_long}
+use Rattle.device_model.specs.ScriptRun.{ScriptRun, IsCameTo, IsRunOf, only_ends, texts_of}
+use Rattle.place_model.specs.Kind.{CanOpenPlaced, placed_kind}
+use Rattle.device_core.specs.Opening.{IsRefused, opened_standing}
+use Rattle.script_text.proofs.ScriptRunLemmas.{came_to_end, came_to_nothing}
+use Rattle.script_text.proofs.TotalLemmas.{has_run}
+use Rattle.place_model.proofs.FormatLemmas.{reads_on}
+use Rattle.image_model.specs.declared.flags.TheConstants.{DIRTY_BITMAP}
+use Rattle.image_model.specs.declared.geom_fault.GeomFault.{GeomFault}
+use Rattle.image_model.specs.declared.super_fields.SuperFault.{SuperFault}
+use Rattle.image_model.specs.Geometry.{Geometry, geometry_of}
+use Rattle.image_model.specs.Openable.{first_sector}
+use Rattle.image_model.specs.Superblock.{Superblock, has_flag, superblock_of}
+use Rattle.image_opening.specs.declared.open_fault.OpenFault.{OpenFault}
+use Rattle.image_opening.specs.declared.open_fault.OpenFault.TheVariants as OpenFaults
+use Rattle.image_opening.specs.declared.reading.ImageFormat.{ImageFormat}
+use Rattle.image_opening.specs.Format.{direct_format_of, format_by, format_with, in_direct_mode, told_fields}
+use Rattle.command_ending.specs.Ended.{ending_of, key_refusal_of}
+use Rattle.command_ending.specs.declared.ended.Ended.{Ended}
+use Rattle.command_ending.specs.declared.ended.Ended.TheVariants as Endings
+use Rattle.integrity_tool.specs.Asked.{Asked, asked_of, key_file_of_asked}
+use Rattle.integrity_tool.specs.Keyed.{HasFile, HasHash, IsKeyRefused, IsKeyed}
+use Rattle.integrity_tool.specs.Top.{Given, IsGiven, outset_in}
+use Rattle.integrity_tool.specs.CommandRun.{Outset, RefusedBy, RunsOn, IsComplete, IsFromOutside, IsEndedShort, IsUntouched, MayBeLeftAt}
+use Rattle.integrity_tool.specs.Opening.{HasRunOn}
+use Rattle.integrity_tool.specs.Running.{IsStopped}
+use Rattle.integrity_tool.proofs.RunningLemmas.{complete_prints, told_nothing}
+use Rattle.integrity_tool.specs.Outset.{ending_by_open, outset_by, outset_on, outset_under, outset_for}
+
+-- ---- what a command starts on
+
+-- It is not refused by a run's own end.
+abbrev pub IsFine : Outset → Type 0
+IsFine (RefusedBy ending) = (found : Bool) → ending ≡ Complete found → ⊥
+IsFine (RunsOn kind image) = Unit {0}
+
+abbrev is_complete_type : Ending → Type 0
+is_complete_type (Complete found) = Unit {0}
+is_complete_type ending = ⊥
+
+no_complete : (ending : Ending) → (is_complete_type ending → ⊥) → (found : Bool) → ending ≡ Complete found → ⊥
+no_complete ending none found is = none (subst is_complete_type (sym is) tt)
+
+fine_open : (fault : OpenFault) → IsFine (RefusedBy (ending_by_open fault))
+fine_open OpenFaults.Memory = no_complete _ (λ (x : ⊥). x)
+fine_open OpenFaults.Disk = no_complete _ (λ (x : ⊥). x)
+fine_open (OpenFaults.Super fault) = no_complete _ (λ (x : ⊥). x)
+fine_open (OpenFaults.Geom fault) = no_complete _ (λ (x : ⊥). x)
+fine_open (OpenFaults.Mode flags) = no_complete _ (λ (x : ⊥). x)
+
+fine_by : (key : Option (List ℕ)) (sectors : ℕ) (image : Image) (told : Result ImageFormat OpenFault) → IsFine (outset_by key sectors image told)
+fine_by key sectors image (Ok format) = tt
+fine_by key sectors image (Err fault) = fine_open fault
+
+pub fine_on : (key : Option (List ℕ)) (sectors : ℕ) (image : Image) → IsFine (outset_on key sectors image)
+fine_on key sectors image = fine_by key sectors image (direct_format_of sectors image)
+
+fine_under : (told : Result (Option (List ℕ)) KeyRefusal) (sectors : ℕ) (image : Image) → IsFine (outset_under told sectors image)
+fine_under (Ok key) sectors image = fine_on key sectors image
+fine_under (Err refusal) sectors image = no_complete (RefusedKey refusal) (λ (x : ⊥). x)
+
+pub fine_for : (asked : Option Asked) (key_bytes : List ℕ) (sectors : ℕ) (image : Image) → IsFine (outset_for asked key_bytes sectors image)
+fine_for None key_bytes sectors image = no_complete RefusedWords (λ (x : ⊥). x)
+fine_for (Some asked) key_bytes sectors image = fine_under _ sectors image
+
+-- ---- no sector is written
+
+-- No sector is written where the disk is synced at most,
+pub untouched_now : {a b : List Content} (start : Content) → content_now a ≡ Some start → EachSince (λ s c. c ≡ newest_only s) a b → HasNow (IsUntouched start) b
+untouched_now {a} {b} start told each =
+    content_at_end
+    (EachMoment-weaker (λ c from. inr (subst (λ (o : Option Content). IsSomeAnd o (λ s. c ≡ newest_only s)) told from)) each)
+    (λ c here. inl (some_same (sym here ∙ told)))
+  where
+    some_same : {c d : Content} → Some c ≡ Some d → c ≡ d
+    some_same is = ap (λ (o : Option Content). unwrap_or o start) is
+
+pub untouched_through : {a b : List Content} (start : Content) → content_now a ≡ Some start → EachSince (λ s c. c ≡ newest_only s) a b → EachMoment a b (IsUntouched start)
+untouched_through start told each =
+    EachMoment-weaker (λ c from. inr (subst (λ (o : Option Content). IsSomeAnd o (λ s. c ≡ newest_only s)) told from)) each
+
+-- or where its moments are as before.
+pub untouched_kept : {a b : List Content} (start : Content) → content_now a ≡ Some start → b ≡ a → HasNow (IsUntouched start) b
+untouched_kept start told same c here =
+    inl (ap (λ (o : Option Content). unwrap_or o start) (sym here ∙ ap content_now same ∙ told))
+
+-- ---- no line is run
+
+-- The run of a script on a device that has just been opened.
+run_on : (kind : DeviceKind) (image : Image) (script : List ℕ) → (run : ScriptRun) × IsRunOf (kind.format image) (kind.opened image) script run
+run_on kind image script = has_run (kind.format image) (kind.opened image) script
+
+pub untouched_may_be_left : (outset : Outset) (start : Content) (script : List ℕ) (later : Content) → IsUntouched start later → MayBeLeftAt outset start script later
+untouched_may_be_left (RefusedBy ending) start script later untouched = record { run = only_ends ending; is_run = refl; made = 0; left = untouched }
+untouched_may_be_left (RunsOn kind image) start script later untouched =
+    let r = run_on kind image script in record { run = r.0; is_run = r.1; made = 0; left = inl (refl, untouched) }
+
+short_of : (f : DeviceFormat) (s : DeviceState) (script : List ℕ) (run : ScriptRun) (ending : Ending) → IsRunOf f s script run → IsFromOutside ending → IsEndedShort run [] [] ending
+short_of f s script run ending is outside = record {
+  came = subst (λ (r : ScriptRun). IsCameTo r [] []) (sym is.is) (came_to_nothing f (is_too_long script) 1 s false is.lines);
+  short = subst (λ (r : ScriptRun). IsComplete r → 0 < length (texts_of r.steps)) (sym is.is) (complete_prints f (is_too_long script) 1 s false is.lines);
+  outside = outside;
+}
+
+-- Something outside ended a command before its first line.
+pub nothing_run : (outset : Outset) → IsFine outset → (start : Content) (script : List ℕ) (ending : Ending) → IsFromOutside ending
+    → (after : List Content) → HasNow (IsUntouched start) after → (held_before held : Option (List ℕ)) → held ≡ held_before → HasRunOn outset start script ending after held_before held
+nothing_run (RefusedBy refused) fine start script ending outside after untouched held_before held same = record {
+  run = only_ends refused;
+  is_run = refl;
+  text = [];
+  changes = [];
+  ended = inr (record { came = came_to_end refused; short = λ complete. absurd (fine complete.0 complete.1); outside = outside });
+  told = same ∙ told_nothing held_before;
+  left = untouched;
+}
+nothing_run (RunsOn kind image) fine start script ending outside after untouched held_before held same =
+    let r = run_on kind image script in record {
+      run = r.0;
+      is_run = r.1;
+      text = [];
+      changes = [];
+      ended = inr (short_of (kind.format image) (kind.opened image) script r.0 ending r.1 outside);
+      told = same ∙ told_nothing held_before;
+      left = λ c told. inl (refl, untouched c told);
+    }
+
+-- It was refused.
+pub refused_run : (outset : Outset) (start : Content) (script : List ℕ) (ending : Ending) → outset ≡ RefusedBy ending
+    → (after : List Content) → HasNow (IsUntouched start) after → (held_before held : Option (List ℕ)) → held ≡ held_before → HasRunOn outset start script ending after held_before held
+refused_run outset start script ending is after untouched held_before held same =
+    subst (λ (o : Outset). HasRunOn o start script ending after held_before held) (sym is) (record {
+      run = only_ends ending;
+      is_run = refl;
+      text = [];
+      changes = [];
+      ended = inl (record { whole = record { is_text = refl; is_changes = refl }; is = refl });
+      told = same ∙ told_nothing held_before;
+      left = untouched;
+    })
+
+-- ---- a script is run
+
+-- The image that direct mode opens tells its format,
+tells_format : (sectors : ℕ) (told : Result Superblock SuperFault) (s : Superblock) (g : Geometry) → told ≡ Ok s → geometry_of s sectors ≡ Ok g
+    → has_flag DIRTY_BITMAP s.flags ≡ false → in_direct_mode (format_by sectors (told_fields told)) ≡ Ok (record { fields = s; geometry = g })
+tells_format sectors told s g is_told has_geometry no_bitmap =
+    let format : ImageFormat = record { fields = s; geometry = g } in
+    ap (λ (x : Result Superblock SuperFault). in_direct_mode (format_by sectors (told_fields x))) is_told
+    ∙ ap (λ (x : Result Geometry GeomFault). in_direct_mode (format_with s x)) has_geometry
+    ∙ ap (λ (b : Bool). if b then Err (OpenFaults.Mode s.flags) else Ok format) no_bitmap
+
+-- so that a script runs on it.
+pub runs_on : (key : Option (List ℕ)) (sectors : ℕ) (image : Image) → CanOpenPlaced key sectors image → outset_on key sectors image ≡ RunsOn (placed_kind key sectors) image
+runs_on key sectors image can =
+    let reads = reads_on key sectors image can.0 in
+    let readable = reads.readable in
+    let no_bitmap : has_flag DIRTY_BITMAP readable.superblock.flags ≡ false = ap (λ (s : Superblock). has_flag DIRTY_BITMAP s.flags) reads.superblock ∙ can.1 in
+    ap (outset_by key sectors image) (tells_format sectors (superblock_of (first_sector sectors image)) readable.superblock readable.geometry readable.has_superblock readable.has_geometry no_bitmap)
+
+-- The run came so far on it.
+pub ran : (key : Option (List ℕ)) (sectors : ℕ) (start : Content) (script : List ℕ) (run : ScriptRun) (ending : Ending) (mid after : List Content) (held_before held : Option (List ℕ))
+    → CanOpenPlaced key sectors (last_image start) → let w = opened_standing key sectors (last_image start) in
+    IsRunOf w.format w.state script run → IsStopped w run ending mid after held_before held
+    → HasRunOn (outset_on key sectors (last_image start)) start script ending after held_before held
+ran key sectors start script run ending mid after held_before held can is_run stopped =
+    subst (λ (o : Outset). HasRunOn o start script ending after held_before held) (sym (runs_on key sectors (last_image start) can)) (record {
+      run = run;
+      is_run = is_run;
+      text = stopped.text;
+      changes = stopped.changes;
+      ended = stopped.ended;
+      told = stopped.told;
+      left = λ c told. inr (record { opens = stopped.now.opens c told; left = stopped.now.left c told });
+    })
+
+pub ran_through : (key : Option (List ℕ)) (sectors : ℕ) (start : Content) (script : List ℕ) (run : ScriptRun) (ending : Ending) (mid after : List Content) (held_before held : Option (List ℕ))
+    → CanOpenPlaced key sectors (last_image start) → let w = opened_standing key sectors (last_image start) in
+    IsRunOf w.format w.state script run → IsStopped w run ending mid after held_before held
+    → EachMoment mid after (MayBeLeftAt (outset_on key sectors (last_image start)) start script)
+ran_through key sectors start script run ending mid after held_before held can is_run stopped =
+    EachMoment-weaker
+    (λ c within. subst (λ (o : Outset). MayBeLeftAt o start script c) (sym (runs_on key sectors (last_image start) can))
+    (record { run = run; is_run = is_run; made = within.made; left = inr (record { opens = within.opens; left = within.left }) }))
+    stopped.since
+
+-- Both, behind the opening.
+pub ran_on : (key : Option (List ℕ)) (sectors : ℕ) (start : Content) (script : List ℕ) (run : ScriptRun) (ending : Ending) (first mid after : List Content) (held_before held : Option (List ℕ))
+    → CanOpenPlaced key sectors (last_image start) → let w = opened_standing key sectors (last_image start) in
+    IsRunOf w.format w.state script run → IsStopped w run ending mid after held_before held
+    → EachMoment first mid (MayBeLeftAt (outset_on key sectors (last_image start)) start script)
+    → HasRunOn (outset_on key sectors (last_image start)) start script ending after held_before held
+    × EachMoment first after (MayBeLeftAt (outset_on key sectors (last_image start)) start script)
+ran_on key sectors start script run ending first mid after held_before held can is_run stopped opening = (
+  ran key sectors start script run ending mid after held_before held can is_run stopped,
+  EachMoment-then opening (ran_through key sectors start script run ending mid after held_before held can is_run stopped),
+)
+
+-- The disk at the end is the one that was given back.
+pub given_back : (outset : Outset) (start : Content) (script : List ℕ) (ending : Ending) (first : List Content) (held_before held : Option (List ℕ)) {a b : List Content}
+    → HasRunOn outset start script ending a held_before held × EachMoment first a (MayBeLeftAt outset start script) → b ≡ a
+    → HasRunOn outset start script ending b held_before held × EachMoment first b (MayBeLeftAt outset start script)
+given_back outset start script ending first held_before held all same =
+    subst (λ (m : List Content). HasRunOn outset start script ending m held_before held × EachMoment first m (MayBeLeftAt outset start script)) (sym same) all
+
+-- ---- a device is not opened
+
+abbrev is_disk : OpenFault → Type 0
+is_disk OpenFaults.Memory = ⊥
+is_disk OpenFaults.Disk = Unit {0}
+is_disk (OpenFaults.Super fault) = ⊥
+is_disk (OpenFaults.Geom fault) = ⊥
+is_disk (OpenFaults.Mode flags) = ⊥
+
+abbrev is_memory : OpenFault → Type 0
+is_memory OpenFaults.Memory = Unit {0}
+is_memory OpenFaults.Disk = ⊥
+is_memory (OpenFaults.Super fault) = ⊥
+is_memory (OpenFaults.Geom fault) = ⊥
+is_memory (OpenFaults.Mode flags) = ⊥
+
+not_disk : (fault : OpenFault) → ¬ is_disk fault → fault ≡ OpenFaults.Disk → ⊥
+not_disk fault none is = none (subst is_disk (sym is) tt)
+
+not_memory : (fault : OpenFault) → ¬ is_memory fault → fault ≡ OpenFaults.Memory → ⊥
+not_memory fault none is = none (subst is_memory (sym is) tt)
+
+module _ (key : Option (List ℕ)) (disk : DiskIdentity) (a b : List Content) (start : Content) (told : content_now a ≡ Some start)
+    (synced : EachSince (λ s c. c ≡ newest_only s) a b) (script : List ℕ) (held : Option (List ℕ)) where
+  told_by : (fault : OpenFault) → IsRefused key disk fault a b → ¬ is_disk fault → ¬ is_memory fault
+      → HasRunOn (outset_on key disk.sectors (last_image start)) start script (ending_by_open fault) b held held
+  told_by fault refused no_disk no_memory =
+      refused_run (outset_on key disk.sectors (last_image start)) start script (ending_by_open fault)
+      (ap (outset_by key disk.sectors (last_image start)) (refused.told (not_disk fault no_disk) (not_memory fault no_memory) start told)) b (untouched_now start told synced) held held refl
+
+  pub refused_by_open : (fault : OpenFault) → IsRefused key disk fault a b
+      → HasRunOn (outset_on key disk.sectors (last_image start)) start script (ending_by_open fault) b held held
+  refused_by_open OpenFaults.Memory refused =
+      nothing_run (outset_on key disk.sectors (last_image start)) (fine_on key disk.sectors (last_image start)) start script NoMemory tt b (untouched_now start told synced) held held refl
+  refused_by_open OpenFaults.Disk refused =
+      nothing_run (outset_on key disk.sectors (last_image start)) (fine_on key disk.sectors (last_image start)) start script DiskFailed tt b (untouched_now start told synced) held held refl
+  refused_by_open (OpenFaults.Super fault) refused = told_by (OpenFaults.Super fault) refused (λ (x : ⊥). x) (λ (x : ⊥). x)
+  refused_by_open (OpenFaults.Geom fault) refused = told_by (OpenFaults.Geom fault) refused (λ (x : ⊥). x) (λ (x : ⊥). x)
+  refused_by_open (OpenFaults.Mode flags) refused = told_by (OpenFaults.Mode flags) refused (λ (x : ⊥). x) (λ (x : ⊥). x)
+
+  pub left_by_open : EachMoment a b (MayBeLeftAt (outset_on key disk.sectors (last_image start)) start script)
+  left_by_open = EachMoment-weaker (untouched_may_be_left (outset_on key disk.sectors (last_image start)) start script) (untouched_through start told synced)
+
+-- ---- by what a command is given
+
+module _ (given : Given) (words : List (List ℕ)) (keys : List ℕ → Option (List ℕ)) (image : NamedDisk) (script : Option (List ℕ)) (is : IsGiven words keys image script given)
+    (held : Option (List ℕ)) where
+  outset_asked : (asked : Option Asked) → asked_of words ≡ asked → outset_in given ≡ outset_for asked given.key_bytes given.sectors (last_image given.content)
+  outset_asked asked asks = ap (λ (o : Option Asked). outset_for o given.key_bytes given.sectors (last_image given.content)) (ap asked_of is.words_are ∙ asks)
+
+  fine_given : IsFine (outset_in given)
+  fine_given = fine_for (asked_of given.words) given.key_bytes given.sectors (last_image given.content)
+
+  nothing_changed : (later : NamedDisk) → later.moments ≡ image.moments → EachMoment image.moments later.moments (MayBeLeftAt (outset_in given) given.content given.script)
+  nothing_changed later same = EachMoment-kept _ same
+
+  pub outside_first : (ending : Ending) → IsFromOutside ending → (later : NamedDisk) → later.moments ≡ image.moments
+      → HasRunOn (outset_in given) given.content given.script ending later.moments held held
+      × EachMoment image.moments later.moments (MayBeLeftAt (outset_in given) given.content given.script)
+  outside_first ending outside later same = (
+    nothing_run (outset_in given) fine_given given.content given.script ending outside later.moments (untouched_kept given.content is.content same) held held refl,
+    nothing_changed later same,
+  )
+
+  refused_first : (ending : Ending) → outset_in given ≡ RefusedBy ending
+      → HasRunOn (outset_in given) given.content given.script ending image.moments held held
+      × EachMoment image.moments image.moments (MayBeLeftAt (outset_in given) given.content given.script)
+  refused_first ending refused = (
+    refused_run (outset_in given) given.content given.script ending refused image.moments (untouched_kept given.content is.content refl) held held refl,
+    nothing_changed image refl,
+  )
+
+  -- The words ask for no run.
+  pub words_first : asked_of words ≡ None
+      → HasRunOn (outset_in given) given.content given.script RefusedWords image.moments held held
+      × EachMoment image.moments image.moments (MayBeLeftAt (outset_in given) given.content given.script)
+  words_first none = refused_first RefusedWords (outset_asked None none)
+
+  pub stopped_at_words : (ended : Ended) → (ended ≡ Endings.Words) ⊎ (ended ≡ Endings.Memory) → (ended ≡ Endings.Words → asked_of words ≡ None)
+      → HasRunOn (outset_in given) given.content given.script (ending_of ended) image.moments held held
+      × EachMoment image.moments image.moments (MayBeLeftAt (outset_in given) given.content given.script)
+  stopped_at_words ended ends none = elim ends [
+    | inl words_end ↦
+        subst (λ (e : Ended). HasRunOn (outset_in given) given.content given.script (ending_of e) image.moments held held
+        × EachMoment image.moments image.moments (MayBeLeftAt (outset_in given) given.content given.script)) (sym words_end) (words_first (none words_end))
+    | inr memory ↦
+        subst (λ (e : Ended). HasRunOn (outset_in given) given.content given.script (ending_of e) image.moments held held
+        × EachMoment image.moments image.moments (MayBeLeftAt (outset_in given) given.content given.script)) (sym memory) (outside_first NoMemory tt image refl)
+  ]
+
+  module _ (asked : Asked) (asks : asked_of words ≡ Some asked) where
+    has_key : HasFile asked.key_file keys given.key_bytes
+    has_key = subst (λ (o : Option Asked). HasFile (key_file_of_asked o) keys given.key_bytes) asks is.key
+
+    -- The key file, or its source, ended it.
+    pub stopped_at_key : (faults_before faults : ℕ) (ended : Ended) → IsKeyRefused asked.key_file keys faults_before faults ended
+        → HasRunOn (outset_in given) given.content given.script (ending_of ended) image.moments held held
+        × EachMoment image.moments image.moments (MayBeLeftAt (outset_in given) given.content given.script)
+    stopped_at_key faults_before faults Endings.Words refused = absurd refused
+    stopped_at_key faults_before faults (Endings.Key refusal) refused =
+        refused_first (RefusedKey (key_refusal_of refusal))
+        (outset_asked (Some asked) asks
+        ∙ ap (λ (told : Result (Option (List ℕ)) KeyRefusal). outset_under told given.sectors (last_image given.content)) (refused given.key_bytes has_key))
+    stopped_at_key faults_before faults (Endings.Line number refusal) refused = absurd refused
+    stopped_at_key faults_before faults Endings.Length refused = absurd refused
+    stopped_at_key faults_before faults (Endings.Image fault) refused = absurd refused
+    stopped_at_key faults_before faults Endings.Disk refused = absurd refused
+    stopped_at_key faults_before faults Endings.KeySource refused = outside_first KeyFailed tt image refl
+    stopped_at_key faults_before faults Endings.Script refused = absurd refused
+    stopped_at_key faults_before faults Endings.Sink refused = absurd refused
+    stopped_at_key faults_before faults Endings.Memory refused = outside_first NoMemory tt image refl
+
+    -- A script was run on the image, with this key.
+    pub ran_given : (key : Option (List ℕ)) → IsKeyed asked.key_file keys (HasHash key) → (sectors : ℕ) (mid after : List Content) (later : NamedDisk)
+        → image ≡ record { sectors = sectors; moments = mid } → later.moments ≡ after → (ending : Ending) (held_after : Option (List ℕ))
+        → HasRunOn (outset_on key sectors (last_image given.content)) given.content given.script ending after held held_after
+        × EachMoment mid after (MayBeLeftAt (outset_on key sectors (last_image given.content)) given.content given.script)
+        → HasRunOn (outset_in given) given.content given.script ending later.moments held held_after
+        × EachMoment image.moments later.moments (MayBeLeftAt (outset_in given) given.content given.script)
+    ran_given key keyed sectors mid after later there at_end ending held_after runs =
+        let same_outset : outset_in given ≡ outset_on key sectors (last_image given.content) =
+        outset_asked (Some asked) asks
+        ∙ ap (λ (told : Result (Option (List ℕ)) KeyRefusal). outset_under told given.sectors (last_image given.content)) (keyed given.key_bytes has_key)
+        ∙ ap (λ (n : ℕ). outset_on key n (last_image given.content)) (is.sectors ∙ ap (λ (n : NamedDisk). n.sectors) there) in
+        let same_moments : image.moments ≡ mid = ap (λ (n : NamedDisk). n.moments) there in (
+          subst (λ (o : Outset). HasRunOn o given.content given.script ending later.moments held held_after) (sym same_outset)
+              (subst (λ (m : List Content). HasRunOn (outset_on key sectors (last_image given.content)) given.content given.script ending m held held_after) (sym at_end) runs.0),
+          subst (λ (o : Outset). EachMoment image.moments later.moments (MayBeLeftAt o given.content given.script)) (sym same_outset)
+              (subst (λ (m : List Content). EachMoment m later.moments (MayBeLeftAt (outset_on key sectors (last_image given.content)) given.content given.script)) (sym same_moments)
+              (subst (λ (m : List Content). EachMoment mid m (MayBeLeftAt (outset_on key sectors (last_image given.content)) given.content given.script)) (sym at_end) runs.1)),
+        )

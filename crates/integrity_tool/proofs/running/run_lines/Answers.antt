@@ -1,0 +1,113 @@
+use Rattle.std.proofs.Common.{Ok, ap, refl, ◌∙◌, arith}
+use Rattle.std.proofs.lemmas.Result.{err_from_is_err_and}
+use Rattle.disk_model.specs.Causes.{Rose}
+use Rattle.integrity_tool.proofs.LoopLemmas.{at_start, none_in_flight, source_cause, turn_done}
+use Rattle.integrity_tool.proofs.TakenLemmas.{read_at_start, read_on, read_within}
+use Rattle.integrity_tool.proofs.LoopLemmas.{turn_ended, turn_stopped, turn_stopped_in_line}
+use Rattle.integrity_tool.proofs.running.run_lines.Goals as goal
+
+pub loop-tickets-init : goal.loop-tickets-init
+loop-tickets-init g c = record {
+  ready = c.requires.ready;
+  works = c.requires.works;
+  flight = none_in_flight _ _ c.new-tickets.ensures c.requires.requests.0;
+  submitted = let none = c.requires.requests.1 in omega (arith, none);
+  number = omega arith;
+  taken = rw c.requires.reader (omega arith);
+  read = λ left told. read_at_start left c.args.reader.now _ told c.requires.reader;
+  disk_later = omega arith;
+  script_later = omega arith;
+  sink_later = omega arith;
+  identity = refl;
+  same_disk = refl;
+  way = λ w left run is told is_run.
+      at_start w _ _ _ left run c.args.reader.now
+      (g.S.Source.left c.args.script.now) is told is_run c.requires.reader;
+}
+
+pub returns-in_err-advance-clause-stopped : goal.returns-in_err-advance-clause-stopped
+returns-in_err-advance-clause-stopped g c =
+    let p = err_from_is_err_and c.from_residual.result c.from_residual.ensures.1 in
+    rw (p.1, p.2) (λ w left run is told is_run.
+    turn_stopped w run _ _ c.loop-tickets.number c.loop-tickets.found c.loop-tickets.reader c.advance.new.reader
+    c.loop-tickets.device.parts _ _ (g.S.Source.left c.loop-tickets.script)
+    (g.S.Source.left c.advance.new.script)
+    c.in_err-advance.field-0.0
+    (c.loop-tickets.invariant.way w left run is told is_run) c.in_err-advance.ensures.advanced)
+
+pub returns-in_err-advance-clause-cause : goal.returns-in_err-advance-clause-cause
+returns-in_err-advance-clause-cause g c =
+    let p = err_from_is_err_and c.from_residual.result c.from_residual.ensures.1 in
+    let disk = Rose (g.D.Counted.faults c.args.device.now.disk.now)
+    (g.D.Counted.faults c.loop-tickets.device.disk.now) in
+    let sink = Rose (g.O.Counted.faults c.args.out.now) (g.O.Counted.faults c.loop-tickets.out) in
+    rw (p.1, p.2) (source_cause (g.S.Counted.faults c.args.script.now)
+    (g.S.Counted.faults c.loop-tickets.script) (g.S.Counted.faults c.advance.new.script) disk sink c.in_err-advance.field-0.0
+    c.loop-tickets.invariant.script_later c.in_err-advance.ensures.cause)
+
+pub returns-in_err-told-clause-stopped : goal.returns-in_err-told-clause-stopped
+returns-in_err-told-clause-stopped g c =
+    let p = err_from_is_err_and c.from_residual-in_err-told.result c.from_residual-in_err-told.ensures.1 in
+    rw (p.1, p.2) (λ w left run is told is_run.
+    turn_stopped_in_line w run _ _ c.loop-tickets.number c.loop-tickets.found c.loop-tickets.reader
+    c.advance.new.reader
+    c.loop-tickets.device.parts _ _ (g.S.Source.left c.loop-tickets.script)
+    (g.S.Source.left c.advance.new.script)
+    c.in_ok-advance.field-0 c.line.result.now _ _ c.in_err-told.field-0.0
+    (c.loop-tickets.invariant.way w left run is told is_run) c.in_ok-advance.ensures.advanced c.if-branch.true
+    c.line.ensures c.in_err-told.ensures.stopped)
+
+pub loop-tickets-preserved : goal.loop-tickets-preserved
+loop-tickets-preserved g c =
+    let kept = c.loop-tickets.invariant in
+    let stays = c.in_ok-told.ensures.stays in
+    let later = c.run_bytes.ensures.later in
+    record {
+      ready = stays.ready;
+      works = c.in_ok-told.ensures.works;
+      flight = stays.tickets_;
+      submitted = let one = stays.submitted in let two = kept.submitted in omega (arith, one, two);
+      number = let more = c.advance.ensures.taken (c.in_ok-advance.was ∙ ap Ok c.if-branch.true) in
+          let before = kept.number in omega (arith, more, before);
+      taken = c.advance.ensures.within.0;
+      read = λ left told. read_on left c.loop-tickets.reader c.advance.new.reader _ _ (kept.read left told)
+          c.advance.ensures.read;
+      disk_later = let one = kept.disk_later in let two = later.0 in omega (arith, one, two);
+      script_later = let one = kept.script_later in let two = c.advance.ensures.later in omega
+          (arith, one, two);
+      sink_later = let one = kept.sink_later in let two = later.1 in omega (arith, one, two);
+      identity = stays.identity ∙ kept.identity;
+      same_disk = c.run_bytes.ensures.same_disk ∙ kept.same_disk;
+      way = λ w left run is told is_run.
+          turn_done w run _ _ c.loop-tickets.number c.loop-tickets.found c.loop-tickets.reader
+          c.advance.new.reader
+          c.loop-tickets.device.parts _ _ (g.S.Source.left c.loop-tickets.script)
+          (g.S.Source.left c.advance.new.script)
+          c.in_ok-advance.field-0 c.line.result.now _ _ _ c.in_ok-told.told _
+          (kept.way w left run is told is_run) c.in_ok-advance.ensures.advanced c.if-branch.true
+          c.line.ensures c.in_ok-told.ensures.ran c.either-found.ensures;
+    }
+
+pub returns-clause-lines : goal.returns-clause-lines
+returns-clause-lines g c w left run is told is_run =
+    turn_ended w run _ _ c.loop-tickets.number c.loop-tickets.found c.loop-tickets.reader c.advance.new.reader
+    c.loop-tickets.device.parts _ _ (g.S.Source.left c.loop-tickets.script)
+    (g.S.Source.left c.advance.new.script)
+    c.in_ok-advance.field-0
+    (c.loop-tickets.invariant.way w left run is told is_run) c.in_ok-advance.ensures.advanced
+    c.if-branch.false
+
+pub returns-in_err-advance-clause-taken : goal.returns-in_err-advance-clause-taken
+returns-in_err-advance-clause-taken g c left told =
+    read_within left c.advance.new.reader _ c.advance.ensures.within.1
+    (read_on left c.loop-tickets.reader c.advance.new.reader _ _ (c.loop-tickets.invariant.read left told) c.advance.ensures.read)
+
+pub returns-in_err-told-clause-taken : goal.returns-in_err-told-clause-taken
+returns-in_err-told-clause-taken g c left told =
+    read_within left c.advance.new.reader _ c.advance.ensures.within.1
+    (read_on left c.loop-tickets.reader c.advance.new.reader _ _ (c.loop-tickets.invariant.read left told) c.advance.ensures.read)
+
+pub returns-clause-taken : goal.returns-clause-taken
+returns-clause-taken g c left told =
+    read_within left c.advance.new.reader _ c.advance.ensures.within.1
+    (read_on left c.loop-tickets.reader c.advance.new.reader _ _ (c.loop-tickets.invariant.read left told) c.advance.ensures.read)

@@ -1,0 +1,71 @@
+//! The end of a run that has come to its last line: the device is closed, and that is printed.
+ghost use Rattle.std.specs.Prelude.{◌≡◌, ◌≤◌, Err};
+ghost use Rattle.disk_model.specs.Causes.{Rose};
+ghost use Rattle.device_core.specs.declared.condition.Condition.TheVariants.{Working};
+ghost use Rattle.device_core.specs.Device.{IsDevice, IsReady, Standing};
+ghost use Rattle.command_ending.specs.Ended.{ending_of};
+ghost use Rattle.integrity_tool.specs.Closing.{close_ending, fault_ending};
+ghost use Rattle.integrity_tool.specs.Running.{EndsScript, IsStopped, only_close};
+
+use command_ending::Ended;
+use device_core::Device;
+use script_session::TagsFound;
+use sector_disk::Disk;
+use stream_io::{Sink, put_all};
+
+/// What ended a run at its close. It owns no memory, so that it can be told beside the disk.
+#[derive(Clone, Copy, Debug, PartialEq, Eq)]
+pub(crate) enum CloseFault {
+    /// The disk failed.
+    Disk,
+    /// The sink failed.
+    Sink,
+}
+
+impl CloseFault {
+    /// What ended the run.
+    pub(crate) fn ended(self) -> Ended
+        ensures ending { ending_of result ≡ fault_ending self }
+        ensures ends { EndsScript result }
+    {
+        match self {
+            CloseFault::Disk => Ended::Disk,
+            CloseFault::Sink => Ended::Sink,
+        }
+    }
+}
+
+/// Closes a device, prints `closed`, and gives the disk back.
+///
+/// # Errors
+///
+/// - `Disk`: the disk failed. Nothing is printed.
+/// - `Sink`: the sink failed. All is flushed.
+pub(crate) fn close<'d, D: Disk, O: Sink>(
+    device: Device<'d, D>,
+    found: TagsFound,
+    out: &mut O,
+) -> (Result<TagsFound, CloseFault>, &'d mut D)
+    requires ready { IsReady device.parts (D.identity device.disk.now) (D.moments device.disk.now) }
+    requires works { device.condition ≡ Working }
+
+    ensures stopped { (w : Standing) → IsDevice w Working device.entry.parts (D.moments device.entry.disk.now)
+        → IsStopped w (only_close w found) (close_ending result.0) (D.moments device.entry.disk.now)
+        (D.moments result.1.now) (O.held out.old) (O.held out.new) }
+
+    ensures disk { result.0 ≡ Err CloseFault.Disk → Rose (D.faults device.entry.disk.now) (D.faults result.1.now) }
+    ensures sink { result.0 ≡ Err CloseFault.Sink → Rose (O.faults out.old) (O.faults out.new) }
+    ensures later { (D.faults device.entry.disk.now ≤ D.faults result.1.now) × (O.faults out.old ≤ O.faults out.new) }
+
+    ensures identity { D.identity result.1.now ≡ D.identity device.entry.disk.now }
+    ensures same_disk { result.1.ghost_name ≡ device.entry.disk.ghost_name }
+{
+    let (closed, disk) = device.close();
+    if closed.is_err() {
+        return (Err(CloseFault::Disk), disk);
+    }
+    match put_all(out, b"closed\n") {
+        Ok(()) => (Ok(found), disk),
+        Err(_) => (Err(CloseFault::Sink), disk),
+    }
+}

@@ -1,0 +1,54 @@
+//! The hash of tags, with the key that a file has.
+ghost use Rattle.std.specs.Prelude.{◌≡◌, ◌≤◌, Err, IfErr, IfOk, List, ℕ};
+ghost use Rattle.disk_model.specs.Causes.{Rose};
+ghost use Rattle.hmac_tag.specs.TagMaker.{key_of};
+ghost use Rattle.command_words.specs.declared.values.HashChoice.TheVariants as Choices;
+ghost use Rattle.integrity_tool.specs.Asked.{key_file_of};
+ghost use Rattle.integrity_tool.specs.Keyed.{HasHash, IsKeyRefused, IsKeyed};
+
+use command_ending::{Ended, KeyRefusal};
+use command_words::HashChoice;
+use hmac_tag::{Hash, Key, KeyFault};
+use std::alloc::Global;
+use stream_io::{NamedSource, ReadFault, read_named};
+
+/// How many bytes of a key file are read: one more than a key may have.
+const MOST_READ: usize = 4097;
+
+/// The hash that is chosen. A key file is bound and read, at most 4097 bytes of it, before anything else is.
+///
+/// # Errors
+///
+/// - `Key`: its bytes are no key.
+/// - `KeySource`: the source of the key failed.
+/// - `Memory`: there is none for them.
+pub(crate) fn hash_of<K: NamedSource>(
+    alloc: Global,
+    source: &mut K,
+    choice: &HashChoice,
+) -> Result<Hash, Ended>
+    ensures hash { IfOk result (λ hash. IsKeyed (key_file_of choice.now) (K.named source.old) (HasHash (key_of hash))) }
+
+    ensures refused { IfErr result (λ ended. IsKeyRefused (key_file_of choice.now) (K.named source.old)
+        (K.faults source.old) (K.faults source.new) ended) }
+
+    ensures later { K.faults source.old ≤ K.faults source.new }
+    ensures unused { choice.now ≡ Choices.Sha256 → source.new ≡ source.old }
+{
+    match choice {
+        HashChoice::Sha256 => Ok(Hash::Sha256),
+        HashChoice::HmacSha256 { key_file } => {
+            let bytes = match read_named(alloc, source, key_file.as_str(), MOST_READ) {
+                Ok(bytes) => bytes,
+                Err(ReadFault::Failed) => return Err(Ended::KeySource),
+                Err(ReadFault::Memory) => return Err(Ended::Memory),
+            };
+            match Key::from_bytes(alloc, &bytes) {
+                Ok(key) => Ok(Hash::Hmac(key)),
+                Err(KeyFault::Empty) => Err(Ended::Key(KeyRefusal::Empty)),
+                Err(KeyFault::TooLong { .. }) => Err(Ended::Key(KeyRefusal::Long)),
+                Err(KeyFault::Memory) => Err(Ended::Memory),
+            }
+        }
+    }
+}

@@ -1,0 +1,124 @@
+//! Reads and runs one line of a script.
+ghost use Rattle.std.specs.Prelude.{◌≡◌, ◌≤◌, ◌+◌, ◌<◌, ◌^◌, Err, IfErr, IfOk, Ok, OnOk, true};
+ghost use Rattle.std.specs.Option.{ForSome, IsSomeAnd};
+ghost use Rattle.disk_model.specs.Causes.{Rose};
+ghost use Rattle.device_core.specs.declared.condition.Condition.TheVariants.{Working};
+ghost use Rattle.device_core.specs.Device.{IsDevice, IsReady, Standing};
+ghost use Rattle.script_session.specs.Tickets.{AreInFlight, Stays};
+ghost use Rattle.integrity_tool.specs.Lines.{HasAdvanced, HasRunBytes, IsStoppedByBytes, ended_by};
+ghost use Rattle.integrity_tool.specs.Running.{EndsScript, HasEndCause, HasRead, most_taken, read_by};
+
+use command_ending::{Ended, FormFault, LineRefusal};
+use device_core::Device;
+use script_reader::{LineReader, NextLine};
+use script_session::{LineEnd, TagsFound, Tickets, run_line};
+use script_text::read_line;
+use sector_disk::Disk;
+use std::alloc::Global;
+use stream_io::{Sink, Source};
+
+/// Takes the next line of a script, which has this number, into the reader. It tells whether there is one.
+///
+/// # Errors
+///
+/// - `Line`: it is longer than a line may be.
+/// - `Length`: the script is longer than one may be.
+/// - `Script`: its source failed.
+pub(crate) fn advance<S: Source>(
+    reader: &mut LineReader,
+    script: &mut S,
+    number: u64,
+) -> Result<bool, Ended>
+    ensures advanced { ForSome (S.left script.old) (λ left. IsSomeAnd (S.left script.new)
+        (λ later. HasAdvanced number reader.old reader.new left later result)) }
+    ensures taken { result ≡ Ok true → reader.old.taken < reader.new.taken }
+    ensures read { HasRead reader.old reader.new (S.left script.old) (S.left script.new) }
+    ensures within { (reader.new.taken ≤ 16777216) × (read_by reader.new ≤ most_taken) }
+
+    ensures ends { IfErr result EndsScript }
+    ensures cause { IfErr result (HasEndCause ⊥ (Rose (S.faults script.old) (S.faults script.new)) ⊥) }
+    ensures later { S.faults script.old ≤ S.faults script.new }
+{
+    match reader.next_line(script) {
+        Ok(NextLine::Line) => Ok(true),
+        Ok(NextLine::End) => Ok(false),
+        Ok(NextLine::LongLine) => Err(Ended::Line {
+            number,
+            refusal: LineRefusal::Form(FormFault::TooLong),
+        }),
+        Ok(NextLine::LongScript) => Err(Ended::Length),
+        Err(_) => Err(Ended::Script),
+    }
+}
+
+/// Runs the line that these bytes are, which has this number, and prints what it is told.
+///
+/// # Errors
+///
+/// - `Line`: the bytes are no line, or one that has no meaning here.
+/// - `Disk`, `Sink`: that failed.
+/// - `Memory`: there is none for what the line needs.
+pub(crate) fn run_bytes<'d, D: Disk, O: Sink>(
+    alloc: Global,
+    device: &mut Device<'d, D>,
+    tickets: &mut Tickets,
+    bytes: &[u8],
+    number: u64,
+    out: &mut O,
+) -> Result<TagsFound, Ended>
+    requires ready { IsReady device.old.parts (D.identity device.old.disk.now) (D.moments device.old.disk.now) }
+    requires works { device.old.condition ≡ Working }
+    requires tickets { AreInFlight tickets.old device.old.parts.slots }
+    requires number { device.old.parts.slots.submitted + 1 < 2 ^ 64 }
+
+    ensures ran { IfOk result (λ found. (w : Standing)
+        → IsDevice w Working device.old.parts (D.moments device.old.disk.now)
+        → HasRunBytes w bytes.now found device.new.parts (D.moments device.old.disk.now)
+        (D.moments device.new.disk.now) (O.held out.old) (O.held out.new)) }
+
+    ensures stopped { IfErr result (λ ended. (w : Standing)
+        → IsDevice w Working device.old.parts (D.moments device.old.disk.now)
+        → IsStoppedByBytes w number bytes.now ended (D.moments device.old.disk.now)
+        (D.moments device.new.disk.now) (O.held out.old) (O.held out.new)) }
+
+    ensures ends { IfErr result EndsScript }
+    ensures cause { IfErr result (HasEndCause
+        (Rose (D.faults device.old.disk.now) (D.faults device.new.disk.now))
+        ⊥ (Rose (O.faults out.old) (O.faults out.new))) }
+    ensures later { (D.faults device.old.disk.now ≤ D.faults device.new.disk.now)
+        × (O.faults out.old ≤ O.faults out.new) }
+
+    ensures works { OnOk result (device.new.condition ≡ Working) }
+    ensures stays { Stays device.old.parts device.new.parts tickets.new (D.identity device.old.disk.now)
+        (D.identity device.new.disk.now) (D.moments device.new.disk.now) }
+    ensures same_disk { device.new.disk.ghost_name ≡ device.old.disk.ghost_name }
+{
+    match read_line(bytes) {
+        Ok(line) => match run_line(alloc, device, tickets, &line, out) {
+            Ok(found) => Ok(found),
+            Err(end) => Err(ended_by(end, number)),
+        },
+        Err(fault) => match FormFault::of(alloc, fault) {
+            Ok(fault) => Err(Ended::Line {
+                number,
+                refusal: LineRefusal::Form(fault),
+            }),
+            Err(_) => Err(Ended::Memory),
+        },
+    }
+}
+
+/// What has ended a run with a line of this number.
+fn ended_by(end: LineEnd, number: u64) -> Ended
+    ensures { result ≡ ended_by number end }
+{
+    match end {
+        LineEnd::Refused(fault) => Ended::Line {
+            number,
+            refusal: LineRefusal::Meaning(fault),
+        },
+        LineEnd::Disk => Ended::Disk,
+        LineEnd::Sink => Ended::Sink,
+        LineEnd::Memory => Ended::Memory,
+    }
+}
