@@ -232,7 +232,11 @@ impl Named for WatchedFile<'_> {
 
     fn bind(&mut self, name: &str) -> Result<(), Failed> {
         self.calls = self.calls.saturating_add(1);
-        self.file.bind(name)
+        let answer = self.file.bind(name);
+        if answer.is_err() {
+            self.failed = self.failed.saturating_add(1);
+        }
+        answer
     }
 }
 

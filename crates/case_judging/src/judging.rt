@@ -1,4 +1,6 @@
 //! What must hold of a run that met a failure, computed from its script and from the disk that it began with.
+ghost use Rattle.std.specs.Prelude.{◌≡◌};
+
 use crate::Wrong;
 use crate::image_bytes::{BLOCKS, data_of, digest_of, is_small, put_block, tag_of};
 use std::alloc::{AllocError, Global};
@@ -57,7 +59,12 @@ pub fn judge_text(undisturbed: Told<'_>, told: Told<'_>, met: Met) -> Result<(),
 }
 
 /// The status of a run that met a failure.
-fn status_by(undisturbed: Told<'_>, told: Told<'_>, met: Met) -> u8 {
+fn status_by(undisturbed: Told<'_>, told: Told<'_>, met: Met) -> u8
+    ensures nothing { met ≡ Met.Nothing → result ≡ undisturbed.entry.status }
+    ensures disk { met ≡ Met.Disk → result ≡ 4 }
+    ensures source { met ≡ Met.Source → result ≡ 5 }
+    ensures key { met ≡ Met.Key → result ≡ 5 }
+{
     match met {
         Met::Nothing => undisturbed.status,
         Met::Disk => 4,
@@ -97,8 +104,11 @@ fn told_lines(text: &str) -> usize {
 }
 
 /// The images that lines of a script give, of which a cut leaves each block's data and tag from
-/// any: what the last flush has settled that the text tells, and behind it what each later fill
+/// any: what the last flush has settled that the text tells, and behind it what each later write
 /// gives, up to the one that may have begun.
+///
+/// A write may be begun as soon as it is started. Where a script has started one, a flush may come
+/// before it is done, and so nothing is settled. That a `fua` settles a write is not judged.
 pub fn images_after(
     alloc: Global,
     base: &[u8],
@@ -108,21 +118,37 @@ pub fn images_after(
     let told = told_lines(text);
     let mut images = Vec::new(alloc);
     images.push(base.to_vec(alloc)?)?;
-    for (k, line) in script.split('\n').enumerate() {
-        if k > told {
+    let mut has_started = false;
+    let mut lines = 0usize;
+    for line in script.split('\n') {
+        if lines > told {
             break;
         }
-        if line == "flush" && k < told {
+        if is_skipped(line) {
+            continue;
+        }
+        let line = match line.strip_prefix("start ") {
+            Some(started) => {
+                has_started = true;
+                started
+            }
+            None => line,
+        };
+        if line == "flush" && lines < told && !has_started {
             settle(&mut images)?;
         }
-        if let Some(fill) = line.strip_prefix("fill ") {
-            add_fill(&mut images, fill)?;
-        }
+        add_write(alloc, &mut images, line)?;
+        lines = lines.saturating_add(1);
     }
-    if text.ends_with("closed\n") {
+    if text.ends_with("closed\n") && !has_started {
         settle(&mut images)?;
     }
     Ok(images)
+}
+
+/// Whether a line of a script has no reply: it has no word, or begins with #.
+fn is_skipped(line: &str) -> bool {
+    line.starts_with('#') || line.bytes().all(|byte| byte == b' ')
 }
 
 /// Leaves the last image alone.
@@ -134,36 +160,66 @@ fn settle(images: &mut Vec<Vec<u8>>) -> Result<(), AllocError> {
     Ok(())
 }
 
-/// Adds the last image with a fill.
-fn add_fill(images: &mut Vec<Vec<u8>>, fill: &str) -> Result<(), AllocError> {
+/// Adds the last image with what a line writes, if it is a `fill` or a `write`.
+fn add_write(alloc: Global, images: &mut Vec<Vec<u8>>, line: &str) -> Result<(), AllocError> {
+    let Some((first, bytes)) = written_by(alloc, line)? else {
+        return Ok(());
+    };
     if let Some(last) = images.last() {
         let mut image = last.clone()?;
-        fill_image(&mut image, fill);
+        write_image(&mut image, first, &bytes);
         images.push(image)?;
     }
     Ok(())
 }
 
-/// Fills blocks of an image: the text has the first block, how many there are, and the byte.
-fn fill_image(image: &mut [u8], text: &str) {
-    let Some((first, rest)) = text.split_once(' ') else {
-        return;
+/// The first block that a line writes, and the bytes from there on.
+fn written_by(alloc: Global, line: &str) -> Result<Option<(u64, Vec<u8>)>, AllocError> {
+    let mut words = line.split(' ');
+    let name = words.next();
+    let (Some(first), Some(third)) = (words.next(), words.next()) else {
+        return Ok(None);
     };
-    let Some((count, byte)) = rest.split_once(' ') else {
-        return;
+    let Ok(first) = first.parse::<u64>() else {
+        return Ok(None);
     };
-    let (Ok(first), Ok(count), Ok(byte)) = (
-        first.parse::<u64>(),
-        count.parse::<u64>(),
-        u8::from_str_radix(byte, 16),
-    ) else {
-        return;
+    let bytes = match name {
+        Some("write") => bytes_of_runs(alloc, third)?,
+        Some("fill") => match (third.parse::<u64>(), words.next()) {
+            (Ok(count), Some(byte)) => bytes_of_run(alloc, byte, count.saturating_mul(512))?,
+            _ => return Ok(None),
+        },
+        _ => return Ok(None),
     };
-    let data = [byte; 512];
-    for block in 0..BLOCKS {
-        if block >= first && block - first < count {
-            put_block(image, block, &data, &digest_of(block, &data));
+    Ok(Some((first, bytes)))
+}
+
+/// The bytes of runs that are joined by commas, each a byte and how often it comes.
+fn bytes_of_runs(alloc: Global, runs: &str) -> Result<Vec<u8>, AllocError> {
+    let mut bytes = Vec::new(alloc);
+    for run in runs.split(',') {
+        if let Some((byte, count)) = run.split_once('*')
+            && let Ok(count) = count.parse::<u64>()
+        {
+            bytes.extend_from_slice(&bytes_of_run(alloc, byte, count)?)?;
         }
+    }
+    Ok(bytes)
+}
+
+/// A byte that comes so often. The image has room for no more than its own bytes.
+fn bytes_of_run(alloc: Global, byte: &str, count: u64) -> Result<Vec<u8>, AllocError> {
+    let count = (count % (BLOCKS * 512 + 1)) as usize;
+    match u8::from_str_radix(byte, 16) {
+        Ok(byte) => vec![in alloc; byte; count],
+        Err(_) => Ok(Vec::new(alloc)),
+    }
+}
+
+/// Puts bytes and their tags in the places of the blocks from one on.
+fn write_image(image: &mut [u8], first: u64, bytes: &[u8]) {
+    for (data, block) in bytes.chunks(512).zip(first..BLOCKS) {
+        put_block(image, block, data, &digest_of(block, data));
     }
 }
 
@@ -242,7 +298,7 @@ pub fn judge_reads(
     told: Told<'_>,
 ) -> Result<(), Wrong> {
     if !is_small(left) {
-        if told.status != 3 || told.text != "fault image form\n" {
+        if told.status != 3 || !told.text.starts_with("fault image ") {
             return Err(Wrong::Run("what is left is no image, and is read"));
         }
         return Ok(());

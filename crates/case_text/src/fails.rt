@@ -1,4 +1,6 @@
 //! What fails in a run.
+ghost use Rattle.std.specs.Prelude.{◌≡◌, Some};
+
 use crate::Kind;
 
 /// What fails in a run. Calls are numbered from 1.
@@ -27,7 +29,14 @@ impl Fails {
 }
 
 /// These failures, and one of a kind with this number in place of another one.
-pub fn with_failure(mut fails: Fails, kind: Kind, number: u64) -> Fails {
+pub fn with_failure(mut fails: Fails, kind: Kind, number: u64) -> Fails
+    ensures disk { kind ≡ Kind.Disk → result ≡ record fails { disk = Some number } }
+    ensures source { kind ≡ Kind.Source → result ≡ record fails { source = Some number } }
+    ensures sink { kind ≡ Kind.Sink → result ≡ record fails { sink = Some number } }
+    ensures key { kind ≡ Kind.Key → result ≡ record fails { key = Some number } }
+    ensures stop { kind ≡ Kind.Stop → result ≡ record fails { stop = Some number } }
+    ensures room { kind ≡ Kind.Room → result ≡ record fails { room = number } }
+{
     match kind {
         Kind::Disk => fails.disk = Some(number),
         Kind::Source => fails.source = Some(number),

@@ -9,6 +9,10 @@ pub fn apply(alloc: Global, case: &mut Case, line: &str) -> Result<()> {
     match word {
         "words" => case.words = words_of(alloc, text)?,
         "key" => case.key = bytes_of(alloc, text)?,
+        "keys" => {
+            let (times, text) = cut(text);
+            put_script(alloc, &mut case.key, times.parse::<u64>()?, text, "")?;
+        }
         "line" => put_script(alloc, &mut case.script, 1, text, "\n")?,
         "text" => put_script(alloc, &mut case.script, 1, text, "")?,
         "lines" | "texts" => {

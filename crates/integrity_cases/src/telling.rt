@@ -105,10 +105,15 @@ fn row_told(alloc: Global, row: &Repeated, name: &str, shown: &str) -> Result<St
     }
 }
 
+/// Whether the words of a case name a key.
+pub fn is_keyed(case: &Case) -> bool {
+    case.words.iter().any(|word| word.as_str() == "hmac-sha256")
+}
+
 /// How a run has ended, and below it what the case shows.
 pub fn told_of(alloc: Global, case: &Case, ended: &Ended) -> Result<String> {
     let mut told = outcome_of(alloc, ended)?;
-    if ended.key_calls > 0 {
+    if ended.key_calls > 0 && !is_keyed(case) {
         told.push_str("\nthe key was touched")?;
     }
     for show in &case.shows {
