@@ -31,7 +31,7 @@ use Rattle.command_ending.specs.declared.ended.Ended.{Ended}
 use Rattle.command_ending.specs.declared.ended.Ended.TheVariants as Endings
 use Rattle.integrity_tool.specs.Asked.{Asked, asked_of, key_file_of_asked}
 use Rattle.integrity_tool.specs.Keyed.{HasFile, HasHash, IsKeyRefused, IsKeyed}
-use Rattle.integrity_tool.specs.Top.{Given, IsGiven, outset_in}
+use Rattle.integrity_tool.specs.Top.{Given, IsGiven, IsRefusedByKey, outset_in}
 use Rattle.integrity_tool.specs.CommandRun.{Outset, RefusedBy, RunsOn, IsComplete, IsFromOutside, IsEndedShort, IsUntouched, MayBeLeftAt}
 use Rattle.integrity_tool.specs.Opening.{HasRunOn}
 use Rattle.integrity_tool.specs.Running.{IsStopped}
@@ -257,6 +257,16 @@ module _ (key : Option (List ℕ)) (disk : DiskIdentity) (a b : List Content) (s
   pub left_by_open : EachMoment a b (MayBeLeftAt (outset_on key disk.sectors (last_image start)) start script)
   left_by_open = EachMoment-weaker (untouched_may_be_left (outset_on key disk.sectors (last_image start)) start script) (untouched_through start told synced)
 
+-- ---- a key is taken
+
+no_key_by : (key : Option (List ℕ)) (sectors : ℕ) (image : Image) (told : Result ImageFormat OpenFault) → IsRefusedByKey (outset_by key sectors image told) → ⊥
+no_key_by key sectors image (Ok format) is = is
+no_key_by key sectors image (Err OpenFaults.Memory) is = is
+no_key_by key sectors image (Err OpenFaults.Disk) is = is
+no_key_by key sectors image (Err (OpenFaults.Super fault)) is = is
+no_key_by key sectors image (Err (OpenFaults.Geom fault)) is = is
+no_key_by key sectors image (Err (OpenFaults.Mode flags)) is = is
+
 -- ---- by what a command is given
 
 module _ (given : Given) (words : List (List ℕ)) (keys : List ℕ → Option (List ℕ)) (image : NamedDisk) (script : Option (List ℕ)) (is : IsGiven words keys image script given)
@@ -345,3 +355,10 @@ module _ (given : Given) (words : List (List ℕ)) (keys : List ℕ → Option (
               (subst (λ (m : List Content). EachMoment m later.moments (MayBeLeftAt (outset_on key sectors (last_image given.content)) given.content given.script)) (sym same_moments)
               (subst (λ (m : List Content). EachMoment mid m (MayBeLeftAt (outset_on key sectors (last_image given.content)) given.content given.script)) (sym at_end) runs.1)),
         )
+
+    -- A key that is taken is not refused.
+    pub not_refused_by_key : (key : Option (List ℕ)) → IsKeyed asked.key_file keys (HasHash key) → IsRefusedByKey (outset_in given) → ⊥
+    not_refused_by_key key keyed refused =
+        no_key_by key given.sectors (last_image given.content) (direct_format_of given.sectors (last_image given.content))
+        (subst IsRefusedByKey (outset_asked (Some asked) asks
+        ∙ ap (λ (told : Result (Option (List ℕ)) KeyRefusal). outset_under told given.sectors (last_image given.content)) (keyed given.key_bytes has_key)) refused)

@@ -6,7 +6,8 @@ use Rattle.disk_model.specs.Moments.{content_now}
 use Rattle.command_ending.specs.declared.ended.Ended.{Ended}
 use Rattle.command_ending.specs.declared.ended.Ended.TheVariants as Endings
 use Rattle.integrity_tool.specs.Asked.{asked_of, key_file_of_asked}
-use Rattle.integrity_tool.specs.CommandRun.{Outset}
+use Rattle.device_model.specs.Ending.{Ending, RefusedKey}
+use Rattle.integrity_tool.specs.CommandRun.{Outset, RefusedBy, RunsOn}
 use Rattle.integrity_tool.specs.Keyed.{HasFile}
 use Rattle.integrity_tool.specs.Outset.{outset_of}
 
@@ -52,3 +53,13 @@ IsBeforeScript Endings.KeySource = Unit {0}
 IsBeforeScript Endings.Script = ⊥
 IsBeforeScript Endings.Sink = ⊥
 IsBeforeScript Endings.Memory = ⊥
+
+-- The bytes of the key file are no key.
+abbrev pub IsKeyRefusal : Ending → Type 0
+IsKeyRefusal (RefusedKey refusal) = Unit {0}
+IsKeyRefusal ending = ⊥
+
+-- A command starts on a key that is refused, whatever the image is.
+abbrev pub IsRefusedByKey : Outset → Type 0
+IsRefusedByKey (RefusedBy ending) = IsKeyRefusal ending
+IsRefusedByKey (RunsOn kind image) = ⊥

@@ -11,7 +11,7 @@ ghost use Rattle.integrity_tool.specs.Asked.{asked_of, image_name};
 ghost use Rattle.integrity_tool.specs.CommandRun.{IsComplete, IsRunAt, MayBeLeftAt, Tells};
 ghost use Rattle.integrity_tool.specs.Opening.{HasRunOn};
 ghost use Rattle.integrity_tool.specs.Running.{HasTaken, ending_by};
-ghost use Rattle.integrity_tool.specs.Top.{Given, HasCommandCause, IsBeforeScript, IsGiven, outset_in};
+ghost use Rattle.integrity_tool.specs.Top.{Given, HasCommandCause, IsBeforeScript, IsGiven, IsRefusedByKey, outset_in};
 
 use crate::asked::{command_of, run_in};
 use crate::keyed::hash_of;
@@ -73,6 +73,11 @@ pub fn integrity<D: Disk, K: NamedSource, S: Source, O: Sink>(
     // Words that ask for no run touch nothing.
     ensures words { asked_of (map string_bytes words.now) ≡ None → ((result ≡ 2) ⊎ (result ≡ 7))
         × (disk.new ≡ disk.old) × (key.new ≡ key.old) × (script.new ≡ script.old) }
+    // A key that is refused is so before the disk is called.
+    ensures key_first { (given : Given)
+        → IsGiven (map string_bytes words.now) (K.named key.old)
+        (D.named disk.old (image_name (map string_bytes words.now))) (S.left script.old) given
+        → IsRefusedByKey (outset_in given) → (disk.new ≡ disk.old) × (script.new ≡ script.old) }
     // The script is not read where the image is refused, and never more than one byte beyond its bound. The disk is bound to
     // the image, and has as many sectors as before.
     ensures unread { result ≡ 3 → script.new ≡ script.old }
@@ -133,6 +138,10 @@ fn run<D: Disk, K: NamedSource, S: Source, O: Sink>(
     ensures words { asked_of (map string_bytes words.now) ≡ None
         → ((result ≡ Err Ended.Words) ⊎ (result ≡ Err Ended.Memory))
         × (disk.new ≡ disk.old) × (key.new ≡ key.old) × (script.new ≡ script.old) }
+    ensures key_first { (given : Given)
+        → IsGiven (map string_bytes words.now) (K.named key.old)
+        (D.named disk.old (image_name (map string_bytes words.now))) (S.left script.old) given
+        → IsRefusedByKey (outset_in given) → (disk.new ≡ disk.old) × (script.new ≡ script.old) }
     ensures unread { IfErr result (λ ended. IsBeforeScript ended → script.new ≡ script.old) }
     ensures taken { HasTaken (S.left script.old) (S.left script.new) }
     ensures bound { OnOk result (IsBoundTo (image_name (map string_bytes words.now)) (D.identity disk.new).name) }

@@ -9,7 +9,7 @@ use Rattle.device_model.specs.Ending.{DiskFailed}
 use Rattle.hmac_tag.specs.TagMaker.{key_of}
 use Rattle.integrity_tool.specs.Asked.{asked_in, asked_of, image_name, image_of}
 use Rattle.integrity_tool.specs.Running.{ending_by}
-use Rattle.integrity_tool.proofs.StartLemmas.{outside_first, ran_given, stopped_at_key, stopped_at_words, words_first}
+use Rattle.integrity_tool.proofs.StartLemmas.{not_refused_by_key, outside_first, ran_given, stopped_at_key, stopped_at_words, words_first}
 use Rattle.integrity_tool.proofs.TopLemmas.{told_there}
 use Rattle.integrity_tool.proofs.TakenLemmas.{none_taken}
 use Rattle.integrity_tool.proofs.top_call.run.Goals as goal
@@ -107,3 +107,19 @@ returns-in_err-hash-clause-taken g c = none_taken _ _ refl
 
 pub returns-in_err-bind_image-clause-taken : goal.returns-in_err-bind_image-clause-taken
 returns-in_err-bind_image-clause-taken g c = none_taken _ _ refl
+
+pub returns-in_err-bind_image-clause-key_first : goal.returns-in_err-bind_image-clause-key_first
+returns-in_err-bind_image-clause-key_first g c given is refused =
+    let words = map string_bytes c.args.words.now in
+    let run = c.in-Some.run'.now in
+    let asks : asked_of words ≡ Some (asked_in run) = c.in_ok-command.ensures.command ∙ sym c.run_in.ensures ∙ ap (option_map _) c.in-Some.is in
+    absurd (not_refused_by_key given words (g.K.NamedSource.named c.args.key.now) (g.D.Disk.named c.args.disk.now (image_name words)) (g.S.Source.left c.args.script.now) is (g.O.Sink.held c.args.out.now) (asked_in run) asks
+    (key_of c.in_ok-hash.hash) c.in_ok-hash.ensures.hash refused)
+
+pub returns-clause-key_first : goal.returns-clause-key_first
+returns-clause-key_first g c given is refused =
+    let words = map string_bytes c.args.words.now in
+    let run = c.in-Some.run'.now in
+    let asks : asked_of words ≡ Some (asked_in run) = c.in_ok-command.ensures.command ∙ sym c.run_in.ensures ∙ ap (option_map _) c.in-Some.is in
+    absurd (not_refused_by_key given words (g.K.NamedSource.named c.args.key.now) (g.D.Disk.named c.args.disk.now (image_name words)) (g.S.Source.left c.args.script.now) is (g.O.Sink.held c.args.out.now) (asked_in run) asks
+    (key_of c.in_ok-hash.hash) c.in_ok-hash.ensures.hash refused)
