@@ -106,7 +106,8 @@ fn put_numbers<O: Sink>(out: &mut O, name: &[u8], one: u64, other: u64) -> Resul
 
 /// Writes the line of a fault with flags.
 fn put_flags<O: Sink>(out: &mut O, name: &[u8], flags: u32) -> Result<(), Failed>
-    ensures line { Puts (image_line (name.now ++ hexadecimal flags)) (O.held out.old) (O.held out.new) result }
+    ensures line { Puts (image_line (name.now ++ hexadecimal flags)) (O.held out.old)
+        (O.held out.new) result }
     ensures cause { HasCause (O.faults out.old) (O.faults out.new) result }
 {
     let mut digits = [0; 8];

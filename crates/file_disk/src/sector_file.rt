@@ -136,6 +136,8 @@ pub trait Folder {
         ensures bound { IfOk result (λ file. IsBoundTo name.now (Self.File.identity file).name) }
         ensures found { IfOk result (λ file. IsThere (named self.old name.now)
             (Self.File.identity file).sectors (Self.File.moments file)) }
+        // It has not failed yet.
+        ensures fresh { IfOk result (λ file. Self.File.faults file ≡ 0) }
 
         ensures cause { HasFileCause (faults self.old) (faults self.new)
             (interruptions self.old) (interruptions self.new) result }

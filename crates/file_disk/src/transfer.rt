@@ -22,7 +22,6 @@ pub fn read_all<F: SectorFile>(file: &mut F, from: u64, buffer: &mut [u8]) -> Re
     ensures read { OnOk result (HasNow (Reads (from / 512) buffer.new) (F.moments file.old)) }
 
     ensures cause { HasCause (F.faults file.old) (F.faults file.new) result }
-    ensures passed { OnOk result (F.faults file.new ≡ F.faults file.old) }
 
     ensures identity { F.identity file.new ≡ F.identity file.old }
     ensures kept { F.moments file.new ≡ F.moments file.old }
@@ -44,7 +43,6 @@ fn read_some<F: SectorFile>(file: &mut F, from: u64, buffer: &mut [u8]) -> Resul
     ensures read { IfOk result (λ n. HasNow (Reads (from / 512) (take n buffer.new)) (F.moments file.old)) }
 
     ensures cause { HasCause (F.faults file.old) (F.faults file.new) result }
-    ensures passed { OnOk result (F.faults file.new ≡ F.faults file.old) }
 
     ensures identity { F.identity file.new ≡ F.identity file.old }
     ensures kept { F.moments file.new ≡ F.moments file.old }
@@ -68,7 +66,6 @@ pub fn write_all<F: SectorFile>(file: &mut F, from: u64, bytes: &[u8]) -> Result
         (F.moments file.old) (F.moments file.new)) }
 
     ensures cause { HasCause (F.faults file.old) (F.faults file.new) result }
-    ensures passed { OnOk result (F.faults file.new ≡ F.faults file.old) }
 
     ensures identity { F.identity file.new ≡ F.identity file.old }
 
@@ -92,7 +89,6 @@ fn write_some<F: SectorFile>(file: &mut F, from: u64, bytes: &[u8]) -> Result<us
         (F.moments file.old) (F.moments file.new)) }
 
     ensures cause { HasCause (F.faults file.old) (F.faults file.new) result }
-    ensures passed { OnOk result (F.faults file.new ≡ F.faults file.old) }
 
     ensures identity { F.identity file.new ≡ F.identity file.old }
 
@@ -114,7 +110,6 @@ pub fn sync_all<F: SectorFile>(file: &mut F) -> Result<(), Failed>
     ensures synced { OnOk result (IsChangedBy newest_only (F.moments file.old) (F.moments file.new)) }
 
     ensures cause { HasCause (F.faults file.old) (F.faults file.new) result }
-    ensures passed { OnOk result (F.faults file.new ≡ F.faults file.old) }
     ensures err { OnErr result (F.moments file.new ≡ F.moments file.old) }
 
     ensures identity { F.identity file.new ≡ F.identity file.old }
@@ -139,9 +134,9 @@ pub fn open_file<O: Folder>(folder: &mut O, name: &str) -> Result<O::File, Faile
     ensures bound { IfOk result (λ file. IsBoundTo name.now (O.File.identity file).name) }
     ensures found { IfOk result (λ file. IsThere (O.named folder.old name.now)
         (O.File.identity file).sectors (O.File.moments file)) }
+    ensures fresh { IfOk result (λ file. O.File.faults file ≡ 0) }
 
     ensures cause { HasCause (O.faults folder.old) (O.faults folder.new) result }
-    ensures passed { OnOk result (O.faults folder.new ≡ O.faults folder.old) }
     ensures err { OnErr result ((other : List ℕ) → O.named folder.new other ≡ O.named folder.old other) }
 {
     loop {

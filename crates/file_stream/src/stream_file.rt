@@ -67,6 +67,8 @@ pub trait InputFolder {
     fn open(&mut self, name: &str) -> Result<Self::File, FileFault>
         ensures bound { IfOk result (λ file. IsBoundTo name.now (Self.File.name file)) }
         ensures found { IfOk result (λ file. TellsSame (named self.old name.now) (Self.File.left file)) }
+        // It has not failed yet.
+        ensures fresh { IfOk result (λ file. Self.File.faults file ≡ 0) }
 
         ensures cause { HasFileCause (faults self.old) (faults self.new)
             (interruptions self.old) (interruptions self.new) result }

@@ -23,7 +23,6 @@ pub fn read_next<F: InputFile>(file: &mut F, buffer: &mut [u8]) -> Result<usize,
     ensures left { IfOk result (λ n. F.left file.new ≡ option_map (drop n) (F.left file.old)) }
 
     ensures cause { HasCause (F.faults file.old) (F.faults file.new) result }
-    ensures passed { OnOk result (F.faults file.new ≡ F.faults file.old) }
     ensures err { OnErr result (F.left file.new ≡ F.left file.old) }
 
     ensures name { F.name file.new ≡ F.name file.old }
@@ -45,9 +44,9 @@ pub fn read_next<F: InputFile>(file: &mut F, buffer: &mut [u8]) -> Result<usize,
 pub fn open_input<O: InputFolder>(folder: &mut O, name: &str) -> Result<O::File, Failed>
     ensures bound { IfOk result (λ file. IsBoundTo name.now (O.File.name file)) }
     ensures found { IfOk result (λ file. TellsSame (O.named folder.old name.now) (O.File.left file)) }
+    ensures fresh { IfOk result (λ file. O.File.faults file ≡ 0) }
 
     ensures cause { HasCause (O.faults folder.old) (O.faults folder.new) result }
-    ensures passed { OnOk result (O.faults folder.new ≡ O.faults folder.old) }
     ensures err { OnErr result ((other : List ℕ) → O.named folder.new other ≡ O.named folder.old other) }
 {
     loop {
@@ -88,7 +87,6 @@ fn write_some<F: OutputFile>(file: &mut F, bytes: &[u8]) -> Result<usize, Failed
         ≡ option_map (with_bytes (take n bytes.now)) (F.held file.old)) }
 
     ensures cause { HasCause (F.faults file.old) (F.faults file.new) result }
-    ensures passed { OnOk result (F.faults file.new ≡ F.faults file.old) }
     ensures err { OnErr result (F.held file.new ≡ F.held file.old) }
 {
     match file.write(bytes) {

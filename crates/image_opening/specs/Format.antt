@@ -1,6 +1,6 @@
 -- What an image tells an opening: the fields of its superblock and its geometry, or the first fault.
 -- Own: the superblock is judged before the geometry, and the geometry before the mode.
-use Rattle.std.specs.Prelude.{◌≡◌, ℕ, ◌≤◌, false, if◌then◌else◌, Option, List, Result, Ok, Err}
+use Rattle.std.specs.Prelude.{◌≡◌, ◌≢◌, ℕ, ◌≤◌, false, if◌then◌else◌, Option, List, Result, Ok, Err}
 use Rattle.disk_model.specs.Causes.{Rose}
 use Rattle.disk_model.specs.Disk.{Content, Image, last_image}
 use Rattle.image_model.specs.declared.flags.TheConstants.{DIRTY_BITMAP}
@@ -86,7 +86,8 @@ pub record IsOpenedNow (key : Option (List ℕ)) (sectors : ℕ) (format : Image
 
 -- ---- why
 
--- The count of faults never falls, and `Disk` comes only where it rose.
+-- The count of faults never falls; `Disk` comes only where it rose, and else it is as it was.
 pub record HasDiskCause {T : Type 0} (before after : ℕ) (result : Result T OpenFault) : Type 0 where
   pub later : before ≤ after
   pub failed : result ≡ Err Disk → Rose before after
+  pub passed : result ≢ Err Disk → after ≡ before

@@ -42,6 +42,7 @@ pub fn read_named<S: NamedSource>(
     ensures memory { result ≡ Err ReadFault.Memory → source.new ≡ source.old }
 
     ensures later { S.faults source.old ≤ S.faults source.new }
+    ensures passed { OnOk result (S.faults source.new ≡ S.faults source.old) }
 {
     let Ok(mut bytes) = vec![in alloc; 0; most] else {
         return Err(ReadFault::Memory);

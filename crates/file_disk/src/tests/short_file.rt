@@ -1,7 +1,7 @@
 //! A file in memory that does few sectors at a time and is interrupted, and a folder that has it.
 ghost use Rattle.std.specs.Prelude.{◌≡◌, ◌≤◌, ◌+◌, ◌*◌, ◌/◌, ◌^◌, ◌<◌, IsTrue, [], codes, length};
 ghost use Rattle.disk_model.specs.Identity.{BoundTo};
-ghost use Rattle.file_disk.specs.Files.{named_as};
+ghost use Rattle.file_disk.specs.Files.{named_as, of_file};
 ghost use Rattle.sector_disk.specs.MemDisk.{record_of, moments_told};
 ghost use Rattle.sector_disk.specs.ReadsAnImage.{candidates_are_whole, last_image_is_image};
 
@@ -110,6 +110,7 @@ pub struct ShortFolder {
     file: Option<ShortFile>,
     interrupts: Interrupts,
     faults: u64,
+    ghost fresh: { of_file 0 (λ f. (record_of f.disk).plan.faults) file ≡ 0 },
 }
 
 impl Folder for ShortFolder {

@@ -1,6 +1,7 @@
 //! Files in memory that do few bytes at a time and are interrupted, and a folder that has one.
 ghost use Rattle.std.specs.Prelude.{◌≡◌, ◌≤◌, ◌<◌, IsTrue, None, Some, length};
 ghost use Rattle.disk_model.specs.Identity.{AnyName};
+ghost use Rattle.file_disk.specs.Files.{of_file};
 ghost use Rattle.file_stream.specs.Streams.{named_as};
 
 use crate::{InputFile, InputFolder, OutputFile};
@@ -59,6 +60,8 @@ impl<'b> ShortInput<'b> {
         failing: &[u64],
     ) -> ShortInput<'b>
         requires { length failing.now ≤ 8 }
+
+        ensures fresh { result.source.plan.faults ≡ 0 }
     {
         let mut source = MemSource::new(bytes);
         source.fail_at(failing);
@@ -97,11 +100,14 @@ pub struct ShortFolder<'b> {
     file: Option<ShortInput<'b>>,
     interrupts: Interrupts,
     faults: u64,
+    ghost fresh: { of_file 0 (λ f. f.source.plan.faults) file ≡ 0 },
 }
 
 impl<'b> ShortFolder<'b> {
     /// A folder with this file. So many of its calls are interrupted.
-    pub fn new(file: ShortInput<'b>, interruptions: u64) -> ShortFolder<'b> {
+    pub fn new(file: ShortInput<'b>, interruptions: u64) -> ShortFolder<'b>
+        requires { file.source.plan.faults ≡ 0 }
+    {
         ShortFolder {
             file: Some(file),
             interrupts: Interrupts::new(interruptions),

@@ -8,5 +8,5 @@ abbrev pub invariant-loop-piece : goal.invariant-loop-piece
 invariant-loop-piece g l = record {
   held : g.O.Sink.held l.out
       ≡ option_map (with_bytes (bytes_of (take l.piece-index l.pieces))) (g.O.Sink.held l.fn.out);
-  later : g.O.Counted.faults l.fn.out ≤ g.O.Counted.faults l.out;
+  faults : g.O.Counted.faults l.out ≡ g.O.Counted.faults l.fn.out;
 }

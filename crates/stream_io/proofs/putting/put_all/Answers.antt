@@ -16,5 +16,5 @@ loop-done-preserved g c =
           ∙ ap (λ (bytes : List ℕ). option_map (with_bytes (take n bytes)) (g.S.Sink.held c.loop-done.sink)) (take_rest c.args.bytes.now done)
           ∙ ap (option_map (with_bytes (take n (drop done c.args.bytes.now)))) c.loop-done.invariant.held
           ∙ with_bytes-take c.args.bytes.now done n (g.S.Sink.held c.args.sink.now);
-      later = search rules;
+      faults = search rules;
     }

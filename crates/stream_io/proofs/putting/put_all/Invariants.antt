@@ -7,7 +7,7 @@ abbrev pub invariant-loop-done : goal.invariant-loop-done
 invariant-loop-done g l = record {
   within : l.done ≤ length l.bytes;
   held : g.S.Sink.held l.sink ≡ option_map (with_bytes (take l.done l.bytes)) (g.S.Sink.held l.fn.sink);
-  later : g.S.Counted.faults l.fn.sink ≤ g.S.Counted.faults l.sink;
+  faults : g.S.Counted.faults l.sink ≡ g.S.Counted.faults l.fn.sink;
 }
 
 abbrev pub decreases-loop-done : goal.decreases-loop-done

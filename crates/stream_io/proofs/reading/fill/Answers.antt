@@ -13,7 +13,7 @@ loop-done-preserved g c =
       read = λ left told. filled_more c.loop-done.done c.in_ok-count.count _ c.loop-done.buffer c.read.new.buffer left before.within read.count (before.read left told) (read.read (drop c.loop-done.done left) (before.rest ∙ ap (option_map (drop c.loop-done.done)) told));
       rest = left_more c.loop-done.done c.in_ok-count.count _ _ _ before.rest read.left;
       binding = search rules;
-      later = search rules;
+      faults = search rules;
     }
 
 pub returns-then-count-eq0-clause-read : goal.returns-then-count-eq0-clause-read

@@ -8,7 +8,7 @@ invariant-loop-done g l = record {
   read : ForSome (g.S.NamedSource.left l.fn.source) (λ left. take l.done l.buffer ≡ take l.done left);
   rest : g.S.NamedSource.left l.source ≡ option_map (drop l.done) (g.S.NamedSource.left l.fn.source);
   binding : g.S.Named.binding l.source ≡ g.S.Named.binding l.fn.source;
-  later : g.S.Counted.faults l.fn.source ≤ g.S.Counted.faults l.source;
+  faults : g.S.Counted.faults l.source ≡ g.S.Counted.faults l.fn.source;
 }
 
 abbrev pub decreases-loop-done : goal.decreases-loop-done

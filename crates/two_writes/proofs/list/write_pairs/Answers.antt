@@ -24,7 +24,7 @@ loop-pair-preserved g c =
     record {
       written = turn_of_item (λ (before : Content) (pair : Pair). with_pair pair before) c.args.pairs.now c.loop-pair.pair-index next _ _ _ (search rules) c.pair-item.is c.loop-pair.invariant.written c.in_ok-write_pair.ensures.written;
       identity = search rules;
-      later = search rules;
+      faults = search rules;
       moments = amid_then c.args.pairs.now c.loop-pair.pair-index next is_next c.loop-pair.invariant.written c.loop-pair.invariant.moments c.write_pair.ensures.moments;
     }
 

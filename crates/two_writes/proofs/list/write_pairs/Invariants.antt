@@ -10,6 +10,6 @@ invariant-loop-pair g l =
     record {
       written : content_now (moments_of l.disk) ≡ option_map (with_pairs (take l.pair-index l.pairs)) (content_now (moments_of l.fn.disk));
       identity : g.D.Disk.identity l.disk ≡ g.D.Disk.identity l.fn.disk;
-      later : g.D.Counted.faults l.fn.disk ≤ g.D.Counted.faults l.disk;
+      faults : g.D.Counted.faults l.disk ≡ g.D.Counted.faults l.fn.disk;
       moments : EachMoment (moments_of l.fn.disk) (moments_of l.disk) (FromStart (moments_of l.fn.disk) (IsAmidPairs l.pairs));
     }
