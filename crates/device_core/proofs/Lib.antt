@@ -6,3 +6,4 @@ pub mod OpeningLemmas
 pub mod ReadyLemmas
 pub mod LeftLemmas
 pub mod Worked
+pub mod SerialLemmas

@@ -1,5 +1,5 @@
 -- What the calls of a device answer, as the events of `device_model` do.
-use Rattle.std.specs.Prelude.{◌≡◌, ℕ, suc, ◌-◌, ◌*◌, ◌≤◌, Bool, List, if◌then◌else◌, Option, Some, None, Result, Ok, Err}
+use Rattle.std.specs.Prelude.{◌≡◌, ◌≢◌, ℕ, suc, ◌-◌, ◌*◌, ◌≤◌, Bool, List, if◌then◌else◌, Option, Some, None, Result, Ok, Err}
 use Rattle.std.specs.Str.{bytes_eq}
 use Rattle.disk_model.specs.Causes.{Rose}
 use Rattle.disk_model.specs.Disk.{Content}
@@ -7,6 +7,7 @@ use Rattle.disk_model.specs.Identity.{DiskIdentity}
 use Rattle.image_model.specs.Tag.{tag_of}
 use Rattle.device_model.specs.Progress as Model
 use Rattle.device_model.specs.Request as Asks
+use Rattle.device_model.specs.RequestLaws.{IsSerialReply}
 use Rattle.direct_model.specs.DirectDisk.{DirectDisk}
 use Rattle.direct_laws.specs.ServeLaws.{KeepsDevice}
 use Rattle.direct_mode.specs.Places.{WritesPlaces}
@@ -115,10 +116,11 @@ abbrev pub condition_by : {T : Type 0} → Result T StepFault → Condition
 condition_by (Ok done) = Conditions.Working
 condition_by (Err fault) = Conditions.Broken
 
--- The count of faults never falls, and `Disk` comes only where it rose.
+-- The count of faults never falls; `Disk` comes only where it rose, and else it is as it was.
 pub record HasStepCause {T : Type 0} (before after : ℕ) (result : Result T StepFault) : Type 0 where
   pub later : before ≤ after
   pub failed : result ≡ Err Faults.Disk → Rose before after
+  pub passed : result ≢ Err Faults.Disk → after ≡ before
 
 -- The device answers an event so, and is the one after it.
 pub record IsDone (w : Standing) (event : Model.Event) (answer : Model.Answer) (condition : Condition)
@@ -176,6 +178,15 @@ pub record HasTaken (w : Standing) (ticket : ℕ) (result : Result Reply ℕ) (c
     (parts : Parts) (moments : List Content) : Type 0 where
   pub taken : IsTaken result (Model.event_result w.format w.state (Model.Take ticket)).answer
   pub done : HasDone w (Model.Take ticket) condition parts moments moments
+
+-- The reply to the request of this ticket, and the bytes given back with it, are those that it has where all requests run
+-- one after the other, in order of submission.
+pub record IsSerial (w : Standing) (ticket : ℕ) (reply : Reply) : Type 0 where
+  pub place : ℕ
+  pub is : ticket ≡ suc place
+  pub request : Asks.Request
+  pub serial : IsSerialReply w.format w.state.history.base w.state.progress.requests place request
+      (as_reply reply) (returned_in reply)
 
 -- What a step of a device in this condition answers: in direct mode there is nothing to do.
 abbrev pub step_answer : Condition → Result Moved StepFault

@@ -1,8 +1,9 @@
 -- What an opening leaves.
 use Rattle.std.specs.Prelude.{◌≡◌, ◌≢◌, ℕ, ◌*◌, ◌≤◌, Err, List, length, Option}
-use Rattle.disk_model.specs.Disk.{Content, Image, last_image}
+use Rattle.disk_model.specs.Causes.{Rose}
+use Rattle.disk_model.specs.Disk.{Content, Image, last_image, newest_only}
 use Rattle.disk_model.specs.Identity.{DiskIdentity}
-use Rattle.disk_model.specs.Moments.{HasNow}
+use Rattle.disk_model.specs.Moments.{EachSince, HasNow}
 use Rattle.image_model.specs.Geometry.{Geometry}
 use Rattle.place_model.specs.Format.{format_on}
 use Rattle.place_model.specs.Kind.{placed_kind}
@@ -54,7 +55,14 @@ pub record IsRefused (key : Option (List ℕ)) (disk : DiskIdentity) (fault : Op
   pub kept : fault ≢ OpenFaults.Disk → after ≡ before
   pub left : CanOpenRead key disk.sectors before → IsLeftOpening key disk.sectors before after
 
--- The disk is the one that it was, and its count of faults has not fallen.
-pub record IsSameDisk (old new : DiskIdentity) (faults_before faults_after : ℕ) : Type 0 where
+-- The disk is the one that it was. At each moment of the call its content is the one at the start, or its newest candidates
+-- alone.
+pub record IsSynced (old new : DiskIdentity) (before after : List Content) : Type 0 where
   pub identity : new ≡ old
-  pub later : faults_before ≤ faults_after
+  pub synced : EachSince (λ start c. c ≡ newest_only start) before after
+
+-- The count of faults never falls; `Disk` comes only where it rose, and else it is as it was.
+pub record HasRefusalCause (before after : ℕ) (fault : OpenFault) : Type 0 where
+  pub later : before ≤ after
+  pub failed : fault ≡ OpenFaults.Disk → Rose before after
+  pub passed : fault ≢ OpenFaults.Disk → after ≡ before

@@ -5,15 +5,14 @@ ghost use Rattle.request_slots.specs.Submitting.{after_submit};
 ghost use Rattle.request_slots.specs.Submitting as Submitting;
 ghost use Rattle.request_slots.specs.Taking.{after_take, taken_by};
 ghost use Rattle.device_model.specs.Progress.{Close, FailedClose, IsClosed, Step};
-ghost use Rattle.disk_model.specs.Causes.{Rose};
-ghost use Rattle.disk_model.specs.Disk.{OnlyAdds, newest_only};
+ghost use Rattle.disk_model.specs.Disk.{OnlyAdds};
 ghost use Rattle.disk_model.specs.Moments.{EachSince};
 ghost use Rattle.disk_model.specs.Identity.{IsBound};
 ghost use Rattle.hmac_tag.specs.TagMaker.{key_of};
-ghost use Rattle.direct_mode.specs.Places.{IsNoBlock, IsOfPlaces, WritesPlaces};
-ghost use Rattle.device_core.specs.Opening.{HasOpened, IsRefused, IsSameDisk};
-ghost use Rattle.device_core.specs.Answers.{HasEnded, HasServed, HasStepCause, HasSubmitted, HasTaken, IsDone, IsWrittenNext, actor_of, answer_by, condition_by, event_by, moved_answer, step_answer, submit_fault, turns_left};
-ghost use Rattle.device_core.specs.Device.{IsDevice, IsReady, KeepsFlight, Standing};
+ghost use Rattle.direct_mode.specs.Places.{IsNoBlock, IsOfPlaces};
+ghost use Rattle.device_core.specs.Opening.{HasOpened, HasRefusalCause, IsRefused, IsSynced};
+ghost use Rattle.device_core.specs.Answers.{HasEnded, HasServed, HasStepCause, HasSubmitted, HasTaken, IsDone, IsSerial, KeepsParts, actor_of, answer_by, condition_by, event_by, moved_answer, step_answer, submit_fault, turns_left};
+ghost use Rattle.device_core.specs.Device.{IsDevice, IsReady, Standing};
 
 use crate::{
     Actor, Condition, Moved, Parts, Served, StepFault, closing, opening, serving, stepping,
@@ -41,39 +40,37 @@ pub struct Refused<'d, D: Disk> {
 }
 
 impl<'d, D: Disk> Device<'d, D> {
-    /// Opens a device on a disk, by superblock and geometry alone, whose tags are made by this hash. It takes all memory
-    /// that it ever takes.
+    /// Opens a device on a disk, by superblock and geometry alone, whose tags are made by this hash: the first sector is
+    /// read and judged, all memory that the device ever takes is taken, and then the disk is synced.
     ///
     /// # Errors
     ///
     /// The disk comes back with the first of these.
     ///
-    /// - `Disk`: the disk failed.
+    /// - `Disk`: the disk failed at the read.
     /// - `Super`: the superblock is refused. A disk without a sector has no magic.
     /// - `Geom`: the disk has no room for what the superblock tells.
     /// - `Mode`: there is a bitmap.
     /// - `Memory`: there is none for what the device keeps.
+    /// - `Disk`: the disk failed at the sync.
     pub fn open(alloc: Global, disk: &'d mut D, hash: Hash) -> Result<Device<'d, D>, Refused<'d, D>>
         requires { IsBound (D.identity disk.old).name }
 
         ensures opened { IfOk result (λ d. HasOpened (key_of hash) (D.identity disk.old) d.parts
             (D.moments disk.old) (D.moments d.disk.now)) }
         ensures works { IfOk result (λ d. d.condition ≡ Condition.Working) }
-        ensures same { IfOk result (λ d. IsSameDisk (D.identity disk.old) (D.identity d.disk.now)
-            (D.faults disk.old) (D.faults d.disk.now)) }
-        ensures same_disk { IfOk result (λ d. d.disk.ghost_name ≡ disk.entry.ghost_name) }
-        ensures synced { IfOk result (λ d. EachSince (λ start c. c ≡ newest_only start)
+        ensures same { IfOk result (λ d. IsSynced (D.identity disk.old) (D.identity d.disk.now)
             (D.moments disk.old) (D.moments d.disk.now)) }
+        ensures same_disk { IfOk result (λ d. d.disk.ghost_name ≡ disk.entry.ghost_name) }
+        ensures passed { IfOk result (λ d. D.faults d.disk.now ≡ D.faults disk.old) }
 
-        ensures cause { IfErr result (λ r. r.fault ≡ OpenFault.Disk
-            → Rose (D.faults disk.old) (D.faults r.disk.now)) }
+        ensures cause { IfErr result (λ r.
+            HasRefusalCause (D.faults disk.old) (D.faults r.disk.now) r.fault) }
         ensures refused { IfErr result (λ r. IsRefused (key_of hash) (D.identity disk.old) r.fault
             (D.moments disk.old) (D.moments r.disk.now)) }
-        ensures same_back { IfErr result (λ r. IsSameDisk (D.identity disk.old) (D.identity r.disk.now)
-            (D.faults disk.old) (D.faults r.disk.now)) }
-        ensures same_disk_back { IfErr result (λ r. r.disk.ghost_name ≡ disk.entry.ghost_name) }
-        ensures synced_back { IfErr result (λ r. EachSince (λ start c. c ≡ newest_only start)
+        ensures same_back { IfErr result (λ r. IsSynced (D.identity disk.old) (D.identity r.disk.now)
             (D.moments disk.old) (D.moments r.disk.now)) }
+        ensures same_disk_back { IfErr result (λ r. r.disk.ghost_name ≡ disk.entry.ghost_name) }
     {
         match opening::open(alloc, disk, hash) {
             Ok(parts) => Ok(Device {
@@ -170,15 +167,11 @@ impl<'d, D: Disk> Device<'d, D> {
         ensures broken { ((self.old.condition ≡ Condition.Broken) ↔ (result ≡ Err StepFault.Broken))
             × (self.old.condition ≡ Condition.Broken → self.new.disk.now ≡ self.old.disk.now) }
 
-        ensures ready { IsReady self.new.parts (D.identity self.new.disk.now) (D.moments self.new.disk.now) }
-        ensures flight { KeepsFlight self.old.parts.slots self.new.parts.slots }
-        ensures condition { self.new.condition ≡ condition_by result }
-        ensures identity { D.identity self.new.disk.now ≡ D.identity self.old.disk.now }
-        ensures same_disk { self.new.disk.ghost_name ≡ self.old.disk.ghost_name }
-
-        ensures writes { WritesPlaces (IsWrittenNext self.old.parts.slots ticket.now)
-            self.old.parts.tags.geometry self.new.parts.tags.geometry
+        ensures keeps { KeepsParts ticket.now self.old.parts self.new.parts
+            (D.identity self.old.disk.now) (D.identity self.new.disk.now)
             (D.moments self.old.disk.now) (D.moments self.new.disk.now) }
+        ensures condition { self.new.condition ≡ condition_by result }
+        ensures same_disk { self.new.disk.ghost_name ≡ self.old.disk.ghost_name }
     {
         serving::serve(self.disk, &mut self.parts, &mut self.condition, ticket)
     }
@@ -199,6 +192,9 @@ impl<'d, D: Disk> Device<'d, D> {
         ensures done { (w : Standing)
             → IsDevice w self.old.condition self.old.parts (D.moments self.old.disk.now)
             → HasTaken w ticket result self.new.condition self.new.parts (D.moments self.new.disk.now) }
+        ensures serial { IfOk result (λ reply. (w : Standing)
+            → IsDevice w self.old.condition self.old.parts (D.moments self.old.disk.now)
+            → IsSerial w ticket reply) }
 
         ensures ready { IsReady self.old.parts (D.identity self.old.disk.now) (D.moments self.old.disk.now)
             → IsReady self.new.parts (D.identity self.new.disk.now) (D.moments self.new.disk.now) }

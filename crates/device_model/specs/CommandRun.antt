@@ -1,0 +1,123 @@
+-- The run of a command: what it starts on, what its run is, how far that came, and what it leaves.
+-- Own: a command that is refused prints one line; a run ends at the first thing that ends it.
+use Rattle.std.specs.Prelude.{◌≡◌, ◌⊎◌, ℕ, ◌<◌, Bool, List, [], ◌++◌, length, take}
+use Rattle.disk_model.specs.Disk.{Content, EachImage, Image, newest_only}
+use Rattle.device_model.specs.Device.{DeviceKind}
+use Rattle.device_model.specs.Ending.{Ending, Complete, RefusedWords, RefusedKey, RefusedLine, RefusedLength, RefusedImage, DiskFailed, KeyFailed, ScriptFailed, SinkFailed, NoMemory, status_of, fault_text}
+use Rattle.device_model.specs.History.{Change, with_changes}
+use Rattle.device_model.specs.ScriptRun.{ScriptRun, IsCameTo, IsRunOf, IsWhole, changes_in, only_ends, texts_of}
+
+-- What a command starts on: it is refused before any line; or its script runs on a device that opens an image.
+pub data Outset : Type 1 where
+  RefusedBy : (ending : Ending) → Outset
+  RunsOn : (kind : DeviceKind) → (image : Image) → Outset
+
+-- Its run, where nothing outside fails. One that is refused runs no line.
+abbrev pub IsRunAt : Outset → (script : List ℕ) → ScriptRun → Type 0
+IsRunAt (RefusedBy ending) script run = run ≡ only_ends ending
+IsRunAt (RunsOn kind image) script run = IsRunOf (kind.format image) (kind.opened image) script run
+
+-- ---- how far it came
+
+-- The run comes to its own end: no line of it is refused.
+abbrev pub IsComplete : ScriptRun → Type 0
+IsComplete run = (found_fault : Bool) × (run.ending ≡ Complete found_fault)
+
+-- It is a fault outside, or want of memory.
+abbrev pub IsFromOutside : Ending → Type 0
+IsFromOutside (Complete found_fault) = ⊥
+IsFromOutside RefusedWords = ⊥
+IsFromOutside (RefusedKey refusal) = ⊥
+IsFromOutside (RefusedLine number fault) = ⊥
+IsFromOutside RefusedLength = ⊥
+IsFromOutside (RefusedImage fault) = ⊥
+IsFromOutside DiskFailed = Unit {0}
+IsFromOutside KeyFailed = Unit {0}
+IsFromOutside ScriptFailed = Unit {0}
+IsFromOutside SinkFailed = Unit {0}
+IsFromOutside NoMemory = Unit {0}
+
+-- Something outside ended the run, which came so far: not all of one that comes to its own end.
+pub record IsEndedShort (run : ScriptRun) (text : List ℕ) (changes : List Change) (ending : Ending) : Type 0 where
+  pub came : IsCameTo run text changes
+  pub short : IsComplete run → length text < length (texts_of run.steps)
+  pub outside : IsFromOutside ending
+
+-- All of the run is done, and it came to its own ending.
+pub record IsEndedWhole (run : ScriptRun) (text : List ℕ) (changes : List Change) (ending : Ending) : Type 0 where
+  pub whole : IsWhole run text changes
+  pub is : ending ≡ run.ending
+
+-- This ended the run, which came so far.
+abbrev pub IsEndedBy : ScriptRun → (text : List ℕ) → List Change → Ending → Type 0
+IsEndedBy run text changes ending = IsEndedWhole run text changes ending ⊎ IsEndedShort run text changes ending
+
+-- ---- what is left
+
+-- No sector was written: the content is that at the start, or its newest candidates alone.
+abbrev pub IsUntouched : (start later : Content) → Type 0
+IsUntouched start later = (later ≡ start) ⊎ (later ≡ newest_only start)
+
+-- Each image of the content can be opened, and may be left of the device once these changes are made.
+pub record IsLeftBy (kind : DeviceKind) (image : Image) (changes : List Change) (later : Content) : Type 0 where
+  pub opens : EachImage kind.CanOpen later
+  pub left : EachImage (kind.MayBeLeft image (with_changes changes (kind.opened image).history)) later
+
+-- What is left of a disk with this content at the start, once these changes are made.
+abbrev pub IsLeftAt : Outset → (start : Content) → List Change → (later : Content) → Type 0
+IsLeftAt (RefusedBy ending) start changes later = IsUntouched start later
+IsLeftAt (RunsOn kind image) start changes later =
+    ((changes ≡ []) × IsUntouched start later) ⊎ IsLeftBy kind image changes later
+
+-- What stands at a moment of the command: what some of the first changes of its run leave.
+pub record MayBeLeftAt (outset : Outset) (start : Content) (script : List ℕ) (later : Content) : Type 0 where
+  pub run : ScriptRun
+  pub is_run : IsRunAt outset script run
+  pub made : ℕ
+  pub left : IsLeftAt outset start (take made (changes_in run.steps)) later
+
+-- ---- all of it
+
+-- Which counts of faults rose in a command: of the disk, of the sources of the key and the script, and of the sink.
+pub record Faults : Type 1 where
+  pub disk : Type 0
+  pub key : Type 0
+  pub script : Type 0
+  pub sink : Type 0
+
+-- What is outside ends a command only where its count rose.
+abbrev pub HasCauseIn : Faults → Ending → Type 0
+HasCauseIn faults (Complete found_fault) = Unit {0}
+HasCauseIn faults RefusedWords = Unit {0}
+HasCauseIn faults (RefusedKey refusal) = Unit {0}
+HasCauseIn faults (RefusedLine number fault) = Unit {0}
+HasCauseIn faults RefusedLength = Unit {0}
+HasCauseIn faults (RefusedImage fault) = Unit {0}
+HasCauseIn faults DiskFailed = faults.disk
+HasCauseIn faults KeyFailed = faults.key
+HasCauseIn faults ScriptFailed = faults.script
+HasCauseIn faults SinkFailed = faults.sink
+HasCauseIn faults NoMemory = Unit {0}
+
+-- The last line of a command is whole, or, where the sink failed, a part of it.
+abbrev pub IsLastLine : (sink_rose : Type 0) → Ending → List ℕ → Type 0
+IsLastLine sink_rose ending line =
+    (line ≡ fault_text ending)
+    ⊎ (sink_rose × (count : ℕ) × (count < length (fault_text ending)) × (line ≡ take count (fault_text ending)))
+
+-- What a command with this status printed behind what the sink held, and what it left: its run came so far, something ended
+-- it, and its last line tells what.
+pub record Tells (outset : Outset) (start : Content) (script before after : List ℕ) (status : ℕ)
+    (faults : Faults) (later : Content) : Type 0 where
+  pub run : ScriptRun
+  pub is_run : IsRunAt outset script run
+  pub text : List ℕ
+  pub changes : List Change
+  pub ending : Ending
+  pub ended : IsEndedBy run text changes ending
+  pub cause : HasCauseIn faults ending
+  pub is_status : status ≡ status_of ending
+  pub line : List ℕ
+  pub last : IsLastLine faults.sink ending line
+  pub printed : after ≡ before ++ (text ++ line)
+  pub left : IsLeftAt outset start changes later
