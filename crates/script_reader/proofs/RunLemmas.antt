@@ -6,7 +6,7 @@ use Rattle.std.proofs.Math.Seq.{take-append_seam}
 use Rattle.std.proofs.lemmas.List.Elements.{All-append, Contains-append_cases}
 use Rattle.device_model.specs.Grammar.{most_line}
 use Rattle.device_model.specs.ScriptBytes.{most_script}
-use Rattle.script_reader.specs.Reading.{Reading, IsWithin, IsSettled, TakesBytes, HasNoNewline, BeginsLine}
+use Rattle.script_reader.specs.Reading.{Reading, IsWithin, IsSettled, TakesBytes, TakesOneLine, HasNoNewline, BeginsLine}
 use Rattle.script_reader.specs.Lines.{lines_left, FindsWholeLine, FindsLongLine, FindsLongScript, FindsLine}
 use Rattle.script_reader.specs.Run.{TakesRun, EndsRun}
 use Rattle.script_reader.specs.declared.next_line.NextLine.{NextLine}
@@ -310,3 +310,32 @@ FindsLine-end next start old now first middle last inside same read no_unread wi
     let short : length now.line ≤ most_line = rw (ap (λ (r : Reading). r.line) same) inside.short in
     script_ends next start now (start.unread ++ left) (now.unread ++ later) now.line refl begins_now short
     within.taken line end none)
+
+-- ---- how much is taken of the source for a line
+
+-- Inside a line no more than that was taken.
+pub TakesOneLine-inside : (start now : Reading) (first last : Option (List ℕ)) → IsInLine start first now last
+    → TakesOneLine start now
+TakesOneLine-inside start now first last inside = record {
+  line = omega (arith, inside.counted);
+  low = omega (arith, inside.counted, inside.short);
+}
+
+-- At its end its newline was taken too, or a byte beyond its bound.
+pub TakesOneLine-end : (next : NextLine) (start old new : Reading) (first last : Option (List ℕ))
+    → IsInLine start first old last → EndsRun (Some next) old new → TakesOneLine start new
+TakesOneLine-end Line start old new first last inside (run, short) =
+    let size = ap length run.line in
+    record {
+      line = omega (arith, inside.counted, run.taken, size, length-append old.line run.run);
+      low = omega (arith, inside.counted, run.taken, size, length-append old.line run.run, short);
+    }
+TakesOneLine-end End start old new first last inside ends = absurd ends
+TakesOneLine-end LongLine start old new first last inside (run, long) =
+    let size = ap length run.line in
+    record {
+      line = omega (arith, inside.counted, run.taken, size, length-append old.line run.run);
+      low = omega (arith, inside.counted, run.taken, size, length-append old.line run.run, long);
+    }
+TakesOneLine-end LongScript start old new first last inside (same, bound) =
+    subst (λ (r : Reading). TakesOneLine start r) (sym same) (TakesOneLine-inside start old first last inside)

@@ -2,6 +2,7 @@
 -- Own: how many bytes are read at a time.
 use Rattle.std.specs.Prelude.{◌≡◌, ◌≢◌, ◌⊎◌, ℕ, ◌+◌, ◌<◌, ◌≤◌, List, ◌++◌, length}
 use Rattle.std.specs.List.{All, Contains}
+use Rattle.device_model.specs.Grammar.{most_line}
 use Rattle.device_model.specs.ScriptBytes.{most_script}
 
 -- A reader of lines: the bytes that it has read and not taken, its line, and how many bytes it took so far.
@@ -19,6 +20,11 @@ pub record IsWithin (reading : Reading) : Type 0 where
   pub taken : reading.taken ≤ most_script
   pub read : reading.taken + length reading.unread ≤ most_script + 1
   pub ahead : length reading.unread ≤ most_piece
+
+-- It took its line and the newline of that at most, and of a line at most one byte beyond its bound.
+pub record TakesOneLine (old new : Reading) : Type 0 where
+  pub line : new.taken ≤ old.taken + (length new.line + 1)
+  pub low : new.taken ≤ old.taken + (most_line + 1)
 
 -- What it has read settles what it tells next: a newline is in it, or the byte beyond the bound of a script.
 abbrev pub IsSettled : Reading → Type 0

@@ -5,7 +5,7 @@
 ghost use Rattle.std.specs.Prelude.{◌≡◌, ◌≢◌, ◌+◌, ◌<◌, ◌≤◌, ℕ, List, [], ◌∷◌, ◌++◌, length, take, drop, slice_index, IsTrue, ◌↔◌, IfOk, OnOk, OnErr, IfSome, IfNone};
 ghost use Rattle.std.specs.Option.{ForSome, IsSomeAnd};
 ghost use Rattle.disk_model.specs.Causes.{HasCause};
-ghost use Rattle.script_reader.specs.Reading.{HasNoNewline};
+ghost use Rattle.script_reader.specs.Reading.{HasNoNewline, TakesOneLine};
 
 use crate::NextLine;
 use crate::piece::{PIECE, Piece};
@@ -96,6 +96,7 @@ impl LineReader {
         ensures bytes { ForSome (S.left script.old) (λ left. IsSomeAnd (S.left script.new)
             (λ later. TakesBytes self.old self.new (self.old.unread ++ left) (self.new.unread ++ later))) }
         ensures within { IsWithin self.new }
+        ensures one { TakesOneLine self.old self.new }
         // The source is not called where what was read tells what is next.
         ensures script { IsSettled self.old → script.new ≡ script.old }
     {

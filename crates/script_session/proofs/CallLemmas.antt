@@ -42,14 +42,15 @@ use Rattle.script_session.specs.declared.line_answer.LineAnswer.{LineAnswer}
 use Rattle.script_session.specs.declared.line_answer.LineAnswer.TheVariants as Lines
 use Rattle.script_session.specs.declared.tickets.Tickets.{Tickets}
 use Rattle.script_session.specs.declared.tickets.Waiting.{Waiting}
-use Rattle.script_session.specs.LineRun.{HasAnswered, HasRun, IsCutOff, standing_behind}
+use Rattle.script_session.specs.LineRun.{HasAnswered, HasBegun, HasFailed, HasRun, standing_behind}
 use Rattle.script_session.specs.Serves.{HasServedOnce, KeepsAll}
 use Rattle.script_session.specs.Tickets.{AreInFlight, Stays, ask_by, is_of}
 use Rattle.script_session.specs.Told.{IsNoTicket, IsTicketOf, answer_found, answer_told, finds_fault, refused_answer, reply_found, reply_told, served_line}
-use Rattle.script_session.proofs.RunLemmas.{cut_run, cut_then, cut_wider, run_one, run_then}
+use Rattle.script_session.proofs.RunLemmas.{failed_then, failed_wider, run_one, run_then}
 use Rattle.script_session.proofs.SplitLemmas.{IsSplit, asks-without, split_of, split_own, split_removed}
 use Rattle.script_session.proofs.TicketLemmas.{any-asks}
 use Rattle.script_session.proofs.WayLemmas.{in_flight_kept}
+use Rattle.script_session.proofs.WritesLemmas.{WritesOnly-kept}
 
 -- ---- one event
 
@@ -67,12 +68,12 @@ answered_run w event answer line parts a b run is text found = record {
 
 pub answered_done : (w : Standing) (event : Event) (answer : Model.Answer) (line : LineAnswer)
     (condition : Condition) (parts : Parts) (a b : List Content)
-    → IsDone w event answer condition parts a b → condition ≡ Conditions.Working
+    → IsDone w event answer condition parts a b → condition ≡ Conditions.Working → b ≡ a
     → answer_told line ≡ answer_text answer → finds_fault (answer_found line) ≡ tells_fault answer
     → HasAnswered w (event ∷ []) line parts a b
-answered_done w event answer line condition parts a b is works text found =
+answered_done w event answer line condition parts a b is works same text found =
     answered_run w event answer line parts a b
-    (run_one w event parts a b (subst (λ (x : Condition). HasDone w event x parts a b) works is.done)) is.answers text found
+    (run_one w event parts a b (subst (λ (x : Condition). HasDone w event x parts a b) works is.done) (WritesOnly-kept w.disk.format.geometry _ same)) is.answers text found
 
 served_text : (served : Served) → answer_told (served_line served) ≡ answer_text (served_answer served)
 served_text (Serves.Held by) = refl
@@ -160,7 +161,7 @@ pub submit_told : (w : Standing) (request : Request) (fault : Option SubmitFault
     → HasAnswered w (Model.Submit (as_submission request) ∷ []) line parts a a
 submit_told w request fault n line condition parts a is works same =
     subst (λ (l : LineAnswer). HasAnswered w (Model.Submit (as_submission request) ∷ []) l parts a a) (sym same)
-    (answered_done w (Model.Submit (as_submission request)) (submit_answer fault n) (submitted_line fault n) condition parts a a is works (submitted_text fault n) (submitted_found fault n))
+    (answered_done w (Model.Submit (as_submission request)) (submit_answer fault n) (submitted_line fault n) condition parts a a is works refl (submitted_text fault n) (submitted_found fault n))
 
 -- ---- a request in flight
 
@@ -325,14 +326,14 @@ module _ (w : Standing) (parts : Parts) (a : List Content) (is : IsDevice w Cond
       ∙ ap (λ (x : Reply). script.reply_text asked.request (as_reply x)) (sym reply_is)
       ∙ ap (λ (q : Asks.Request). script.reply_text q (as_reply reply)) (sym request_is) in
       answered_run w (Take own.ticket) (Model.Replied r (as_reply reply) (returned_in reply)) (Lines.Replied own.first own.count reply) new b b
-      (run_one w (Take own.ticket) new b b (subst (λ (x : Condition). HasDone w (Take own.ticket) x new b b) works taken.done)) taken.taken.1 text (reply_found-is reply)
+      (run_one w (Take own.ticket) new b b (subst (λ (x : Condition). HasDone w (Take own.ticket) x new b b) works taken.done) (WritesOnly-kept w.disk.format.geometry _ refl)) taken.taken.1 text (reply_found-is reply)
 
 pub untaken_told : (w : Standing) (ticket back : ℕ) (condition : Condition) (new : Parts) (a : List Content)
     → condition ≡ Conditions.Working → HasTaken w ticket (Err back) condition new a
     → HasAnswered w (Take ticket ∷ []) Lines.NotDone new a a
 untaken_told w ticket back condition new a works taken =
     answered_run w (Take ticket) Model.NotDone Lines.NotDone new a a
-    (run_one w (Take ticket) new a a (subst (λ (x : Condition). HasDone w (Take ticket) x new a a) works taken.done)) taken.taken refl refl
+    (run_one w (Take ticket) new a a (subst (λ (x : Condition). HasDone w (Take ticket) x new a a) works taken.done) (WritesOnly-kept w.disk.format.geometry _ refl)) taken.taken refl refl
 
 -- ---- what stays
 
@@ -464,11 +465,16 @@ module _ (w : Standing) (ask : script.Ask) (p q : Parts) (a b c : List Content) 
           found = answered.found ∙ ap script.told_fault (sym last);
         }
 
-    -- Its disk failed before it was submitted, or there was no memory for it.
-    pub ask_cut : (d : List Content) → d ≡ b → IsCutOff w (line_events w.format w.state line) a d
-    ask_cut d same =
-        subst (λ (m : List Content). IsCutOff w (line_events w.format w.state line) a m) (sym same)
-        (cut_run w before (whole_events w.format submission at_rest) p a b first)
+    -- There was no memory for it.
+    pub ask_begun : (u : Parts) (d : List Content) → u ≡ p → d ≡ b
+        → HasBegun w (line_events w.format w.state line) u a d
+    ask_begun u d same same_moments = record {
+      made = before;
+      rest = whole_events w.format submission at_rest;
+      all = refl;
+      run = subst (λ (x : Parts). HasRun w before x a d) (sym same)
+          (subst (λ (m : List Content). HasRun w before p a m) (sym same_moments) first);
+    }
 
     module _ (ticket : ℕ) (given : (Model.event_result w.format at_rest (Model.Submit submission)).answer ≡ Model.Ticket ticket) (second : HasRun here (Model.Submit submission ∷ []) q b c) where
       abbrev next : Standing
@@ -496,11 +502,11 @@ module _ (w : Standing) (ask : script.Ask) (p q : Parts) (a b c : List Content) 
           }
 
       -- The disk failed in a serve of it.
-      pub ask_cut_off : (d : List Content) → IsCutOff next finished c d
-          → IsCutOff w (line_events w.format w.state line) a d
-      ask_cut_off d cut =
+      pub ask_failed : (r : Parts) (d : List Content) → HasFailed next finished r c d
+          → HasFailed w (line_events w.format w.state line) r a d
+      ask_failed r d failed =
           let whole = whole-ticket w.format at_rest submission ticket given in
-          subst (λ (l : List Event). IsCutOff w (before ++ l) a d) (sym whole)
-          (cut_then w before (Model.Submit submission ∷ (finished ++ Take ticket ∷ [])) p a b d first
-          (cut_then here (Model.Submit submission ∷ []) (finished ++ Take ticket ∷ []) q b c d second
-          (cut_wider next finished (Take ticket ∷ []) c d cut)))
+          subst (λ (l : List Event). HasFailed w (before ++ l) r a d) (sym whole)
+          (failed_then w before (Model.Submit submission ∷ (finished ++ Take ticket ∷ [])) p r a b d first
+          (failed_then here (Model.Submit submission ∷ []) (finished ++ Take ticket ∷ []) q r b c d second
+          (failed_wider next finished (Take ticket ∷ []) r c d failed)))

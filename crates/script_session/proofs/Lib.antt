@@ -6,3 +6,4 @@ pub mod RunLemmas
 pub mod SplitLemmas
 pub mod TicketLemmas
 pub mod WayLemmas
+pub mod WritesLemmas

@@ -9,7 +9,7 @@ use Rattle.device_core.specs.Device.{IsDevice, Standing}
 use Rattle.script_session.specs.declared.line_answer.LineAnswer.{LineAnswer}
 use Rattle.script_session.specs.declared.tags_found.TagsFound.{TagsFound}
 use Rattle.script_session.specs.declared.tickets.Tickets.{Tickets}
-use Rattle.script_session.specs.LineRun.{HasAnswered, HasRun, HasRunLine, IsCutLine, IsCutOff, IsHalfTold, IsRunnable, events_of, held_with}
+use Rattle.script_session.specs.LineRun.{HasAnswered, HasBegun, HasFailed, HasRun, HasRunLine, IsBegunLine, IsCutLine, IsCutOff, IsFailedLine, IsHalfTold, IsRunnable, events_of, held_with}
 use Rattle.script_session.specs.Meaning.{fault_on}
 use Rattle.script_session.specs.Tickets.{AreInFlight, numbers_of}
 use Rattle.script_session.specs.Told.{answer_found, answer_told, finds_fault}
@@ -27,14 +27,27 @@ module _ (w : Standing) (parts : Parts) (a : List Content) (is : IsDevice w Cond
       ∙ ap (λ (n : ℕ). fault_on parts.slots.blocks n (numbers_of tickets) line) size_is
       ∙ fault-is w.format parts.slots w.state.progress is.flight tickets are line)
 
-cut_done : (w : Standing) (events : List Event) (parts : Parts) (a b : List Content) → HasRun w events parts a b
-    → IsCutOff w events a b
-cut_done w events parts a b run =
-    subst (λ (l : List Event). IsCutOff w l a b) (append-nil events) (cut_run w events [] parts a b run)
+-- What is begun is cut off.
+pub cut_begun : (w : Standing) (events : List Event) (parts : Parts) (a b : List Content)
+    → HasBegun w events parts a b → IsCutOff w events a b
+cut_begun w events parts a b begun =
+    subst (λ (l : List Event). IsCutOff w l a b) (sym begun.all) (cut_run w begun.made begun.rest parts a b begun.run)
+
+all_begun : (w : Standing) (events : List Event) (parts : Parts) (a b : List Content) → HasRun w events parts a b
+    → HasBegun w events parts a b
+all_begun w events parts a b run = record { made = events; rest = []; all = sym (append-nil events); run = run }
 
 module _ (w : Standing) (line : ScriptLine) (runnable : IsRunnable w line) (a b : List Content) (before now : Option (List ℕ)) where
   pub line_cut : IsCutOff w (events_of w line) a b → now ≡ before → IsCutLine w line a b before now
   line_cut cut told = record { runnable = runnable; cut = cut; told = told }
+
+  pub line_failed : (parts : Parts) → HasFailed w (events_of w line) parts a b → now ≡ before
+      → IsFailedLine w line parts a b before now
+  line_failed parts failed told = record { runnable = runnable; failed = failed; told = told }
+
+  pub line_begun : (parts : Parts) → HasBegun w (events_of w line) parts a b → now ≡ before
+      → IsBegunLine w line parts a b before now
+  line_begun parts begun told = record { runnable = runnable; begun = begun; told = told }
 
   module _ (answer : LineAnswer) (parts : Parts) (answered : HasAnswered w (events_of w line) answer parts a b) where
     -- All is done and told,
@@ -48,8 +61,8 @@ module _ (w : Standing) (line : ScriptLine) (runnable : IsRunnable w line) (a b 
     }
 
     -- or nothing is told,
-    pub line_untold : now ≡ before → IsCutLine w line a b before now
-    line_untold told = record { runnable = runnable; cut = cut_done w (events_of w line) parts a b answered.run; told = told }
+    pub line_untold : now ≡ before → IsBegunLine w line parts a b before now
+    line_untold told = line_begun parts (all_begun w (events_of w line) parts a b answered.run) told
 
     -- or a part.
     pub line_half : AddsPrefix (answer_told answer) before now → IsHalfTold w line parts a b before now
@@ -58,3 +71,16 @@ module _ (w : Standing) (line : ScriptLine) (runnable : IsRunnable w line) (a b 
       run = answered.run;
       told = subst (λ (t : List ℕ). AddsPrefix t before now) answered.text told;
     }
+
+-- ---- for callers
+
+-- A line in which the disk failed was cut off,
+pub line_cut_failed : (w : Standing) (line : ScriptLine) (parts : Parts) (a b : List Content)
+    (before now : Option (List ℕ)) → IsFailedLine w line parts a b before now → IsCutLine w line a b before now
+line_cut_failed w line parts a b before now is = line_cut w line is.runnable a b before now is.failed.cut is.told
+
+-- and so was one that was begun.
+pub line_cut_begun : (w : Standing) (line : ScriptLine) (parts : Parts) (a b : List Content)
+    (before now : Option (List ℕ)) → IsBegunLine w line parts a b before now → IsCutLine w line a b before now
+line_cut_begun w line parts a b before now is =
+    line_cut w line is.runnable a b before now (cut_begun w (events_of w line) parts a b is.begun) is.told

@@ -1,5 +1,5 @@
 -- Events one after the other, and what may be left of them.
-use Rattle.std.proofs.Common.{◌≡◌, ℕ, zero, suc, ◌+◌, List, [], ◌∷◌, ◌++◌, length, take, refl, sym, ◌∙◌, ap, subst, append-nil}
+use Rattle.std.proofs.Common.{◌≡◌, ℕ, zero, suc, ◌+◌, List, [], ◌∷◌, ◌++◌, length, take, refl, sym, ◌∙◌, ap, subst, append-nil, append_assoc}
 use Rattle.std.specs.List.{AllByRecursion}
 use Rattle.std.proofs.lemmas.List.{append_cancel_right}
 use Rattle.std.proofs.Math.Seq.{take-append-add}
@@ -20,7 +20,8 @@ use Rattle.place_model.specs.Kind.{placed_kind}
 use Rattle.device_core.specs.declared.condition.Condition.TheVariants as Conditions
 use Rattle.device_core.specs.declared.parts.Parts.{Parts}
 use Rattle.device_core.specs.Device.{HasDone, IsDevice, Standing}
-use Rattle.script_session.specs.LineRun.{HasRun, IsCutOff, IsLeftWithin, standing_behind}
+use Rattle.script_session.specs.LineRun.{HasBegun, HasFailed, HasRun, IsCutOff, IsLeftWithin, WritesOnly, WritesOnlyOf, standing_behind}
+use Rattle.script_session.proofs.WritesLemmas.{WritesOnly-kept, WritesOnly-left, WritesOnly-then}
 
 -- ---- moments
 
@@ -116,9 +117,42 @@ module _ (w : Standing) where
       subst (λ (l : List Change). LeftIn l c) (sym (changes_of-append f s xs ys))
       (left-behind (kind_of w.disk) w.entry s.history (changes_of f s xs) more c same)
 
+  -- What is written of some events is written of them and more,
+  writes_wider : (xs ys : List Event) (a b : List Content) → WritesOnlyOf w xs a b → WritesOnlyOf w (xs ++ ys) a b
+  writes_wider xs ys a b writes =
+      let g = w.disk.format.geometry in
+      subst (λ (l : List Change). WritesOnly g l a b) (sym (changes_of-append f s xs ys))
+      (WritesOnly-left g (changes_of f s xs) (changes_of f (after_events f s xs) ys) writes)
+
+  -- and so it is of those behind them.
+  writes_then : (xs ys : List Event) (d : DirectDisk) → d.format ≡ w.disk.format → (a b c : List Content)
+      → WritesOnlyOf w xs a b → WritesOnlyOf (standing_behind w xs d) ys b c → WritesOnlyOf w (xs ++ ys) a c
+  writes_then xs ys d format a b c first second =
+      let more = changes_of f (after_events f s xs) ys in
+      let g = w.disk.format.geometry in
+      let same = subst (λ (x : DiskFormat). WritesOnly x.geometry more b c) format second in
+      subst (λ (l : List Change). WritesOnly g l a c) (sym (changes_of-append f s xs ys))
+      (WritesOnly-then g (changes_of f s xs) more first same)
+
   -- Nothing is done.
   pub run_none : (p : Parts) (a : List Content) → IsDevice w Conditions.Working p a → HasRun w [] p a a
-  run_none p a is = record { disk = w.disk; format = refl; device = is; since = no_moment a _ }
+  run_none p a is = record {
+    disk = w.disk;
+    format = refl;
+    device = is;
+    since = no_moment a _;
+    writes = WritesOnly-kept w.disk.format.geometry [] refl;
+  }
+
+  pub none_begun : (events : List Event) (p q : Parts) (a b : List Content) → IsDevice w Conditions.Working p a
+      → q ≡ p → b ≡ a → HasBegun w events q a b
+  none_begun events p q a b is same same_moments = record {
+    made = [];
+    rest = events;
+    all = refl;
+    run = subst (λ (x : Parts). HasRun w [] x a b) (sym same)
+        (subst (λ (m : List Content). HasRun w [] p a m) (sym same_moments) (run_none p a is));
+  }
 
   -- Events behind others that are done.
   pub run_then : (xs ys : List Event) (p q : Parts) (a b c : List Content) (first : HasRun w xs p a b)
@@ -129,6 +163,7 @@ module _ (w : Standing) where
     device = subst (λ (u : DeviceState). IsDevice (record { format = f; state = u; disk = second.disk; entry = w.entry }) Conditions.Working q c)
         (sym (after_events-append f s xs ys)) second.device;
     since = EachMoment-then (EachMoment-weaker (since_wider xs ys) first.since) (EachMoment-weaker (since_behind xs ys first.disk first.format) second.since);
+    writes = writes_then xs ys first.disk first.format a b c first.writes second.writes;
   }
 
   -- They may be cut off,
@@ -137,6 +172,7 @@ module _ (w : Standing) where
   cut_then xs ys p a b c first second = record {
     since = EachMoment-then (EachMoment-weaker (since_wider xs ys) first.since) (EachMoment-weaker (since_behind xs ys first.disk first.format) second.since);
     now = λ x told. since_behind xs ys first.disk first.format x (second.now x told);
+    writes = writes_then xs ys first.disk first.format a b c first.writes second.writes;
   }
 
   -- or not begun,
@@ -149,6 +185,7 @@ module _ (w : Standing) where
       opens = first.device.left.opens x told;
       left = first.device.left.left x told;
     });
+    writes = writes_wider xs ys a b first.writes;
   }
 
   -- as where the first were cut off.
@@ -156,6 +193,7 @@ module _ (w : Standing) where
   cut_wider xs ys a b cut = record {
     since = EachMoment-weaker (since_wider xs ys) cut.since;
     now = λ x told. since_wider xs ys x (cut.now x told);
+    writes = writes_wider xs ys a b cut.writes;
   }
 
   -- Events that come to the same.
@@ -167,6 +205,7 @@ module _ (w : Standing) where
     format = run.format;
     device = subst (λ (u : DeviceState). IsDevice (record { format = f; state = u; disk = run.disk; entry = w.entry }) Conditions.Working p b) after run.device;
     since = EachMoment-weaker (λ c is. subst (λ (l : List Change). LeftIn l c) changes is) run.since;
+    writes = subst (λ (l : List Change). WritesOnly w.disk.format.geometry l a b) changes run.writes;
   }
 
   pub cut_same : (xs ys : List Event) (a b : List Content) → changes_of f s xs ≡ changes_of f s ys
@@ -174,13 +213,65 @@ module _ (w : Standing) where
   cut_same xs ys a b changes cut = record {
     since = EachMoment-weaker (λ c is. subst (λ (l : List Change). LeftIn l c) changes is) cut.since;
     now = λ x told. subst (λ (l : List Change). LeftIn l x) changes (cut.now x told);
+    writes = subst (λ (l : List Change). WritesOnly w.disk.format.geometry l a b) changes cut.writes;
+  }
+
+  -- ---- a serve that failed
+
+  -- Events are done before it,
+  pub failed_then : (xs ys : List Event) (p q : Parts) (a b c : List Content) (first : HasRun w xs p a b)
+      → HasFailed (standing_behind w xs first.disk) ys q b c → HasFailed w (xs ++ ys) q a c
+  failed_then xs ys p q a b c first second = record {
+    cut = cut_then xs ys p a b c first second.cut;
+    made = xs ++ second.made;
+    ticket = second.ticket;
+    rest = second.rest;
+    same =
+        ap (after_events f s) (append_assoc xs second.made (Serve second.ticket ∷ second.rest))
+        ∙ after_events-append f s xs (second.made ++ Serve second.ticket ∷ second.rest) ∙ second.same ∙ sym (after_events-append f s xs ys);
+    disk = second.disk;
+    format = second.format ∙ first.format;
+    device = subst (λ (u : DeviceState). IsDevice (record { format = f; state = u; disk = second.disk; entry = w.entry }) Conditions.Broken q c)
+        (sym (ap (after_events f s) (append_assoc xs second.made (FailedServe second.ticket ∷ [])) ∙ after_events-append f s xs (second.made ++ FailedServe second.ticket ∷ []))) second.device;
+  }
+
+  -- or come behind it,
+  pub failed_wider : (xs ys : List Event) (p : Parts) (a b : List Content) → HasFailed w xs p a b
+      → HasFailed w (xs ++ ys) p a b
+  failed_wider xs ys p a b failed = record {
+    cut = cut_wider xs ys a b failed.cut;
+    made = failed.made;
+    ticket = failed.ticket;
+    rest = failed.rest ++ ys;
+    same =
+        ap (after_events f s) (sym (append_assoc failed.made (Serve failed.ticket ∷ failed.rest) ys))
+        ∙ after_events-append f s (failed.made ++ Serve failed.ticket ∷ failed.rest) ys
+        ∙ ap (λ (u : DeviceState). after_events f u ys) failed.same ∙ sym (after_events-append f s xs ys);
+    disk = failed.disk;
+    format = failed.format;
+    device = failed.device;
+  }
+
+  -- or come to the same.
+  pub failed_same : (xs ys : List Event) (p : Parts) (a b : List Content)
+      → after_events f s xs ≡ after_events f s ys → changes_of f s xs ≡ changes_of f s ys
+      → HasFailed w xs p a b → HasFailed w ys p a b
+  failed_same xs ys p a b after changes failed = record {
+    cut = cut_same xs ys a b changes failed.cut;
+    made = failed.made;
+    ticket = failed.ticket;
+    rest = failed.rest;
+    same = failed.same ∙ after;
+    disk = failed.disk;
+    format = failed.format;
+    device = failed.device;
   }
 
   -- ---- one event
 
   pub run_one : (event : Event) (p : Parts) (a b : List Content) → HasDone w event Conditions.Working p a b
-      → HasRun w (event ∷ []) p a b
-  run_one event p a b done =
+      → WritesOnlyOf w (event ∷ []) a b → HasRun w (event ∷ []) p a b
+  run_one event p a b done writes =
       let changes = (event_result f s event).changes in
       record {
         disk = done.disk;
@@ -192,13 +283,13 @@ module _ (w : Standing) where
           left = subst (λ (h : History). EachImage ((kind_of w.disk).MayBeLeft w.entry h) c)
               (is.1.within.is ∙ ap (λ (l : List Change). with_changes (take is.1.within.kept l) s.history) (sym (append-nil changes))) is.1.each;
         }) (EachMoment-both done.through.opens done.through.left);
+        writes = writes;
       }
 
-  -- A serve in which the disk failed.
-  pub cut_failed : (ticket : ℕ) (p : Parts) (a b : List Content) → s.condition ≡ Working
-      → HasDone w (FailedServe ticket) Conditions.Broken p a b
+  cut_failed : (ticket : ℕ) (p : Parts) (a b : List Content) → s.condition ≡ Working
+      → HasDone w (FailedServe ticket) Conditions.Broken p a b → WritesOnlyOf w (Serve ticket ∷ []) a b
       → IsCutOff w (Serve ticket ∷ []) a b
-  cut_failed ticket p a b works done =
+  cut_failed ticket p a b works done writes =
       let changes = (event_result f s (Serve ticket)).changes in
       let begun : (event_result f s (FailedServe ticket)).changes ≡ first_begun changes =
       ap (λ (x : EventResult). x.changes) (result-working f s (FailedServe ticket) works)
@@ -227,4 +318,20 @@ module _ (w : Standing) where
                   ∙ ap (λ (l : List Change). with_changes l s.history) (sym m.1)
                   ∙ ap (λ (l : List Change). with_changes (take m.0 l) s.history) (sym (append-nil changes))) left;
             };
+        writes = writes;
       }
+
+  -- A serve in which the disk failed.
+  pub serve_failed : (ticket : ℕ) (p : Parts) (a b : List Content) → s.condition ≡ Working
+      → HasDone w (FailedServe ticket) Conditions.Broken p a b → WritesOnlyOf w (Serve ticket ∷ []) a b
+      → HasFailed w (Serve ticket ∷ []) p a b
+  serve_failed ticket p a b works done writes = record {
+    cut = cut_failed ticket p a b works done writes;
+    made = [];
+    ticket = ticket;
+    rest = [];
+    same = refl;
+    disk = done.disk;
+    format = done.format;
+    device = done.device;
+  }

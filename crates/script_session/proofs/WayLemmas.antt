@@ -19,12 +19,12 @@ use Rattle.device_core.specs.Device.{Answers, HasDone, IsDevice, KeepsFlight, St
 use Rattle.device_core.proofs.TurnLemmas.{placed}
 use Rattle.script_session.specs.declared.tickets.Tickets.{Tickets}
 use Rattle.script_session.specs.declared.tickets.Waiting.{Waiting}
-use Rattle.script_session.specs.LineRun.{HasRun, IsCutOff, standing_behind}
+use Rattle.script_session.specs.LineRun.{HasFailed, HasRun, WritesOnlyOf, standing_behind}
 use Rattle.script_session.specs.Serves.{HasServedOnce}
 use Rattle.script_session.specs.Tickets.{AreInFlight, numbers_of}
 use Rattle.script_session.proofs.AllLemmas.{finish_each, finish_each-all, finish_each-append, numbers_from}
 use Rattle.script_session.proofs.FinishLemmas.{Begins, more_by, whole_finish-begins, whole_finish-by}
-use Rattle.script_session.proofs.RunLemmas.{cut_failed, cut_same, cut_then, cut_wider, run_none, run_one, run_same, run_then}
+use Rattle.script_session.proofs.RunLemmas.{failed_same, failed_then, failed_wider, run_none, run_one, run_same, run_then, serve_failed}
 use Rattle.script_session.proofs.TicketLemmas.{numbers-are, numbers-split}
 
 -- ---- what stays
@@ -54,20 +54,21 @@ device_works w condition parts a works is = subst (λ (x : Condition). IsDevice 
 
 module _ (w : Standing) (ticket : ℕ) (condition : Condition) (parts : Parts) (a b : List Content) where
   pub served_once : (served : Served) → HasServed w ticket (Ok served) condition parts a b
-      → condition ≡ Conditions.Working
+      → condition ≡ Conditions.Working → WritesOnlyOf w (Serve ticket ∷ []) a b
       → HasServedOnce w ticket served parts a b
-  served_once served has works = record {
+  served_once served has works writes = record {
     answers = has.answers;
-    run = run_one w (Serve ticket) parts a b (subst (λ (x : Condition). HasDone w (Serve ticket) x parts a b) works has.done);
+    run = run_one w (Serve ticket) parts a b (subst (λ (x : Condition). HasDone w (Serve ticket) x parts a b) works has.done) writes;
   }
 
   pub serve_cut : (fault : StepFault) → w.state.condition ≡ Working
       → HasServed w ticket (Err fault) condition parts a b
-      → condition ≡ Conditions.Broken → fault ≡ Faults.Disk → IsCutOff w (Serve ticket ∷ []) a b
-  serve_cut fault works has broken disk =
-      cut_failed w ticket parts a b works
+      → condition ≡ Conditions.Broken → fault ≡ Faults.Disk → WritesOnlyOf w (Serve ticket ∷ []) a b
+      → HasFailed w (Serve ticket ∷ []) parts a b
+  serve_cut fault works has broken disk writes =
+      serve_failed w ticket parts a b works
       (subst (λ (x : Condition). HasDone w (FailedServe ticket) x parts a b) broken
-      (subst (λ (x : StepFault). HasServed w ticket (Err x) condition parts a b) disk has).done)
+      (subst (λ (x : StepFault). HasServed w ticket (Err x) condition parts a b) disk has).done) writes
 
 -- The disk failed where a device that works is at fault.
 pub fault_is_disk : (c : Condition) (fault : StepFault) → c ≡ Conditions.Working
@@ -110,16 +111,16 @@ begins w ticket parts a is in_flight =
     subst (Begins w.format w.state) (sym ticket_is) (whole_finish-begins w.format w.state place.place place.asked place.there)
 
 -- A serve of it was cut off.
-pub way_cut : (w : Standing) (ticket : ℕ) (p : Parts) (a b c : List Content) (way : IsOnWay w ticket p a b)
+pub way_cut : (w : Standing) (ticket : ℕ) (p q : Parts) (a b c : List Content) (way : IsOnWay w ticket p a b)
     → is_in_flight ticket p.slots ≡ true
-    → IsCutOff (standing_behind w way.made way.run.disk) (Serve ticket ∷ []) b c
-    → IsCutOff w (whole_finish w.format ticket w.state) a c
-way_cut w ticket p a b c way there cut =
+    → HasFailed (standing_behind w way.made way.run.disk) (Serve ticket ∷ []) q b c
+    → HasFailed w (whole_finish w.format ticket w.state) q a c
+way_cut w ticket p q a b c way there cut =
     let first = begins (standing_behind w way.made way.run.disk) ticket p b way.run.device there in
     let same : whole_finish w.format ticket w.state ≡ (way.made ++ Serve ticket ∷ []) ++ first.rest =
     way.rest ∙ ap (λ (l : List Event). way.made ++ l) first.is ∙ sym (append_assoc way.made (Serve ticket ∷ []) first.rest) in
-    subst (λ (l : List Event). IsCutOff w l a c) (sym same)
-    (cut_wider w (way.made ++ Serve ticket ∷ []) first.rest a c (cut_then w way.made (Serve ticket ∷ []) p a b c way.run cut))
+    subst (λ (l : List Event). HasFailed w l q a c) (sym same)
+    (failed_wider w (way.made ++ Serve ticket ∷ []) first.rest q a c (failed_then w way.made (Serve ticket ∷ []) p q a b c way.run cut))
 
 module _ (w : Standing) (ticket : ℕ) (p q : Parts) (a b c : List Content) (way : IsOnWay w ticket p a b) (there : is_in_flight ticket p.slots ≡ true) where
   abbrev here : Standing
@@ -167,18 +168,19 @@ each_more w tickets ticket p q a b c first second =
     finish_each-append w.format tickets (ticket ∷ []) w.state ∙ ap (λ (l : List Event). events ++ l) (append-nil whole) in
     subst (λ (l : List Event). HasRun w l q a c) (sym same) (run_then w events whole p q a b c first second)
 
-pub each_cut : (w : Standing) (before : List ℕ) (ticket : ℕ) (behind : List ℕ) (p : Parts)
+pub each_cut : (w : Standing) (before : List ℕ) (ticket : ℕ) (behind : List ℕ) (p q : Parts)
     (a b c : List Content) (first : HasRun w (finish_each w.format before w.state) p a b)
-    → (let here = standing_behind w (finish_each w.format before w.state) first.disk in IsCutOff here (whole_finish here.format ticket here.state) b c)
-    → IsCutOff w (finish_each w.format (before ++ ticket ∷ behind) w.state) a c
-each_cut w before ticket behind p a b c first second =
+    → (let here = standing_behind w (finish_each w.format before w.state) first.disk in HasFailed here (whole_finish here.format ticket here.state) q b c)
+    → HasFailed w (finish_each w.format (before ++ ticket ∷ behind) w.state) q a c
+each_cut w before ticket behind p q a b c first second =
     let events = finish_each w.format before w.state in
     let here = after_events w.format w.state events in
     let whole = whole_finish w.format ticket here in
     let rest = finish_each w.format behind (after_events w.format here whole) in
     let same : finish_each w.format (before ++ ticket ∷ behind) w.state ≡ (events ++ whole) ++ rest =
     finish_each-append w.format before (ticket ∷ behind) w.state ∙ sym (append_assoc events whole rest) in
-    subst (λ (l : List Event). IsCutOff w l a c) (sym same) (cut_wider w (events ++ whole) rest a c (cut_then w events whole p a b c first second))
+    subst (λ (l : List Event). HasFailed w l q a c) (sym same)
+    (failed_wider w (events ++ whole) rest q a c (failed_then w events whole p q a b c first second))
 
 -- So all are, as the model has it.
 module _ (w : Standing) (tickets : Tickets) (parts : Parts) (a : List Content) (is : IsDevice w Conditions.Working parts a) (are : AreInFlight tickets parts.slots) where
@@ -192,21 +194,22 @@ module _ (w : Standing) (tickets : Tickets) (parts : Parts) (a : List Content) (
       let same = finish_each-all w.format w.state is.condition_ in
       run_same w _ _ q a b same.after same.changes (subst (λ (l : List ℕ). HasRun w (finish_each w.format l w.state) q a b) numbers_is run)
 
-  pub all_cut : (b : List Content) → IsCutOff w (finish_each w.format (numbers_of tickets) w.state) a b
-      → IsCutOff w (finish_all_events w.format 1 (length w.state.progress.requests) w.state) a b
-  all_cut b cut =
+  pub all_cut : (q : Parts) (b : List Content) → HasFailed w (finish_each w.format (numbers_of tickets) w.state) q a b
+      → HasFailed w (finish_all_events w.format 1 (length w.state.progress.requests) w.state) q a b
+  all_cut q b cut =
       let same = finish_each-all w.format w.state is.condition_ in
-      cut_same w _ _ a b same.changes (subst (λ (l : List ℕ). IsCutOff w (finish_each w.format l w.state) a b) numbers_is cut)
+      failed_same w _ _ q a b same.after same.changes
+      (subst (λ (l : List ℕ). HasFailed w (finish_each w.format l w.state) q a b) numbers_is cut)
 
   -- They were cut off at one of them.
   pub all_cut_at : (i : ℕ) (own : Waiting) → i < length tickets.waiting.items
-      → own ≡ get_or tickets.waiting.items i own → (p : Parts) (b c : List Content)
+      → own ≡ get_or tickets.waiting.items i own → (p q : Parts) (b c : List Content)
       (first : HasRun w (finish_each w.format (map (λ x. x.ticket) (take i tickets.waiting.items)) w.state) p a b)
-      → (let here = standing_behind w (finish_each w.format (map (λ x. x.ticket) (take i tickets.waiting.items)) w.state) first.disk in IsCutOff here (whole_finish here.format own.ticket here.state) b c)
-      → IsCutOff w (finish_all_events w.format 1 (length w.state.progress.requests) w.state) a c
-  all_cut_at i own low own_is p b c first cut =
-      all_cut c (subst (λ (l : List ℕ). IsCutOff w (finish_each w.format l w.state) a c) (numbers-split tickets.waiting.items i own low own_is)
-      (each_cut w (map (λ x. x.ticket) (take i tickets.waiting.items)) own.ticket (map (λ x. x.ticket) (drop (suc i) tickets.waiting.items)) p a b c first cut))
+      → (let here = standing_behind w (finish_each w.format (map (λ x. x.ticket) (take i tickets.waiting.items)) w.state) first.disk in HasFailed here (whole_finish here.format own.ticket here.state) q b c)
+      → HasFailed w (finish_all_events w.format 1 (length w.state.progress.requests) w.state) q a c
+  all_cut_at i own low own_is p q b c first cut =
+      all_cut q c (subst (λ (l : List ℕ). HasFailed w (finish_each w.format l w.state) q a c) (numbers-split tickets.waiting.items i own low own_is)
+      (each_cut w (map (λ x. x.ticket) (take i tickets.waiting.items)) own.ticket (map (λ x. x.ticket) (drop (suc i) tickets.waiting.items)) p q a b c first cut))
 
   -- One of them more is finished.
   pub each_more_at : (i : ℕ) (own : Waiting) → i < length tickets.waiting.items

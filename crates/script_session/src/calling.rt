@@ -4,13 +4,13 @@ ghost use Rattle.std.specs.List.{list_any};
 ghost use Rattle.disk_model.specs.Causes.{HasCause};
 ghost use Rattle.device_model.specs.Progress.{Serve, Step, Submit, Take};
 ghost use Rattle.device_core.specs.Answers as Core;
-ghost use Rattle.device_core.specs.declared.condition.Condition.TheVariants.{Working};
+ghost use Rattle.device_core.specs.declared.condition.Condition.TheVariants.{Broken, Working};
 ghost use Rattle.device_core.specs.Device.{IsDevice, IsReady, Standing};
 ghost use Rattle.request_slots.specs.Flight.{count_in, first_in};
 ghost use Rattle.request_slots.specs.InFlight.{as_submission};
 ghost use Rattle.script_text.specs.Line.{actor_of};
 ghost use Rattle.script_session.specs.declared.line_answer.LineAnswer.TheVariants.{Ticket};
-ghost use Rattle.script_session.specs.LineRun.{HasAnswered, IsCutOff, TellsTicket};
+ghost use Rattle.script_session.specs.LineRun.{HasAnswered, HasFailed, TellsTicket};
 ghost use Rattle.script_session.specs.Told.{refused_answer, served_line};
 ghost use Rattle.script_session.specs.Tickets.{AreInFlight, Stays, is_of};
 
@@ -86,9 +86,11 @@ pub(crate) fn serve_one<'d, D: Disk>(
     ensures cause { HasCause (D.faults device.old.disk.now) (D.faults device.new.disk.now) result }
     ensures err { OnErr result ((w : Standing)
         → IsDevice w Working device.old.parts (D.moments device.old.disk.now)
-        → IsCutOff w (Serve number ∷ []) (D.moments device.old.disk.now) (D.moments device.new.disk.now)) }
+        → HasFailed w (Serve number ∷ []) device.new.parts
+        (D.moments device.old.disk.now) (D.moments device.new.disk.now)) }
 
     ensures works { OnOk result (device.new.condition ≡ Working) }
+    ensures broken { OnErr result (device.new.condition ≡ Broken) }
     ensures stays { Stays device.old.parts device.new.parts tickets.now (D.identity device.old.disk.now)
         (D.identity device.new.disk.now) (D.moments device.new.disk.now) }
     ensures same_disk { device.new.disk.ghost_name ≡ device.old.disk.ghost_name }
@@ -161,10 +163,11 @@ pub(crate) fn step<'d, D: Disk>(
     ensures cause { HasCause (D.faults device.old.disk.now) (D.faults device.new.disk.now) result }
     ensures err { OnErr result ((w : Standing)
         → IsDevice w Working device.old.parts (D.moments device.old.disk.now)
-        → IsCutOff w (Step (actor_of actor) ∷ [])
+        → HasFailed w (Step (actor_of actor) ∷ []) device.new.parts
         (D.moments device.old.disk.now) (D.moments device.new.disk.now)) }
 
     ensures works { OnOk result (device.new.condition ≡ Working) }
+    ensures broken { OnErr result (device.new.condition ≡ Broken) }
     ensures parts { device.new.parts ≡ device.old.parts }
     ensures disk { device.new.disk.now ≡ device.old.disk.now }
     ensures same_disk { device.new.disk.ghost_name ≡ device.old.disk.ghost_name }

@@ -1,13 +1,13 @@
 //! Serves requests until they are done.
 ghost use Rattle.std.specs.Prelude.{◌≡◌, ◌<◌, ◌∷◌, [], true, length, IfOk, OnErr, OnOk};
 ghost use Rattle.disk_model.specs.Causes.{HasCause};
-ghost use Rattle.device_core.specs.declared.condition.Condition.TheVariants.{Working};
+ghost use Rattle.device_core.specs.declared.condition.Condition.TheVariants.{Broken, Working};
 ghost use Rattle.device_core.specs.Answers.{turns_left};
 ghost use Rattle.device_core.specs.Device.{IsDevice, IsReady, Standing};
 ghost use Rattle.device_model.specs.Progress.{Serve};
 ghost use Rattle.device_model.specs.Script.{finish_all_events, whole_finish};
 ghost use Rattle.request_slots.specs.Flight.{is_in_flight};
-ghost use Rattle.script_session.specs.LineRun.{HasRun, IsCutOff};
+ghost use Rattle.script_session.specs.LineRun.{HasFailed, HasRun};
 ghost use Rattle.script_session.specs.Serves.{HasServedOnce, KeepsAll};
 ghost use Rattle.script_session.specs.Tickets.{AreInFlight};
 
@@ -37,10 +37,11 @@ pub(crate) fn finish_all<'d, D: Disk>(
     ensures cause { HasCause (D.faults device.old.disk.now) (D.faults device.new.disk.now) result }
     ensures err { OnErr result ((w : Standing)
         → IsDevice w Working device.old.parts (D.moments device.old.disk.now)
-        → IsCutOff w (finish_all_events w.format 1 (length w.state.progress.requests) w.state)
-        (D.moments device.old.disk.now) (D.moments device.new.disk.now)) }
+        → HasFailed w (finish_all_events w.format 1 (length w.state.progress.requests) w.state)
+        device.new.parts (D.moments device.old.disk.now) (D.moments device.new.disk.now)) }
 
     ensures works { OnOk result (device.new.condition ≡ Working) }
+    ensures broken { OnErr result (device.new.condition ≡ Broken) }
     ensures kept { KeepsAll device.old.parts device.new.parts (D.identity device.old.disk.now)
         (D.identity device.new.disk.now) (D.moments device.new.disk.now) }
     ensures same_disk { device.new.disk.ghost_name ≡ device.old.disk.ghost_name }
@@ -69,10 +70,11 @@ pub(crate) fn finish<'d, D: Disk>(device: &mut Device<'d, D>, ticket: &Ticket) -
     ensures cause { HasCause (D.faults device.old.disk.now) (D.faults device.new.disk.now) result }
     ensures err { OnErr result ((w : Standing)
         → IsDevice w Working device.old.parts (D.moments device.old.disk.now)
-        → IsCutOff w (whole_finish w.format ticket.now w.state)
+        → HasFailed w (whole_finish w.format ticket.now w.state) device.new.parts
         (D.moments device.old.disk.now) (D.moments device.new.disk.now)) }
 
     ensures works { OnOk result (device.new.condition ≡ Working) }
+    ensures broken { OnErr result (device.new.condition ≡ Broken) }
     ensures kept { KeepsAll device.old.parts device.new.parts (D.identity device.old.disk.now)
         (D.identity device.new.disk.now) (D.moments device.new.disk.now) }
     ensures same_disk { device.new.disk.ghost_name ≡ device.old.disk.ghost_name }
@@ -108,9 +110,11 @@ pub(crate) fn serve<'d, D: Disk>(
     ensures cause { HasCause (D.faults device.old.disk.now) (D.faults device.new.disk.now) result }
     ensures err { OnErr result ((w : Standing)
         → IsDevice w Working device.old.parts (D.moments device.old.disk.now)
-        → IsCutOff w (Serve ticket.now ∷ []) (D.moments device.old.disk.now) (D.moments device.new.disk.now)) }
+        → HasFailed w (Serve ticket.now ∷ []) device.new.parts
+        (D.moments device.old.disk.now) (D.moments device.new.disk.now)) }
 
     ensures works { OnOk result (device.new.condition ≡ Working) }
+    ensures broken { OnErr result (device.new.condition ≡ Broken) }
     ensures kept { KeepsAll device.old.parts device.new.parts (D.identity device.old.disk.now)
         (D.identity device.new.disk.now) (D.moments device.new.disk.now) }
     ensures same_disk { device.new.disk.ghost_name ≡ device.old.disk.ghost_name }

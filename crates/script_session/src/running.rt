@@ -4,13 +4,13 @@ ghost use Rattle.std.specs.List.{list_any};
 ghost use Rattle.device_model.specs.Progress.{Submit};
 ghost use Rattle.device_model.specs.Script.{AskLine, submission_of};
 ghost use Rattle.disk_model.specs.Causes.{HasCause};
-ghost use Rattle.device_core.specs.declared.condition.Condition.TheVariants.{Working};
+ghost use Rattle.device_core.specs.declared.condition.Condition.TheVariants.{Broken, Working};
 ghost use Rattle.device_core.specs.Device.{IsDevice, IsReady, Standing};
 ghost use Rattle.script_text.specs.Line.{ask_of, line_of};
 ghost use Rattle.script_session.specs.declared.line_answer.LineAnswer.TheVariants.{Ticket};
 ghost use Rattle.script_session.specs.declared.line_end.LineEnd.TheVariants as Ends;
 ghost use Rattle.script_session.specs.declared.meaning.MeaningFault.{MeaningFault};
-ghost use Rattle.script_session.specs.LineRun.{HasAnswered, HasEnded, HasLineCause, HasRunLine, IsCutOff, TellsTicket, events_of};
+ghost use Rattle.script_session.specs.LineRun.{HasAnswered, HasBegun, HasEnded, HasFailed, HasLineCause, HasRunLine, ServesNone, TellsTicket, events_of};
 ghost use Rattle.script_session.specs.Meaning.{fault_on};
 ghost use Rattle.script_session.specs.Stop.{HasStopCause};
 ghost use Rattle.script_session.specs.Tickets.{AreInFlight, Stays, is_of, numbers_of};
@@ -27,15 +27,17 @@ use sector_disk::{Disk, Memory};
 use std::alloc::Global;
 use stream_io::Sink;
 
-/// Runs one line of a script on a device that works, and prints what it is told. It is judged first, and its text
-/// is printed once all that it does is done.
+/// Runs one line of a script on a device that works, and prints what it is told. It is judged first, and its
+/// text is printed once all that it does is done. Nothing is written but sectors of tags, and those of the data
+/// of blocks that it writes.
 ///
 /// # Errors
 ///
 /// - `Refused`: it has no meaning here. Nothing was done.
 /// - `Disk`: the disk failed. Nothing is printed, and the device is broken.
 /// - `Sink`: `out` failed. All is done, and a part of the text is printed.
-/// - `Memory`: there is none for a request or for the text. Nothing is printed.
+/// - `Memory`: there is none for a request or for the text. Nothing is printed. The first of what it does is
+///   done, or all.
 pub fn run_line<'d, D: Disk, O: Sink>(
     alloc: Global,
     device: &mut Device<'d, D>,
@@ -63,7 +65,9 @@ pub fn run_line<'d, D: Disk, O: Sink>(
     ensures cause { HasLineCause (D.faults device.old.disk.now) (D.faults device.new.disk.now)
         (O.faults out.old) (O.faults out.new) result }
 
+    ensures quiet { ServesNone (line_of line.now) → device.new.disk.now ≡ device.old.disk.now }
     ensures works { result ≢ Err Ends.Disk → device.new.condition ≡ Working }
+    ensures broken { result ≡ Err Ends.Disk → device.new.condition ≡ Broken }
     ensures stays { Stays device.old.parts device.new.parts tickets.new (D.identity device.old.disk.now)
         (D.identity device.new.disk.now) (D.moments device.new.disk.now) }
     ensures same_disk { device.new.disk.ghost_name ≡ device.old.disk.ghost_name }
@@ -108,12 +112,18 @@ fn answer_of<'d, D: Disk>(
         (D.moments device.old.disk.now) (D.moments device.new.disk.now)) }
 
     ensures cause { HasStopCause (D.faults device.old.disk.now) (D.faults device.new.disk.now) result }
-    ensures err { OnErr result ((w : Standing)
+    ensures disk { result ≡ Err Stop.Disk → (w : Standing)
         → IsDevice w Working device.old.parts (D.moments device.old.disk.now)
-        → IsCutOff w (events_of w (line_of line.now))
-        (D.moments device.old.disk.now) (D.moments device.new.disk.now)) }
+        → HasFailed w (events_of w (line_of line.now)) device.new.parts
+        (D.moments device.old.disk.now) (D.moments device.new.disk.now) }
+    ensures memory { result ≡ Err Stop.Memory → (w : Standing)
+        → IsDevice w Working device.old.parts (D.moments device.old.disk.now)
+        → HasBegun w (events_of w (line_of line.now)) device.new.parts
+        (D.moments device.old.disk.now) (D.moments device.new.disk.now) }
 
+    ensures quiet { ServesNone (line_of line.now) → device.new.disk.now ≡ device.old.disk.now }
     ensures works { result ≢ Err Stop.Disk → device.new.condition ≡ Working }
+    ensures broken { result ≡ Err Stop.Disk → device.new.condition ≡ Broken }
     ensures stays { Stays device.old.parts device.new.parts tickets.new (D.identity device.old.disk.now)
         (D.identity device.new.disk.now) (D.moments device.new.disk.now) }
     ensures same_disk { device.new.disk.ghost_name ≡ device.old.disk.ghost_name }
@@ -151,12 +161,17 @@ fn ask_whole<'d, D: Disk>(
         (D.moments device.old.disk.now) (D.moments device.new.disk.now)) }
 
     ensures cause { HasStopCause (D.faults device.old.disk.now) (D.faults device.new.disk.now) result }
-    ensures err { OnErr result ((w : Standing)
+    ensures disk { result ≡ Err Stop.Disk → (w : Standing)
         → IsDevice w Working device.old.parts (D.moments device.old.disk.now)
-        → IsCutOff w (events_of w (AskLine false (ask_of ask.now)))
-        (D.moments device.old.disk.now) (D.moments device.new.disk.now)) }
+        → HasFailed w (events_of w (AskLine false (ask_of ask.now))) device.new.parts
+        (D.moments device.old.disk.now) (D.moments device.new.disk.now) }
+    ensures memory { result ≡ Err Stop.Memory → (w : Standing)
+        → IsDevice w Working device.old.parts (D.moments device.old.disk.now)
+        → HasBegun w (events_of w (AskLine false (ask_of ask.now))) device.new.parts
+        (D.moments device.old.disk.now) (D.moments device.new.disk.now) }
 
     ensures works { result ≢ Err Stop.Disk → device.new.condition ≡ Working }
+    ensures broken { result ≡ Err Stop.Disk → device.new.condition ≡ Broken }
     ensures stays { Stays device.old.parts device.new.parts tickets.new (D.identity device.old.disk.now)
         (D.identity device.new.disk.now) (D.moments device.new.disk.now) }
     ensures same_disk { device.new.disk.ghost_name ≡ device.old.disk.ghost_name }

@@ -1,5 +1,5 @@
 //! Tells what a line was answered.
-ghost use Rattle.std.specs.Prelude.{◌≡◌, ◌≤◌, [], Err, IfOk, IfErr, MatchOption, OnOk, OnErr, Result};
+ghost use Rattle.std.specs.Prelude.{◌≡◌, ◌≢◌, ◌≤◌, [], Err, IfOk, IfErr, MatchOption, OnOk, OnErr, Result};
 ghost use Rattle.disk_model.specs.Causes.{Rose};
 ghost use Rattle.stream_io.specs.Stream.{AddsPrefix};
 ghost use Rattle.script_text.specs.Told.{told_text};
@@ -42,6 +42,7 @@ pub(crate) fn tell<O: Sink>(
     ensures cause { result ≡ Err TellFault.Sink → Rose (O.faults out.old) (O.faults out.new) }
 
     ensures later { O.faults out.old ≤ O.faults out.new }
+    ensures passed { result ≢ Err TellFault.Sink → O.faults out.new ≡ O.faults out.old }
 {
     let Ok(text) = text_of(alloc, answer) else {
         return Err(TellFault::Memory);

@@ -2,7 +2,7 @@ use Rattle.std.proofs.Common.{ℕ, [], ◌∷◌, sym, ◌∙◌, ap, subst}
 use Rattle.device_model.specs.Progress.{Serve}
 use Rattle.request_slots.specs.Flight.{is_in_flight}
 use Rattle.direct_mode.proofs.ServingLemmas.{on_err_always}
-use Rattle.script_session.specs.LineRun.{HasAnswered, IsCutOff}
+use Rattle.script_session.specs.LineRun.{HasAnswered, HasFailed}
 use Rattle.script_session.proofs.CallLemmas.{served_told}
 use Rattle.script_session.proofs.TicketLemmas.{any-asks}
 use Rattle.script_session.proofs.calling.serve_one.Goals as goal
@@ -14,7 +14,7 @@ serve-requires-clause-there g c =
 
 pub returns-in_err-served-clause-err : goal.returns-in_err-served-clause-err
 returns-in_err-served-clause-err g c = on_err_always c.from_residual.result (λ w is.
-    subst (λ (t : ℕ). IsCutOff w (Serve t ∷ []) (g.D.Disk.moments c.args.device.now.disk.now) (g.D.Disk.moments c.serve.new.device.disk.now)) c.ticket_of.ensures (c.in_err-served.ensures.err w is))
+    subst (λ (t : ℕ). HasFailed w (Serve t ∷ []) c.serve.new.device.parts (g.D.Disk.moments c.args.device.now.disk.now) (g.D.Disk.moments c.serve.new.device.disk.now)) c.ticket_of.ensures (c.in_err-served.ensures.err w is))
 
 pub returns-clause-answered : goal.returns-clause-answered
 returns-clause-answered g c w is =

@@ -15,4 +15,4 @@ returns-in-Ok-Idle-clause-answered g c w is =
     answered_done w _ Model.Idle Lines.Idle c.step.new.self.condition c.step.new.self.parts before after
     (subst (λ (x : Model.Actor). IsDone w (Model.Step x) Model.Idle c.step.new.self.condition c.step.new.self.parts before after) c.core_actor.ensures
     (subst (λ (r : Result Moved StepFault). IsDone w (Model.Step (actor_of c.core_actor.result)) (answer_by moved_answer r) c.step.new.self.condition c.step.new.self.parts before after) (c.in-Ok-Idle.is ∙ ap Ok c.in-Ok-Idle.field-0-is)
-    (c.step.ensures.done w (device_works w _ _ _ c.requires.works is)))) (c.step.ensures.condition ∙ c.requires.works) refl refl
+    (c.step.ensures.done w (device_works w _ _ _ c.requires.works is)))) (c.step.ensures.condition ∙ c.requires.works) (ap g.D.Disk.moments c.step.ensures.disk) refl refl

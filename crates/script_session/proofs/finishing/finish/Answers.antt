@@ -12,7 +12,7 @@ turns-init g c = record {
   there = c.requires.there;
   flight = same_flight _;
   identity = refl;
-  later = omega arith;
+  faults = refl;
   same_disk = refl;
   way = λ w is. way_begins w _ _ _ is;
 }
@@ -20,7 +20,7 @@ turns-init g c = record {
 pub returns-in_err-serve-clause-err : goal.returns-in_err-serve-clause-err
 returns-in_err-serve-clause-err g c = on_err_always c.from_residual.result (λ w is.
     let way = c.turns.invariant.way w is in
-    way_cut w c.args.ticket.now _ _ _ _ way c.turns.invariant.there (c.in_err-serve.ensures.err _ way.run.device))
+    way_cut w c.args.ticket.now _ _ _ _ _ way c.turns.invariant.there (c.in_err-serve.ensures.err _ way.run.device))
 
 pub turns-preserved : goal.turns-preserved
 turns-preserved g c = record {
@@ -29,7 +29,7 @@ turns-preserved g c = record {
   there = c.serve.ensures.kept.flight.same c.args.ticket.now ∙ c.turns.invariant.there;
   flight = kept_flight _ _ _ c.turns.invariant.flight c.serve.ensures.kept.flight;
   identity = c.serve.ensures.kept.identity ∙ c.turns.invariant.identity;
-  later = let before = c.turns.invariant.later in let after = c.serve.ensures.cause.later in omega (arith, before, after);
+  faults = c.in_ok-serve.ensures.cause.passed ∙ c.turns.invariant.faults;
   same_disk = c.serve.ensures.same_disk ∙ c.turns.invariant.same_disk;
   way = λ w is.
       let way = c.turns.invariant.way w is in

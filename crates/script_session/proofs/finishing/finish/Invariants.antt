@@ -13,7 +13,7 @@ invariant-turns g l = record {
   there : is_in_flight l.ticket l.device.parts.slots ≡ true;
   flight : KeepsFlight l.initial.device.parts.slots l.device.parts.slots;
   identity : g.D.Disk.identity l.device.disk.now ≡ g.D.Disk.identity l.initial.device.disk.now;
-  later : g.D.Counted.faults l.initial.device.disk.now ≤ g.D.Counted.faults l.device.disk.now;
+  faults : g.D.Counted.faults l.device.disk.now ≡ g.D.Counted.faults l.initial.device.disk.now;
   same_disk : l.device.disk.ghost_name ≡ l.initial.device.disk.ghost_name;
   way : (w : Standing) → IsDevice w Working l.initial.device.parts (g.D.Disk.moments l.initial.device.disk.now)
       → IsOnWay w l.ticket l.device.parts (g.D.Disk.moments l.initial.device.disk.now)

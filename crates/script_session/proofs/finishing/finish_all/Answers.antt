@@ -12,7 +12,7 @@ loop-waiting-init g c = record {
   works = c.requires.works;
   flight = same_flight _;
   identity = refl;
-  later = omega arith;
+  faults = refl;
   same_disk = refl;
   way = λ w is. run_none w _ _ is;
 }
@@ -30,7 +30,7 @@ returns-in_err-finish-clause-err g c = on_err_always c.from_residual.result (λ 
     all_cut_at w c.args.tickets.now c.args.device.now.parts _ is c.requires.tickets c.loop-waiting.waiting-index c.waiting-item.result
     (subst (λ (l : List Waiting). c.loop-waiting.waiting-index < length l) c.deref-waiting-items.ensures.value c.loop-waiting-test.true)
     (subst (λ (l : List Waiting). c.waiting-item.result ≡ get_or l c.loop-waiting.waiting-index c.waiting-item.result) c.deref-waiting-items.ensures.value c.waiting-item.is)
-    _ _ _ way (c.in_err-finish.ensures.err _ way.device))
+    _ _ _ _ way (c.in_err-finish.ensures.err _ way.device))
 
 pub loop-waiting-preserved : goal.loop-waiting-preserved
 loop-waiting-preserved g c = record {
@@ -38,7 +38,7 @@ loop-waiting-preserved g c = record {
   works = c.in_ok-finish.ensures.works;
   flight = kept_flight _ _ _ c.loop-waiting.invariant.flight c.finish.ensures.kept.flight;
   identity = c.finish.ensures.kept.identity ∙ c.loop-waiting.invariant.identity;
-  later = let before = c.loop-waiting.invariant.later in let after = c.finish.ensures.cause.later in omega (arith, before, after);
+  faults = c.in_ok-finish.ensures.cause.passed ∙ c.loop-waiting.invariant.faults;
   same_disk = c.finish.ensures.same_disk ∙ c.loop-waiting.invariant.same_disk;
   way = λ w is.
       let way = c.loop-waiting.invariant.way w is in

@@ -11,7 +11,7 @@ invariant-loop-waiting g l = record {
   works : l.device.condition ≡ Working;
   flight : KeepsFlight l.initial.device.parts.slots l.device.parts.slots;
   identity : g.D.Disk.identity l.device.disk.now ≡ g.D.Disk.identity l.initial.device.disk.now;
-  later : g.D.Counted.faults l.initial.device.disk.now ≤ g.D.Counted.faults l.device.disk.now;
+  faults : g.D.Counted.faults l.device.disk.now ≡ g.D.Counted.faults l.initial.device.disk.now;
   same_disk : l.device.disk.ghost_name ≡ l.initial.device.disk.ghost_name;
   way : (w : Standing) → IsDevice w Working l.initial.device.parts (g.D.Disk.moments l.initial.device.disk.now)
       → HasRun w (finish_each w.format (map (λ waiting. waiting.ticket) (take l.waiting-index l.tickets.waiting.items)) w.state) l.device.parts

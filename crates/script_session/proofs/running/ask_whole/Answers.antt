@@ -1,25 +1,23 @@
 use Rattle.std.proofs.Common.{ℕ, [], ◌∷◌, length, sym, ◌∙◌, ap, subst, arith}
 use Rattle.request_slots.specs.Flight.{is_in_flight}
-use Rattle.direct_mode.proofs.ServingLemmas.{on_err_always}
 use Rattle.device_model.specs.Script.{finish_all_events, submission_of, whole_finish}
 use Rattle.device_model.specs.Progress as Model
 use Rattle.script_text.specs.Line.{ask_of}
-use Rattle.script_session.specs.LineRun.{HasRun, IsCutOff, standing_behind}
+use Rattle.script_session.specs.LineRun.{HasFailed, HasRun, standing_behind}
 use Rattle.script_session.specs.Told.{IsTicketOf}
 use Rattle.script_session.specs.declared.line_answer.LineAnswer.{LineAnswer}
-use Rattle.script_session.proofs.CallLemmas.{ask_cut, ask_cut_off, ask_done, ask_refused}
-use Rattle.script_session.proofs.RunLemmas.{cut_wider}
+use Rattle.script_session.proofs.CallLemmas.{ask_begun, ask_done, ask_failed, ask_refused}
+use Rattle.script_session.proofs.RunLemmas.{failed_wider}
 use Rattle.script_session.proofs.TicketLemmas.{any-asks}
 use Rattle.script_session.proofs.running.ask_whole.Goals as goal
 
-pub returns-in_err-finish_all-clause-err : goal.returns-in_err-finish_all-clause-err
-returns-in_err-finish_all-clause-err g c = on_err_always c.from_residual.result (λ w is.
-    cut_wider w _ _ _ _ (c.in_err-finish_all.ensures.err w is))
+pub returns-in_err-finish_all-clause-disk : goal.returns-in_err-finish_all-clause-disk
+returns-in_err-finish_all-clause-disk g c stopped w is = failed_wider w _ _ _ _ _ (c.in_err-finish_all.ensures.err w is)
 
-pub returns-in_err-answer-clause-err : goal.returns-in_err-answer-clause-err
-returns-in_err-answer-clause-err g c = on_err_always c.from_residual-in_err-answer.result (λ w is.
-    ask_cut w (ask_of c.args.ask.now) c.finish_all.new.device.parts c.start.new.device.parts _ _ (g.D.Disk.moments c.start.new.device.disk.now)
-    (c.in_ok-finish_all.ensures.done w is) _ (ap g.D.Disk.moments c.start.ensures.disk))
+pub returns-in_err-answer-clause-memory : goal.returns-in_err-answer-clause-memory
+returns-in_err-answer-clause-memory g c stopped w is =
+    ask_begun w (ask_of c.args.ask.now) c.finish_all.new.device.parts c.start.new.device.parts _ _ (g.D.Disk.moments c.start.new.device.disk.now)
+    (c.in_ok-finish_all.ensures.done w is) _ _ c.in_err-answer.ensures.err (ap g.D.Disk.moments c.start.ensures.disk)
 
 pub returns-in_default-clause-answered : goal.returns-in_default-clause-answered
 returns-in_default-clause-answered g c w is =
@@ -46,16 +44,16 @@ finish-requires-clause-there g c =
     ∙ sym (any-asks c.in-Ticket.ticket c.start.new.tickets.waiting.items c.start.new.device.parts.slots.slots c.start.ensures.stays.tickets_.asks)
     ∙ c.in_ok-answer.ensures.held c.in-Ticket.ticket c.in-Ticket.is
 
-pub returns-in_err-finish-clause-err : goal.returns-in_err-finish-clause-err
-returns-in_err-finish-clause-err g c = on_err_always c.from_residual-in_err-finish.result (λ w is.
+pub returns-in_err-finish-clause-disk : goal.returns-in_err-finish-clause-disk
+returns-in_err-finish-clause-disk g c stopped w is =
     let first = c.in_ok-finish_all.ensures.done w is in
     let answered = c.in_ok-answer.ensures.answered (standing_behind w (finish_all_events w.format 1 (length w.state.progress.requests) w.state) first.disk) first.device in
     let sub = submission_of w.format.blocks.block_size (ask_of c.args.ask.now) in
     let here = standing_behind w (finish_all_events w.format 1 (length w.state.progress.requests) w.state) first.disk in
     let next = standing_behind here (Model.Submit sub ∷ []) answered.run.disk in
     let given = subst (λ (x : LineAnswer). IsTicketOf x (Model.event_result w.format here.state (Model.Submit sub)).answer) c.in-Ticket.is (c.in_ok-answer.ensures.ticket here first.device) in
-    ask_cut_off w (ask_of c.args.ask.now) c.finish_all.new.device.parts c.start.new.device.parts _ _ _ first c.in-Ticket.ticket given answered.run _
-    (subst (λ (t : ℕ). IsCutOff next (whole_finish w.format t next.state) (g.D.Disk.moments c.start.new.device.disk.now) (g.D.Disk.moments c.finish.new.device.disk.now)) c.ticket_of.ensures (c.in_err-finish.ensures.err next answered.run.device)))
+    ask_failed w (ask_of c.args.ask.now) c.finish_all.new.device.parts c.start.new.device.parts _ _ _ first c.in-Ticket.ticket given answered.run c.finish.new.device.parts _
+    (subst (λ (t : ℕ). HasFailed next (whole_finish w.format t next.state) c.finish.new.device.parts (g.D.Disk.moments c.start.new.device.disk.now) (g.D.Disk.moments c.finish.new.device.disk.now)) c.ticket_of.ensures (c.in_err-finish.ensures.err next answered.run.device))
 
 pub returns-clause-answered : goal.returns-clause-answered
 returns-clause-answered g c w is =

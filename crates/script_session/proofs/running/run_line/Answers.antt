@@ -1,6 +1,6 @@
 use Rattle.std.proofs.Common.{Err, refl, ◌∙◌, ap}
 use Rattle.script_text.specs.Line.{line_of}
-use Rattle.script_session.proofs.LineLemmas.{judged, line_cut, line_half, line_told, line_untold}
+use Rattle.script_session.proofs.LineLemmas.{judged, line_begun, line_failed, line_half, line_told, line_untold}
 use Rattle.script_session.proofs.running.run_line.Goals as goal
 
 pub returns-in-Some-clause-ended : goal.returns-in-Some-clause-ended
@@ -10,12 +10,12 @@ returns-in-Some-clause-ended g c w is =
 pub returns-in-Err-Disk-clause-ended : goal.returns-in-Err-Disk-clause-ended
 returns-in-Err-Disk-clause-ended g c w is =
     let runnable = judged w _ _ is c.args.tickets.now c.requires.tickets _ _ c.blocks-2.ensures c.block_size.ensures (line_of c.args.line.now) _ c.in_default.ensures in
-    line_cut w _ runnable _ _ _ _ (c.in-Err-Disk.ensures.err w is) refl
+    line_failed w _ runnable _ _ _ _ _ (c.answer_of.ensures.disk (c.in-Err-Disk.is ∙ ap Err c.in-Err-Disk.field-0-is) w is) refl
 
 pub returns-in-Err-Memory-clause-ended : goal.returns-in-Err-Memory-clause-ended
 returns-in-Err-Memory-clause-ended g c w is =
     let runnable = judged w _ _ is c.args.tickets.now c.requires.tickets _ _ c.blocks-2.ensures c.block_size.ensures (line_of c.args.line.now) _ c.in_default.ensures in
-    line_cut w _ runnable _ _ _ _ (c.in-Err-Memory.ensures.err w is) refl
+    line_begun w _ runnable _ _ _ _ _ (c.answer_of.ensures.memory (c.in-Err-Memory.is ∙ ap Err c.in-Err-Memory.field-0-is) w is) refl
 
 pub returns-in-Ok-tell-clause-ran : goal.returns-in-Ok-tell-clause-ran
 returns-in-Ok-tell-clause-ran g c w is =

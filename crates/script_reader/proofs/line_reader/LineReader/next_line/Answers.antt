@@ -1,7 +1,7 @@
 use Rattle.std.proofs.Common.{◌≡◌, ◌<◌, ◌∙◌, sym, subst, [], length, rules}
 use Rattle.script_reader.specs.Reading.{Reading, IsSettled}
 use Rattle.std.proofs.lemmas.List.{nil_from_length}
-use Rattle.script_reader.proofs.RunLemmas.{IsInLine-read, IsInLine-run, IsInLine-same, IsSettled-unread, IsSettled-run, TakesBytes-inside, TakesBytes-end, FindsLine-run, FindsLine-end}
+use Rattle.script_reader.proofs.RunLemmas.{IsInLine-read, IsInLine-run, IsInLine-same, IsSettled-unread, IsSettled-run, TakesBytes-inside, TakesBytes-end, TakesOneLine-inside, TakesOneLine-end, FindsLine-run, FindsLine-end}
 use Rattle.script_reader.proofs.line_reader.LineReader.next_line.Goals as goal
 
 pub returns-in-Some-clause-found : goal.returns-in-Some-clause-found
@@ -42,7 +42,7 @@ loop-self-preserved g c =
           c.loop-self.invariant.inside c.has_more.ensures.same
           c.in_ok-has_more.ensures.read)
           c.in_default.ensures.run;
-      later = search rules;
+      faults = search rules;
       unasked = λ settled.
           let at = c.loop-self.invariant.unasked settled in
           let same = c.has_more.ensures.unasked
@@ -81,5 +81,39 @@ returns-in_err-has_more-clause-bytes g c =
     let last = g.S.Source.left c.has_more.new.script in
     let same = c.in_err-has_more.ensures.err in
     TakesBytes-inside start now first last
+    (IsInLine-same start c.loop-self.self now first (g.S.Source.left c.loop-self.script) last
+    c.loop-self.invariant.inside same.0 same.1)
+
+pub returns-in-Some-clause-one : goal.returns-in-Some-clause-one
+returns-in-Some-clause-one g c =
+    let start = c.args.self.now in
+    let now = c.has_more.new.self in
+    let first = g.S.Source.left c.args.script.now in
+    let last = g.S.Source.left c.has_more.new.script in
+    let inside =
+    IsInLine-read start c.loop-self.self now first (g.S.Source.left c.loop-self.script) last
+    c.loop-self.invariant.inside c.has_more.ensures.same
+    c.in_ok-has_more.ensures.read in
+    TakesOneLine-end c.in-Some.next start now c.take_run.new.self first last inside c.in-Some.ensures.run
+
+pub returns-clause-one : goal.returns-clause-one
+returns-clause-one g c =
+    let start = c.args.self.now in
+    let now = c.has_more.new.self in
+    let first = g.S.Source.left c.args.script.now in
+    let last = g.S.Source.left c.has_more.new.script in
+    TakesOneLine-inside start now first last
+    (IsInLine-read start c.loop-self.self now first (g.S.Source.left c.loop-self.script) last
+    c.loop-self.invariant.inside c.has_more.ensures.same
+    c.in_ok-has_more.ensures.read)
+
+pub returns-in_err-has_more-clause-one : goal.returns-in_err-has_more-clause-one
+returns-in_err-has_more-clause-one g c =
+    let start = c.args.self.now in
+    let now = c.has_more.new.self in
+    let first = g.S.Source.left c.args.script.now in
+    let last = g.S.Source.left c.has_more.new.script in
+    let same = c.in_err-has_more.ensures.err in
+    TakesOneLine-inside start now first last
     (IsInLine-same start c.loop-self.self now first (g.S.Source.left c.loop-self.script) last
     c.loop-self.invariant.inside same.0 same.1)
