@@ -1,13 +1,14 @@
 -- What stops a run at its close.
-use Rattle.std.proofs.Common.{Result, Ok, Err, is_err, ◌≡◌, inl, inr, ℕ, ◌<◌, true, false}
+use Rattle.std.proofs.Common.{Result, Ok, Err, IfErr, is_err, ◌≡◌, inl, inr, ℕ, ◌<◌, true, false}
 use Rattle.std.proofs.Common.{List, [], length, take, refl, sym, ◌∙◌, ap, subst, arith}
 use Rattle.std.proofs.Common.{append-nil, length-take, Option}
-use Rattle.disk_model.specs.Disk.{Content, Image, EachImage}
-use Rattle.disk_model.specs.Moments.{EachMoment}
-use Rattle.disk_model.proofs.MomentsLemmas.{EachMoment-weaker}
+use Rattle.disk_model.specs.Disk.{Content, Image, EachImage, OnlyAdds}
+use Rattle.disk_model.specs.Moments.{EachMoment, EachSince}
+use Rattle.disk_model.proofs.MomentsLemmas.{EachMoment-weaker, adds_wider}
+use Rattle.image_model.specs.Geometry.{Geometry}
 use Rattle.device_model.specs.Device.{DeviceKind}
 use Rattle.device_model.specs.Ending.{Complete, DiskFailed, SinkFailed}
-use Rattle.device_model.specs.History.{Change, History, with_changes}
+use Rattle.device_model.specs.History.{Change, History, IsWrittenIn, with_changes}
 use Rattle.device_model.specs.Mode.{DeviceFormat}
 use Rattle.device_model.specs.Progress as Model
 use Rattle.device_model.specs.Progress.{DeviceState, Event, Close, FailedClose, after_event, event_result}
@@ -22,7 +23,10 @@ use Rattle.direct_laws.specs.Within.{IsWithin}
 use Rattle.stream_io.specs.Stream.{AddsPrefix}
 use Rattle.script_text.proofs.ScriptRunLemmas.{came_into}
 use Rattle.script_text.proofs.ScriptRunLemmas.{run_is_whole}
+use Rattle.direct_mode.specs.Places.{IsNoBlock, IsOfPlaces}
+use Rattle.direct_mode.proofs.PlacesLemmas.{IsOfPlaces-wider}
 use Rattle.device_core.specs.declared.condition.Condition.{Condition}
+use Rattle.device_core.specs.declared.condition.Condition.TheVariants.{Working}
 use Rattle.device_core.specs.declared.parts.Parts.{Parts}
 use Rattle.device_core.specs.Device.{IsDevice, Standing}
 use Rattle.device_core.specs.Answers as answers
@@ -32,9 +36,15 @@ use Rattle.device_core.specs.declared.answers.StepFault.TheVariants as faults
 use Rattle.script_session.specs.declared.tags_found.TagsFound.{TagsFound}
 use Rattle.script_session.specs.Told.{finds_fault}
 use Rattle.script_session.proofs.RunLemmas.{EachMoment-both}
-use Rattle.script_session.specs.LineRun.{IsLeftWithin}
+use Rattle.script_session.specs.LineRun.{IsLeftWithin, WritesOnly}
 use Rattle.script_session.specs.LineRun.{held_with}
-use Rattle.integrity_tool.specs.Running.{IsStopped, only_close}
+use Rattle.command_ending.specs.declared.ended.Ended.{Ended}
+use Rattle.command_ending.specs.declared.ended.Ended.TheVariants as Endings
+use Rattle.integrity_tool.specs.Closing.{HasCloseCounts, close_ending, ended_close}
+use Rattle.integrity_tool.specs.Opening.{EndsImage}
+use Rattle.integrity_tool.specs.Running.{IsCounted, IsStopped, ending_by, only_close}
+use Rattle.integrity_tool.specs.declared.closing.CloseFault.{CloseFault}
+use Rattle.integrity_tool.specs.declared.closing.CloseFault.TheVariants as CloseFaults
 use Rattle.integrity_tool.proofs.RunningLemmas.{left_wider, told_nothing}
 
 -- ---- what a close does
@@ -62,8 +72,19 @@ failed_close_in f s Model.Closed = refl
 failed_close : (f : DeviceFormat) (s : DeviceState) → (event_result f s FailedClose).changes ≡ []
 failed_close f s = failed_close_in f s s.condition
 
+-- A close writes the sectors of tags alone.
+pub close_writes : (w : Standing) (parts : Parts) (a b : List Content) (changes : List Change)
+    → IsDevice w Working parts a → EachSince (OnlyAdds (IsOfPlaces parts.tags.geometry IsNoBlock)) a b
+    → WritesOnly w.disk.geometry changes a b
+close_writes w parts a b changes is writes =
+    let cells = is.cells refl in
+    adds_wider (IsOfPlaces w.disk.geometry IsNoBlock) (IsOfPlaces w.disk.geometry (IsWrittenIn changes))
+    (IsOfPlaces-wider IsNoBlock (IsWrittenIn changes) w.disk.geometry (λ block none. absurd none))
+    (subst (λ (g : Geometry). EachSince (OnlyAdds (IsOfPlaces g IsNoBlock)) a b) (sym cells.geometry) writes)
+
 module _ (w : Standing) (found : TagsFound) (disk : DirectDisk) (a b : List Content)
-    (held_a held_b : Option (List ℕ)) where
+    (held_a held_b : Option (List ℕ))
+    (writes : WritesOnly w.disk.geometry (changes_in (only_close w found).steps) a b) where
   abbrev closing : ScriptStep
   closing = close_step w.format w.state
 
@@ -94,6 +115,7 @@ module _ (w : Standing) (found : TagsFound) (disk : DirectDisk) (a b : List Cont
       is = refl;
     });
     since = since_close keeps;
+    writes = writes;
     now = keeps.now;
     told = told;
   }
@@ -115,6 +137,7 @@ module _ (w : Standing) (found : TagsFound) (disk : DirectDisk) (a b : List Cont
       outside = tt;
     });
     since = since_close keeps;
+    writes = writes;
     now = keeps.now;
     told = told.held;
   }
@@ -138,6 +161,7 @@ module _ (w : Standing) (found : TagsFound) (disk : DirectDisk) (a b : List Cont
         (subst (λ (l : List Change). IsLeftWithin kind w.entry w.state.history l c)
         (failed_close w.format w.state) left))
         (since_event kind w.entry w.format w.state FailedClose a b keeps.through);
+    writes = writes;
     now = subst (λ (l : List Change). IsLeftNow kind w.entry (with_changes l w.state.history) b)
         (failed_close w.format w.state) keeps.now;
     told = told ∙ told_nothing held_a;
@@ -167,3 +191,52 @@ failed_device w a b (Err faults.Broken) failed works ended = absurd (works refl)
 pub in_condition : (w : Standing) (one other : Condition) (parts : Parts) (a : List Content) → one ≡ other
     → IsDevice w other parts a → IsDevice w one parts a
 in_condition w one other parts a same is = subst (λ (x : Condition). IsDevice w x parts a) (sym same) is
+
+-- ---- how a run ends with its close
+
+pub ending_at_close : (closed : Result TagsFound CloseFault) → ending_by (ended_close closed) ≡ close_ending closed
+ending_at_close (Ok found) = refl
+ending_at_close (Err CloseFaults.Disk) = refl
+ending_at_close (Err CloseFaults.Sink) = refl
+
+pub ends_at_close : (closed : Result TagsFound CloseFault) → IfErr (ended_close closed) EndsImage
+ends_at_close (Ok found) = tt
+ends_at_close (Err CloseFaults.Disk) = tt
+ends_at_close (Err CloseFaults.Sink) = tt
+
+-- The counts of a run whose lines came to their end, and then of its close.
+module _ (disk disk_between disk_after script script_after sink sink_between sink_after : ℕ)
+    (same_disk : disk_between ≡ disk) (same_script : script_after ≡ script) (same_sink : sink_between ≡ sink) where
+  abbrev IsCountedAs : Result TagsFound Ended → Type 0
+  IsCountedAs result = IsCounted Endings.Disk disk disk_after result × IsCounted Endings.Script script script_after result
+      × IsCounted Endings.Sink sink sink_after result
+
+  counted_at_close : (closed : Result TagsFound CloseFault)
+      → HasCloseCounts disk_between disk_after sink_between sink_after closed → IsCountedAs (ended_close closed)
+  counted_at_close (Ok found) counts =
+      let a = counts.disk_later in
+      let b = counts.sink_later in (
+        record { later = omega (arith, a, same_disk); passed = λ other. counts.disk_passed (λ is. absurd (cc)) ∙ same_disk },
+        record { later = omega (arith, same_script); passed = λ other. same_script },
+        record { later = omega (arith, b, same_sink); passed = λ other. counts.sink_passed (λ is. absurd (cc)) ∙ same_sink },
+      )
+  counted_at_close (Err CloseFaults.Disk) counts =
+      let a = counts.disk_later in
+      let b = counts.sink_later in (
+        record { later = omega (arith, a, same_disk); passed = λ other. absurd (other refl) },
+        record { later = omega (arith, same_script); passed = λ other. same_script },
+        record { later = omega (arith, b, same_sink); passed = λ other. counts.sink_passed (λ is. absurd (cc)) ∙ same_sink },
+      )
+  counted_at_close (Err CloseFaults.Sink) counts =
+      let a = counts.disk_later in
+      let b = counts.sink_later in (
+        record { later = omega (arith, a, same_disk); passed = λ other. counts.disk_passed (λ is. absurd (cc)) ∙ same_disk },
+        record { later = omega (arith, same_script); passed = λ other. same_script },
+        record { later = omega (arith, b, same_sink); passed = λ other. absurd (other refl) },
+      )
+
+  -- So it is of what such a close ended.
+  pub counted_by_close : (closed : Result TagsFound CloseFault) (result : Result TagsFound Ended)
+      → result ≡ ended_close closed → HasCloseCounts disk_between disk_after sink_between sink_after closed
+      → IsCountedAs result
+  counted_by_close closed result is counts = subst IsCountedAs (sym is) (counted_at_close closed counts)

@@ -1,12 +1,13 @@
 -- The key that the first bytes of a file are.
-use Rattle.std.proofs.Common.{◌≡◌, ◌≢◌, ℕ, ◌<◌, ◌≤◌, ◌==◌, Bool, true, false, if◌then◌else◌, List, length, take, ltb, refl, sym, ap, subst, ◌∙◌, arith, rules, Option, Some, Result, Ok, Err}
+use Rattle.std.proofs.Common.{◌≡◌, ◌≢◌, ℕ, ◌<◌, ◌≤◌, ◌==◌, Bool, true, false, if◌then◌else◌, List, length, drop, take, ltb, refl, sym, ap, subst, ◌∙◌, arith, rules, Option, None, Some, Result, Ok, Err}
+use Rattle.std.specs.Option.{ForSome}
 use Rattle.std.proofs.lemmas.Bool.{lt-ltb, ne_eqb}
 use Rattle.std.proofs.lemmas.List.{length-take, take_all}
 use Rattle.device_model.specs.Ending.{KeyRefusal, EmptyKey, LongKey}
 use Rattle.command_words.specs.declared.values.HashChoice.{HashChoice}
-use Rattle.command_words.specs.declared.values.HashChoice.TheVariants.{HmacSha256}
-use Rattle.integrity_tool.specs.Asked.{key_file_of}
-use Rattle.integrity_tool.specs.Keyed.{HasFile}
+use Rattle.command_words.specs.declared.values.HashChoice.TheVariants.{HmacSha256, Sha256}
+use Rattle.integrity_tool.specs.Words.{key_file_of}
+use Rattle.integrity_tool.specs.KeyFile.{HasFile, HasReadKey}
 use Rattle.integrity_tool.specs.Outset.{key_by, key_in, keyed}
 
 by_tests : (bytes : List ℕ) (empty long : Bool) → (length bytes == 0) ≡ empty → ltb 4096 (length bytes) ≡ long
@@ -58,3 +59,37 @@ is_ok_type (Err e) = ⊥
 -- What is Ok is no error.
 pub ok_no_err : {T E : Type 0} (r : Result T E) (x : T) (e : E) → r ≡ Ok x → r ≡ Err e → ⊥
 ok_no_err r x e is_ok is_err = subst is_ok_type (sym is_ok ∙ is_err) tt
+
+-- ---- what is read
+
+-- Where no file is chosen the source is the same.
+pub read_no_key : (choice : HashChoice) (named : List ℕ → Option (List ℕ)) (left : Option (List ℕ))
+    (is_same has_key : Type 0) → choice ≡ Sha256 → is_same
+    → HasReadKey (key_file_of choice) named left is_same has_key
+read_no_key choice named left is_same has_key is same =
+    subst (λ (x : HashChoice). HasReadKey (key_file_of x) named left is_same has_key) (sym is) same
+
+pub read_key : (choice : HashChoice) (file name : List ℕ) (named : List ℕ → Option (List ℕ))
+    (left : Option (List ℕ)) (is_same has_key : Type 0) → choice ≡ HmacSha256 file → name ≡ file
+    → (has_key → ForSome (named name) (λ bytes. left ≡ Some (drop 4097 bytes)))
+    → HasReadKey (key_file_of choice) named left is_same has_key
+read_key choice file name named left is_same has_key is same read =
+    subst (λ (x : HashChoice). HasReadKey (key_file_of x) named left is_same has_key) (sym is)
+    (subst (λ (n : List ℕ). has_key → ForSome (named n) (λ bytes. left ≡ Some (drop 4097 bytes))) same read)
+
+-- What was read of the same file, where there is a key then too.
+pub read_as : (file other : Option (List ℕ)) (named : List ℕ → Option (List ℕ)) (left : Option (List ℕ))
+    (is_same has_key had_key : Type 0) → other ≡ file → (has_key → had_key)
+    → HasReadKey file named left is_same had_key → HasReadKey other named left is_same has_key
+read_as file other named left is_same has_key had_key is weaker read =
+    subst (λ (f : Option (List ℕ)). HasReadKey f named left is_same has_key) (sym is) (by file read)
+  where
+    by : (f : Option (List ℕ)) → HasReadKey f named left is_same had_key → HasReadKey f named left is_same has_key
+    by None same = same
+    by (Some f) told = λ has. told (weaker has)
+
+-- Where the source is the same and there is no key.
+pub not_read : (file : Option (List ℕ)) (named : List ℕ → Option (List ℕ)) (left : Option (List ℕ))
+    (is_same has_key : Type 0) → is_same → (has_key → ⊥) → HasReadKey file named left is_same has_key
+not_read None named left is_same has_key same none = same
+not_read (Some file) named left is_same has_key same none = λ has. absurd (none has)

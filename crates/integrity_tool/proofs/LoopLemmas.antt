@@ -1,22 +1,25 @@
 -- A run of a script before its next line, behind that, and at its end.
 use Rattle.std.proofs.Common.{Result, Ok, Err, map, ◌≡◌, ℕ, suc, ◌+◌, ◌<◌, ◌≤◌, Bool, true, false, List, []}
-use Rattle.std.proofs.Common.{◌∷◌, ◌++◌, length, refl, sym, ◌∙◌, ap, subst, arith, Option, Some, None}
+use Rattle.std.proofs.Common.{◌∷◌, ◌++◌, length, take, refl, sym, ◌∙◌, ap, subst, arith, Option, Some, None, append-nil, append_assoc, length-append}
 use Rattle.std.specs.Prelude.{◌||◌, ltb}
 use Rattle.std.specs.List.{AllZip}
 use Rattle.std.specs.Option.{ForSome, IsSomeAnd}
 use Rattle.std.proofs.lemmas.Bool.{le-ltb, lt-ltb}
+use Rattle.std.proofs.lemmas.Grind.{flat_map-append}
+use Rattle.std.proofs.lemmas.List.Concat.{flat_map-cons}
+use Rattle.std.proofs.Math.Seq.{take-append_seam}
 use Rattle.disk_model.specs.Causes.{Rose}
 use Rattle.disk_model.specs.Disk.{Content}
 use Rattle.device_model.specs.Ending.{RefusedLine, RefusedLength, ScriptFailed, ByWords}
 use Rattle.device_model.specs.Grammar.{ReadLine, Means, Refused, IsReadAs}
 use Rattle.device_model.specs.LineFault.{TooLong}
 use Rattle.device_model.specs.Script.{line_outcome}
-use Rattle.device_model.specs.ScriptBytes.{most_script}
-use Rattle.device_model.specs.ScriptRun.{IsRunOf, ScriptRun, line_step, run_from, with_step}
+use Rattle.device_model.specs.ScriptBytes.{lines_of, most_script}
+use Rattle.device_model.specs.ScriptRun.{IsRunOf, ScriptRun, ScriptStep, line_step, run_from, texts_of, with_step}
 use Rattle.device_model.proofs.UniqueReading.{read_once}
 use Rattle.script_text.proofs.ScriptRunLemmas.{run_is_split}
 use Rattle.script_reader.specs.Lines.{FindsEnd, FindsWholeLine}
-use Rattle.script_reader.specs.Reading.{Reading}
+use Rattle.script_reader.specs.Reading.{IsWithin, Reading, TakesOneLine}
 use Rattle.script_reader.proofs.LinesLemmas.{is_too_long-script, lines_left-script}
 use Rattle.device_core.specs.declared.condition.Condition.TheVariants as Conditions
 use Rattle.device_core.specs.declared.parts.Parts.{Parts}
@@ -26,16 +29,35 @@ use Rattle.script_session.specs.declared.tags_found.TagsFound.TheVariants.{Match
 use Rattle.request_slots.specs.Flight.{Flight, ask_of}
 use Rattle.script_session.specs.declared.tickets.Tickets.{Tickets}
 use Rattle.script_session.specs.Tickets.{AreInFlight, ask_by}
-use Rattle.script_session.specs.LineRun.{events_of, standing_behind}
+use Rattle.script_session.specs.LineRun.{events_of, held_with, standing_behind}
 use Rattle.script_session.specs.Told.{finds_fault}
 use Rattle.command_ending.specs.Ended.{ending_of}
 use Rattle.command_ending.specs.declared.ended.Ended.{Ended}
 use Rattle.command_ending.specs.declared.ended.Ended.TheVariants as Endings
 use Rattle.command_ending.specs.declared.line_refusal.LineRefusal.{LineRefusal}
 use Rattle.integrity_tool.specs.Lines.{HasAdvanced, HasRunBytes, IsStoppedByBytes}
-use Rattle.integrity_tool.specs.Running.{HasEndCause, IsAt, IsAtClose, IsStopped, Leads, is_beyond}
+use Rattle.integrity_tool.specs.Running.{HasEndCause, HasReadTo, HoldsText, IsAt, IsAtClose, IsStopped, Leads, is_beyond}
+use Rattle.integrity_tool.specs.Running.{bytes_of_lines, most_ahead, read_by}
 use Rattle.integrity_tool.specs.Running.{lines_behind, only_close}
-use Rattle.integrity_tool.proofs.RunningLemmas.{stopped_at_lines, stopped_by_itself, stopped_further}
+use Rattle.integrity_tool.proofs.RunningLemmas.{and_weaker, stopped_at_lines, stopped_by_itself, stopped_further}
+use Rattle.integrity_tool.proofs.RunningLemmas.{told_further, told_nothing}
+
+-- ---- lines and steps
+
+texts_of-push : (steps : List ScriptStep) (step : ScriptStep)
+    → texts_of (steps ++ step ∷ []) ≡ texts_of steps ++ step.text
+texts_of-push steps step = flat_map-append (λ (s : ScriptStep). s.text) steps (step ∷ [])
+    ∙ ap (λ (text : List ℕ). texts_of steps ++ text)
+    (flat_map-cons (λ (s : ScriptStep). s.text) step [] ∙ append-nil step.text)
+
+bytes_of_lines-push : (lines : List (List ℕ)) (line : List ℕ)
+    → bytes_of_lines (lines ++ line ∷ []) ≡ bytes_of_lines lines + (length line + 1)
+bytes_of_lines-push [] line = omega arith
+bytes_of_lines-push (first ∷ lines) line = let rest = bytes_of_lines-push lines line in omega (arith, rest)
+
+-- Nothing is printed.
+pub holds_same : {held_before held : Option (List ℕ)} → held ≡ held_before → HoldsText [] held_before held
+holds_same {held_before} same = record { more = []; is = same ∙ told_nothing held_before }
 
 -- ---- at the start
 
@@ -51,29 +73,42 @@ pub at_start : (w : Standing) (parts : Parts) (a : List Content) (held : Option 
     (run : ScriptRun)
     (reader : Reading) (left : Option (List ℕ)) → IsDevice w Conditions.Working parts a → left ≡ Some script
     → IsRunOf w.format w.state script run → reader ≡ record { unread = []; line = []; taken = 0 }
-    → IsSomeAnd left (λ later. IsAt w run a held 1 Matching reader later parts a held)
+    → IsSomeAnd left (λ later. IsAt w run script a held 1 Matching reader later parts a held)
 at_start w parts a held script run reader left is told is_run none =
     subst (λ (o : Option (List ℕ)). IsSomeAnd o
-    (λ later. IsAt w run a held 1 Matching reader later parts a held)) (sym told)
-    (subst (λ (r : Reading). IsAt w run a held 1 Matching r script parts a held) (sym none) (record {
+    (λ later. IsAt w run script a held 1 Matching reader later parts a held)) (sym told)
+    (subst (λ (r : Reading). IsAt w run script a held 1 Matching r script parts a held) (sym none) (record {
       here = w;
       device = is;
       lines = is_run.lines;
       read = subst (λ (l : List (List ℕ)). AllZip IsReadAs l is_run.lines)
           (sym (lines_left-script script)) is_run.read;
-      leads = leads_at_start w run _ a held
-          (is_run.is ∙ ap (λ (b : Bool). run_from w.format b 1 w.state false is_run.lines)
-          (is_too_long-script script));
+      leads = leads_at_start w run _ a held is_split;
+      passed = record {
+        steps = [];
+        lines = [];
+        as_many = refl;
+        is_split = ap (λ (r : ScriptRun). r.steps) is_split;
+        printed = told_nothing held;
+        lines_are = sym (lines_left-script script);
+        low = omega arith;
+      };
     }))
+  where
+    is_split : run ≡ run_from w.format (is_beyond (record { unread = []; line = []; taken = 0 }) script) 1 w.state
+        (finds_fault Matching) is_run.lines
+    is_split = is_run.is
+        ∙ ap (λ (b : Bool). run_from w.format b 1 w.state false is_run.lines) (is_too_long-script script)
 
 -- ---- at a line
 
 module _ (there : Standing) (run : ScriptRun) (start : List Content) (held_start : Option (List ℕ)) where
   -- A run stands before some lines that are read as these.
   record StandsBefore (here : Standing) (beyond : Bool) (number : ℕ) (found : TagsFound) (bytes : List (List ℕ))
-      (now : List Content) (held : Option (List ℕ)) : Type 0 where
+      (now : List Content) (held : Option (List ℕ)) (steps : List ScriptStep) : Type 0 where
     pub lines : List ReadLine
     pub read : AllZip IsReadAs bytes lines
+    pub is_split : run.steps ≡ steps ++ (run_from here.format beyond number here.state (finds_fault found) lines).steps
     pub leads : Leads here (run_from here.format beyond number here.state (finds_fault found) lines) now held
         there run start held_start
 
@@ -85,14 +120,16 @@ module _ (there : Standing) (run : ScriptRun) (start : List Content) (held_start
       → AllZip IsReadAs (bytes ∷ others) lines
       → Leads here (run_from here.format beyond number here.state (finds_fault found) lines) now held
       there run start held_start
+      → (steps : List ScriptStep)
+      → run.steps ≡ steps ++ (run_from here.format beyond number here.state (finds_fault found) lines).steps
       → StandsBefore (standing_behind here (events_of here ran.line) ran.run.run.disk) beyond
       (suc number) found_b others
-      later held_b
+      later held_b (steps ++ line_step (line_outcome here.format here.state ran.line) ∷ [])
   behind_line here beyond number found told found_b bytes others parts now later held held_b ran either [] read
-      leads =
+      leads steps is_split =
       absurd read
   behind_line here beyond number found told found_b bytes others parts now later held held_b ran either
-      (first ∷ lines) read leads =
+      (first ∷ lines) read leads steps is_split =
       let f = here.format in
       let s = here.state in
       let outcome = line_outcome f s ran.line in
@@ -106,9 +143,15 @@ module _ (there : Standing) (run : ScriptRun) (start : List Content) (held_start
       let same : finds_fault found_b ≡ (finds_fault found || outcome.finds_fault) =
       either ∙ ap (λ (b : Bool). finds_fault found || b) ran.run.found_ in
       let next = standing_behind here (events_of here ran.line) ran.run.run.disk in
+      let one : ScriptStep = line_step outcome in
       record {
         lines = lines;
         read = read.1;
+        is_split =
+            is_split ∙ ap (λ (r : ScriptRun). steps ++ r.steps) split
+            ∙ sym (append_assoc steps (one ∷ []) rest.steps)
+            ∙ ap (λ (b : Bool). (steps ++ one ∷ []) ++ (run_from f beyond (suc number) outcome.after b lines).steps)
+            (sym same);
         leads = λ ending last held_last stopped.
             leads ending last held_last
             (subst (λ (r : ScriptRun). IsStopped here r ending now last held held_last) (sym split)
@@ -175,22 +218,28 @@ module _ (there : Standing) (run : ScriptRun) (start : List Content) (held_start
 
   module _ (number : ℕ) (found : TagsFound) (old new : Reading) (left later : List ℕ) (parts : Parts)
       (now : List Content) (held : Option (List ℕ))
-      (at : IsAt there run start held_start number found old left parts now held) where
+      (script : List ℕ) (at : IsAt there run script start held_start number found old left parts now held) where
     -- A line is found and run: the run stands before the next one.
     pub line_done : (parts_b : Parts) (now_b : List Content) (held_b : Option (List ℕ))
         (told found_b : TagsFound)
         (number_b : ℕ) → FindsWholeLine old new (old.unread ++ left) (new.unread ++ later)
         → HasRunBytes at.here new.line told parts_b now now_b held held_b
         → finds_fault found_b ≡ (finds_fault found || finds_fault told) → number_b ≡ number + 1
-        → IsAt there run start held_start number_b found_b new later parts_b now_b held_b
-    line_done parts_b now_b held_b told found_b number_b finds ran either next =
+        → TakesOneLine old new
+        → IsAt there run script start held_start number_b found_b new later parts_b now_b held_b
+    line_done parts_b now_b held_b told found_b number_b finds ran either next takes =
         let same : is_beyond old left ≡ is_beyond new later = ap (ltb most_script) (sym finds.counted) in
         let is_next : suc number ≡ number_b = omega arith in
         let behind = behind_line at.here (is_beyond old left) number found told found_b new.line
         (lines_behind new later)
         parts_b now now_b held held_b ran either at.lines
-        (subst (λ (l : List (List ℕ)). AllZip IsReadAs l at.lines) finds.next at.read) at.leads in
+        (subst (λ (l : List (List ℕ)). AllZip IsReadAs l at.lines) finds.next at.read) at.leads
+        at.passed.steps at.passed.is_split in
         let here = standing_behind at.here (events_of at.here ran.line) ran.run.run.disk in
+        let before = at.passed in
+        let one : ScriptStep = line_step (line_outcome at.here.format at.here.state ran.line) in
+        let counted = before.as_many in
+        let low = before.low in
         record {
           here = here;
           device = ran.run.run.device;
@@ -203,6 +252,61 @@ module _ (there : Standing) (run : ScriptRun) (start : List Content) (held_start
               (subst (λ (b : Bool). Leads here
               (run_from here.format b (suc number) here.state (finds_fault found_b) behind.lines) now_b held_b
               there run start held_start) same behind.leads);
+          passed = record {
+            steps = before.steps ++ one ∷ [];
+            lines = before.lines ++ new.line ∷ [];
+            as_many = omega (
+              arith,
+              counted,
+              length-append before.lines (new.line ∷ []),
+              length-append before.steps (one ∷ []),
+            );
+            is_split = behind.is_split
+                ∙ ap (λ (b : Bool). (before.steps ++ one ∷ [])
+                ++ (run_from here.format b (suc number) here.state (finds_fault found_b) behind.lines).steps) same
+                ∙ ap (λ (n : ℕ). (before.steps ++ one ∷ [])
+                ++ (run_from here.format (is_beyond new later) n here.state (finds_fault found_b) behind.lines).steps)
+                is_next;
+            printed = ran.run.told ∙ ap (held_with one.text) before.printed
+                ∙ told_further (texts_of before.steps) one.text held_start
+                ∙ ap (λ (text : List ℕ). held_with text held_start) (sym (texts_of-push before.steps one));
+            lines_are = before.lines_are ∙ ap (λ (l : List (List ℕ)). before.lines ++ l) finds.next
+                ∙ sym (append_assoc before.lines (new.line ∷ []) (lines_behind new later));
+            low = let more = takes.line in
+                omega (arith, low, more, bytes_of_lines-push before.lines new.line);
+          };
+        }
+
+    -- The bytes that are taken when its line was looked for, the text of all lines before it being printed.
+    pub line_read : (after : Option (List ℕ)) (held_b : Option (List ℕ)) → TakesOneLine old new → IsWithin new
+        → HoldsText [] held held_b
+        → IsSomeAnd after (λ more. length script ≡ length more + read_by new)
+        → HasReadTo run script after held_start held_b
+    line_read after held_b takes within holds read =
+        let passed = at.passed in
+        let one = takes.low in
+        let low = passed.low in
+        let ahead = within.ahead in
+        let lines_is : take (length passed.steps) (lines_of script) ≡ passed.lines =
+        ap (λ (n : ℕ). take n (lines_of script)) (sym passed.as_many)
+        ∙ ap (take (length passed.lines)) passed.lines_are
+        ∙ take-append_seam passed.lines (lines_behind old left) in
+        let steps_is : take (length passed.steps) run.steps ≡ passed.steps =
+        ap (take (length passed.steps)) passed.is_split ∙ take-append_seam passed.steps _ in
+        record {
+          done = length passed.steps;
+          printed = record {
+            more = holds.more;
+            is = holds.is ∙ ap (held_with holds.more) passed.printed
+                ∙ told_further (texts_of passed.steps) holds.more held_start
+                ∙ ap (λ (steps : List ScriptStep). held_with (texts_of steps ++ holds.more) held_start) (sym steps_is);
+          };
+          taken = and_weaker
+              (λ (more : List ℕ). length script ≡ length more + read_by new)
+              (λ (more : List ℕ). length script
+              ≤ length more + (bytes_of_lines (take (length passed.steps) (lines_of script)) + most_ahead))
+              after
+              (λ more is. omega (arith, is, one, low, ahead, ap bytes_of_lines lines_is)) read;
         }
 
     -- A line is found and stops the run.
@@ -214,6 +318,19 @@ module _ (there : Standing) (run : ScriptRun) (start : List Content) (held_start
         stopped_line at.here (is_beyond old left) number found new.line
         (lines_behind new later) now now_b held held_b ended
         stopped at.lines (subst (λ (l : List (List ℕ)). AllZip IsReadAs l at.lines) finds.next at.read) at.leads
+
+    -- What it has printed then stands behind what the sink held.
+    pub line_held : (now_b : List Content) (held_b : Option (List ℕ)) (ended : Ended)
+        → FindsWholeLine old new (old.unread ++ left) (new.unread ++ later)
+        → IsStoppedByBytes at.here number new.line ended now now_b held held_b → HoldsText [] held held_b
+    line_held now_b held_b ended finds stopped =
+        by at.lines (subst (λ (l : List (List ℕ)). AllZip IsReadAs l at.lines) finds.next at.read)
+      where
+        by : (lines : List ReadLine) → AllZip IsReadAs (new.line ∷ lines_behind new later) lines → HoldsText [] held held_b
+        by [] read = absurd read
+        by (first ∷ lines) read =
+            let stops = stopped (is_beyond old left) (finds_fault found) first lines read.0 in
+            record { more = stops.text; is = stops.told }
 
     -- The end is found: the close is left.
     pub end_found : FindsEnd old new (old.unread ++ left) (new.unread ++ later)
@@ -268,6 +385,13 @@ module _ (there : Standing) (run : ScriptRun) (start : List Content) (held_start
 
 -- ---- causes
 
+-- What came to its end was not ended.
+pub not_ended : {T : Type 0} {result : Result T Ended} (told : T) (ended : Ended) → result ≡ Ok told → result ≡ Err ended → ⊥
+not_ended told ended is other = absurd (cc)
+
+pub at_most : {before after : ℕ} → after ≡ before → before ≤ after
+at_most same = omega (arith, same)
+
 -- A count that rose later rose since it was lower.
 rose_since : (before between after : ℕ) → before ≤ between → Rose between after → Rose before after
 rose_since before between after later rose = omega arith
@@ -294,11 +418,12 @@ pub none_in_flight : (tickets : Tickets) (flight : Flight) → tickets.waiting.i
     → AreInFlight tickets flight
 none_in_flight tickets flight none empty = record { asks = ap (map ask_by) none ∙ sym (ap (map ask_of) empty) }
 
-module _ (w : Standing) (run : ScriptRun) (start : List Content) (held_start : Option (List ℕ)) (number : ℕ)
-    (found : TagsFound) (old new : Reading) (parts : Parts) (now : List Content) (held : Option (List ℕ)) where
+module _ (w : Standing) (run : ScriptRun) (script : List ℕ) (start : List Content) (held_start : Option (List ℕ))
+    (number : ℕ) (found : TagsFound) (old new : Reading) (parts : Parts) (now : List Content)
+    (held : Option (List ℕ)) where
   -- The run stands before its line, where this is left of the script.
   abbrev pub StandsAt : Option (List ℕ) → Type 0
-  StandsAt before = IsSomeAnd before (λ left. IsAt w run start held_start number found old left parts now held)
+  StandsAt before = IsSomeAnd before (λ left. IsAt w run script start held_start number found old left parts now held)
 
   -- Then its line was looked for.
   abbrev pub Advances : (before after : Option (List ℕ)) → Result Bool Ended → Type 0
@@ -310,7 +435,7 @@ module _ (w : Standing) (run : ScriptRun) (start : List Content) (held_start : O
   turn_stopped None after ended at advanced = absurd at
   turn_stopped (Some left) None ended at advanced = absurd (advanced left refl)
   turn_stopped (Some left) (Some later) ended at advanced =
-      advance_stopped w run start held_start number found old new left later parts now held at ended
+      advance_stopped w run start held_start number found old new left later parts now held script at ended
       (advanced left refl)
 
   pub turn_stopped_in_line : (before after : Option (List ℕ)) (more : Bool) (bytes : List ℕ)
@@ -327,7 +452,8 @@ module _ (w : Standing) (run : ScriptRun) (start : List Content) (held_start : O
   turn_stopped_in_line (Some left)
       (Some later) false bytes now_b held_b ended at advanced is same stopped = absurd (cc)
   turn_stopped_in_line (Some left) (Some later) true bytes now_b held_b ended at advanced is same stopped =
-      line_stopped w run start held_start number found old new left later parts now held at now_b held_b ended
+      line_stopped w run start held_start number found old new left later parts now held script at now_b held_b
+      ended
       (advanced left refl)
       (subst (λ (l : List ℕ). IsStoppedByBytes at.here number l ended now now_b held held_b) same
       (stopped at.here at.device))
@@ -337,23 +463,23 @@ module _ (w : Standing) (run : ScriptRun) (start : List Content) (held_start : O
       → Advances before after (Ok more) → more ≡ true → bytes ≡ new.line
       → ((here : Standing) → IsDevice here Conditions.Working parts now
       → HasRunBytes here bytes told parts_b now now_b held held_b)
-      → finds_fault found_b ≡ (finds_fault found || finds_fault told)
-      → IsSomeAnd after (λ later. IsAt w run start held_start
+      → finds_fault found_b ≡ (finds_fault found || finds_fault told) → TakesOneLine old new
+      → IsSomeAnd after (λ later. IsAt w run script start held_start
       (number + 1) found_b new later parts_b now_b held_b)
-  turn_done None after more bytes parts_b now_b held_b told found_b at advanced is same ran either = absurd at
-  turn_done (Some left) None more bytes parts_b now_b held_b told found_b at advanced is same ran either =
+  turn_done None after more bytes parts_b now_b held_b told found_b at advanced is same ran either takes = absurd at
+  turn_done (Some left) None more bytes parts_b now_b held_b told found_b at advanced is same ran either takes =
       absurd (advanced left refl)
   turn_done (Some left)
-      (Some later) false bytes parts_b now_b held_b told found_b at advanced is same ran either =
+      (Some later) false bytes parts_b now_b held_b told found_b at advanced is same ran either takes =
       absurd (cc)
   turn_done (Some left)
-      (Some later) true bytes parts_b now_b held_b told found_b at advanced is same ran either =
-      line_done w run start held_start number found old new left later parts now held at parts_b now_b held_b
-      told
+      (Some later) true bytes parts_b now_b held_b told found_b at advanced is same ran either takes =
+      line_done w run start held_start number found old new left later parts now held script at parts_b now_b
+      held_b told
       found_b (number + 1) (advanced left refl)
       (subst (λ (l : List ℕ). HasRunBytes at.here l told parts_b now now_b held held_b) same
       (ran at.here at.device))
-      either refl
+      either refl takes
 
   pub turn_ended : (before after : Option (List ℕ)) (more : Bool) → StandsAt before
       → Advances before after (Ok more)
@@ -362,4 +488,32 @@ module _ (w : Standing) (run : ScriptRun) (start : List Content) (held_start : O
   turn_ended (Some left) None more at advanced is = absurd (advanced left refl)
   turn_ended (Some left) (Some later) true at advanced is = absurd (cc)
   turn_ended (Some left) (Some later) false at advanced is =
-      end_found w run start held_start number found old new left later parts now held at (advanced left refl)
+      end_found w run start held_start number found old new left later parts now held script at (advanced left refl)
+
+  -- What is taken of the script where its line was looked for,
+  pub turn_read : (before after : Option (List ℕ)) (held_b : Option (List ℕ)) → StandsAt before
+      → TakesOneLine old new → IsWithin new → HoldsText [] held held_b
+      → IsSomeAnd after (λ more. length script ≡ length more + read_by new)
+      → HasReadTo run script after held_start held_b
+  turn_read None after held_b at takes within holds read = absurd at
+  turn_read (Some left) after held_b at takes within holds read =
+      line_read w run start held_start number found old new left [] parts now held script at after held_b takes
+      within holds read
+
+  -- and what a line that stops the run has printed.
+  pub turn_held : (before after : Option (List ℕ)) (more : Bool) (bytes : List ℕ) (now_b : List Content)
+      (held_b : Option (List ℕ)) (ended : Ended) → StandsAt before → Advances before after (Ok more) → more
+      ≡ true
+      → bytes ≡ new.line
+      → ((here : Standing) → IsDevice here Conditions.Working parts now
+      → IsStoppedByBytes here number bytes ended now now_b held held_b)
+      → HoldsText [] held held_b
+  turn_held None after more bytes now_b held_b ended at advanced is same stopped = absurd at
+  turn_held (Some left) None more bytes now_b held_b ended at advanced is same stopped =
+      absurd (advanced left refl)
+  turn_held (Some left) (Some later) false bytes now_b held_b ended at advanced is same stopped = absurd (cc)
+  turn_held (Some left) (Some later) true bytes now_b held_b ended at advanced is same stopped =
+      line_held w run start held_start number found old new left later parts now held script at now_b held_b ended
+      (advanced left refl)
+      (subst (λ (l : List ℕ). IsStoppedByBytes at.here number l ended now now_b held held_b) same
+      (stopped at.here at.device))

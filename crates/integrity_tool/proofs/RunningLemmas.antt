@@ -39,8 +39,10 @@ use Rattle.script_session.specs.Meaning.{meaning_of}
 use Rattle.command_ending.specs.Ended.{ending_of}
 use Rattle.command_ending.specs.declared.ended.Ended.{Ended}
 use Rattle.script_session.specs.LineRun.{HasEnded, HasRunLine, IsCutLine, IsHalfTold, IsLeftWithin, events_of}
-use Rattle.script_session.specs.LineRun.{held_with, standing_behind}
-use Rattle.integrity_tool.specs.CommandRun.{IsComplete, IsEndedBy, IsFromOutside}
+use Rattle.script_session.specs.LineRun.{WritesOnly, held_with, standing_behind}
+use Rattle.script_session.proofs.LineLemmas.{line_cut_begun, line_cut_failed}
+use Rattle.script_session.proofs.WritesLemmas.{WritesOnly-left, WritesOnly-then}
+use Rattle.device_model.specs.CommandRun.{IsComplete, IsEndedBy, IsFromOutside}
 use Rattle.integrity_tool.specs.Lines.{ended_by}
 use Rattle.integrity_tool.specs.Running.{IsStopped}
 
@@ -101,7 +103,7 @@ pub told_nothing : (held : Option (List ℕ)) → held ≡ held_with [] held
 told_nothing None = refl
 told_nothing (Some bytes) = ap (λ (l : List ℕ). Some l) (sym (append-nil bytes))
 
-told_further : (one more : List ℕ) (held : Option (List ℕ))
+pub told_further : (one more : List ℕ) (held : Option (List ℕ))
     → held_with more (held_with one held) ≡ held_with (one ++ more) held
 told_further one more None = refl
 told_further one more (Some bytes) = ap (λ (l : List ℕ). Some l) (append_assoc bytes one more)
@@ -165,6 +167,10 @@ stopped_further w line found parts a b held_a held_b ran rest ending c held_c st
       changes = step.changes ++ stopped.changes;
       ended = ended_further step rest stopped.text stopped.changes ending stopped.ended;
       since = EachMoment-then (EachMoment-weaker wider ran.run.since) (EachMoment-weaker behind stopped.since);
+      writes = subst (λ (l : List Change). WritesOnly w.disk.geometry l a c) (sym all)
+          (WritesOnly-then w.disk.geometry step.changes (changes_in rest.steps) ran.run.writes
+          (subst (λ (f : DiskFormat). WritesOnly f.geometry (changes_in rest.steps) b c) ran.run.format
+          stopped.writes));
       now = subst (λ (y : History). IsLeftNow kind w.entry y c)
           (ap (with_changes stopped.changes) history
           ∙ sym (fold-append with_change h step.changes stopped.changes))
@@ -229,6 +235,7 @@ stopped_before w condition parts a is rest ending held came prints outside = rec
   changes = [];
   ended = inr (record { came = came; short = prints; outside = outside });
   since = no_moment a _;
+  writes = no_moment a _;
   now = is.left;
   told = told_nothing held;
 }
@@ -253,6 +260,7 @@ stopped_by_itself w condition parts a is rest ending held only =
       changes = [];
       ended = inl (record { whole = record { is_text = refl; is_changes = refl }; is = refl });
       since = no_moment a _;
+      writes = no_moment a _;
       now = is.left;
       told = told_nothing held;
     })
@@ -285,6 +293,13 @@ module _ (w : Standing) (condition : Condition) (parts : Parts) (a : List Conten
       (sym (ap (λ (r : ScriptRun). changes_in r.steps) (split runnable) ∙ (run_is_whole step behind).1))
       (left_wider (kind_of w.disk) w.entry w.state.history step.changes (changes_in behind.steps) x left)) since
 
+  writes_line : meaning_fault w.format w.state.progress line ≡ None
+      → WritesOnly w.disk.geometry step.changes a b → WritesOnly w.disk.geometry (changes_in run.steps) a b
+  writes_line runnable writes =
+      subst (λ (l : List Change). WritesOnly w.disk.geometry l a b)
+      (sym (ap (λ (r : ScriptRun). changes_in r.steps) (split runnable) ∙ (run_is_whole step behind).1))
+      (WritesOnly-left w.disk.geometry step.changes (changes_in behind.steps) writes)
+
   -- A line that is cut off stops the run.
   pub stopped_in_line : (ending : Ending) → IsFromOutside ending → IsCutLine w line a b held_a held_b
       → IsStopped w run ending a b held_a held_b
@@ -301,6 +316,7 @@ module _ (w : Standing) (condition : Condition) (parts : Parts) (a : List Conten
           outside = outside;
         });
         since = since_line cut.runnable cut.cut.since;
+        writes = writes_line cut.runnable cut.cut.writes;
         now = record { opens = now_of _ b later.0 told left.opens; left = now_of _ b later.0 told left.left };
         told = cut.told ∙ told_nothing held_a;
       }
@@ -324,6 +340,7 @@ module _ (w : Standing) (condition : Condition) (parts : Parts) (a : List Conten
       outside = outside;
     });
     since = since_line half.runnable half.run.since;
+    writes = writes_line half.runnable half.run.writes;
     now = subst (λ (y : History). IsLeftNow (kind_of w.disk) w.entry y b)
         (history-after w.format w.state (events_of w line))
         (subst (λ (f : DiskFormat). IsLeftNow (placed_kind f.key f.sectors) w.entry
@@ -345,9 +362,11 @@ module _ (w : Standing) (condition : Condition) (parts : Parts) (a : List Conten
       IsStopped w run (RefusedLine number (ByMeaning (meaning_of fault))) a a held_a x) (sym same.1)
       (stopped_by_itself w condition parts a is run (RefusedLine number (ByMeaning (meaning_of fault))) held_a
       ((run_is_split w.format number w.state found).by_meaning too_long line (meaning_of fault) lines refused)))
-  stopped_by_end Ends.Disk cut kept = stopped_in_line DiskFailed tt cut
+  stopped_by_end Ends.Disk failed kept =
+      stopped_in_line DiskFailed tt (line_cut_failed w line parts_b a b held_a held_b failed)
   stopped_by_end Ends.Sink half kept = stopped_in_text SinkFailed tt half
-  stopped_by_end Ends.Memory cut kept = stopped_in_line NoMemory tt cut
+  stopped_by_end Ends.Memory begun kept =
+      stopped_in_line NoMemory tt (line_cut_begun w line parts_b a b held_a held_b begun)
 
   -- The same, of bytes that are this line.
   pub stopped_by_line : (read : ReadLine) → read ≡ Means line → (end : LineEnd) (ended : Ended)

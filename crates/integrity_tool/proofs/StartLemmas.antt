@@ -1,18 +1,21 @@
 -- A command that runs no line: what it starts on, what it leaves, and what its run is.
-use Rattle.std.proofs.Common.{◌≡◌, ◌⊎◌, inl, inr, ℕ, ◌<◌, Bool, false, List, [], length, refl, sym, ◌∙◌, ap, subst, if◌then◌else◌, Option, Some, None, unwrap_or, Result, Ok, Err}
+use Rattle.std.proofs.Common.{◌≡◌, ◌⊎◌, inl, inr, ℕ, ◌+◌, ◌<◌, ◌≤◌, Bool, false, List, [], ◌++◌, length, take, append_assoc, arith, refl, sym, ◌∙◌, ap, subst, if◌then◌else◌, Option, Some, None, unwrap_or, Result, Ok, Err}
 use Rattle.std.specs.Option.{IsSomeAnd}
-use Rattle.disk_model.specs.Disk.{Content, Image, last_image, newest_only}
+use Rattle.disk_model.specs.Disk.{Content, Image, IsImage, OnlyAdds, last_image, newest_only}
 use Rattle.disk_model.specs.Moments.{content_now, EachMoment, EachSince, HasNow}
-use Rattle.disk_model.proofs.MomentsLemmas.{EachMoment-kept, EachMoment-then, EachMoment-weaker, content_at_end}
+use Rattle.disk_model.proofs.MomentsLemmas.{EachMoment-kept, EachMoment-then, EachMoment-weaker, adds_then, content_at_end, sync_adds}
 use Rattle.device_model.specs.Device.{DeviceKind}
 use Rattle.disk_model.specs.Identity.{DiskIdentity, NamedDisk}
 use Rattle.device_model.specs.Ending.{Ending, Complete, DiskFailed, KeyFailed, NoMemory, RefusedWords, RefusedKey, KeyRefusal}
 use Rattle.device_model.specs.Mode.{DeviceFormat}
 use Rattle.device_model.specs.Progress.{DeviceState}
 use Rattle.device_model.specs.ScriptBytes.{is_too_long}
-use Rattle.device_model.specs.ScriptRun.{ScriptRun, IsCameTo, IsRunOf, only_ends, texts_of}
+use Rattle.device_model.specs.History.{IsWrittenIn}
+use Rattle.device_model.specs.ScriptRun.{ScriptRun, IsCameTo, IsRunOf, changes_in, only_ends, texts_of}
 use Rattle.place_model.specs.Kind.{CanOpenPlaced, placed_kind}
+use Rattle.direct_mode.specs.Places.{IsOfPlaces}
 use Rattle.device_core.specs.Opening.{IsRefused, opened_standing}
+use Rattle.script_session.proofs.RunLemmas.{EachMoment-both}
 use Rattle.script_text.proofs.ScriptRunLemmas.{came_to_end, came_to_nothing}
 use Rattle.script_text.proofs.TotalLemmas.{has_run}
 use Rattle.place_model.proofs.FormatLemmas.{reads_on}
@@ -29,14 +32,15 @@ use Rattle.image_opening.specs.Format.{direct_format_of, format_by, format_with,
 use Rattle.command_ending.specs.Ended.{ending_of, key_refusal_of}
 use Rattle.command_ending.specs.declared.ended.Ended.{Ended}
 use Rattle.command_ending.specs.declared.ended.Ended.TheVariants as Endings
-use Rattle.integrity_tool.specs.Asked.{Asked, asked_of, key_file_of_asked}
-use Rattle.integrity_tool.specs.Keyed.{HasFile, HasHash, IsKeyRefused, IsKeyed}
-use Rattle.integrity_tool.specs.Top.{Given, IsGiven, IsRefusedByKey, outset_in}
-use Rattle.integrity_tool.specs.CommandRun.{Outset, RefusedBy, RunsOn, IsComplete, IsFromOutside, IsEndedShort, IsUntouched, MayBeLeftAt}
-use Rattle.integrity_tool.specs.Opening.{HasRunOn}
-use Rattle.integrity_tool.specs.Running.{IsStopped}
-use Rattle.integrity_tool.proofs.RunningLemmas.{complete_prints, told_nothing}
-use Rattle.integrity_tool.specs.Outset.{ending_by_open, outset_by, outset_on, outset_under, outset_for}
+use Rattle.integrity_tool.specs.Words.{Asked, asked_of, key_file_of_asked}
+use Rattle.integrity_tool.specs.KeyFile.{HasFile, HasHash, IsKeyRefused, IsKeyed}
+use Rattle.integrity_tool.specs.Top.{Given, IsGiven, IsMomentIn, IsRefusedByKey, outset_in}
+use Rattle.device_model.specs.CommandRun.{Outset, RefusedBy, RunsOn, IsComplete, IsFromOutside, IsEndedShort, IsRunAt, IsUntouched, MayBeLeftAt}
+use Rattle.integrity_tool.specs.Opening.{HasReadIn, HasRunOn, IsMomentOf, IsMomentOn}
+use Rattle.integrity_tool.specs.Running.{HasReadTo, HoldsText, IsStopped, most_ahead}
+use Rattle.integrity_tool.proofs.RunningLemmas.{complete_prints, told_further, told_nothing}
+use Rattle.script_session.specs.LineRun.{held_with}
+use Rattle.integrity_tool.specs.Outset.{ending_by_open, geometry_on, outset_by, outset_on, outset_under, outset_for}
 
 -- ---- what a command starts on
 
@@ -101,10 +105,38 @@ untouched_kept start told same c here =
 run_on : (kind : DeviceKind) (image : Image) (script : List ℕ) → (run : ScriptRun) × IsRunOf (kind.format image) (kind.opened image) script run
 run_on kind image script = has_run (kind.format image) (kind.opened image) script
 
+-- Whatever a command starts on, it has a run.
+some_run : (outset : Outset) (script : List ℕ) → (run : ScriptRun) × IsRunAt outset script run
+some_run (RefusedBy ending) script = (only_ends ending, refl)
+some_run (RunsOn kind image) script = run_on kind image script
+
 pub untouched_may_be_left : (outset : Outset) (start : Content) (script : List ℕ) (later : Content) → IsUntouched start later → MayBeLeftAt outset start script later
 untouched_may_be_left (RefusedBy ending) start script later untouched = record { run = only_ends ending; is_run = refl; made = 0; left = untouched }
 untouched_may_be_left (RunsOn kind image) start script later untouched =
     let r = run_on kind image script in record { run = r.0; is_run = r.1; made = 0; left = inl (refl, untouched) }
+
+-- What a read gives of a disk that tells its content is an image of that.
+abbrev pub ReadsImages : List Content → Type 0
+ReadsImages moments = (c : Content) → content_now moments ≡ Some c → IsImage c (last_image c)
+
+-- What is added since the start is added to the content that was told then.
+adds_at : {a b : List Content} (W : ℕ → List ℕ → Type 0) (start : Content) → content_now a ≡ Some start
+    → EachSince (OnlyAdds W) a b → EachMoment a b (OnlyAdds W start)
+adds_at W start told each =
+    EachMoment-weaker (λ c from. subst (λ (o : Option Content). IsSomeAnd o (λ s. OnlyAdds W s c)) told from) each
+
+-- A disk that is synced at most stands at moments of any command.
+pub synced_moments : (outset : Outset) (g : Geometry) (start : Content) (script : List ℕ) {a b : List Content}
+    → content_now a ≡ Some start → ReadsImages a → EachSince (λ s c. c ≡ newest_only s) a b
+    → EachMoment a b (IsMomentOf outset g start script)
+synced_moments outset g start script told reads synced =
+    let run = some_run outset script in
+    let W = IsOfPlaces g (IsWrittenIn (changes_in run.0.steps)) in
+    EachMoment-weaker
+    (λ c both. record { left = both.0; only = record { run = run.0; is_run = run.1; only = both.1 } })
+    (EachMoment-both
+    (EachMoment-weaker (untouched_may_be_left outset start script) (untouched_through start told synced))
+    (adds_at W start told (sync_adds W reads synced)))
 
 short_of : (f : DeviceFormat) (s : DeviceState) (script : List ℕ) (run : ScriptRun) (ending : Ending) → IsRunOf f s script run → IsFromOutside ending → IsEndedShort run [] [] ending
 short_of f s script run ending is outside = record {
@@ -195,24 +227,92 @@ ran_through key sectors start script run ending mid after held_before held can i
     (record { run = run; is_run = is_run; made = within.made; left = inr (record { opens = within.opens; left = within.left }) }))
     stopped.since
 
--- Both, behind the opening.
-pub ran_on : (key : Option (List ℕ)) (sectors : ℕ) (start : Content) (script : List ℕ) (run : ScriptRun) (ending : Ending) (first mid after : List Content) (held_before held : Option (List ℕ))
-    → CanOpenPlaced key sectors (last_image start) → let w = opened_standing key sectors (last_image start) in
+-- Both, behind the opening, which synced the disk at most.
+pub ran_on : (key : Option (List ℕ)) (sectors : ℕ) (start : Content) (script : List ℕ) (run : ScriptRun)
+    (ending : Ending) (first mid after : List Content) (held_before held : Option (List ℕ))
+    → CanOpenPlaced key sectors (last_image start) → content_now first ≡ Some start → ReadsImages first
+    → EachSince (λ s c. c ≡ newest_only s) first mid → let w = opened_standing key sectors (last_image start) in
     IsRunOf w.format w.state script run → IsStopped w run ending mid after held_before held
-    → EachMoment first mid (MayBeLeftAt (outset_on key sectors (last_image start)) start script)
     → HasRunOn (outset_on key sectors (last_image start)) start script ending after held_before held
-    × EachMoment first after (MayBeLeftAt (outset_on key sectors (last_image start)) start script)
-ran_on key sectors start script run ending first mid after held_before held can is_run stopped opening = (
-  ran key sectors start script run ending mid after held_before held can is_run stopped,
-  EachMoment-then opening (ran_through key sectors start script run ending mid after held_before held can is_run stopped),
-)
+    × EachMoment first after (IsMomentOn key sectors start script)
+ran_on key sectors start script run ending first mid after held_before held can told reads synced is_run stopped =
+    let outset = outset_on key sectors (last_image start) in
+    let W = IsOfPlaces (geometry_on sectors (last_image start)) (IsWrittenIn (changes_in run.steps)) in
+    let is : IsRunAt outset script run =
+    subst (λ (o : Outset). IsRunAt o script run) (sym (runs_on key sectors (last_image start) can)) is_run in
+    let left : EachMoment first after (MayBeLeftAt outset start script) =
+    EachMoment-then
+    (EachMoment-weaker (untouched_may_be_left outset start script) (untouched_through start told synced))
+    (ran_through key sectors start script run ending mid after held_before held can is_run stopped) in (
+      ran key sectors start script run ending mid after held_before held can is_run stopped,
+      EachMoment-weaker
+          (λ c both. record { left = both.0; only = record { run = run; is_run = is; only = both.1 } })
+          (EachMoment-both left (adds_at W start told (adds_then W (sync_adds W reads synced) stopped.writes))),
+    )
 
 -- The disk at the end is the one that was given back.
-pub given_back : (outset : Outset) (start : Content) (script : List ℕ) (ending : Ending) (first : List Content) (held_before held : Option (List ℕ)) {a b : List Content}
-    → HasRunOn outset start script ending a held_before held × EachMoment first a (MayBeLeftAt outset start script) → b ≡ a
-    → HasRunOn outset start script ending b held_before held × EachMoment first b (MayBeLeftAt outset start script)
-given_back outset start script ending first held_before held all same =
-    subst (λ (m : List Content). HasRunOn outset start script ending m held_before held × EachMoment first m (MayBeLeftAt outset start script)) (sym same) all
+pub given_back : (key : Option (List ℕ)) (sectors : ℕ) (start : Content) (script : List ℕ) (ending : Ending)
+    (first : List Content) (held_before held : Option (List ℕ)) {a b : List Content}
+    → let outset = outset_on key sectors (last_image start) in
+    HasRunOn outset start script ending a held_before held
+    × EachMoment first a (IsMomentOn key sectors start script) → b ≡ a
+    → HasRunOn outset start script ending b held_before held
+    × EachMoment first b (IsMomentOn key sectors start script)
+given_back key sectors start script ending first held_before held all same =
+    subst (λ (m : List Content). HasRunOn (outset_on key sectors (last_image start)) start script ending m held_before
+    held × EachMoment first m (IsMomentOn key sectors start script)) (sym same) all
+
+-- ---- what is taken of the script
+
+-- Nothing of it is taken.
+pub read_none : (outset : Outset) (script : List ℕ) (held : Option (List ℕ)) {left : Option (List ℕ)} → left ≡ Some script
+    → HasReadIn outset script left held held
+read_none outset script held told =
+    let run = some_run outset script in
+    record {
+      run = run.0;
+      is_run = run.1;
+      read = record {
+        done = 0;
+        printed = record { more = []; is = told_nothing held };
+        taken = subst (λ (o : Option (List ℕ)). IsSomeAnd o (λ more. length script ≤ length more + most_ahead))
+            (sym told) (omega arith);
+      };
+    }
+
+-- More is printed.
+pub read_further : (run : ScriptRun) (script : List ℕ) (left held_before held : Option (List ℕ)) {held_after : Option (List ℕ)}
+    → HasReadTo run script left held_before held → HoldsText [] held held_after
+    → HasReadTo run script left held_before held_after
+read_further run script left held_before held read more = record {
+  done = read.done;
+  printed = record {
+    more = read.printed.more ++ more.more;
+    is = more.is ∙ ap (held_with more.more) read.printed.is
+        ∙ told_further (texts_of (take read.done run.steps) ++ read.printed.more) more.more held_before
+        ∙ ap (λ (text : List ℕ). held_with text held_before)
+        (append_assoc (texts_of (take read.done run.steps)) read.printed.more more.more);
+  };
+  taken = read.taken;
+}
+
+pub read_in_further : (outset : Outset) (script : List ℕ) (left held_before held : Option (List ℕ)) {held_after : Option (List ℕ)}
+    → HasReadIn outset script left held_before held → HoldsText [] held held_after
+    → HasReadIn outset script left held_before held_after
+read_in_further outset script left held_before held read more =
+    record { run = read.run; is_run = read.is_run; read = read_further read.run script left held_before held read.read more }
+
+-- The run is that of a script on an image that direct mode opens.
+pub read_on_image : (key : Option (List ℕ)) (sectors : ℕ) (start : Content) (script : List ℕ) (run : ScriptRun)
+    (left held_before held : Option (List ℕ)) → CanOpenPlaced key sectors (last_image start)
+    → let w = opened_standing key sectors (last_image start) in IsRunOf w.format w.state script run
+    → HasReadTo run script left held_before held
+    → HasReadIn (outset_on key sectors (last_image start)) script left held_before held
+read_on_image key sectors start script run left held_before held can is_run read = record {
+  run = run;
+  is_run = subst (λ (o : Outset). IsRunAt o script run) (sym (runs_on key sectors (last_image start) can)) is_run;
+  read = read;
+}
 
 -- ---- a device is not opened
 
@@ -254,8 +354,10 @@ module _ (key : Option (List ℕ)) (disk : DiskIdentity) (a b : List Content) (s
   refused_by_open (OpenFaults.Geom fault) refused = told_by (OpenFaults.Geom fault) refused (λ (x : ⊥). x) (λ (x : ⊥). x)
   refused_by_open (OpenFaults.Mode flags) refused = told_by (OpenFaults.Mode flags) refused (λ (x : ⊥). x) (λ (x : ⊥). x)
 
-  pub left_by_open : EachMoment a b (MayBeLeftAt (outset_on key disk.sectors (last_image start)) start script)
-  left_by_open = EachMoment-weaker (untouched_may_be_left (outset_on key disk.sectors (last_image start)) start script) (untouched_through start told synced)
+  pub left_by_open : ReadsImages a → EachMoment a b (IsMomentOn key disk.sectors start script)
+  left_by_open reads =
+      synced_moments (outset_on key disk.sectors (last_image start)) (geometry_on disk.sectors (last_image start))
+      start script told reads synced
 
 -- ---- a key is taken
 
@@ -277,12 +379,12 @@ module _ (given : Given) (words : List (List ℕ)) (keys : List ℕ → Option (
   fine_given : IsFine (outset_in given)
   fine_given = fine_for (asked_of given.words) given.key_bytes given.sectors (last_image given.content)
 
-  nothing_changed : (later : NamedDisk) → later.moments ≡ image.moments → EachMoment image.moments later.moments (MayBeLeftAt (outset_in given) given.content given.script)
+  nothing_changed : (later : NamedDisk) → later.moments ≡ image.moments → EachMoment image.moments later.moments (IsMomentIn given)
   nothing_changed later same = EachMoment-kept _ same
 
   pub outside_first : (ending : Ending) → IsFromOutside ending → (later : NamedDisk) → later.moments ≡ image.moments
       → HasRunOn (outset_in given) given.content given.script ending later.moments held held
-      × EachMoment image.moments later.moments (MayBeLeftAt (outset_in given) given.content given.script)
+      × EachMoment image.moments later.moments (IsMomentIn given)
   outside_first ending outside later same = (
     nothing_run (outset_in given) fine_given given.content given.script ending outside later.moments (untouched_kept given.content is.content same) held held refl,
     nothing_changed later same,
@@ -290,7 +392,7 @@ module _ (given : Given) (words : List (List ℕ)) (keys : List ℕ → Option (
 
   refused_first : (ending : Ending) → outset_in given ≡ RefusedBy ending
       → HasRunOn (outset_in given) given.content given.script ending image.moments held held
-      × EachMoment image.moments image.moments (MayBeLeftAt (outset_in given) given.content given.script)
+      × EachMoment image.moments image.moments (IsMomentIn given)
   refused_first ending refused = (
     refused_run (outset_in given) given.content given.script ending refused image.moments (untouched_kept given.content is.content refl) held held refl,
     nothing_changed image refl,
@@ -299,19 +401,19 @@ module _ (given : Given) (words : List (List ℕ)) (keys : List ℕ → Option (
   -- The words ask for no run.
   pub words_first : asked_of words ≡ None
       → HasRunOn (outset_in given) given.content given.script RefusedWords image.moments held held
-      × EachMoment image.moments image.moments (MayBeLeftAt (outset_in given) given.content given.script)
+      × EachMoment image.moments image.moments (IsMomentIn given)
   words_first none = refused_first RefusedWords (outset_asked None none)
 
   pub stopped_at_words : (ended : Ended) → (ended ≡ Endings.Words) ⊎ (ended ≡ Endings.Memory) → (ended ≡ Endings.Words → asked_of words ≡ None)
       → HasRunOn (outset_in given) given.content given.script (ending_of ended) image.moments held held
-      × EachMoment image.moments image.moments (MayBeLeftAt (outset_in given) given.content given.script)
+      × EachMoment image.moments image.moments (IsMomentIn given)
   stopped_at_words ended ends none = elim ends [
     | inl words_end ↦
         subst (λ (e : Ended). HasRunOn (outset_in given) given.content given.script (ending_of e) image.moments held held
-        × EachMoment image.moments image.moments (MayBeLeftAt (outset_in given) given.content given.script)) (sym words_end) (words_first (none words_end))
+        × EachMoment image.moments image.moments (IsMomentIn given)) (sym words_end) (words_first (none words_end))
     | inr memory ↦
         subst (λ (e : Ended). HasRunOn (outset_in given) given.content given.script (ending_of e) image.moments held held
-        × EachMoment image.moments image.moments (MayBeLeftAt (outset_in given) given.content given.script)) (sym memory) (outside_first NoMemory tt image refl)
+        × EachMoment image.moments image.moments (IsMomentIn given)) (sym memory) (outside_first NoMemory tt image refl)
   ]
 
   module _ (asked : Asked) (asks : asked_of words ≡ Some asked) where
@@ -321,7 +423,7 @@ module _ (given : Given) (words : List (List ℕ)) (keys : List ℕ → Option (
     -- The key file, or its source, ended it.
     pub stopped_at_key : (faults_before faults : ℕ) (ended : Ended) → IsKeyRefused asked.key_file keys faults_before faults ended
         → HasRunOn (outset_in given) given.content given.script (ending_of ended) image.moments held held
-        × EachMoment image.moments image.moments (MayBeLeftAt (outset_in given) given.content given.script)
+        × EachMoment image.moments image.moments (IsMomentIn given)
     stopped_at_key faults_before faults Endings.Words refused = absurd refused
     stopped_at_key faults_before faults (Endings.Key refusal) refused =
         refused_first (RefusedKey (key_refusal_of refusal))
@@ -340,21 +442,46 @@ module _ (given : Given) (words : List (List ℕ)) (keys : List ℕ → Option (
     pub ran_given : (key : Option (List ℕ)) → IsKeyed asked.key_file keys (HasHash key) → (sectors : ℕ) (mid after : List Content) (later : NamedDisk)
         → image ≡ record { sectors = sectors; moments = mid } → later.moments ≡ after → (ending : Ending) (held_after : Option (List ℕ))
         → HasRunOn (outset_on key sectors (last_image given.content)) given.content given.script ending after held held_after
-        × EachMoment mid after (MayBeLeftAt (outset_on key sectors (last_image given.content)) given.content given.script)
+        × EachMoment mid after (IsMomentOn key sectors given.content given.script)
         → HasRunOn (outset_in given) given.content given.script ending later.moments held held_after
-        × EachMoment image.moments later.moments (MayBeLeftAt (outset_in given) given.content given.script)
+        × EachMoment image.moments later.moments (IsMomentIn given)
     ran_given key keyed sectors mid after later there at_end ending held_after runs =
-        let same_outset : outset_in given ≡ outset_on key sectors (last_image given.content) =
+        let entry : Image = last_image given.content in
+        let same_sectors : given.sectors ≡ sectors = is.sectors ∙ ap (λ (n : NamedDisk). n.sectors) there in
+        let same_outset : outset_in given ≡ outset_on key sectors entry =
         outset_asked (Some asked) asks
-        ∙ ap (λ (told : Result (Option (List ℕ)) KeyRefusal). outset_under told given.sectors (last_image given.content)) (keyed given.key_bytes has_key)
-        ∙ ap (λ (n : ℕ). outset_on key n (last_image given.content)) (is.sectors ∙ ap (λ (n : NamedDisk). n.sectors) there) in
-        let same_moments : image.moments ≡ mid = ap (λ (n : NamedDisk). n.moments) there in (
-          subst (λ (o : Outset). HasRunOn o given.content given.script ending later.moments held held_after) (sym same_outset)
-              (subst (λ (m : List Content). HasRunOn (outset_on key sectors (last_image given.content)) given.content given.script ending m held held_after) (sym at_end) runs.0),
-          subst (λ (o : Outset). EachMoment image.moments later.moments (MayBeLeftAt o given.content given.script)) (sym same_outset)
-              (subst (λ (m : List Content). EachMoment m later.moments (MayBeLeftAt (outset_on key sectors (last_image given.content)) given.content given.script)) (sym same_moments)
-              (subst (λ (m : List Content). EachMoment mid m (MayBeLeftAt (outset_on key sectors (last_image given.content)) given.content given.script)) (sym at_end) runs.1)),
+        ∙ ap (λ (told : Result (Option (List ℕ)) KeyRefusal). outset_under told given.sectors entry)
+        (keyed given.key_bytes has_key)
+        ∙ ap (λ (n : ℕ). outset_on key n entry) same_sectors in
+        let same_moments : image.moments ≡ mid = ap (λ (n : NamedDisk). n.moments) there in
+        let At = λ (o : Outset) (n : ℕ). IsMomentOf o (geometry_on n entry) given.content given.script in (
+          subst (λ (o : Outset). HasRunOn o given.content given.script ending later.moments held held_after)
+              (sym same_outset)
+              (subst (λ (m : List Content).
+              HasRunOn (outset_on key sectors entry) given.content given.script ending m held held_after)
+              (sym at_end) runs.0),
+          subst (λ (o : Outset). EachMoment image.moments later.moments (At o given.sectors)) (sym same_outset)
+              (subst (λ (n : ℕ). EachMoment image.moments later.moments (At (outset_on key sectors entry) n))
+              (sym same_sectors)
+              (subst (λ (m : List Content). EachMoment m later.moments (At (outset_on key sectors entry) sectors))
+              (sym same_moments)
+              (subst (λ (m : List Content). EachMoment mid m (At (outset_on key sectors entry) sectors))
+              (sym at_end) runs.1))),
         )
+
+    -- What is taken of the script of such a run is so of the command's.
+    pub read_given : (key : Option (List ℕ)) → IsKeyed asked.key_file keys (HasHash key) → (sectors : ℕ)
+        (mid : List Content) → image ≡ record { sectors = sectors; moments = mid }
+        → (left held_after : Option (List ℕ))
+        → HasReadIn (outset_on key sectors (last_image given.content)) given.script left held held_after
+        → HasReadIn (outset_in given) given.script left held held_after
+    read_given key keyed sectors mid there left held_after read =
+        let entry : Image = last_image given.content in
+        subst (λ (o : Outset). HasReadIn o given.script left held held_after)
+        (sym (outset_asked (Some asked) asks
+        ∙ ap (λ (told : Result (Option (List ℕ)) KeyRefusal). outset_under told given.sectors entry)
+        (keyed given.key_bytes has_key)
+        ∙ ap (λ (n : ℕ). outset_on key n entry) (is.sectors ∙ ap (λ (n : NamedDisk). n.sectors) there))) read
 
     -- A key that is taken is not refused.
     pub not_refused_by_key : (key : Option (List ℕ)) → IsKeyed asked.key_file keys (HasHash key) → IsRefusedByKey (outset_in given) → ⊥

@@ -11,9 +11,10 @@ use Rattle.script_session.specs.LineRun.{held_with}
 use Rattle.command_ending.specs.Ended.{ending_of}
 use Rattle.command_ending.specs.declared.ended.Ended.{Ended}
 use Rattle.command_ending.specs.declared.ended.Ended.TheVariants as Endings
-use Rattle.integrity_tool.specs.CommandRun.{Outset, Faults, HasCauseIn, IsLastLine, Tells}
+use Rattle.device_model.specs.CommandRun.{Outset, Faults, HasCauseIn, IsLastLine, Tells}
 use Rattle.integrity_tool.specs.Opening.{HasRunOn}
-use Rattle.integrity_tool.specs.Top.{HasCommandCause, IsBeforeScript}
+use Rattle.integrity_tool.specs.Running.{HoldsText, IsCounted}
+use Rattle.integrity_tool.specs.Top.{HasCommandCause, HasStatus, IsBeforeScript}
 
 -- ---- the disk
 
@@ -61,23 +62,128 @@ cause_in faults Endings.Memory cause = tt
 
 -- ---- statuses
 
-pub record HasStatusCause (disk key script sink : Type 0) (status : ℕ) : Type 0 where
-  pub low : status ≤ 7
-  pub of_disk : status ≡ 4 → disk
-  pub of_sources : status ≡ 5 → key ⊎ script
-  pub of_sink : status ≡ 6 → sink
+-- The counts before and after a command.
+pub record Counts : Type 0 where
+  pub disk_before : ℕ
+  pub disk : ℕ
+  pub key_before : ℕ
+  pub key : ℕ
+  pub script_before : ℕ
+  pub script : ℕ
+  pub sink_before : ℕ
+  pub sink : ℕ
 
-pub status_cause : (disk key script sink : Type 0) (ended : Ended) → HasCommandCause disk key script sink ended → HasStatusCause disk key script sink (status_of (ending_of ended))
-status_cause disk key script sink Endings.Words cause = record { low = omega arith; of_disk = λ is. absurd (omega (arith, is)); of_sources = λ is. absurd (omega (arith, is)); of_sink = λ is. absurd (omega (arith, is)) }
-status_cause disk key script sink (Endings.Key refusal) cause = record { low = omega arith; of_disk = λ is. absurd (omega (arith, is)); of_sources = λ is. absurd (omega (arith, is)); of_sink = λ is. absurd (omega (arith, is)) }
-status_cause disk key script sink (Endings.Line number refusal) cause = record { low = omega arith; of_disk = λ is. absurd (omega (arith, is)); of_sources = λ is. absurd (omega (arith, is)); of_sink = λ is. absurd (omega (arith, is)) }
-status_cause disk key script sink Endings.Length cause = record { low = omega arith; of_disk = λ is. absurd (omega (arith, is)); of_sources = λ is. absurd (omega (arith, is)); of_sink = λ is. absurd (omega (arith, is)) }
-status_cause disk key script sink (Endings.Image fault) cause = record { low = omega arith; of_disk = λ is. absurd (omega (arith, is)); of_sources = λ is. absurd (omega (arith, is)); of_sink = λ is. absurd (omega (arith, is)) }
-status_cause disk key script sink Endings.Disk cause = record { low = omega arith; of_disk = λ is. cause; of_sources = λ is. absurd (omega (arith, is)); of_sink = λ is. absurd (omega (arith, is)) }
-status_cause disk key script sink Endings.KeySource cause = record { low = omega arith; of_disk = λ is. absurd (omega (arith, is)); of_sources = λ is. inl cause; of_sink = λ is. absurd (omega (arith, is)) }
-status_cause disk key script sink Endings.Script cause = record { low = omega arith; of_disk = λ is. absurd (omega (arith, is)); of_sources = λ is. inr cause; of_sink = λ is. absurd (omega (arith, is)) }
-status_cause disk key script sink Endings.Sink cause = record { low = omega arith; of_disk = λ is. absurd (omega (arith, is)); of_sources = λ is. absurd (omega (arith, is)); of_sink = λ is. cause }
-status_cause disk key script sink Endings.Memory cause = record { low = omega arith; of_disk = λ is. absurd (omega (arith, is)); of_sources = λ is. absurd (omega (arith, is)); of_sink = λ is. absurd (omega (arith, is)) }
+abbrev pub HasStatusIn : Counts → ℕ → Type 0
+HasStatusIn n status = HasStatus n.disk_before n.disk n.key_before n.key n.script_before n.script n.sink_before n.sink status
+
+-- Where a command came to its end no count rose.
+pub status_complete : (n : Counts) (status : ℕ) → status ≤ 1 → n.disk ≡ n.disk_before → n.key ≡ n.key_before
+    → n.script ≡ n.script_before → n.sink ≡ n.sink_before → HasStatusIn n status
+status_complete n status low disk key script sink = record {
+  low = omega (arith, low);
+  of_disk = λ is. absurd (omega (arith, low, is));
+  of_sources = λ is. absurd (omega (arith, low, is));
+  of_sink = λ is. absurd (omega (arith, low, is));
+  disk_passed = λ other. disk;
+  sources_passed = λ other. (key, script);
+  sink_passed = λ is. sink;
+}
+
+module _ {T : Type 0} (n : Counts) where
+  pub status_ended : (ended : Ended)
+      → HasCommandCause (Rose n.disk_before n.disk) (Rose n.key_before n.key) (Rose n.script_before n.script) (Rose n.sink_before n.sink) ended
+      → IsCounted {T = T} Endings.Disk n.disk_before n.disk (Err ended) → IsCounted {T = T} Endings.KeySource n.key_before n.key (Err ended)
+      → IsCounted {T = T} Endings.Script n.script_before n.script (Err ended) → HasStatusIn n (status_of (ending_of ended))
+  status_ended Endings.Words cause disk key script = record {
+    low = omega arith;
+    of_disk = λ is. absurd (omega (arith, is));
+    of_sources = λ is. absurd (omega (arith, is));
+    of_sink = λ is. absurd (omega (arith, is));
+    disk_passed = λ other. disk.passed (λ same. absurd (cc));
+    sources_passed = λ other. (key.passed (λ same. absurd (cc)), script.passed (λ same. absurd (cc)));
+    sink_passed = λ is. absurd (omega (arith, is));
+  }
+  status_ended (Endings.Key refusal) cause disk key script = record {
+    low = omega arith;
+    of_disk = λ is. absurd (omega (arith, is));
+    of_sources = λ is. absurd (omega (arith, is));
+    of_sink = λ is. absurd (omega (arith, is));
+    disk_passed = λ other. disk.passed (λ same. absurd (cc));
+    sources_passed = λ other. (key.passed (λ same. absurd (cc)), script.passed (λ same. absurd (cc)));
+    sink_passed = λ is. absurd (omega (arith, is));
+  }
+  status_ended (Endings.Line number refusal) cause disk key script = record {
+    low = omega arith;
+    of_disk = λ is. absurd (omega (arith, is));
+    of_sources = λ is. absurd (omega (arith, is));
+    of_sink = λ is. absurd (omega (arith, is));
+    disk_passed = λ other. disk.passed (λ same. absurd (cc));
+    sources_passed = λ other. (key.passed (λ same. absurd (cc)), script.passed (λ same. absurd (cc)));
+    sink_passed = λ is. absurd (omega (arith, is));
+  }
+  status_ended Endings.Length cause disk key script = record {
+    low = omega arith;
+    of_disk = λ is. absurd (omega (arith, is));
+    of_sources = λ is. absurd (omega (arith, is));
+    of_sink = λ is. absurd (omega (arith, is));
+    disk_passed = λ other. disk.passed (λ same. absurd (cc));
+    sources_passed = λ other. (key.passed (λ same. absurd (cc)), script.passed (λ same. absurd (cc)));
+    sink_passed = λ is. absurd (omega (arith, is));
+  }
+  status_ended (Endings.Image fault) cause disk key script = record {
+    low = omega arith;
+    of_disk = λ is. absurd (omega (arith, is));
+    of_sources = λ is. absurd (omega (arith, is));
+    of_sink = λ is. absurd (omega (arith, is));
+    disk_passed = λ other. disk.passed (λ same. absurd (cc));
+    sources_passed = λ other. (key.passed (λ same. absurd (cc)), script.passed (λ same. absurd (cc)));
+    sink_passed = λ is. absurd (omega (arith, is));
+  }
+  status_ended Endings.Disk cause disk key script = record {
+    low = omega arith;
+    of_disk = λ is. cause;
+    of_sources = λ is. absurd (omega (arith, is));
+    of_sink = λ is. absurd (omega (arith, is));
+    disk_passed = λ other. absurd (other refl);
+    sources_passed = λ other. (key.passed (λ same. absurd (cc)), script.passed (λ same. absurd (cc)));
+    sink_passed = λ is. absurd (omega (arith, is));
+  }
+  status_ended Endings.KeySource cause disk key script = record {
+    low = omega arith;
+    of_disk = λ is. absurd (omega (arith, is));
+    of_sources = λ is. inl cause;
+    of_sink = λ is. absurd (omega (arith, is));
+    disk_passed = λ other. disk.passed (λ same. absurd (cc));
+    sources_passed = λ other. absurd (other refl);
+    sink_passed = λ is. absurd (omega (arith, is));
+  }
+  status_ended Endings.Script cause disk key script = record {
+    low = omega arith;
+    of_disk = λ is. absurd (omega (arith, is));
+    of_sources = λ is. inr cause;
+    of_sink = λ is. absurd (omega (arith, is));
+    disk_passed = λ other. disk.passed (λ same. absurd (cc));
+    sources_passed = λ other. absurd (other refl);
+    sink_passed = λ is. absurd (omega (arith, is));
+  }
+  status_ended Endings.Sink cause disk key script = record {
+    low = omega arith;
+    of_disk = λ is. absurd (omega (arith, is));
+    of_sources = λ is. absurd (omega (arith, is));
+    of_sink = λ is. cause;
+    disk_passed = λ other. disk.passed (λ same. absurd (cc));
+    sources_passed = λ other. (key.passed (λ same. absurd (cc)), script.passed (λ same. absurd (cc)));
+    sink_passed = λ is. absurd (omega (arith, is));
+  }
+  status_ended Endings.Memory cause disk key script = record {
+    low = omega arith;
+    of_disk = λ is. absurd (omega (arith, is));
+    of_sources = λ is. absurd (omega (arith, is));
+    of_sink = λ is. absurd (omega (arith, is));
+    disk_passed = λ other. disk.passed (λ same. absurd (cc));
+    sources_passed = λ other. (key.passed (λ same. absurd (cc)), script.passed (λ same. absurd (cc)));
+    sink_passed = λ is. absurd (omega (arith, is));
+  }
 
 -- ---- the last line
 
@@ -128,6 +234,13 @@ tells_early outset start script ending moments held_before held after before d s
     tells_line outset start script ending moments held_before held after before d status faults (take err.count (fault_text ending)) run is_before told is_status cause
     (inr (rose, err.count, err.short, refl)) err.held
 
+-- What was put of the last line stands behind what the sink held.
+pub last_line_holds : {T E : Type 0} (result : Result T E) (line : List ℕ) (held after : Option (List ℕ))
+    → OnOk result (after ≡ option_map (with_bytes line) held) → OnErr result (AddsPrefix line held after)
+    → HoldsText [] held after
+last_line_holds (Ok x) line held after written err = record { more = line; is = written }
+last_line_holds (Err e) line held after written err = record { more = take err.count line; is = err.held }
+
 -- ---- a disk that is bound, and what stood under its name
 
 pub told_there : {first : NamedDisk} {sectors : ℕ} {before : List Content} {content : Content} → first ≡ record { sectors = sectors; moments = before }
@@ -151,3 +264,16 @@ image_refused Endings.Memory is = absurd (omega (arith, is))
 pub complete_is_low : (found : Bool) → status_of (Complete found) ≤ 1
 complete_is_low true = omega arith
 complete_is_low false = omega arith
+
+-- What ended a command has another one too.
+pub ended_is_high : (ended : Ended) → 2 ≤ status_of (ending_of ended)
+ended_is_high Endings.Words = omega arith
+ended_is_high (Endings.Key refusal) = omega arith
+ended_is_high (Endings.Line number refusal) = omega arith
+ended_is_high Endings.Length = omega arith
+ended_is_high (Endings.Image fault) = omega arith
+ended_is_high Endings.Disk = omega arith
+ended_is_high Endings.KeySource = omega arith
+ended_is_high Endings.Script = omega arith
+ended_is_high Endings.Sink = omega arith
+ended_is_high Endings.Memory = omega arith

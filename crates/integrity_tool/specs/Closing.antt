@@ -1,15 +1,33 @@
 -- How a run ends at its close.
-use Rattle.std.specs.Prelude.{Result, Ok, Err}
+use Rattle.std.specs.Prelude.{◌≢◌, ◌≡◌, ℕ, ◌≤◌, Result, Ok, Err}
 use Rattle.device_model.specs.Ending.{Ending, Complete, DiskFailed, SinkFailed}
+use Rattle.command_ending.specs.declared.ended.Ended.{Ended}
+use Rattle.command_ending.specs.declared.ended.Ended.TheVariants as Endings
 use Rattle.script_session.specs.declared.tags_found.TagsFound.{TagsFound}
 use Rattle.script_session.specs.Told.{finds_fault}
 use Rattle.integrity_tool.specs.declared.closing.CloseFault.{CloseFault}
 use Rattle.integrity_tool.specs.declared.closing.CloseFault.TheVariants.{Disk, Sink}
 
+-- The counts of faults of disk and sink never fall, and each rises only where it is what failed.
+pub record HasCloseCounts (disk_before disk sink_before sink : ℕ) (result : Result TagsFound CloseFault) : Type 0 where
+  pub disk_later : disk_before ≤ disk
+  pub sink_later : sink_before ≤ sink
+  pub disk_passed : result ≢ Err Disk → disk ≡ disk_before
+  pub sink_passed : result ≢ Err Sink → sink ≡ sink_before
+
 -- The ending that each fault stands for.
 abbrev pub fault_ending : CloseFault → Ending
 fault_ending Disk = DiskFailed
 fault_ending Sink = SinkFailed
+
+-- What ended a run with such a close.
+abbrev pub fault_ended : CloseFault → Ended
+fault_ended Disk = Endings.Disk
+fault_ended Sink = Endings.Sink
+
+abbrev pub ended_close : Result TagsFound CloseFault → Result TagsFound Ended
+ended_close (Ok found) = Ok found
+ended_close (Err fault) = Err (fault_ended fault)
 
 abbrev pub close_ending : Result TagsFound CloseFault → Ending
 close_ending (Ok found) = Complete (finds_fault found)

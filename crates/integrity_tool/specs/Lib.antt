@@ -1,7 +1,6 @@
-pub mod Asked
+pub mod Words
 pub mod Closing
-pub mod CommandRun
-pub mod Keyed
+pub mod KeyFile
 pub mod Lines
 pub mod Opening
 pub mod Outset

@@ -1,14 +1,18 @@
 -- What the run of a script on an image tells and leaves.
 use Rattle.std.specs.Prelude.{◌≡◌, ℕ, List, Option}
-use Rattle.disk_model.specs.Disk.{Content}
+use Rattle.disk_model.specs.Disk.{Content, OnlyAdds, last_image}
 use Rattle.disk_model.specs.Moments.{HasNow}
+use Rattle.device_model.specs.CommandRun.{Outset, IsEndedBy, IsLeftAt, IsRunAt, MayBeLeftAt}
 use Rattle.device_model.specs.Ending.{Ending}
-use Rattle.device_model.specs.History.{Change}
-use Rattle.device_model.specs.ScriptRun.{ScriptRun}
+use Rattle.device_model.specs.History.{Change, IsWrittenIn}
+use Rattle.device_model.specs.ScriptRun.{ScriptRun, changes_in}
+use Rattle.direct_mode.specs.Places.{IsOfPlaces}
+use Rattle.image_model.specs.Geometry.{Geometry}
 use Rattle.script_session.specs.LineRun.{held_with}
 use Rattle.command_ending.specs.declared.ended.Ended.{Ended}
 use Rattle.command_ending.specs.declared.ended.Ended.TheVariants as Endings
-use Rattle.integrity_tool.specs.CommandRun.{Outset, IsEndedBy, IsLeftAt, IsRunAt}
+use Rattle.integrity_tool.specs.Outset.{geometry_on, outset_on}
+use Rattle.integrity_tool.specs.Running.{HasReadTo}
 
 -- The run came so far, and ended so: the sink holds its text behind what it held, and this is left of the disk.
 pub record HasRunOn (outset : Outset) (start : Content) (script : List ℕ) (ending : Ending) (after : List Content)
@@ -21,9 +25,41 @@ pub record HasRunOn (outset : Outset) (start : Content) (script : List ℕ) (end
   pub told : held ≡ held_with text held_before
   pub left : HasNow (IsLeftAt outset start changes) after
 
+-- No sector was written but those of tags, and of the blocks that some line of the run writes.
+pub record IsOnlyWritten (outset : Outset) (g : Geometry) (start : Content) (script : List ℕ) (later : Content)
+    : Type 0 where
+  pub run : ScriptRun
+  pub is_run : IsRunAt outset script run
+  pub only : OnlyAdds (IsOfPlaces g (IsWrittenIn (changes_in run.steps))) start later
+
+-- What stands at a moment of the command: what some of the first changes of its run leave, and no sector written that
+-- the run does not write.
+pub record IsMomentOf (outset : Outset) (g : Geometry) (start : Content) (script : List ℕ) (later : Content)
+    : Type 0 where
+  pub left : MayBeLeftAt outset start script later
+  pub only : IsOnlyWritten outset g start script later
+
+-- The same, of the run of a script on a disk of so many sectors, with this key.
+abbrev pub IsMomentOn : Option (List ℕ) → (sectors : ℕ) → (start : Content) → List ℕ → (later : Content) → Type 0
+IsMomentOn key sectors start script later =
+    IsMomentOf (outset_on key sectors (last_image start)) (geometry_on sectors (last_image start)) start script
+    later
+
+-- No more of the script is taken than its run has come to.
+pub record HasReadIn (outset : Outset) (script : List ℕ) (left held_before held : Option (List ℕ)) : Type 0 where
+  pub run : ScriptRun
+  pub is_run : IsRunAt outset script run
+  pub read : HasReadTo run script left held_before held
+
 -- What can end a run on an image: neither words, nor a key.
 abbrev pub EndsImage : Ended → Type 0
 EndsImage Endings.Words = ⊥
 EndsImage (Endings.Key refusal) = ⊥
+EndsImage (Endings.Line number refusal) = Unit {0}
+EndsImage Endings.Length = Unit {0}
+EndsImage (Endings.Image fault) = Unit {0}
+EndsImage Endings.Disk = Unit {0}
 EndsImage Endings.KeySource = ⊥
-EndsImage ended = Unit {0}
+EndsImage Endings.Script = Unit {0}
+EndsImage Endings.Sink = Unit {0}
+EndsImage Endings.Memory = Unit {0}

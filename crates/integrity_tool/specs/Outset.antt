@@ -3,13 +3,15 @@
 use Rattle.std.specs.Prelude.{ℕ, ◌==◌, ltb, if◌then◌else◌, List, length, Option, Some, None, Result, Ok, Err}
 use Rattle.disk_model.specs.Disk.{Image}
 use Rattle.device_model.specs.Ending.{Ending, RefusedWords, RefusedKey, RefusedImage, DiskFailed, NoMemory, BySuperblock, ByGeometry, ByMode, KeyRefusal, EmptyKey, LongKey}
+use Rattle.image_model.specs.Geometry.{Geometry}
 use Rattle.image_opening.specs.Format.{direct_format_of}
 use Rattle.image_opening.specs.declared.open_fault.OpenFault.{OpenFault}
 use Rattle.image_opening.specs.declared.open_fault.OpenFault.TheVariants as OpenFaults
 use Rattle.image_opening.specs.declared.reading.ImageFormat.{ImageFormat}
+use Rattle.place_model.specs.Format.{format_on}
 use Rattle.place_model.specs.Kind.{placed_kind}
-use Rattle.integrity_tool.specs.Asked.{Asked, asked_of}
-use Rattle.integrity_tool.specs.CommandRun.{Outset, RefusedBy, RunsOn}
+use Rattle.integrity_tool.specs.Words.{Asked, asked_of}
+use Rattle.device_model.specs.CommandRun.{Outset, RefusedBy, RunsOn}
 
 -- A key has at most so many bytes.
 abbrev pub most_key : ℕ
@@ -51,6 +53,10 @@ outset_under (Err refusal) sectors image = RefusedBy (RefusedKey refusal)
 abbrev pub outset_for : Option Asked → (key_bytes : List ℕ) → (sectors : ℕ) → Image → Outset
 outset_for None key_bytes sectors image = RefusedBy RefusedWords
 outset_for (Some asked) key_bytes sectors image = outset_under (key_by asked.key_file key_bytes) sectors image
+
+-- Where the blocks and tags of an image lie, by its superblock.
+abbrev pub geometry_on : (sectors : ℕ) → Image → Geometry
+geometry_on sectors image = (format_on None sectors image).geometry
 
 -- What a run with these words starts on, where the key file has these bytes, on a disk of so many sectors with this image.
 abbrev pub outset_of : List (List ℕ) → (key_bytes : List ℕ) → (sectors : ℕ) → Image → Outset

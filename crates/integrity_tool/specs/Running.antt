@@ -1,27 +1,27 @@
 -- The run of a script on a device that stands somewhere in it: what stops it, and what leads there.
-use Rattle.std.specs.Prelude.{◌≡◌, ℕ, ◌+◌, ltb, Bool, List, ◌++◌, length, Option, Result, Ok, Err, ◌≤◌}
+use Rattle.std.specs.Prelude.{◌≡◌, ◌≢◌, ℕ, ◌+◌, ltb, Bool, List, [], ◌∷◌, ◌++◌, length, take, Option, Result, Ok, Err, ◌≤◌}
 use Rattle.std.specs.List.{AllZip}
 use Rattle.std.specs.Option.{ForSome, IsSomeAnd}
 use Rattle.disk_model.specs.Disk.{Content}
 use Rattle.disk_model.specs.Moments.{EachMoment}
 use Rattle.device_model.specs.Ending.{Ending, Complete}
-use Rattle.device_model.specs.Grammar.{ReadLine, IsReadAs}
+use Rattle.device_model.specs.Grammar.{ReadLine, IsReadAs, most_line}
 use Rattle.device_model.specs.History.{Change, with_changes}
-use Rattle.device_model.specs.ScriptBytes.{most_script}
-use Rattle.device_model.specs.ScriptRun.{ScriptRun, changes_in, close_step, only_ends, run_from, with_step}
+use Rattle.device_model.specs.ScriptBytes.{lines_of, most_script}
+use Rattle.device_model.specs.ScriptRun.{ScriptRun, ScriptStep, changes_in, close_step, only_ends, run_from, texts_of, with_step}
 use Rattle.direct_laws.specs.MomentLaws.{IsLeftNow, kind_of}
 use Rattle.device_core.specs.declared.condition.Condition.TheVariants as Conditions
 use Rattle.device_core.specs.declared.parts.Parts.{Parts}
 use Rattle.device_core.specs.Device.{IsDevice, Standing}
 use Rattle.script_reader.specs.Lines.{lines_left}
-use Rattle.script_reader.specs.Reading.{Reading}
+use Rattle.script_reader.specs.Reading.{Reading, most_piece}
 use Rattle.script_session.specs.declared.tags_found.TagsFound.{TagsFound}
-use Rattle.script_session.specs.LineRun.{IsLeftWithin, held_with}
+use Rattle.script_session.specs.LineRun.{IsLeftWithin, WritesOnly, held_with}
 use Rattle.script_session.specs.Told.{finds_fault}
 use Rattle.command_ending.specs.Ended.{ending_of}
 use Rattle.command_ending.specs.declared.ended.Ended.{Ended}
 use Rattle.command_ending.specs.declared.ended.Ended.TheVariants as Endings
-use Rattle.integrity_tool.specs.CommandRun.{IsEndedBy}
+use Rattle.device_model.specs.CommandRun.{IsEndedBy}
 
 -- How a run ended.
 abbrev pub ending_by : Result TagsFound Ended → Ending
@@ -29,8 +29,8 @@ ending_by (Ok found) = Complete (finds_fault found)
 ending_by (Err ended) = ending_of ended
 
 -- This is what stopped the rest of a run on a device: the rest came so far; at each moment some of its changes
--- are made, and
--- now these; and the sink holds its text behind what it held.
+-- are made, and now these; no sector is written but those of the blocks that it writes, and of tags; and the sink
+-- holds its text behind what it held.
 pub record IsStopped (w : Standing) (rest : ScriptRun) (ending : Ending) (before after : List Content)
     (held_before held : Option (List ℕ)) : Type 0 where
   pub text : List ℕ
@@ -38,6 +38,7 @@ pub record IsStopped (w : Standing) (rest : ScriptRun) (ending : Ending) (before
   pub ended : IsEndedBy rest text changes ending
   pub since : EachMoment before after
       (IsLeftWithin (kind_of w.disk) w.entry w.state.history (changes_in rest.steps))
+  pub writes : WritesOnly w.disk.geometry (changes_in rest.steps) before after
   pub now : IsLeftNow (kind_of w.disk) w.entry (with_changes changes w.state.history) after
   pub told : held ≡ held_with text held_before
 
@@ -57,10 +58,27 @@ is_beyond reader left = ltb most_script (reader.taken + length (reader.unread ++
 abbrev pub lines_behind : Reading → List ℕ → List (List ℕ)
 lines_behind reader left = lines_left reader.taken (reader.unread ++ left)
 
+-- How many bytes lines have, each with the newline behind it.
+abbrev pub bytes_of_lines : List (List ℕ) → ℕ
+bytes_of_lines [] = 0
+bytes_of_lines (line ∷ lines) = length line + 1 + bytes_of_lines lines
+
+-- These steps of a run are made: it goes on with the rest. Each was a line of the script, their text is printed, and no more
+-- than the bytes of these lines is taken.
+pub record IsPassed (run rest : ScriptRun) (script : List ℕ) (held_start : Option (List ℕ)) (reader : Reading)
+    (left : List ℕ) (held : Option (List ℕ)) : Type 0 where
+  pub steps : List ScriptStep
+  pub lines : List (List ℕ)
+  pub as_many : length lines ≡ length steps
+  pub is_split : run.steps ≡ steps ++ rest.steps
+  pub printed : held ≡ held_with (texts_of steps) held_start
+  pub lines_are : lines_of script ≡ lines ++ lines_behind reader left
+  pub low : reader.taken ≤ bytes_of_lines lines
+
 -- A run of a script stands before its line of this number.
-pub record IsAt (there : Standing) (run : ScriptRun) (start : List Content) (held_start : Option (List ℕ))
-    (number : ℕ) (found : TagsFound) (reader : Reading) (left : List ℕ) (parts : Parts) (now : List Content)
-    (held : Option (List ℕ)) : Type 0 where
+pub record IsAt (there : Standing) (run : ScriptRun) (script : List ℕ) (start : List Content)
+    (held_start : Option (List ℕ)) (number : ℕ) (found : TagsFound) (reader : Reading) (left : List ℕ)
+    (parts : Parts) (now : List Content) (held : Option (List ℕ)) : Type 0 where
   pub here : Standing
   pub device : IsDevice here Conditions.Working parts now
   pub lines : List ReadLine
@@ -68,6 +86,9 @@ pub record IsAt (there : Standing) (run : ScriptRun) (start : List Content) (hel
   pub leads : Leads here
       (run_from here.format (is_beyond reader left) number here.state (finds_fault found) lines) now held
       there run start held_start
+  pub passed : IsPassed run
+      (run_from here.format (is_beyond reader left) number here.state (finds_fault found) lines) script held_start
+      reader left held
 
 -- What is left of a run where no line is: the close.
 abbrev pub only_close : Standing → TagsFound → ScriptRun
@@ -84,18 +105,34 @@ pub record IsAtClose (there : Standing) (run : ScriptRun) (start : List Content)
 
 -- What is outside ends a run only where its count rose.
 abbrev pub HasEndCause : (disk_rose script_rose sink_rose : Type 0) → Ended → Type 0
+HasEndCause disk_rose script_rose sink_rose Endings.Words = Unit {0}
+HasEndCause disk_rose script_rose sink_rose (Endings.Key refusal) = Unit {0}
+HasEndCause disk_rose script_rose sink_rose (Endings.Line number refusal) = Unit {0}
+HasEndCause disk_rose script_rose sink_rose Endings.Length = Unit {0}
+HasEndCause disk_rose script_rose sink_rose (Endings.Image fault) = Unit {0}
 HasEndCause disk_rose script_rose sink_rose Endings.Disk = disk_rose
+HasEndCause disk_rose script_rose sink_rose Endings.KeySource = Unit {0}
 HasEndCause disk_rose script_rose sink_rose Endings.Script = script_rose
 HasEndCause disk_rose script_rose sink_rose Endings.Sink = sink_rose
-HasEndCause disk_rose script_rose sink_rose ended = Unit {0}
+HasEndCause disk_rose script_rose sink_rose Endings.Memory = Unit {0}
+
+-- A count of faults never falls, and it rises only where this is what ended the run: no call that failed is passed over.
+pub record IsCounted {T : Type 0} (ended : Ended) (before after : ℕ) (result : Result T Ended) : Type 0 where
+  pub later : before ≤ after
+  pub passed : result ≢ Err ended → after ≡ before
 
 -- What can end the run of a script: neither words, nor a key, nor an image.
 abbrev pub EndsScript : Ended → Type 0
 EndsScript Endings.Words = ⊥
 EndsScript (Endings.Key refusal) = ⊥
-EndsScript Endings.KeySource = ⊥
+EndsScript (Endings.Line number refusal) = Unit {0}
+EndsScript Endings.Length = Unit {0}
 EndsScript (Endings.Image fault) = ⊥
-EndsScript ended = Unit {0}
+EndsScript Endings.Disk = Unit {0}
+EndsScript Endings.KeySource = ⊥
+EndsScript Endings.Script = Unit {0}
+EndsScript Endings.Sink = Unit {0}
+EndsScript Endings.Memory = Unit {0}
 
 -- ---- what is taken of a source
 
@@ -114,3 +151,20 @@ most_taken = 16777217
 
 abbrev pub HasTaken : (left later : Option (List ℕ)) → Type 0
 HasTaken left later = ForSome left (λ bytes. IsSomeAnd later (λ more. length bytes ≤ length more + most_taken))
+
+-- So many bytes are taken at most before a line is run: the line and one byte, and one piece behind it.
+abbrev pub most_ahead : ℕ
+most_ahead = most_line + 1 + most_piece
+
+-- The sink holds this text behind what it held, and maybe more.
+pub record HoldsText (text : List ℕ) (held_before held : Option (List ℕ)) : Type 0 where
+  pub more : List ℕ
+  pub is : held ≡ held_with (text ++ more) held_before
+
+-- No more of a script is taken than some of its first lines, whose text is all printed, and what is taken before the next
+-- line is run.
+pub record HasReadTo (run : ScriptRun) (script : List ℕ) (left held_before held : Option (List ℕ)) : Type 0 where
+  pub done : ℕ
+  pub printed : HoldsText (texts_of (take done run.steps)) held_before held
+  pub taken : IsSomeAnd left (λ more.
+      length script ≤ length more + (bytes_of_lines (take done (lines_of script)) + most_ahead))

@@ -3,7 +3,7 @@ ghost use Rattle.std.specs.Prelude.{◌≡◌, ◌⊎◌, Err, IfErr, IfOk, None
 ghost use Rattle.std.specs.Option.{option_map};
 ghost use Rattle.std.specs.String.{string_bytes};
 ghost use Rattle.command_ending.specs.declared.ended.Ended.TheVariants as Endings;
-ghost use Rattle.integrity_tool.specs.Asked.{asked_by, asked_in, asked_of};
+ghost use Rattle.integrity_tool.specs.Words.{asked_by, asked_in, asked_of};
 
 use command_ending::Ended;
 use command_words::{Command, Run, WordsFault, has_come, parse};

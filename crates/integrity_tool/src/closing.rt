@@ -3,9 +3,8 @@ ghost use Rattle.std.specs.Prelude.{◌≡◌, ◌≤◌, Err};
 ghost use Rattle.disk_model.specs.Causes.{Rose};
 ghost use Rattle.device_core.specs.declared.condition.Condition.TheVariants.{Working};
 ghost use Rattle.device_core.specs.Device.{IsDevice, IsReady, Standing};
-ghost use Rattle.command_ending.specs.Ended.{ending_of};
-ghost use Rattle.integrity_tool.specs.Closing.{close_ending, fault_ending};
-ghost use Rattle.integrity_tool.specs.Running.{EndsScript, IsStopped, only_close};
+ghost use Rattle.integrity_tool.specs.Closing.{HasCloseCounts, close_ending, fault_ended};
+ghost use Rattle.integrity_tool.specs.Running.{IsStopped, only_close};
 
 use command_ending::Ended;
 use device_core::Device;
@@ -25,8 +24,7 @@ pub(crate) enum CloseFault {
 impl CloseFault {
     /// What ended the run.
     pub(crate) fn ended(self) -> Ended
-        ensures ending { ending_of result ≡ fault_ending self }
-        ensures ends { EndsScript result }
+        ensures { result ≡ fault_ended self }
     {
         match self {
             CloseFault::Disk => Ended::Disk,
@@ -53,9 +51,11 @@ pub(crate) fn close<'d, D: Disk, O: Sink>(
         → IsStopped w (only_close w found) (close_ending result.0) (D.moments device.entry.disk.now)
         (D.moments result.1.now) (O.held out.old) (O.held out.new) }
 
-    ensures disk { result.0 ≡ Err CloseFault.Disk → Rose (D.faults device.entry.disk.now) (D.faults result.1.now) }
+    ensures disk { result.0 ≡ Err CloseFault.Disk
+        → Rose (D.faults device.entry.disk.now) (D.faults result.1.now) }
     ensures sink { result.0 ≡ Err CloseFault.Sink → Rose (O.faults out.old) (O.faults out.new) }
-    ensures later { (D.faults device.entry.disk.now ≤ D.faults result.1.now) × (O.faults out.old ≤ O.faults out.new) }
+    ensures counts { HasCloseCounts (D.faults device.entry.disk.now) (D.faults result.1.now)
+        (O.faults out.old) (O.faults out.new) result.0 }
 
     ensures identity { D.identity result.1.now ≡ D.identity device.entry.disk.now }
     ensures same_disk { result.1.ghost_name ≡ device.entry.disk.ghost_name }

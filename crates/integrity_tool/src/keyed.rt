@@ -1,10 +1,10 @@
 //! The hash of tags, with the key that a file has.
-ghost use Rattle.std.specs.Prelude.{◌≡◌, ◌≤◌, Err, IfErr, IfOk, List, ℕ};
+ghost use Rattle.std.specs.Prelude.{◌≡◌, ◌≤◌, Err, IfErr, IfOk, IsOk, List, ℕ};
 ghost use Rattle.disk_model.specs.Causes.{Rose};
 ghost use Rattle.hmac_tag.specs.TagMaker.{key_of};
-ghost use Rattle.command_words.specs.declared.values.HashChoice.TheVariants as Choices;
-ghost use Rattle.integrity_tool.specs.Asked.{key_file_of};
-ghost use Rattle.integrity_tool.specs.Keyed.{HasHash, IsKeyRefused, IsKeyed};
+ghost use Rattle.integrity_tool.specs.Words.{key_file_of};
+ghost use Rattle.integrity_tool.specs.KeyFile.{HasHash, HasReadKey, IsKeyRefused, IsKeyed};
+ghost use Rattle.integrity_tool.specs.Running.{IsCounted};
 
 use command_ending::{Ended, KeyRefusal};
 use command_words::HashChoice;
@@ -27,13 +27,15 @@ pub(crate) fn hash_of<K: NamedSource>(
     source: &mut K,
     choice: &HashChoice,
 ) -> Result<Hash, Ended>
-    ensures hash { IfOk result (λ hash. IsKeyed (key_file_of choice.now) (K.named source.old) (HasHash (key_of hash))) }
+    ensures hash { IfOk result (λ hash. IsKeyed (key_file_of choice.now) (K.named source.old)
+        (HasHash (key_of hash))) }
 
     ensures refused { IfErr result (λ ended. IsKeyRefused (key_file_of choice.now) (K.named source.old)
         (K.faults source.old) (K.faults source.new) ended) }
 
-    ensures later { K.faults source.old ≤ K.faults source.new }
-    ensures unused { choice.now ≡ Choices.Sha256 → source.new ≡ source.old }
+    ensures counted { IsCounted Ended.KeySource (K.faults source.old) (K.faults source.new) result }
+    ensures read { HasReadKey (key_file_of choice.now) (K.named source.old) (K.left source.new)
+        (source.new ≡ source.old) (IsOk result) }
 {
     match choice {
         HashChoice::Sha256 => Ok(Hash::Sha256),

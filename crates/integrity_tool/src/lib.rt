@@ -1,6 +1,6 @@
 //! The program as one call: what it does with its words, its disk, its key, its script and its output.
 //!
-//! `integrity` is the call, and its contract is the promise. `specs/CommandRun.antt` is the file to read first.
+//! `integrity` is the call, and its contract is the promise. `device_model`'s `CommandRun.antt` is the file to read first.
 #![tactic(auto)]
 
 mod asked;

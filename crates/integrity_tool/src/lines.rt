@@ -4,9 +4,10 @@ ghost use Rattle.std.specs.Option.{ForSome, IsSomeAnd};
 ghost use Rattle.disk_model.specs.Causes.{Rose};
 ghost use Rattle.device_core.specs.declared.condition.Condition.TheVariants.{Working};
 ghost use Rattle.device_core.specs.Device.{IsDevice, IsReady, Standing};
+ghost use Rattle.script_reader.specs.Reading.{IsWithin, TakesOneLine};
 ghost use Rattle.script_session.specs.Tickets.{AreInFlight, Stays};
 ghost use Rattle.integrity_tool.specs.Lines.{HasAdvanced, HasRunBytes, IsStoppedByBytes, ended_by};
-ghost use Rattle.integrity_tool.specs.Running.{EndsScript, HasEndCause, HasRead, most_taken, read_by};
+ghost use Rattle.integrity_tool.specs.Running.{EndsScript, HasEndCause, HasRead, IsCounted};
 
 use command_ending::{Ended, FormFault, LineRefusal};
 use device_core::Device;
@@ -33,11 +34,11 @@ pub(crate) fn advance<S: Source>(
         (λ later. HasAdvanced number reader.old reader.new left later result)) }
     ensures taken { result ≡ Ok true → reader.old.taken < reader.new.taken }
     ensures read { HasRead reader.old reader.new (S.left script.old) (S.left script.new) }
-    ensures within { (reader.new.taken ≤ 16777216) × (read_by reader.new ≤ most_taken) }
+    ensures within { IsWithin reader.new × TakesOneLine reader.old reader.new }
 
     ensures ends { IfErr result EndsScript }
     ensures cause { IfErr result (HasEndCause ⊥ (Rose (S.faults script.old) (S.faults script.new)) ⊥) }
-    ensures later { S.faults script.old ≤ S.faults script.new }
+    ensures counted { IsCounted Ended.Script (S.faults script.old) (S.faults script.new) result }
 {
     match reader.next_line(script) {
         Ok(NextLine::Line) => Ok(true),
@@ -66,7 +67,8 @@ pub(crate) fn run_bytes<'d, D: Disk, O: Sink>(
     number: u64,
     out: &mut O,
 ) -> Result<TagsFound, Ended>
-    requires ready { IsReady device.old.parts (D.identity device.old.disk.now) (D.moments device.old.disk.now) }
+    requires ready { IsReady device.old.parts (D.identity device.old.disk.now)
+        (D.moments device.old.disk.now) }
     requires works { device.old.condition ≡ Working }
     requires tickets { AreInFlight tickets.old device.old.parts.slots }
     requires number { device.old.parts.slots.submitted + 1 < 2 ^ 64 }
@@ -85,8 +87,8 @@ pub(crate) fn run_bytes<'d, D: Disk, O: Sink>(
     ensures cause { IfErr result (HasEndCause
         (Rose (D.faults device.old.disk.now) (D.faults device.new.disk.now))
         ⊥ (Rose (O.faults out.old) (O.faults out.new))) }
-    ensures later { (D.faults device.old.disk.now ≤ D.faults device.new.disk.now)
-        × (O.faults out.old ≤ O.faults out.new) }
+    ensures counted { IsCounted Ended.Disk (D.faults device.old.disk.now) (D.faults device.new.disk.now) result
+        × IsCounted Ended.Sink (O.faults out.old) (O.faults out.new) result }
 
     ensures works { OnOk result (device.new.condition ≡ Working) }
     ensures stays { Stays device.old.parts device.new.parts tickets.new (D.identity device.old.disk.now)

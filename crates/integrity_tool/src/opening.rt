@@ -6,11 +6,10 @@ ghost use Rattle.disk_model.specs.Identity.{IsBound};
 ghost use Rattle.disk_model.specs.Moments.{EachMoment, HasNow};
 ghost use Rattle.hmac_tag.specs.TagMaker.{key_of};
 ghost use Rattle.command_ending.specs.Ended.{ending_of};
-ghost use Rattle.integrity_tool.specs.Closing.{close_ending};
-ghost use Rattle.integrity_tool.specs.CommandRun.{MayBeLeftAt};
-ghost use Rattle.integrity_tool.specs.Opening.{EndsImage, HasRunOn};
+ghost use Rattle.integrity_tool.specs.Closing.{ended_close};
+ghost use Rattle.integrity_tool.specs.Opening.{EndsImage, HasReadIn, HasRunOn, IsMomentOn};
 ghost use Rattle.integrity_tool.specs.Outset.{ending_by_open, outset_on};
-ghost use Rattle.integrity_tool.specs.Running.{EndsScript, HasEndCause, HasTaken, ending_by};
+ghost use Rattle.integrity_tool.specs.Running.{HasEndCause, HasTaken, IsCounted, ending_by};
 ghost use Rattle.integrity_tool.specs.Top.{IsBeforeScript};
 
 use crate::closing::{CloseFault, close};
@@ -46,16 +45,21 @@ pub(crate) fn run_image<D: Disk, S: Source, O: Sink>(
     ensures runs { (left : List ℕ) → S.left script.old ≡ Some left
         → HasNow (λ c. let outset = outset_on (key_of hash) (D.identity disk.old).sectors (last_image c) in
         HasRunOn outset c left (ending_by result) (D.moments disk.new) (O.held out.old) (O.held out.new)
-        × EachMoment (D.moments disk.old) (D.moments disk.new) (MayBeLeftAt outset c left)) (D.moments disk.old) }
+        × EachMoment (D.moments disk.old) (D.moments disk.new)
+        (IsMomentOn (key_of hash) (D.identity disk.old).sectors c left)) (D.moments disk.old) }
 
     ensures ends { IfErr result EndsImage }
     ensures cause { IfErr result (HasEndCause (Rose (D.faults disk.old) (D.faults disk.new))
         (Rose (S.faults script.old) (S.faults script.new)) (Rose (O.faults out.old) (O.faults out.new))) }
-    ensures later { (D.faults disk.old ≤ D.faults disk.new) × (S.faults script.old ≤ S.faults script.new)
-        × (O.faults out.old ≤ O.faults out.new) }
+    ensures counted { IsCounted Ended.Disk (D.faults disk.old) (D.faults disk.new) result
+        × IsCounted Ended.Script (S.faults script.old) (S.faults script.new) result
+        × IsCounted Ended.Sink (O.faults out.old) (O.faults out.new) result }
 
     ensures unread { IfErr result (λ ended. IsBeforeScript ended → script.new ≡ script.old) }
     ensures taken { HasTaken (S.left script.old) (S.left script.new) }
+    ensures ahead { (left : List ℕ) → S.left script.old ≡ Some left
+        → HasNow (λ c. HasReadIn (outset_on (key_of hash) (D.identity disk.old).sectors (last_image c)) left
+        (S.left script.new) (O.held out.old) (O.held out.new)) (D.moments disk.old) }
     ensures identity { D.identity disk.new ≡ D.identity disk.old }
 {
     let Ok(mut reader) = LineReader::new(alloc) else {
@@ -78,8 +82,7 @@ pub(crate) fn run_image<D: Disk, S: Source, O: Sink>(
 
 /// How a run ended at its close.
 fn ended_by_close(closed: Result<TagsFound, CloseFault>) -> Result<TagsFound, Ended>
-    ensures ending { ending_by result ≡ close_ending closed }
-    ensures ends { IfErr result EndsScript }
+    ensures { result ≡ ended_close closed }
 {
     match closed {
         Ok(found) => Ok(found),

@@ -7,7 +7,7 @@ ghost use Rattle.device_core.specs.declared.condition.Condition.TheVariants.{Wor
 ghost use Rattle.device_core.specs.Device.{IsDevice, IsReady, Standing};
 ghost use Rattle.script_session.specs.Told.{finds_fault};
 ghost use Rattle.command_ending.specs.Ended.{ending_of};
-ghost use Rattle.integrity_tool.specs.Running.{EndsScript, HasEndCause, HasTaken, IsAtClose, IsStopped};
+ghost use Rattle.integrity_tool.specs.Running.{EndsScript, HasEndCause, HasReadTo, HasTaken, IsAtClose, IsCounted, IsStopped};
 
 use crate::lines::{advance, run_bytes};
 use command_ending::Ended;
@@ -33,7 +33,8 @@ pub(crate) fn run_lines<'d, D: Disk, S: Source, O: Sink>(
     script: &mut S,
     out: &mut O,
 ) -> Result<TagsFound, Ended>
-    requires ready { IsReady device.old.parts (D.identity device.old.disk.now) (D.moments device.old.disk.now) }
+    requires ready { IsReady device.old.parts (D.identity device.old.disk.now)
+        (D.moments device.old.disk.now) }
     requires works { device.old.condition ≡ Working }
     requires requests { (device.old.parts.slots.slots ≡ []) × (device.old.parts.slots.submitted ≡ 0) }
     requires reader { reader.old ≡ record { unread = []; line = []; taken = 0 } }
@@ -53,12 +54,18 @@ pub(crate) fn run_lines<'d, D: Disk, S: Source, O: Sink>(
     ensures cause { IfErr result (HasEndCause
         (Rose (D.faults device.old.disk.now) (D.faults device.new.disk.now))
         (Rose (S.faults script.old) (S.faults script.new)) (Rose (O.faults out.old) (O.faults out.new))) }
-    ensures later { (D.faults device.old.disk.now ≤ D.faults device.new.disk.now)
-        × (S.faults script.old ≤ S.faults script.new) × (O.faults out.old ≤ O.faults out.new) }
+    ensures counted { IsCounted Ended.Disk (D.faults device.old.disk.now) (D.faults device.new.disk.now) result
+        × IsCounted Ended.Script (S.faults script.old) (S.faults script.new) result
+        × IsCounted Ended.Sink (O.faults out.old) (O.faults out.new) result }
 
-    ensures taken { HasTaken (S.left script.old) (S.left script.new) }
+    ensures taken { HasTaken (S.left script.old) (S.left script.new)
+        × ((w : Standing) (left : List ℕ) (run : ScriptRun)
+        → IsDevice w Working device.old.parts (D.moments device.old.disk.now) → S.left script.old ≡ Some left
+        → IsRunOf w.format w.state left run
+        → HasReadTo run left (S.left script.new) (O.held out.old) (O.held out.new)) }
     ensures works { OnOk result (device.new.condition ≡ Working) }
-    ensures ready { IsReady device.new.parts (D.identity device.new.disk.now) (D.moments device.new.disk.now) }
+    ensures ready { IsReady device.new.parts (D.identity device.new.disk.now)
+        (D.moments device.new.disk.now) }
     ensures identity { D.identity device.new.disk.now ≡ D.identity device.old.disk.now }
     ensures same_disk { device.new.disk.ghost_name ≡ device.old.disk.ghost_name }
 {

@@ -1,5 +1,5 @@
 //! The top call: from the words to the status.
-ghost use Rattle.std.specs.Prelude.{◌≡◌, ◌⊎◌, ◌≤◌, Err, IfErr, List, None, OnOk, Some, map, ℕ};
+ghost use Rattle.std.specs.Prelude.{◌≡◌, ◌⊎◌, ◌≤◌, Err, IfErr, IsOk, List, None, OnOk, Some, map, ℕ};
 ghost use Rattle.std.specs.Option.{ForSome, IsSomeAnd};
 ghost use Rattle.std.specs.String.{string_bytes};
 ghost use Rattle.disk_model.specs.Causes.{Rose};
@@ -7,11 +7,12 @@ ghost use Rattle.disk_model.specs.Identity.{IsBoundTo, IsThere};
 ghost use Rattle.disk_model.specs.Moments.{content_now, EachMoment};
 ghost use Rattle.device_model.specs.Ending.{Complete, status_of};
 ghost use Rattle.script_session.specs.Told.{finds_fault};
-ghost use Rattle.integrity_tool.specs.Asked.{asked_of, image_name};
-ghost use Rattle.integrity_tool.specs.CommandRun.{IsComplete, IsRunAt, MayBeLeftAt, Tells};
-ghost use Rattle.integrity_tool.specs.Opening.{HasRunOn};
-ghost use Rattle.integrity_tool.specs.Running.{HasTaken, ending_by};
-ghost use Rattle.integrity_tool.specs.Top.{Given, HasCommandCause, IsBeforeScript, IsGiven, IsRefusedByKey, outset_in};
+ghost use Rattle.integrity_tool.specs.Words.{asked_of, image_name, key_file_of_asked};
+ghost use Rattle.integrity_tool.specs.KeyFile.{HasReadKey};
+ghost use Rattle.device_model.specs.CommandRun.{Tells};
+ghost use Rattle.integrity_tool.specs.Opening.{HasReadIn, HasRunOn};
+ghost use Rattle.integrity_tool.specs.Running.{HasTaken, IsCounted, ending_by};
+ghost use Rattle.integrity_tool.specs.Top.{Given, HasCommandCause, HasStatus, IsBeforeScript, IsGiven, IsMomentIn, IsRefusedByKey, outset_in};
 
 use crate::asked::{command_of, run_in};
 use crate::keyed::hash_of;
@@ -55,20 +56,17 @@ pub fn integrity<D: Disk, K: NamedSource, S: Source, O: Sink>(
           script = Rose (S.faults script.old) (S.faults script.new);
           sink = Rose (O.faults out.old) (O.faults out.new);
         }))) }
-    // What is left at each moment.
+    // What is left at each moment, and what is written.
     ensures moments { (given : Given)
         → IsGiven (map string_bytes words.now) (K.named key.old)
         (D.named disk.old (image_name (map string_bytes words.now))) (S.left script.old) given
         → EachMoment (D.named disk.old (image_name (map string_bytes words.now))).moments
-        (D.named disk.new (image_name (map string_bytes words.now))).moments
-        (MayBeLeftAt (outset_in given) given.content given.script) }
+        (D.named disk.new (image_name (map string_bytes words.now))).moments (IsMomentIn given) }
 
-    // What each status but 0 to 3 comes from, whether the disk and the streams tell what they hold or not.
-    ensures status { result ≤ 7 }
-    ensures disk { result ≡ 4 → Rose (D.faults disk.old) (D.faults disk.new) }
-    ensures sources { result ≡ 5
-        → Rose (K.faults key.old) (K.faults key.new) ⊎ Rose (S.faults script.old) (S.faults script.new) }
-    ensures sink { result ≡ 6 → Rose (O.faults out.old) (O.faults out.new) }
+    // What each status but 0 to 3 comes from, and that no fault is passed over, whether the disk and the streams tell
+    // what they hold or not.
+    ensures status { HasStatus (D.faults disk.old) (D.faults disk.new) (K.faults key.old) (K.faults key.new)
+        (S.faults script.old) (S.faults script.new) (O.faults out.old) (O.faults out.new) result }
 
     // Words that ask for no run touch nothing.
     ensures words { asked_of (map string_bytes words.now) ≡ None → ((result ≡ 2) ⊎ (result ≡ 7))
@@ -78,13 +76,22 @@ pub fn integrity<D: Disk, K: NamedSource, S: Source, O: Sink>(
         → IsGiven (map string_bytes words.now) (K.named key.old)
         (D.named disk.old (image_name (map string_bytes words.now))) (S.left script.old) given
         → IsRefusedByKey (outset_in given) → (disk.new ≡ disk.old) × (script.new ≡ script.old) }
+    // No key file is read but the one that the words name, and of that at most 4097 bytes.
+    ensures key { HasReadKey (key_file_of_asked (asked_of (map string_bytes words.now))) (K.named key.old)
+        (K.left key.new) (key.new ≡ key.old) (result ≤ 1) }
     // The script is not read where the image is refused, and never more than one byte beyond its bound. The disk is bound to
     // the image, and has as many sectors as before.
     ensures unread { result ≡ 3 → script.new ≡ script.old }
     ensures taken { HasTaken (S.left script.old) (S.left script.new) }
+    // A line is run before more than one piece behind it is taken.
+    ensures ahead { (given : Given)
+        → IsGiven (map string_bytes words.now) (K.named key.old)
+        (D.named disk.old (image_name (map string_bytes words.now))) (S.left script.old) given
+        → HasReadIn (outset_in given) given.script (S.left script.new) (O.held out.old) (O.held out.new) }
     ensures bound { result ≤ 1
         → IsBoundTo (image_name (map string_bytes words.now)) (D.identity disk.new).name }
-    ensures sectors { ForSome (content_now (D.named disk.old (image_name (map string_bytes words.now))).moments)
+    ensures sectors { ForSome
+        (content_now (D.named disk.old (image_name (map string_bytes words.now))).moments)
         (λ c. (D.named disk.new (image_name (map string_bytes words.now))).sectors
         ≡ (D.named disk.old (image_name (map string_bytes words.now))).sectors) }
 {
@@ -127,13 +134,15 @@ fn run<D: Disk, K: NamedSource, S: Source, O: Sink>(
         → HasRunOn (outset_in given) given.content given.script (ending_by result)
         (D.named disk.new (image_name (map string_bytes words.now))).moments (O.held out.old) (O.held out.new)
         × EachMoment (D.named disk.old (image_name (map string_bytes words.now))).moments
-        (D.named disk.new (image_name (map string_bytes words.now))).moments
-        (MayBeLeftAt (outset_in given) given.content given.script) }
+        (D.named disk.new (image_name (map string_bytes words.now))).moments (IsMomentIn given) }
 
     ensures cause { IfErr result (HasCommandCause (Rose (D.faults disk.old) (D.faults disk.new))
         (Rose (K.faults key.old) (K.faults key.new)) (Rose (S.faults script.old) (S.faults script.new))
         (Rose (O.faults out.old) (O.faults out.new))) }
-    ensures sink_later { O.faults out.old ≤ O.faults out.new }
+    ensures counted { IsCounted Ended.Disk (D.faults disk.old) (D.faults disk.new) result
+        × IsCounted Ended.KeySource (K.faults key.old) (K.faults key.new) result
+        × IsCounted Ended.Script (S.faults script.old) (S.faults script.new) result
+        × IsCounted Ended.Sink (O.faults out.old) (O.faults out.new) result }
 
     ensures words { asked_of (map string_bytes words.now) ≡ None
         → ((result ≡ Err Ended.Words) ⊎ (result ≡ Err Ended.Memory))
@@ -142,10 +151,17 @@ fn run<D: Disk, K: NamedSource, S: Source, O: Sink>(
         → IsGiven (map string_bytes words.now) (K.named key.old)
         (D.named disk.old (image_name (map string_bytes words.now))) (S.left script.old) given
         → IsRefusedByKey (outset_in given) → (disk.new ≡ disk.old) × (script.new ≡ script.old) }
+    ensures key { HasReadKey (key_file_of_asked (asked_of (map string_bytes words.now))) (K.named key.old)
+        (K.left key.new) (key.new ≡ key.old) (IsOk result) }
     ensures unread { IfErr result (λ ended. IsBeforeScript ended → script.new ≡ script.old) }
-    ensures taken { HasTaken (S.left script.old) (S.left script.new) }
-    ensures bound { OnOk result (IsBoundTo (image_name (map string_bytes words.now)) (D.identity disk.new).name) }
-    ensures sectors { ForSome (content_now (D.named disk.old (image_name (map string_bytes words.now))).moments)
+    ensures taken { HasTaken (S.left script.old) (S.left script.new) × ((given : Given)
+        → IsGiven (map string_bytes words.now) (K.named key.old)
+        (D.named disk.old (image_name (map string_bytes words.now))) (S.left script.old) given
+        → HasReadIn (outset_in given) given.script (S.left script.new) (O.held out.old) (O.held out.new)) }
+    ensures bound { OnOk result (IsBoundTo (image_name (map string_bytes words.now))
+        (D.identity disk.new).name) }
+    ensures sectors { ForSome
+        (content_now (D.named disk.old (image_name (map string_bytes words.now))).moments)
         (λ c. (D.named disk.new (image_name (map string_bytes words.now))).sectors
         ≡ (D.named disk.old (image_name (map string_bytes words.now))).sectors) }
 {
@@ -165,11 +181,13 @@ fn run<D: Disk, K: NamedSource, S: Source, O: Sink>(
 /// - `Disk`: the disk failed.
 fn bind_image<D: Disk>(disk: &mut D, image: &str) -> Result<(), Ended>
     ensures bound { OnOk result (IsBoundTo image.now (D.identity disk.new).name) }
-    ensures found { OnOk result (IsThere (D.named disk.old image.now) (D.identity disk.new).sectors (D.moments disk.new)) }
+    ensures found { OnOk result (IsThere (D.named disk.old image.now) (D.identity disk.new).sectors
+        (D.moments disk.new)) }
 
-    ensures disk { IfErr result (λ ended. (ended ≡ Ended.Disk) × Rose (D.faults disk.old) (D.faults disk.new)) }
+    ensures disk { IfErr result (λ ended. (ended ≡ Ended.Disk)
+        × Rose (D.faults disk.old) (D.faults disk.new)) }
 
-    ensures later { D.faults disk.old ≤ D.faults disk.new }
+    ensures counted { IsCounted Ended.Disk (D.faults disk.old) (D.faults disk.new) result }
     ensures same { ForSome (content_now (D.named disk.old image.now).moments)
         (λ c. D.named disk.new image.now ≡ D.named disk.old image.now) }
 {

@@ -1,9 +1,9 @@
 use Rattle.std.proofs.Common.{Ok, ap, refl, ◌∙◌, arith}
 use Rattle.std.proofs.lemmas.Result.{err_from_is_err_and}
 use Rattle.disk_model.specs.Causes.{Rose}
-use Rattle.integrity_tool.proofs.LoopLemmas.{at_start, none_in_flight, source_cause, turn_done}
+use Rattle.integrity_tool.proofs.LoopLemmas.{at_most, at_start, none_in_flight, not_ended, source_cause, turn_done}
 use Rattle.integrity_tool.proofs.TakenLemmas.{read_at_start, read_on, read_within}
-use Rattle.integrity_tool.proofs.LoopLemmas.{turn_ended, turn_stopped, turn_stopped_in_line}
+use Rattle.integrity_tool.proofs.LoopLemmas.{holds_same, turn_ended, turn_held, turn_read, turn_stopped, turn_stopped_in_line}
 use Rattle.integrity_tool.proofs.running.run_lines.Goals as goal
 
 pub loop-tickets-init : goal.loop-tickets-init
@@ -15,9 +15,9 @@ loop-tickets-init g c = record {
   number = omega arith;
   taken = rw c.requires.reader (omega arith);
   read = λ left told. read_at_start left c.args.reader.now _ told c.requires.reader;
-  disk_later = omega arith;
-  script_later = omega arith;
-  sink_later = omega arith;
+  disk_same = refl;
+  script_same = refl;
+  sink_same = refl;
   identity = refl;
   same_disk = refl;
   way = λ w left run is told is_run.
@@ -29,7 +29,7 @@ pub returns-in_err-advance-clause-stopped : goal.returns-in_err-advance-clause-s
 returns-in_err-advance-clause-stopped g c =
     let p = err_from_is_err_and c.from_residual.result c.from_residual.ensures.1 in
     rw (p.1, p.2) (λ w left run is told is_run.
-    turn_stopped w run _ _ c.loop-tickets.number c.loop-tickets.found c.loop-tickets.reader c.advance.new.reader
+    turn_stopped w run left _ _ c.loop-tickets.number c.loop-tickets.found c.loop-tickets.reader c.advance.new.reader
     c.loop-tickets.device.parts _ _ (g.S.Source.left c.loop-tickets.script)
     (g.S.Source.left c.advance.new.script)
     c.in_err-advance.field-0.0
@@ -43,13 +43,13 @@ returns-in_err-advance-clause-cause g c =
     let sink = Rose (g.O.Counted.faults c.args.out.now) (g.O.Counted.faults c.loop-tickets.out) in
     rw (p.1, p.2) (source_cause (g.S.Counted.faults c.args.script.now)
     (g.S.Counted.faults c.loop-tickets.script) (g.S.Counted.faults c.advance.new.script) disk sink c.in_err-advance.field-0.0
-    c.loop-tickets.invariant.script_later c.in_err-advance.ensures.cause)
+    (at_most c.loop-tickets.invariant.script_same) c.in_err-advance.ensures.cause)
 
 pub returns-in_err-told-clause-stopped : goal.returns-in_err-told-clause-stopped
 returns-in_err-told-clause-stopped g c =
     let p = err_from_is_err_and c.from_residual-in_err-told.result c.from_residual-in_err-told.ensures.1 in
     rw (p.1, p.2) (λ w left run is told is_run.
-    turn_stopped_in_line w run _ _ c.loop-tickets.number c.loop-tickets.found c.loop-tickets.reader
+    turn_stopped_in_line w run left _ _ c.loop-tickets.number c.loop-tickets.found c.loop-tickets.reader
     c.advance.new.reader
     c.loop-tickets.device.parts _ _ (g.S.Source.left c.loop-tickets.script)
     (g.S.Source.left c.advance.new.script)
@@ -61,7 +61,7 @@ pub loop-tickets-preserved : goal.loop-tickets-preserved
 loop-tickets-preserved g c =
     let kept = c.loop-tickets.invariant in
     let stays = c.in_ok-told.ensures.stays in
-    let later = c.run_bytes.ensures.later in
+    let counted = c.run_bytes.ensures.counted in
     record {
       ready = stays.ready;
       works = c.in_ok-told.ensures.works;
@@ -69,28 +69,27 @@ loop-tickets-preserved g c =
       submitted = let one = stays.submitted in let two = kept.submitted in omega (arith, one, two);
       number = let more = c.advance.ensures.taken (c.in_ok-advance.was ∙ ap Ok c.if-branch.true) in
           let before = kept.number in omega (arith, more, before);
-      taken = c.advance.ensures.within.0;
+      taken = c.advance.ensures.within.0.taken;
       read = λ left told. read_on left c.loop-tickets.reader c.advance.new.reader _ _ (kept.read left told)
           c.advance.ensures.read;
-      disk_later = let one = kept.disk_later in let two = later.0 in omega (arith, one, two);
-      script_later = let one = kept.script_later in let two = c.advance.ensures.later in omega
-          (arith, one, two);
-      sink_later = let one = kept.sink_later in let two = later.1 in omega (arith, one, two);
+      disk_same = counted.0.passed (not_ended _ _ c.in_ok-told.was) ∙ kept.disk_same;
+      script_same = c.advance.ensures.counted.passed (not_ended _ _ c.in_ok-advance.was) ∙ kept.script_same;
+      sink_same = counted.1.passed (not_ended _ _ c.in_ok-told.was) ∙ kept.sink_same;
       identity = stays.identity ∙ kept.identity;
       same_disk = c.run_bytes.ensures.same_disk ∙ kept.same_disk;
       way = λ w left run is told is_run.
-          turn_done w run _ _ c.loop-tickets.number c.loop-tickets.found c.loop-tickets.reader
+          turn_done w run left _ _ c.loop-tickets.number c.loop-tickets.found c.loop-tickets.reader
           c.advance.new.reader
           c.loop-tickets.device.parts _ _ (g.S.Source.left c.loop-tickets.script)
           (g.S.Source.left c.advance.new.script)
           c.in_ok-advance.field-0 c.line.result.now _ _ _ c.in_ok-told.told _
           (kept.way w left run is told is_run) c.in_ok-advance.ensures.advanced c.if-branch.true
-          c.line.ensures c.in_ok-told.ensures.ran c.either-found.ensures;
+          c.line.ensures c.in_ok-told.ensures.ran c.either-found.ensures c.advance.ensures.within.1;
     }
 
 pub returns-clause-lines : goal.returns-clause-lines
 returns-clause-lines g c w left run is told is_run =
-    turn_ended w run _ _ c.loop-tickets.number c.loop-tickets.found c.loop-tickets.reader c.advance.new.reader
+    turn_ended w run left _ _ c.loop-tickets.number c.loop-tickets.found c.loop-tickets.reader c.advance.new.reader
     c.loop-tickets.device.parts _ _ (g.S.Source.left c.loop-tickets.script)
     (g.S.Source.left c.advance.new.script)
     c.in_ok-advance.field-0
@@ -98,16 +97,50 @@ returns-clause-lines g c w left run is told is_run =
     c.if-branch.false
 
 pub returns-in_err-advance-clause-taken : goal.returns-in_err-advance-clause-taken
-returns-in_err-advance-clause-taken g c left told =
-    read_within left c.advance.new.reader _ c.advance.ensures.within.1
-    (read_on left c.loop-tickets.reader c.advance.new.reader _ _ (c.loop-tickets.invariant.read left told) c.advance.ensures.read)
+returns-in_err-advance-clause-taken g c = (
+  λ left told.
+      read_within left c.advance.new.reader _ c.advance.ensures.within.0.read
+      (read_on left c.loop-tickets.reader c.advance.new.reader _ _ (c.loop-tickets.invariant.read left told)
+      c.advance.ensures.read),
+  λ w left run is told is_run.
+      turn_read w run left _ _ c.loop-tickets.number c.loop-tickets.found c.loop-tickets.reader
+      c.advance.new.reader c.loop-tickets.device.parts _ _ (g.S.Source.left c.loop-tickets.script) _ _
+      (c.loop-tickets.invariant.way w left run is told is_run) c.advance.ensures.within.1
+      c.advance.ensures.within.0 (holds_same refl)
+      (read_on left c.loop-tickets.reader c.advance.new.reader _ _ (c.loop-tickets.invariant.read left told)
+      c.advance.ensures.read),
+)
 
 pub returns-in_err-told-clause-taken : goal.returns-in_err-told-clause-taken
-returns-in_err-told-clause-taken g c left told =
-    read_within left c.advance.new.reader _ c.advance.ensures.within.1
-    (read_on left c.loop-tickets.reader c.advance.new.reader _ _ (c.loop-tickets.invariant.read left told) c.advance.ensures.read)
+returns-in_err-told-clause-taken g c = (
+  λ left told.
+      read_within left c.advance.new.reader _ c.advance.ensures.within.0.read
+      (read_on left c.loop-tickets.reader c.advance.new.reader _ _ (c.loop-tickets.invariant.read left told)
+      c.advance.ensures.read),
+  λ w left run is told is_run.
+      let at = c.loop-tickets.invariant.way w left run is told is_run in
+      turn_read w run left _ _ c.loop-tickets.number c.loop-tickets.found c.loop-tickets.reader
+      c.advance.new.reader c.loop-tickets.device.parts _ _ (g.S.Source.left c.loop-tickets.script) _ _ at
+      c.advance.ensures.within.1 c.advance.ensures.within.0
+      (turn_held w run left _ _ c.loop-tickets.number c.loop-tickets.found c.loop-tickets.reader
+      c.advance.new.reader c.loop-tickets.device.parts _ _ (g.S.Source.left c.loop-tickets.script)
+      (g.S.Source.left c.advance.new.script) c.in_ok-advance.field-0 c.line.result.now _ _ c.in_err-told.field-0.0
+      at c.in_ok-advance.ensures.advanced c.if-branch.true c.line.ensures c.in_err-told.ensures.stopped)
+      (read_on left c.loop-tickets.reader c.advance.new.reader _ _ (c.loop-tickets.invariant.read left told)
+      c.advance.ensures.read),
+)
 
 pub returns-clause-taken : goal.returns-clause-taken
-returns-clause-taken g c left told =
-    read_within left c.advance.new.reader _ c.advance.ensures.within.1
-    (read_on left c.loop-tickets.reader c.advance.new.reader _ _ (c.loop-tickets.invariant.read left told) c.advance.ensures.read)
+returns-clause-taken g c = (
+  λ left told.
+      read_within left c.advance.new.reader _ c.advance.ensures.within.0.read
+      (read_on left c.loop-tickets.reader c.advance.new.reader _ _ (c.loop-tickets.invariant.read left told)
+      c.advance.ensures.read),
+  λ w left run is told is_run.
+      turn_read w run left _ _ c.loop-tickets.number c.loop-tickets.found c.loop-tickets.reader
+      c.advance.new.reader c.loop-tickets.device.parts _ _ (g.S.Source.left c.loop-tickets.script) _ _
+      (c.loop-tickets.invariant.way w left run is told is_run) c.advance.ensures.within.1
+      c.advance.ensures.within.0 (holds_same refl)
+      (read_on left c.loop-tickets.reader c.advance.new.reader _ _ (c.loop-tickets.invariant.read left told)
+      c.advance.ensures.read),
+)

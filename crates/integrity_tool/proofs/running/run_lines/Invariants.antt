@@ -17,15 +17,15 @@ invariant-loop-tickets g l = record {
   taken : l.reader.taken ≤ 16777216;
   read : (left : List ℕ) → g.S.Source.left l.initial.script ≡ Some left
       → IsSomeAnd (g.S.Source.left l.script) (λ more. length left ≡ length more + read_by l.reader);
-  disk_later : g.D.Counted.faults l.initial.device.disk.now ≤ g.D.Counted.faults l.device.disk.now;
-  script_later : g.S.Counted.faults l.initial.script ≤ g.S.Counted.faults l.script;
-  sink_later : g.O.Counted.faults l.initial.out ≤ g.O.Counted.faults l.out;
+  disk_same : g.D.Counted.faults l.device.disk.now ≡ g.D.Counted.faults l.initial.device.disk.now;
+  script_same : g.S.Counted.faults l.script ≡ g.S.Counted.faults l.initial.script;
+  sink_same : g.O.Counted.faults l.out ≡ g.O.Counted.faults l.initial.out;
   identity : g.D.Disk.identity l.device.disk.now ≡ g.D.Disk.identity l.initial.device.disk.now;
   same_disk : l.device.disk.ghost_name ≡ l.initial.device.disk.ghost_name;
   way : (w : Standing) (left : List ℕ) (run : ScriptRun)
       → IsDevice w Working l.initial.device.parts (g.D.Disk.moments l.initial.device.disk.now)
       → g.S.Source.left l.initial.script ≡ Some left → IsRunOf w.format w.state left run
-      → IsSomeAnd (g.S.Source.left l.script) (λ later. IsAt w run (g.D.Disk.moments l.initial.device.disk.now)
+      → IsSomeAnd (g.S.Source.left l.script) (λ later. IsAt w run left (g.D.Disk.moments l.initial.device.disk.now)
       (g.O.Sink.held l.initial.out) l.number l.found l.reader later l.device.parts
       (g.D.Disk.moments l.device.disk.now) (g.O.Sink.held l.out));
 }

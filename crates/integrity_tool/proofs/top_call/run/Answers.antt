@@ -7,9 +7,9 @@ use Rattle.disk_model.specs.Identity.{DiskIdentity, IsBoundTo, IsThere, NamedDis
 use Rattle.disk_model.specs.Moments.{content_now}
 use Rattle.device_model.specs.Ending.{DiskFailed}
 use Rattle.hmac_tag.specs.TagMaker.{key_of}
-use Rattle.integrity_tool.specs.Asked.{asked_in, asked_of, image_name, image_of}
+use Rattle.integrity_tool.specs.Words.{asked_in, asked_of, image_name, image_of}
 use Rattle.integrity_tool.specs.Running.{ending_by}
-use Rattle.integrity_tool.proofs.StartLemmas.{not_refused_by_key, outside_first, ran_given, stopped_at_key, stopped_at_words, words_first}
+use Rattle.integrity_tool.proofs.StartLemmas.{not_refused_by_key, outside_first, ran_given, read_given, read_none, stopped_at_key, stopped_at_words, words_first}
 use Rattle.integrity_tool.proofs.TopLemmas.{told_there}
 use Rattle.integrity_tool.proofs.TakenLemmas.{none_taken}
 use Rattle.integrity_tool.proofs.top_call.run.Goals as goal
@@ -97,16 +97,33 @@ returns-clause-sectors g c content told =
     ap (λ (n : NamedDisk). n.sectors) ends ∙ ap (λ (d : DiskIdentity). d.sectors) c.run_image.ensures.identity ∙ sym (ap (λ (n : NamedDisk). n.sectors) there)
 
 pub returns-in_err-command-clause-taken : goal.returns-in_err-command-clause-taken
-returns-in_err-command-clause-taken g c = none_taken _ _ refl
+returns-in_err-command-clause-taken g c = (none_taken _ _ refl, λ given is. read_none _ given.script _ is.script_is)
 
 pub returns-in_default-clause-taken : goal.returns-in_default-clause-taken
-returns-in_default-clause-taken g c = none_taken _ _ refl
+returns-in_default-clause-taken g c = (none_taken _ _ refl, λ given is. read_none _ given.script _ is.script_is)
 
 pub returns-in_err-hash-clause-taken : goal.returns-in_err-hash-clause-taken
-returns-in_err-hash-clause-taken g c = none_taken _ _ refl
+returns-in_err-hash-clause-taken g c = (none_taken _ _ refl, λ given is. read_none _ given.script _ is.script_is)
 
 pub returns-in_err-bind_image-clause-taken : goal.returns-in_err-bind_image-clause-taken
-returns-in_err-bind_image-clause-taken g c = none_taken _ _ refl
+returns-in_err-bind_image-clause-taken g c = (none_taken _ _ refl, λ given is. read_none _ given.script _ is.script_is)
+
+pub returns-clause-taken : goal.returns-clause-taken
+returns-clause-taken g c = (
+  c.run_image.ensures.taken,
+  λ given is.
+      let words = map string_bytes c.args.words.now in
+      let old = g.D.Disk.named c.args.disk.now in
+      let mid = c.bind_image.new.disk in
+      let run = c.in-Some.run'.now in
+      let asks : asked_of words ≡ Some (asked_in run) = c.in_ok-command.ensures.command ∙ sym c.run_in.ensures ∙ ap (option_map _) c.in-Some.is in
+      let name : image_name words ≡ c.as_str.result.now = ap image_of asks ∙ sym c.as_str.ensures in
+      let found = subst (λ (n : List ℕ). IsThere (old n) (g.D.Disk.identity mid).sectors (g.D.Disk.moments mid)) (sym name) c.in_ok-bind_image.ensures.found in
+      let there = found.is given.content is.content in
+      read_given given words (g.K.NamedSource.named c.args.key.now) (old (image_name words)) (g.S.Source.left c.args.script.now) is (g.O.Sink.held c.args.out.now) (asked_in run) asks
+      (key_of c.in_ok-hash.hash) c.in_ok-hash.ensures.hash (g.D.Disk.identity mid).sectors (g.D.Disk.moments mid) there _ _
+      (c.run_image.ensures.ahead given.script is.script_is given.content (told_there there is.content)),
+)
 
 pub returns-in_err-bind_image-clause-key_first : goal.returns-in_err-bind_image-clause-key_first
 returns-in_err-bind_image-clause-key_first g c given is refused =
