@@ -1,0 +1,5 @@
+pub mod CellsLemmas
+pub mod DumpLemmas
+pub mod DumpLawsLemmas
+pub mod LinesLemmas
+mod Worked

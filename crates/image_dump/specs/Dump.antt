@@ -1,0 +1,64 @@
+-- What a dump tells of an image: its format and the state of its journal, or the first fault.
+-- Own: the superblock is judged before the geometry, and the geometry before the journal. Of the journal the
+-- commit numbers are judged, and no entry.
+use Rattle.std.specs.Prelude.{◌≡◌, ◌≢◌, ◌⊎◌, ℕ, ◌≤◌, false, if◌then◌else◌, Result, Ok, Err}
+use Rattle.disk_model.specs.Causes.{Rose}
+use Rattle.disk_model.specs.Disk.{Image}
+use Rattle.image_model.specs.declared.flags.TheConstants.{DIRTY_BITMAP}
+use Rattle.image_model.specs.declared.journal_plan.Plan.{Plan}
+use Rattle.image_model.specs.declared.scan_fault.ScanFault.{ScanFault}
+use Rattle.image_model.specs.Grid.{walk_of}
+use Rattle.image_model.specs.Superblock.{has_flag}
+use Rattle.image_opening.specs.declared.open_fault.OpenFault.{OpenFault}
+use Rattle.image_opening.specs.declared.open_fault.OpenFault.TheVariants.{Memory as OpenMemory, Disk as OpenDisk, Super as OpenSuper, Geom as OpenGeom, Mode as OpenMode}
+use Rattle.image_opening.specs.declared.reading.ImageFormat.{ImageFormat}
+use Rattle.image_opening.specs.Format.{format_of}
+use Rattle.image_dump.specs.declared.dump_fault.DumpFault.{DumpFault}
+use Rattle.image_dump.specs.declared.dump_fault.DumpFault.TheVariants.{Memory, Disk, Super, Geom, Scan}
+use Rattle.image_dump.specs.declared.shown.Dump.{Dump}
+use Rattle.image_dump.specs.declared.shown.DumpJournal.TheVariants.{State, Bitmap}
+
+-- The fault that the reading of a format told. That takes no memory and asks for no mode, so it tells neither.
+abbrev pub fault_of : OpenFault → DumpFault
+fault_of OpenMemory = Memory
+fault_of OpenDisk = Disk
+fault_of (OpenSuper fault) = Super fault
+fault_of (OpenGeom fault) = Geom fault
+fault_of (OpenMode flags) = Memory
+
+-- What is shown of an image in this format whose journal has this plan.
+abbrev pub dump_by_plan : ImageFormat → Result Plan ScanFault → Result Dump DumpFault
+dump_by_plan format (Ok plan) = Ok (record { format = format; journal = State plan.state })
+dump_by_plan format (Err fault) = Err (Scan fault)
+
+-- What is shown of an image in this format. Where it has a bitmap it has no journal.
+abbrev pub dump_in : ImageFormat → Image → Result Dump DumpFault
+dump_in format image =
+    if has_flag DIRTY_BITMAP format.fields.flags
+    then Ok (record { format = format; journal = Bitmap })
+    else dump_by_plan format (walk_of format.geometry image)
+
+-- What is shown of an image whose format was told, or why it is not.
+abbrev pub dump_by : Image → Result ImageFormat OpenFault → Result Dump DumpFault
+dump_by image (Ok format) = dump_in format image
+dump_by image (Err fault) = Err (fault_of fault)
+
+-- What is shown of an image of a disk of so many sectors, or why it is not.
+abbrev pub dump_of : (sectors : ℕ) → Image → Result Dump DumpFault
+dump_of sectors image = dump_by image (format_of sectors image)
+
+-- The image is shown by its journal: it tells a format, and has no bitmap.
+pub record IsScanned (sectors : ℕ) (image : Image) : Type 0 where
+  pub format : ImageFormat
+  pub told : format_of sectors image ≡ Ok format
+  pub no_bitmap : has_flag DIRTY_BITMAP format.fields.flags ≡ false
+
+-- The count of faults never falls; `Disk` comes only where it rose, and else it is as it was.
+pub record HasDumpCause {T : Type 0} (before after : ℕ) (result : Result T DumpFault) : Type 0 where
+  pub later : before ≤ after
+  pub failed : result ≡ Err Disk → Rose before after
+  pub passed : result ≢ Err Disk → after ≡ before
+
+-- The fault is of the disk, or there was no memory.
+abbrev pub IsOutside : DumpFault → Type 0
+IsOutside fault = (fault ≡ Memory) ⊎ (fault ≡ Disk)

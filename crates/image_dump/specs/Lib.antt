@@ -1,0 +1,4 @@
+pub mod Dump
+pub mod DumpLaws
+pub mod Cells
+pub mod Lines

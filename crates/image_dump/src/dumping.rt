@@ -1,0 +1,93 @@
+//! Shows an image: first its format is read and judged, then its journal.
+ghost use Rattle.std.specs.Prelude.{◌≡◌, ◌≢◌, false, Err, IfOk};
+ghost use Rattle.disk_model.specs.Disk.{last_image};
+ghost use Rattle.disk_model.specs.Identity.{IsBound};
+ghost use Rattle.disk_model.specs.Moments.{HasNow};
+ghost use Rattle.image_model.specs.Superblock.{has_flag};
+ghost use Rattle.image_opening.specs.Format.{IsFormat};
+ghost use Rattle.image_dump.specs.Dump.{HasDumpCause, IsScanned, dump_in, dump_of, fault_of};
+
+use crate::journal_grid::read_grid;
+use crate::{Dump, DumpFault, DumpJournal};
+use commit_id::scan;
+use image_model::DIRTY_BITMAP;
+use image_opening::{ImageFormat, OpenFault, read_format};
+use sector_disk::Disk;
+use std::alloc::Global;
+
+/// Shows what is on an image. It takes no key and judges no entry, and nothing is written. Memory is taken for
+/// the scan of a journal alone.
+///
+/// # Errors
+///
+/// The first that holds:
+///
+/// - `Disk`, `Super`, `Geom`: as `read_format` tells them.
+/// - `Memory`: there is none for the numbers of the journal.
+/// - `Disk`: the disk failed at a read of the journal.
+/// - `Scan`: there is no bitmap, and the numbers of the journal make no plan.
+pub fn dump<D: Disk>(alloc: Global, disk: &mut D) -> Result<Dump, DumpFault>
+    requires { IsBound (D.identity disk.old).name }
+
+    ensures format { IfOk result (λ dump. IsFormat (D.identity disk.old).sectors dump.format) }
+
+    ensures told { result ≢ Err DumpFault.Memory → result ≢ Err DumpFault.Disk → HasNow (λ c. result
+        ≡ dump_of (D.identity disk.old).sectors (last_image c)) (D.moments disk.old) }
+    ensures memory { result ≡ Err DumpFault.Memory → HasNow (λ c.
+        IsScanned (D.identity disk.old).sectors (last_image c)) (D.moments disk.old) }
+    ensures cause { HasDumpCause (D.faults disk.old) (D.faults disk.new) result }
+
+    ensures identity { D.identity disk.new ≡ D.identity disk.old }
+    ensures kept { D.moments disk.new ≡ D.moments disk.old }
+{
+    match read_format(disk) {
+        Ok(format) => show(alloc, disk, format),
+        Err(fault) => Err(fault_of(fault)),
+    }
+}
+
+/// The same fault.
+fn fault_of(fault: OpenFault) -> DumpFault
+    ensures { result ≡ fault_of fault }
+{
+    match fault {
+        OpenFault::Disk => DumpFault::Disk,
+        OpenFault::Super(fault) => DumpFault::Super(fault),
+        OpenFault::Geom(fault) => DumpFault::Geom(fault),
+        // The reading takes no memory and asks for no mode, so that neither comes.
+        OpenFault::Memory | OpenFault::Mode { .. } => DumpFault::Memory,
+    }
+}
+
+/// Shows an image in this format, which is its own.
+///
+/// # Errors
+///
+/// As `dump` has them, but for the format.
+fn show<D: Disk>(alloc: Global, disk: &mut D, format: ImageFormat) -> Result<Dump, DumpFault>
+    requires bound { IsBound (D.identity disk.old).name }
+    requires format { IsFormat (D.identity disk.old).sectors format }
+
+    ensures format { IfOk result (λ dump. dump.format ≡ format) }
+
+    ensures told { result ≢ Err DumpFault.Memory → result ≢ Err DumpFault.Disk → HasNow (λ c. result
+        ≡ dump_in format (last_image c)) (D.moments disk.old) }
+    ensures memory { result ≡ Err DumpFault.Memory → has_flag DIRTY_BITMAP format.fields.flags ≡ false }
+    ensures cause { HasDumpCause (D.faults disk.old) (D.faults disk.new) result }
+
+    ensures identity { D.identity disk.new ≡ D.identity disk.old }
+    ensures kept { D.moments disk.new ≡ D.moments disk.old }
+{
+    if format.fields.flags & DIRTY_BITMAP != 0 {
+        let journal = DumpJournal::Bitmap;
+        return Ok(Dump { format, journal });
+    }
+    let grid = read_grid(alloc, disk, &format.geometry)?;
+    match scan(&grid) {
+        Ok(plan) => Ok(Dump {
+            format,
+            journal: DumpJournal::State(plan.state),
+        }),
+        Err(fault) => Err(DumpFault::Scan(fault)),
+    }
+}

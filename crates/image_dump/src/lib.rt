@@ -1,0 +1,25 @@
+//! What a dump shows of an image: the fields of its superblock, where all lies on its disk, and the state of
+//! its journal, each as a line of text.
+//!
+//! A contract sees a `Dump` and a `DumpFault` as they are. What an image shows is a function of it, in
+//! `specs/Dump.antt`, the file to read first, and the lines are in `specs/Lines.antt`. Nothing is written.
+#![tactic(auto)]
+
+mod cells;
+mod dump_fault;
+mod dumping;
+mod journal_grid;
+mod laws;
+mod pieces;
+mod scan_fault_lines;
+mod shown;
+#[cfg(test)]
+mod tests;
+mod texts;
+
+pub use dump_fault::DumpFault;
+pub use dumping::dump;
+pub use laws::images_that_are_shown_are_told;
+pub use scan_fault_lines::scan_fault_line;
+pub use shown::{Dump, DumpJournal};
+pub use texts::dump_text;

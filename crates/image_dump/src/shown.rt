@@ -1,0 +1,22 @@
+//! What a dump shows.
+
+use image_model::State;
+use image_opening::ImageFormat;
+
+/// What an image shows: its format, and its journal.
+#[derive(Clone, Copy, Debug)]
+pub struct Dump {
+    /// The fields of its superblock, and where all lies by these.
+    pub format: ImageFormat,
+    /// What stands in the journal's place.
+    pub journal: DumpJournal,
+}
+
+/// What stands in the place of an image's journal.
+#[derive(Clone, Copy, Debug, PartialEq, Eq)]
+pub enum DumpJournal {
+    /// A journal in this state.
+    State(State),
+    /// A bitmap of regions. Of its bits nothing is told as yet.
+    Bitmap,
+}
