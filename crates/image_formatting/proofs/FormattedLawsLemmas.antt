@@ -1,0 +1,217 @@
+-- A new image can be opened, with nothing to replay, and has zeros with their tags.
+use Rattle.std.specs.Prelude.{flat_map, if◌then◌else◌, unwrap_or, slice_index}
+use Rattle.std.proofs.Common.{◌≡◌, ◌≢◌, ℕ, zero, suc, ◌+◌, ◌*◌, ◌<◌, Bool, true, false, List, [], ◌∷◌, map, replicate, filter_map, Option, Some, None, is_some, Ok, is_ok, refl, sym, ◌∙◌, ap, subst, arith, bit_or}
+use Rattle.std.specs.List.{range_with_len}
+use Rattle.std.proofs.lemmas.Bool.{ne_eqb}
+use Rattle.std.proofs.lemmas.List.{length-replicate}
+use Rattle.disk_model.specs.Disk.{Image}
+use Rattle.image_model.specs.declared.flags.TheConstants.{DIRTY_BITMAP, FIXED_HMAC, RECALCULATING}
+use Rattle.image_model.specs.Bitmap.{awaits}
+use Rattle.image_model.specs.Tag.{tag_of}
+use Rattle.image_model.specs.declared.journal_plan.Plan.{Plan}
+use Rattle.image_model.specs.Cells.{Cell, entry_of, placed_cells_of, section_bytes}
+use Rattle.image_model.specs.Geometry.{Geometry, IsGeometry, geometry_of, section_entries, section_sectors}
+use Rattle.image_model.specs.Grid.{walk_of}
+use Rattle.image_model.specs.Openable.{first_sector}
+use Rattle.image_model.specs.Section.{Entry, entry_at}
+use Rattle.image_model.specs.Sectors.{zero_bytes}
+use Rattle.image_model.specs.Superblock.{HasLayout, has_flag, superblock_of, unknown_flags}
+use Rattle.image_model.specs.Walk.{newest, occurs, plan_at, sections_of}
+use Rattle.image_model.proofs.GeometryOf.{geometry_apart}
+use Rattle.image_model.proofs.SuperblockLemmas.{version_for-accepted}
+use Rattle.image_model.proofs.TablesLemmas.{newest_law}
+use Rattle.image_model.proofs.TagLemmas.{length-tag_of}
+use Rattle.image_model.proofs.WalkLemmas.{lacks_from, numbered_from, occurs_at, plan_is}
+use Rattle.place_model.specs.Format.{DiskFormat, IsReadAs, OpensAs, format_on, placed_on}
+use Rattle.place_model.specs.Journal.{HasNothingToReplay, entries_in, numbers_on}
+use Rattle.place_model.specs.Kind.{CanOpenPlaced}
+use Rattle.place_model.proofs.FormatLemmas.{read_format_law}
+use Rattle.place_model.proofs.JournalLemmas.{replayed_entries-plan, walk-same, walk_of-plan}
+use Rattle.place_model.proofs.PlacedLemmas.{placed_bytes, placed_tag, recalculated-bytes, recalculated-tag, same_cell}
+use Rattle.place_model.proofs.ReplayLemmas.{placed_cells_law, placed_opens_law}
+use Rattle.image_formatting.specs.declared.new_image.NewImage.{NewImage}
+use Rattle.image_formatting.specs.declared.new_image.Padding.{Padding}
+use Rattle.image_formatting.specs.declared.new_image.Padding.TheVariants.{Fixed, Legacy}
+use Rattle.image_formatting.specs.declared.new_image.Wipe.{Wipe}
+use Rattle.image_formatting.specs.declared.new_image.Wipe.TheVariants.{Wiped}
+use Rattle.image_formatting.specs.Blocks.{HasZeroBlocks, IsBlockOf, zero_tag}
+use Rattle.image_formatting.specs.Formatted.{HasBlocks, rule_with}
+use Rattle.image_formatting.specs.FormattedLaws.{IsNewOn, NewCellsLaw, NewOpensLaw, new_format, zero_cell}
+use Rattle.image_formatting.specs.Journal.{HasEmptyJournal}
+use Rattle.image_formatting.specs.NewImage.{IsNewImage, fields_with, flags_of, padding_flag, salt_flag}
+use Rattle.image_formatting.proofs.JournalLemmas.{sections_some}
+use Rattle.image_formatting.proofs.PlanningLemmas.{accepted_with, given_with, no_bitmap}
+use Rattle.image_formatting.proofs.RunsLemmas.{sector_in-zeros}
+
+-- ---- an empty journal
+
+module _ (g : Geometry) (sectors : ℕ) (image : Image) (is : IsGeometry g sectors) (empty : HasEmptyJournal g image) where
+  at_number : (i j : ℕ) → i < g.sections → j < section_sectors g.shape → numbers_on g image i j ≡ Some 0
+  at_number i j low narrow = (empty i low).numbers j narrow
+
+  abbrev has : ℕ → Bool
+  has = occurs g.sections (section_sectors g.shape) (numbers_on g image)
+
+  has_zero : has 0 ≡ true
+  has_zero =
+      let some : 0 < section_sectors g.shape = omega (arith, sections_some g.shape) in
+      occurs_at g.sections (section_sectors g.shape) (numbers_on g image) 0 0 0 (omega (arith, is.sections)) some (at_number 0 0 (omega (arith, is.sections)) some)
+
+  has_other : (k : ℕ) → 0 ≢ k → has k ≡ false
+  has_other k other = lacks_from g.sections (section_sectors g.shape) (numbers_on g image) k (λ i j low narrow borne. other (same_number (sym (at_number i j low narrow) ∙ borne)))
+    where
+      same_number : {n m : ℕ} → Some n ≡ Some m → n ≡ m
+      same_number e = cc
+
+  newest_is : newest has ≡ Some 0
+  newest_is = (newest_law has 0 (omega arith)).one (rw (has_zero, has_other 1 (λ e. omega (arith, e)), has_other 2 (λ e. omega (arith, e)), has_other 3 (λ e. omega (arith, e))) refl)
+
+  abbrev plan : Plan
+  plan = plan_at g.sections (section_sectors g.shape) (numbers_on g image) 0
+
+  walk_is : walk_of g image ≡ Ok plan
+  walk_is = walk_of-plan g sectors image plan is (plan_is g.sections (section_sectors g.shape) (numbers_on g image) 0
+      (numbered_from g.sections (section_sectors g.shape) (numbers_on g image) (λ i j low narrow. ap is_some (at_number i j low narrow))) newest_is)
+
+  -- No entry of a section is used.
+  no_entry : (i : ℕ) → i < g.sections → entries_in g image i ≡ []
+  unfolding entries_in
+  no_entry i low = each (section_entries g.shape) 0 (empty i low).entries.entries_are
+    where
+      head_tail : (x : Option Entry) (xs ys : List (Option Entry)) → x ∷ xs ≡ None ∷ ys → (x ≡ None) × (xs ≡ ys)
+      head_tail x xs ys e = (cc, cc)
+
+      each : (count from : ℕ) → map (entry_at g.shape (section_bytes g image i)) (range_with_len from count) ≡ replicate count None → filter_map (entry_of g image) (map (λ n. (i, n)) (range_with_len from count)) ≡ []
+      each zero from e = refl
+      each (suc count) from e =
+          let parts = head_tail (entry_at g.shape (section_bytes g image i) from) (map (entry_at g.shape (section_bytes g image i)) (range_with_len (from + 1) count)) (replicate count None) e in
+          rw (parts.0, each count (from + 1) parts.1) refl
+
+  none_of : (xs : List ℕ) → flat_map (λ (i : ℕ). let none : List Entry = [] in none) xs ≡ []
+  none_of [] = refl
+  none_of (x ∷ xs) = none_of xs
+
+  nothing_to_replay : HasNothingToReplay g image
+  nothing_to_replay = record {
+    has_walk = ap is_ok walk_is;
+    none = replayed_entries-plan g image plan walk_is
+        ∙ walk-same g sectors image plan (entries_in g image) (λ (i : ℕ). let none : List Entry = [] in none) is walk_is (λ i low. no_entry i low)
+        ∙ none_of (sections_of plan.walk);
+  }
+
+-- ---- the fields
+
+known_flags : (padding : Padding) (salt : Option (List ℕ)) → unknown_flags (bit_or (padding_flag padding) (salt_flag salt)) ≡ 0
+known_flags Fixed None = refl
+known_flags Fixed (Some salt) = refl
+known_flags Legacy None = refl
+known_flags Legacy (Some salt) = refl
+
+new_layout : (new : NewImage) (provided log2_region : ℕ) → IsNewImage new → HasLayout (fields_with new provided log2_region)
+new_layout new provided log2_region h = record {
+  version = (version_for-accepted 1 (flags_of new) (omega arith, omega arith)).0;
+  flags = known_flags new.padding new.salt;
+  log2_interleave = h.log2_interleave;
+  log2_spb = h.log2_spb;
+  tag_size = h.tag_size;
+  sections = h.sections;
+}
+
+module _ (key : Option (List ℕ)) (sectors : ℕ) (new : NewImage) (provided : ℕ) (before image : Image) (h : IsNewOn key sectors new provided before image) where
+  abbrev d : DiskFormat
+  d = new_format key sectors new provided
+
+  given : geometry_of d.superblock sectors ≡ Ok d.geometry
+  given = given_with new sectors provided d.superblock.log2_region (new_layout new 0 new.log2_region h.ranges) h.is_provided
+
+  pub is_geometry : IsGeometry d.geometry sectors
+  is_geometry = (geometry_apart d.superblock sectors d.geometry (accepted_with new sectors provided d.superblock.log2_region (new_layout new 0 new.log2_region h.ranges) h.is_provided) given).0
+
+  first_is : first_sector sectors image ≡ image 0
+  first_is =
+      let last = is_geometry.last in
+      let some = is_geometry.spb.0 in
+      rw (ne_eqb sectors 0 (λ none. omega (arith, last, some, none))) refl
+
+  pub reads : IsReadAs d image × (format_on key sectors image ≡ d)
+  reads = read_format_law d image (ap superblock_of first_is ∙ h.formatted.told) given
+
+  pub clear : has_flag DIRTY_BITMAP d.superblock.flags ≡ false
+  clear = no_bitmap new
+
+  pub nothing : HasNothingToReplay d.geometry image
+  nothing = nothing_to_replay d.geometry sectors image is_geometry h.formatted.filled.journal
+
+  pub opens : OpensAs d image
+  opens = placed_opens_law d image clear nothing reads.0
+
+  opens_placed : CanOpenPlaced key sectors image
+  opens_placed = (reads.0.readable, ap (λ (x : DiskFormat). has_flag DIRTY_BITMAP x.superblock.flags) reads.1 ∙ clear)
+
+-- ---- the cells
+
+salt_is : (padding : Padding) (salt : Option (List ℕ)) (none : List ℕ)
+    → (if has_flag FIXED_HMAC (bit_or (padding_flag padding) (salt_flag salt)) then Some (unwrap_or salt none) else None) ≡ salt
+salt_is Fixed None none = refl
+salt_is Fixed (Some salt) none = refl
+salt_is Legacy None none = refl
+salt_is Legacy (Some salt) none = refl
+
+no_recalculating : (padding : Padding) (salt : Option (List ℕ)) → has_flag RECALCULATING (bit_or (padding_flag padding) (salt_flag salt)) ≡ false
+no_recalculating Fixed None = refl
+no_recalculating Fixed (Some salt) = refl
+no_recalculating Legacy None = refl
+no_recalculating Legacy (Some salt) = refl
+
+module _ (key : Option (List ℕ)) (sectors : ℕ) (new : NewImage) (provided : ℕ) (before image : Image) (h : IsNewOn key sectors new provided before image) (wiped : new.wipe ≡ Wiped)
+    (b : ℕ) (low : b < (new_format key sectors new provided).geometry.blocks) where
+  abbrev of : DiskFormat
+  of = new_format key sectors new provided
+
+  zeros : HasZeroBlocks (rule_with key new) of.geometry 0 of.geometry.blocks image
+  zeros = subst (λ (w : Wipe). HasBlocks w (rule_with key new) of.geometry image) wiped h.formatted.filled.blocks
+
+  block : IsBlockOf 0 of.geometry.blocks b
+  block = record { begins = omega arith; ends = omega (arith, low) }
+
+  zero_tag_is : zero_tag (rule_with key new) of.geometry.shape.spb b ≡ (zero_cell of b).tag
+  zero_tag_is = ap (λ (salt : Option (List ℕ)). tag_of key salt new.tag_size (b * of.geometry.shape.spb) (zero_bytes (512 * of.geometry.shape.spb))) (sym (salt_is new.padding new.salt (zero_bytes 16)))
+
+  geometry_is : IsGeometry of.geometry sectors
+  geometry_is = is_geometry key sectors new provided before image h
+
+  placed_is : placed_cells_of of.geometry image b ≡ zero_cell of b
+  placed_is = same_cell (placed_cells_of of.geometry image b) (zero_cell of b)
+      (placed_bytes of.geometry sectors geometry_is image h.whole b low (zero_cell of b) (length-replicate {A = ℕ} (512 * of.geometry.shape.spb) 0)
+      (λ k inside. zeros.zeros b k block inside ∙ sym (sector_in-zeros of.geometry.shape.spb k inside)))
+      (placed_tag of.geometry sectors geometry_is image h.whole b low (zero_cell of b) (length-tag_of _ _ of.geometry.shape.tag_size _ _ geometry_is.tag_size.1)
+      (λ i inside. zeros.tags b i block inside ∙ ap (λ (xs : List ℕ). slice_index xs i) zero_tag_is))
+
+  not_awaiting : awaits of.superblock of.geometry image b ≡ false
+  unfolding awaits
+  not_awaiting = rw (no_bitmap new, no_recalculating new.padding new.salt) refl
+
+  recalculated_is : placed_on of image b ≡ zero_cell of b
+  recalculated_is = same_cell (placed_on of image b) (zero_cell of b)
+      (recalculated-bytes key of.superblock of.geometry image b ∙ ap (λ (c : Cell). c.bytes) placed_is)
+      (recalculated-tag key of.superblock of.geometry image b not_awaiting ∙ ap (λ (c : Cell). c.tag) placed_is)
+
+-- ---- for callers
+
+pub new_opens_law : NewOpensLaw
+new_opens_law key sectors new provided before image h =
+    (opens key sectors new provided before image h, opens_placed key sectors new provided before image h, nothing key sectors new provided before image h)
+
+pub new_cells_law : NewCellsLaw
+new_cells_law key sectors new provided before image h wiped = (
+  record {
+    opens = opens key sectors new provided before image h;
+    each = λ b low.
+        sym (placed_cells_law (new_format key sectors new provided) image b (clear key sectors new provided before image h) (nothing key sectors new provided before image h).none)
+        ∙ recalculated_is key sectors new provided before image h wiped b low;
+  },
+  record {
+    reads = (reads key sectors new provided before image h).0;
+    each = λ b low. recalculated_is key sectors new provided before image h wiped b low;
+  },
+)

@@ -1,0 +1,12 @@
+mod FirstSectorLemmas
+mod FormattedLemmas
+mod JournalLemmas
+mod PlanningLemmas
+mod RunsLemmas
+mod TaggingLemmas
+mod WipingLemmas
+mod FillingLemmas
+mod WholeLemmas
+mod FormattedLawsLemmas
+mod Worked
+mod StaysLemmas

@@ -1,0 +1,73 @@
+-- Values of specs/NewImage.antt and specs/FirstSector.antt from outside: images worked by hand from the formulas of the
+-- kernel's documentation.
+use Rattle.std.proofs.Common.{◌≡◌, ◌∷◌, replicate, Some, None, Ok, Err, refl}
+use Rattle.image_model.specs.declared.geom_fault.GeomFault.TheVariants.{JournalTooLarge, TooSmall}
+use Rattle.image_model.specs.Geometry.{best_provided, best_provided_of, bitmap_sectors_for, entries_per_sector, entry_size, fitting_log2_region, regions_for, section_entries, section_sectors, tag_run_of}
+use Rattle.image_model.specs.Superblock.{superblock_bytes}
+use Rattle.image_formatting.specs.declared.new_image.NewImage.{NewImage}
+use Rattle.image_formatting.specs.declared.new_image.Padding.TheVariants.{Fixed, Legacy}
+use Rattle.image_formatting.specs.declared.new_image.Wipe.TheVariants.{Wiped}
+use Rattle.image_formatting.specs.FirstSector.{head_of}
+use Rattle.image_formatting.specs.NewImage.{fields_of, provided_of}
+
+-- The small image: interleave 8, one section, tags of 32 bytes.
+small : NewImage
+small = record {
+  tag_size = 32;
+  log2_spb = 0;
+  log2_interleave = 3;
+  sections = 1;
+  log2_region = 15;
+  salt = None;
+  padding = Fixed;
+  wipe = Wiped;
+}
+
+-- ---- how many sectors are provided
+
+provided_of-small : (provided_of small 256 ≡ Ok 80) × (provided_of small 112 ≡ Ok 8) × (provided_of small 111 ≡ Err (TooSmall 111 112))
+unfolding best_provided_of best_provided section_sectors section_entries entries_per_sector entry_size tag_run_of small
+provided_of-small = (refl, refl, refl)
+
+-- Tags of 4 bytes; one area, which is cut short; tags that straddle two sectors; blocks of 4096 bytes.
+provided_of-changed :
+    (provided_of (record small { tag_size = 4 }) 256 ≡ Ok 32)
+    × (provided_of (record small { log2_interleave = 15 }) 4096 ≡ Ok 1952)
+    × (provided_of (record small { tag_size = 20; log2_interleave = 5 }) 512 ≡ Ok 320)
+    × (provided_of (record small { log2_spb = 3 }) 1024 ≡ Ok 376)
+unfolding best_provided_of best_provided section_sectors section_entries entries_per_sector entry_size tag_run_of small
+provided_of-changed = (refl, refl, refl, refl)
+
+-- The tags of an area take 256 sectors without the flag; 65537 sections have 88 sectors each.
+provided_of-refused :
+    (provided_of (record small { padding = Legacy }) 256 ≡ Err (TooSmall 256 360))
+    × (provided_of (record small { sections = 65537 }) 256 ≡ Err (JournalTooLarge 5767256))
+unfolding best_provided_of best_provided section_sectors section_entries entries_per_sector entry_size tag_run_of small
+provided_of-refused = (refl, refl)
+
+-- ---- the fields
+
+-- A region of one block has its bit in a journal of 88 sectors, unless there are more than 360448 blocks.
+fields_of-region :
+    ((fields_of (record small { log2_region = 0 }) 80).log2_region ≡ 0)
+    × ((fields_of (record small { log2_region = 0 }) 360448).log2_region ≡ 0)
+    × ((fields_of (record small { log2_region = 0 }) 360456).log2_region ≡ 1)
+unfolding fitting_log2_region bitmap_sectors_for regions_for section_sectors section_entries entries_per_sector entry_size small
+fields_of-region = (refl, refl, refl)
+
+-- A salt raises the version, and what else is not fixed lowers it.
+fields_of-version :
+    ((fields_of small 80).version ≡ 4) × ((fields_of small 80).flags ≡ 0x8)
+    × ((fields_of (record small { salt = Some (replicate 16 7) }) 80).version ≡ 5)
+    × ((fields_of (record small { salt = Some (replicate 16 7) }) 80).flags ≡ 0x18)
+    × ((fields_of (record small { padding = Legacy }) 80).version ≡ 1)
+unfolding small
+fields_of-version = (refl, refl, refl, refl, refl)
+
+-- The first sector of the small image, as integritysetup writes it.
+head_of-small : head_of (fields_of small 80) ≡
+    0x69 ∷ 0x6e ∷ 0x74 ∷ 0x65 ∷ 0x67 ∷ 0x72 ∷ 0x74 ∷ 0x00 ∷ 0x04 ∷ 0x03 ∷ 0x20 ∷ 0x00 ∷ 0x01 ∷ 0x00 ∷ 0x00 ∷ 0x00
+    ∷ 0x50 ∷ 0x00 ∷ 0x00 ∷ 0x00 ∷ 0x00 ∷ 0x00 ∷ 0x00 ∷ 0x00 ∷ 0x08 ∷ 0x00 ∷ 0x00 ∷ 0x00 ∷ 0x00 ∷ 0x0f ∷ 0x00 ∷ 0x00
+    ∷ replicate 480 0
+unfolding superblock_bytes fitting_log2_region bitmap_sectors_for regions_for section_sectors section_entries entries_per_sector entry_size small
+head_of-small = refl

@@ -1,0 +1,33 @@
+use Rattle.std.proofs.Common.{◌∙◌, arith}
+use Rattle.std.proofs.lemmas.Result.{on_ok_weaker}
+use Rattle.image_model.proofs.GeometryLemmas.{data_at-inside}
+use Rattle.image_formatting.proofs.FillingLemmas.{fill_head, fill_journal, fill_all, fill_stays, filled_now}
+use Rattle.image_formatting.proofs.filling.fill.Goals as goal
+
+pub write_zeros-requires-clause-zeros : goal.write_zeros-requires-clause-zeros
+write_zeros-requires-clause-zeros g c = record { sectors = 512; some = omega arith; is = c.deref.ensures.value ∙ c.requires.room.runs.zeros }
+
+pub write_zeros-requires-clause-run : goal.write_zeros-requires-clause-run
+write_zeros-requires-clause-run g c =
+    let inside = data_at-inside c.args.format.now.geometry _ 0 c.requires.format.geometry c.requires.format.geometry.blocks in
+    omega (arith, inside.0, inside.1)
+
+pub returns-in_err-write_zeros-clause-moments : goal.returns-in_err-write_zeros-clause-moments
+returns-in_err-write_zeros-clause-moments g c = fill_head c.args.wipe c.args.format.now.geometry _ c.requires.format.geometry c.write_zeros.ensures.moments
+
+pub returns-in_err-empty-clause-moments : goal.returns-in_err-empty-clause-moments
+returns-in_err-empty-clause-moments g c = fill_journal c.args.wipe c.args.format.now.geometry _ c.requires.format.geometry c.write_zeros.ensures.moments c.empty.ensures.moments
+
+pub fill_blocks-requires-clause-room : goal.fill_blocks-requires-clause-room
+fill_blocks-requires-clause-room g c = record { zeros = c.requires.room.runs.zeros; tags = c.requires.room.runs.tags }
+
+pub returns-clause-moments : goal.returns-clause-moments
+returns-clause-moments g c = fill_all c.args.wipe c.args.format.now.geometry _ c.requires.format.geometry c.write_zeros.ensures.moments c.empty.ensures.moments c.fill_blocks.ensures.moments
+
+pub returns-clause-filled : goal.returns-clause-filled
+returns-clause-filled g c = on_ok_weaker c.fill_blocks.result (λ blocks.
+    filled_now c.args.wipe c.args.maker.now c.args.format.now.geometry _ c.requires.format.geometry c.in_ok-write_zeros.ensures.written c.empty.ensures.moments c.in_ok-empty.ensures.emptied c.fill_blocks.ensures.moments blocks) c.fill_blocks.ensures.filled
+
+pub returns-clause-stays : goal.returns-clause-stays
+returns-clause-stays g c = on_ok_weaker c.fill_blocks.result (λ stays.
+    fill_stays _ _ _ _ c.args.wipe c.args.format.now.geometry _ c.requires.format.geometry c.write_zeros.ensures.moments c.empty.ensures.moments c.fill_blocks.ensures.moments stays) c.fill_blocks.ensures.stays

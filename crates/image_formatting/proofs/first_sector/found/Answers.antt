@@ -1,0 +1,15 @@
+use Rattle.std.proofs.Common.{rules}
+use Rattle.disk_model.proofs.MomentsLemmas.{adds_then, sync_adds}
+use Rattle.image_formatting.proofs.FirstSectorLemmas.{amid_founding, head_adds}
+use Rattle.image_formatting.proofs.first_sector.found.Goals as goal
+
+pub returns-in_err-write_run-clause-moments : goal.returns-in_err-write_run-clause-moments
+returns-in_err-write_run-clause-moments g c =
+    amid_founding c.args.fields.now c.sync.ensures.moments c.in_ok-sync.ensures.synced
+    (head_adds c.args.fields.now c.write.new.bytes (search rules) c.write.ensures.written c.write_run.ensures.moments)
+
+pub returns-clause-moments : goal.returns-clause-moments
+returns-clause-moments g c =
+    amid_founding c.args.fields.now c.sync.ensures.moments c.in_ok-sync.ensures.synced
+    (adds_then _ (head_adds c.args.fields.now c.write.new.bytes (search rules) c.write.ensures.written c.write_run.ensures.moments)
+    (sync_adds _ (g.met.D.Disk.reads_an_image c.write_run.new.self) c.sync-2.ensures.moments))

@@ -1,0 +1,9 @@
+pub mod Blocks
+pub mod FirstSector
+pub mod Formatted
+pub mod FormattedLaws
+pub mod Journal
+pub mod NewImage
+pub mod Room
+pub mod Runs
+pub mod Stays

@@ -1,0 +1,29 @@
+//! Makes a new image on a disk: an erased journal, zeros with their tags in all blocks, and a
+//! superblock that comes last.
+//!
+//! A contract sees a `NewImage` and a `FormatFault` as they are. What the image has stands in
+//! `specs/Formatted.antt`, the file to read first. Zeros come to the first sector before all else,
+//! and are synced; the superblock comes behind a sync of all else. So a cut leaves the disk as it
+//! was, or without a magic, or with the whole new image. All memory is taken before the first
+//! write.
+#![tactic(auto)]
+
+mod emptying;
+mod filling;
+mod first_sector;
+mod format_fault;
+mod formatting;
+mod laws;
+mod new_image;
+mod planning;
+mod room;
+mod tagging;
+#[cfg(test)]
+mod tests;
+mod wiping;
+mod zeroing;
+
+pub use format_fault::FormatFault;
+pub use formatting::format;
+pub use laws::new_image_opens;
+pub use new_image::{NewImage, Padding, Wipe};

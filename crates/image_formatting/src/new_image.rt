@@ -1,0 +1,43 @@
+//! What a new image is to be.
+
+/// What the tags of an area take a multiple of.
+#[derive(Clone, Copy, Debug, PartialEq, Eq)]
+pub enum Padding {
+    /// 4096 bytes, by a flag of the superblock.
+    ///
+    /// Source: Linux, `drivers/md/dm-integrity.c`, `SB_FLAG_FIXED_PADDING`.
+    Fixed,
+    /// What an image without that flag has.
+    Legacy,
+}
+
+/// What comes to the blocks of a new image.
+#[derive(Clone, Copy, Debug, PartialEq, Eq)]
+pub enum Wipe {
+    /// Zeros, with their tags.
+    Wiped,
+    /// Nothing: data and tags stay as they stand.
+    Kept,
+}
+
+/// What a new image is to be, but for the hash, of which nothing stands on the disk.
+#[derive(Clone, Copy, Debug)]
+pub struct NewImage {
+    /// The size of a tag in bytes, 1 to 32.
+    pub tag_size: u8,
+    /// A block has 2^`log2_spb` sectors, at most 2^3.
+    pub log2_spb: u8,
+    /// An area has 2^`log2_interleave` data sectors, 2^3 to 2^31.
+    pub log2_interleave: u8,
+    /// How many sections the journal has, at least one.
+    pub sections: u32,
+    /// A region has at least 2^`log2_region` blocks. The image has the least number from there on
+    /// whose bitmap would fit the journal.
+    pub log2_region: u8,
+    /// What stands before the message of each tag, if something does.
+    pub salt: Option<[u8; 16]>,
+    /// What the tags of an area take a multiple of.
+    pub padding: Padding,
+    /// What comes to the blocks.
+    pub wipe: Wipe,
+}
