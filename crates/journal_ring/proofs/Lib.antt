@@ -1,0 +1,9 @@
+pub mod SectionsLemmas
+pub mod PutInLemmas
+pub mod WrapLemmas
+pub mod RingLemmas
+pub mod BatchLemmas
+pub mod CommitLemmas
+pub mod PlacesLemmas
+pub mod RoomLemmas
+mod Worked

@@ -1,0 +1,44 @@
+//! What a ring needs beside its sectors.
+ghost use Rattle.std.specs.Prelude.{◌≡◌, IfOk};
+
+use layout::Geometry;
+use sector_disk::Memory;
+use std::alloc::Global;
+use std::marker::Model;
+
+/// Memory for a ring over the journal of a geometry, taken before anything is written.
+#[derive(Drop)]
+pub struct RingRoom {
+    pub(crate) geometry: Geometry,
+    /// How many entries each section has.
+    pub(crate) counts: Vec<u64>,
+}
+
+impl Model for RingRoom {
+    ghost use Rattle.image_model.specs.Geometry.{Geometry};
+
+    ghost Value = { Geometry };
+
+    ghost use Rattle.journal_ring.specs.Room.{IsRoom};
+
+    ghost view = { λ room. room.geometry };
+
+    ghost invariant = { λ room. IsRoom room.geometry room.counts.items };
+}
+
+impl RingRoom {
+    /// Room for the sections of this geometry's journal.
+    ///
+    /// # Errors
+    ///
+    /// - `Memory`: there is none for them.
+    pub fn new(alloc: Global, geometry: Geometry) -> Result<RingRoom, Memory>
+        ensures { IfOk result (λ room. room ≡ geometry) }
+    {
+        let _ = geometry.blocks();
+        let Ok(counts) = Vec::from_elem(alloc, 0u64, geometry.sections() as usize) else {
+            return Err(Memory);
+        };
+        Ok(RingRoom { geometry, counts })
+    }
+}
