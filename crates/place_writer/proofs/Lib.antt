@@ -1,0 +1,6 @@
+pub mod WritingLemmas
+pub mod EntryLemmas
+pub mod PlacementLemmas
+pub mod PlacedOnLemmas
+pub mod PlacingLawsLemmas
+pub mod Worked

@@ -1,0 +1,4 @@
+pub mod Cells
+pub mod Placement
+pub mod Moves
+pub mod PlacingLaws

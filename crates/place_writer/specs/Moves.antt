@@ -1,0 +1,106 @@
+-- What placing and settling do to the disk, the ring and what is placed of it.
+use Rattle.std.specs.Prelude.{◌≡◌, ◌≢◌, ℕ, ◌+◌, ◌-◌, ◌<◌, List, [], length, slice_get, Some}
+use Rattle.disk_model.specs.Disk.{Content, EachImage, Image, OnlyAdds}
+use Rattle.disk_model.specs.Moments.{EachMoment, EachSince, HasNow}
+use Rattle.image_model.specs.Cells.{recalculated_cell}
+use Rattle.image_model.specs.Section.{Entry}
+use Rattle.device_laws.specs.Device.{IsJournalRing, block_of, placed_count}
+use Rattle.direct_mode.specs.Cells.{IsOfBlockOrTags}
+use Rattle.journal_model.specs.JournaledDisk.{JournaledDisk, IsCutOf, StandsFor, cell_at}
+use Rattle.journal_model.specs.Ring.{JournalRing, entries_of, with_settle}
+use Rattle.journal_model.specs.Steps.{after_place, after_settle}
+use Rattle.journal_ring.specs.declared.ring.Moved.{Moved}
+use Rattle.journal_ring.specs.declared.ring.Moved.TheVariants.{Did, Idle}
+use Rattle.tag_store.specs.Store.{Store}
+use Rattle.place_writer.specs.Cells.{HasCells}
+use Rattle.place_writer.specs.Placement.{placed_in}
+use Rattle.place_writer.specs.declared.placement.Placement.{Placement}
+
+-- The ring is that of the disk, as much of it is placed as the disk says, and with the tags of the store the disk
+-- has its cells.
+pub record IsPlacedOn (d : JournaledDisk) (p : Placement) (ring : JournalRing) (store : Store)
+    (moments : List Content) : Type 0 where
+  pub ring_ : IsJournalRing d ring
+  pub placed : placed_count d ring ≡ placed_in p ring
+  pub cells : HasCells d store moments
+
+-- At each moment the disk stands for one thing, and each image is a cut of another.
+pub record StandsThrough (d cut : JournaledDisk) (before after : List Content) : Type 0 where
+  pub stands : EachMoment before after (StandsFor d)
+  pub cuts : EachMoment before after (EachImage (IsCutOf cut []))
+
+-- ---- an entry is placed
+
+-- What the disk stands for then.
+abbrev pub after_placing : Moved → JournaledDisk → JournaledDisk
+after_placing Did d = after_place d
+after_placing Idle d = d
+
+-- One entry more of the ring is placed.
+pub record PlacesOne (old new : Placement) (ring : JournalRing) : Type 0 where
+  pub more : placed_in old ring < length (entries_of ring.committed)
+  pub next : placed_in new ring ≡ placed_in old ring + 1
+
+-- All of them are, and nothing has changed.
+pub record FindsAllPlaced (old new : Placement) (ring : JournalRing) (before after : Store)
+    (first last : List Content) : Type 0 where
+  pub all : placed_in old ring ≡ length (entries_of ring.committed)
+  pub placement : new ≡ old
+  pub store : after ≡ before
+  pub moments : last ≡ first
+
+-- Placing did the one, or found the other.
+abbrev pub HasPlaced : Moved → (old new : Placement) → JournalRing → (before after : Store)
+    → (first last : List Content) → Type 0
+HasPlaced Did old new ring before after first last = PlacesOne old new ring
+HasPlaced Idle old new ring before after first last = FindsAllPlaced old new ring before after first last
+
+-- No sector is written but those of tags, and those of the block of the oldest committed entry that is not placed,
+-- with its bytes.
+abbrev pub WritesNext : Placement → JournalRing → (before after : List Content) → Type 0
+WritesNext p ring before after = (entry : Entry)
+    → slice_get (entries_of ring.committed) (placed_in p ring) ≡ Some entry
+    → let g = ring.geometry in
+    EachSince (OnlyAdds (IsOfBlockOrTags g (block_of g entry) entry.bytes)) before after
+
+-- ---- what is placed is settled
+
+-- In an image each block has in its place the cell after all placed entries, whatever its journal: that of the
+-- block's last entry that is placed, and where it has none the one at opening.
+abbrev pub HasPlacedCells : JournaledDisk → Image → Type 0
+HasPlacedCells d image = (b : ℕ) → b < d.geometry.blocks
+    → recalculated_cell d.key d.superblock d.geometry image b ≡ cell_at d d.placed b
+
+-- All that is placed is settled, and is in its place in every image.
+pub record IsSettledOn (d : JournaledDisk) (p : Placement) (ring : JournalRing) (store : Store)
+    (moments : List Content) : Type 0 where
+  pub on : IsPlacedOn (after_settle d) p ring store moments
+  pub images : HasNow (EachImage (HasPlacedCells d)) moments
+
+-- The disk, the ring and the store then, or as before where there is nothing to free.
+abbrev pub IsLeftOn : Moved → JournaledDisk → Placement → JournalRing → Store → List Content → Type 0
+IsLeftOn Did d p ring store moments = IsSettledOn d p ring store moments
+IsLeftOn Idle d p ring store moments = IsPlacedOn d p ring store moments
+
+-- Sections were freed, all those of which each entry is placed.
+pub record FreesPlaced (old new : Placement) (ring left : JournalRing) : Type 0 where
+  pub some : with_settle (placed_in old ring) ring ≢ ring
+  pub left_is : left ≡ with_settle (placed_in old ring) ring
+  pub rest : placed_in old ring
+      ≡ placed_in new left + (length (entries_of ring.committed) - length (entries_of left.committed))
+
+-- No committed section is wholly placed, and nothing has changed.
+pub record FindsNoneToFree (old new : Placement) (ring left : JournalRing) (before after : Store)
+    (first last : List Content) : Type 0 where
+  pub none : with_settle (placed_in old ring) ring ≡ ring
+  pub ring_ : left ≡ ring
+  pub placement : new ≡ old
+  pub store : after ≡ before
+  pub moments : last ≡ first
+
+-- Settling did the one, or found the other.
+abbrev pub HasSettled : Moved → (old new : Placement) → (ring left : JournalRing) → (before after : Store)
+    → (first last : List Content) → Type 0
+HasSettled Did old new ring left before after first last = FreesPlaced old new ring left
+HasSettled Idle old new ring left before after first last =
+    FindsNoneToFree old new ring left before after first last
