@@ -1,21 +1,36 @@
 -- The run of a command: what it starts on, what its run is, how far that came, and what it leaves.
 -- Own: a command that is refused prints one line; a run ends at the first thing that ends it.
-use Rattle.std.specs.Prelude.{◌≡◌, ◌⊎◌, ℕ, ◌<◌, Bool, List, [], ◌++◌, length, take}
+use Rattle.std.specs.Prelude.{◌≡◌, ◌⊎◌, ℕ, ◌<◌, Bool, false, List, [], ◌++◌, length, take}
 use Rattle.disk_model.specs.Disk.{Content, EachImage, Image, newest_only}
 use Rattle.device_model.specs.Device.{DeviceKind}
 use Rattle.device_model.specs.Ending.{Ending, Complete, RefusedWords, RefusedKey, RefusedLine, RefusedLength, RefusedImage, DiskFailed, KeyFailed, ScriptFailed, SinkFailed, NoMemory, status_of, fault_text}
 use Rattle.device_model.specs.History.{Change, with_changes}
-use Rattle.device_model.specs.ScriptRun.{ScriptRun, IsCameTo, IsRunOf, IsWhole, changes_in, only_ends, texts_of}
+use Rattle.device_model.specs.ScriptRun.{ScriptRun, IsCameTo, IsRunOf, IsWhole, changes_in, only_ends, texts_of, with_step}
 
--- What a command starts on: it is refused before any line; or its script runs on a device that opens an image.
+-- A way to make an image: what is printed once it is made; what stands while it is made; and what it is then.
+pub record Making : Type 1 where
+  pub text : List ℕ
+  pub MayBeLeft : (start later : Content) → Type 0
+  pub IsMade : (start later : Content) → Type 0
+
+-- What a command starts on: it is refused before any line; its script runs on a device that opens an image; it prints what
+-- the image tells; or it makes an image.
 pub data Outset : Type 1 where
   RefusedBy : (ending : Ending) → Outset
   RunsOn : (kind : DeviceKind) → (image : Image) → Outset
+  Prints : (text : List ℕ) → Outset
+  Makes : (making : Making) → Outset
+
+-- The run of a command that has no script: this text, which names no block.
+abbrev pub only_prints : List ℕ → ScriptRun
+only_prints text = with_step (record { text = text; changes = [] }) (only_ends (Complete false))
 
 -- Its run, where nothing outside fails. One that is refused runs no line.
 abbrev pub IsRunAt : Outset → (script : List ℕ) → ScriptRun → Type 0
 IsRunAt (RefusedBy ending) script run = run ≡ only_ends ending
 IsRunAt (RunsOn kind image) script run = IsRunOf (kind.format image) (kind.opened image) script run
+IsRunAt (Prints text) script run = run ≡ only_prints text
+IsRunAt (Makes making) script run = run ≡ only_prints making.text
 
 -- ---- how far it came
 
@@ -68,6 +83,30 @@ abbrev pub IsLeftAt : Outset → (start : Content) → List Change → (later : 
 IsLeftAt (RefusedBy ending) start changes later = IsUntouched start later
 IsLeftAt (RunsOn kind image) start changes later =
     ((changes ≡ []) × IsUntouched start later) ⊎ IsLeftBy kind image changes later
+IsLeftAt (Prints text) start changes later = later ≡ start
+IsLeftAt (Makes making) start changes later = making.MayBeLeft start later
+
+-- What is left where the making of an image ended so: the image, where it came to its end or only could not be told; all as it
+-- was, where something ended it before; and what may stand at some moment, where the disk failed.
+abbrev pub IsLeftOfMaking : Making → (start : Content) → Ending → (later : Content) → Type 0
+IsLeftOfMaking making start (Complete found_fault) later = making.IsMade start later
+IsLeftOfMaking making start RefusedWords later = later ≡ start
+IsLeftOfMaking making start (RefusedKey refusal) later = later ≡ start
+IsLeftOfMaking making start (RefusedLine number fault) later = later ≡ start
+IsLeftOfMaking making start RefusedLength later = later ≡ start
+IsLeftOfMaking making start (RefusedImage fault) later = later ≡ start
+IsLeftOfMaking making start DiskFailed later = making.MayBeLeft start later
+IsLeftOfMaking making start KeyFailed later = later ≡ start
+IsLeftOfMaking making start ScriptFailed later = later ≡ start
+IsLeftOfMaking making start SinkFailed later = making.IsMade start later
+IsLeftOfMaking making start NoMemory later = later ≡ start
+
+-- What is left of a disk with this content at the start, where the command made these changes and ended so.
+abbrev pub IsLeftAfter : Outset → (start : Content) → List Change → Ending → (later : Content) → Type 0
+IsLeftAfter (RefusedBy refused) start changes ending later = IsLeftAt (RefusedBy refused) start changes later
+IsLeftAfter (RunsOn kind image) start changes ending later = IsLeftAt (RunsOn kind image) start changes later
+IsLeftAfter (Prints text) start changes ending later = IsLeftAt (Prints text) start changes later
+IsLeftAfter (Makes making) start changes ending later = IsLeftOfMaking making start ending later
 
 -- What stands at a moment of the command: what some of the first changes of its run leave.
 pub record MayBeLeftAt (outset : Outset) (start : Content) (script : List ℕ) (later : Content) : Type 0 where
@@ -120,4 +159,4 @@ pub record Tells (outset : Outset) (start : Content) (script before after : List
   pub line : List ℕ
   pub last : IsLastLine faults.sink ending line
   pub printed : after ≡ before ++ (text ++ line)
-  pub left : IsLeftAt outset start changes later
+  pub left : IsLeftAfter outset start changes ending later
