@@ -4,7 +4,8 @@ use thiserror::Error;
 /// What a serve did.
 #[derive(Clone, Copy, Debug, PartialEq, Eq)]
 pub enum Served {
-    /// Nothing: the request waits for the request of ticket `by`, which overlaps it, is unfinished, and was submitted earlier.
+    /// Nothing: the request waits for the request of ticket `by`, which overlaps it, is unfinished, and was
+    /// submitted earlier.
     Held { by: u64 },
     /// One block. More are to be served.
     Did,

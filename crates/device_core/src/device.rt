@@ -40,8 +40,8 @@ pub struct Refused<'d, D: Disk> {
 }
 
 impl<'d, D: Disk> Device<'d, D> {
-    /// Opens a device on a disk, by superblock and geometry alone, whose tags are made by this hash: the first sector is
-    /// read and judged, all memory that the device ever takes is taken, and then the disk is synced.
+    /// Opens a device on a disk, by superblock and geometry alone, whose tags are made by this hash: the first
+    /// sector is read and judged, all memory that the device ever takes is taken, and then the disk is synced.
     ///
     /// # Errors
     ///
@@ -225,8 +225,8 @@ impl<'d, D: Disk> Device<'d, D> {
         stepping::step(self.condition, actor)
     }
 
-    /// Flushes all that was written, and gives the disk back. Requests that are unfinished are dropped. A broken device makes
-    /// no call of its disk.
+    /// Flushes all that was written, and gives the disk back. Requests that are unfinished are dropped. A broken
+    /// device makes no call of its disk.
     ///
     /// # Errors
     ///

@@ -1,7 +1,8 @@
 //! A device in direct mode, with up to sixteen requests in flight, over a disk that it is lent.
 //!
-//! A contract sees a device as what it keeps beside its disk, and what the disk tells of its content. `specs/Device.antt`,
-//! the file to read first, says which device of `device_model` that is; each call is then one event of it.
+//! A contract sees a device as what it keeps beside its disk, and what the disk tells of its content.
+//! `specs/Device.antt`, the file to read first, says which device of `device_model` that is; each call is then one
+//! event of it.
 #![tactic(auto)]
 
 mod answers;

@@ -33,8 +33,8 @@ struct Room {
     buffer: Vec<u8>,
 }
 
-/// Opens a device on a disk, by superblock and geometry alone. All memory that it ever takes is taken before the disk is
-/// synced.
+/// Opens a device on a disk, by superblock and geometry alone. All memory that it ever takes is taken before the
+/// disk is synced.
 ///
 /// # Errors
 ///

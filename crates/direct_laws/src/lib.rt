@@ -89,8 +89,8 @@ pub fn placed_cut_is_left()
     ensures moving { MovingPlacedLaw }
 {}
 
-/// Where the journal has nothing to replay each image, also within a call, can be opened and has cells that may be left of
-/// the device.
+/// Where the journal has nothing to replay each image, also within a call, can be opened and has cells that may be
+/// left of the device.
 pub fn cut_is_left()
     ensures placed { PlacedIsLeftLaw }
     ensures standing { StandingLeftLaw }

@@ -1,8 +1,8 @@
-//! What the first sector of a disk tells an opening: the fields of its superblock and its geometry, and whether direct mode
-//! opens it.
+//! What the first sector of a disk tells an opening: the fields of its superblock and its geometry, and whether
+//! direct mode opens it.
 //!
-//! A contract sees an `ImageFormat` and an `OpenFault` as they are. What an image tells is a function of it, which stands
-//! in `specs/Format.antt`, the file to read first. Nothing is written, and no memory is taken.
+//! A contract sees an `ImageFormat` and an `OpenFault` as they are. What an image tells is a function of it, which
+//! stands in `specs/Format.antt`, the file to read first. Nothing is written, and no memory is taken.
 #![tactic(auto)]
 
 mod laws;

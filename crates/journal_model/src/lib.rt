@@ -80,8 +80,8 @@ pub fn batch_is_sections()
     ensures { BatchLaw }
 {}
 
-/// The opened sections of a ring are a batch of its disk, and after a commit it is the ring of the disk then. It has room
-/// where a section is free.
+/// The opened sections of a ring are a batch of its disk, and after a commit it is the ring of the disk then. It
+/// has room where a section is free.
 pub fn ring_goes_on()
     ensures committed { RingLaw }
     ensures room { FreeSectionLaw }

@@ -4,8 +4,8 @@
 //! slot whose key stands nowhere any more is passed over and not taken for free. There are more slots than homes, so a
 //! search never turns round.
 //!
-//! A home has a byte of bits: of each key that came from there one of them is set. So a search for a key that never came
-//! looks at hardly any slot, and these bytes stay in the processor's cache where the slots do not.
+//! A home has a byte of bits: of each key that came from there one of them is set. So a search for a key that never
+//! came looks at hardly any slot, and these bytes stay in the processor's cache where the slots do not.
 ghost use Rattle.std.specs.Prelude.{◌≡◌, ◌+◌, ◌^◌, ◌<◌, ◌≤◌, length, replicate, get_or, set, IfOk};
 ghost use Rattle.std.specs.List.{position_or_len};
 ghost use Rattle.journal_overlay.specs.Slots.{bit_of, HasBits, home_of, slot_of, slot_with, last_at, last_in, place_at, place_in, stops};

@@ -12,7 +12,8 @@ pub enum Request {
         count: u64,
         buffer: Bytes,
     },
-    /// To write `count` blocks from block `first` on, of these bytes; with `fua` all is flushed once the last is written.
+    /// To write `count` blocks from block `first` on, of these bytes; with `fua` all is flushed once the last is
+    /// written.
     Write {
         first: u64,
         count: u64,

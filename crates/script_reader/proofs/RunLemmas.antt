@@ -6,7 +6,7 @@ use Rattle.std.proofs.Math.Seq.{take-append_seam}
 use Rattle.std.proofs.lemmas.List.Elements.{All-append, Contains-append_cases}
 use Rattle.device_model.specs.Grammar.{most_line}
 use Rattle.device_model.specs.ScriptBytes.{most_script}
-use Rattle.script_reader.specs.Reading.{Reading, IsWithin, IsSettled, TakesBytes, TakesOneLine, HasNoNewline, BeginsLine}
+use Rattle.script_reader.specs.Reading.{Reading, IsWithin, IsSettled, TakesLine, HasNoNewline, BeginsLine}
 use Rattle.script_reader.specs.Lines.{lines_left, FindsWholeLine, FindsLongLine, FindsLongScript, FindsLine}
 use Rattle.script_reader.specs.Run.{TakesRun, EndsRun}
 use Rattle.script_reader.specs.declared.next_line.NextLine.{NextLine}
@@ -57,21 +57,25 @@ BeginsLine-run start old new before left begins run = record {
   counted = omega (arith, run_counted [] start old new before left begins run);
 }
 
-TakesBytes-begins : (start now : Reading) (before after : List ℕ) → BeginsLine start now before after
-    → TakesBytes start now before after
-TakesBytes-begins start now before after begins =
-    record { bytes = now.line; taken = begins.bytes; counted = begins.counted }
+TakesLine-begins : (start now : Reading) (before after : List ℕ) → BeginsLine start now before after
+    → TakesLine start now before after
+TakesLine-begins start now before after begins = record {
+  plain = begins.plain;
+  ending = [];
+  short = omega arith;
+  bytes = begins.bytes;
+  counted = omega (arith, begins.counted);
+}
 
-TakesBytes-run : (ending : List ℕ) (start old new : Reading) (before left : List ℕ)
+TakesLine-run : (ending : List ℕ) (start old new : Reading) (before left : List ℕ) → length ending ≤ 1
     → BeginsLine start old before (old.unread ++ left) → TakesRun ending old new
-    → TakesBytes start new before (new.unread ++ left)
-TakesBytes-run ending start old new before left begins run = record {
-  bytes = new.line ++ ending;
-  taken = run_bytes ending start old new before left begins run
-      ∙ sym (append_assoc new.line ending (new.unread ++ left));
-  counted =
-      let counted = run_counted ending start old new before left begins run in
-      omega (arith, counted, length-append new.line ending);
+    → TakesLine start new before (new.unread ++ left)
+TakesLine-run ending start old new before left short begins run = record {
+  plain = HasNoNewline-run ending old new begins.plain run;
+  ending = ending;
+  short = short;
+  bytes = run_bytes ending start old new before left begins run;
+  counted = run_counted ending start old new before left begins run;
 }
 
 -- ---- what was read settles the line
@@ -149,15 +153,15 @@ IsInLine-same start old now first middle last inside same left =
     let Q : Option (List ℕ) → Type 0 = λ bytes. IsInLine start first old bytes in
     subst P (sym same) (subst Q (sym left) inside)
 
-pub TakesBytes-inside : (start now : Reading) (first last : Option (List ℕ)) → IsInLine start first now last
+pub TakesLine-inside : (start now : Reading) (first last : Option (List ℕ)) → IsInLine start first now last
     → ForSome first (λ left. IsSomeAnd last
-    (λ later. TakesBytes start now (start.unread ++ left) (now.unread ++ later)))
-TakesBytes-inside start now first last inside =
+    (λ later. TakesLine start now (start.unread ++ left) (now.unread ++ later)))
+TakesLine-inside start now first last inside =
     told_weaker
     (λ left later. BeginsLine start now (start.unread ++ left) (now.unread ++ later))
-    (λ left later. TakesBytes start now (start.unread ++ left) (now.unread ++ later))
+    (λ left later. TakesLine start now (start.unread ++ left) (now.unread ++ later))
     first last inside.begins
-    (λ left later begins. TakesBytes-begins start now (start.unread ++ left) (now.unread ++ later) begins)
+    (λ left later begins. TakesLine-begins start now (start.unread ++ left) (now.unread ++ later) begins)
 
 -- ---- where the line ends
 
@@ -224,15 +228,15 @@ run_ends LongScript start old new before later begins short more (same, bound) =
 
 run_takes : (next : NextLine) (start old new : Reading) (before later : List ℕ)
     → BeginsLine start old before (old.unread ++ later)
-    → EndsRun (Some next) old new → TakesBytes start new before (new.unread ++ later)
+    → EndsRun (Some next) old new → TakesLine start new before (new.unread ++ later)
 run_takes Line start old new before later begins (run, fits) =
-    TakesBytes-run (10 ∷ []) start old new before later begins run
+    TakesLine-run (10 ∷ []) start old new before later (omega arith) begins run
 run_takes End start old new before later begins run = absurd run
 run_takes LongLine start old new before later begins (run, long) =
-    TakesBytes-run [] start old new before later begins run
+    TakesLine-run [] start old new before later (omega arith) begins run
 run_takes LongScript start old new before later begins (same, bound) =
-    let P : Reading → Type 0 = λ r. TakesBytes start r before (r.unread ++ later) in
-    subst P (sym same) (TakesBytes-begins start old before (old.unread ++ later) begins)
+    let P : Reading → Type 0 = λ r. TakesLine start r before (r.unread ++ later) in
+    subst P (sym same) (TakesLine-begins start old before (old.unread ++ later) begins)
 
 script_ends : (next : NextLine) (start now : Reading) (before after text : List ℕ) → now.line ≡ text
     → BeginsLine start now before after
@@ -278,14 +282,14 @@ FindsLine-run next start old new first last inside more run =
     first last inside.begins
     (λ left later begins. run_ends next start old new (start.unread ++ left) later begins inside.short more run)
 
-pub TakesBytes-end : (next : NextLine) (start old new : Reading) (first last : Option (List ℕ))
+pub TakesLine-end : (next : NextLine) (start old new : Reading) (first last : Option (List ℕ))
     → IsInLine start first old last → EndsRun (Some next) old new
     → ForSome first (λ left. IsSomeAnd last
-    (λ later. TakesBytes start new (start.unread ++ left) (new.unread ++ later)))
-TakesBytes-end next start old new first last inside run =
+    (λ later. TakesLine start new (start.unread ++ left) (new.unread ++ later)))
+TakesLine-end next start old new first last inside run =
     told_weaker
     (λ left later. BeginsLine start old (start.unread ++ left) (old.unread ++ later))
-    (λ left later. TakesBytes start new (start.unread ++ left) (new.unread ++ later))
+    (λ left later. TakesLine start new (start.unread ++ left) (new.unread ++ later))
     first last inside.begins
     (λ left later begins. run_takes next start old new (start.unread ++ left) later begins run)
 
@@ -313,29 +317,19 @@ FindsLine-end next start old now first middle last inside same read no_unread wi
 
 -- ---- how much is taken of the source for a line
 
--- Inside a line no more than that was taken.
-pub TakesOneLine-inside : (start now : Reading) (first last : Option (List ℕ)) → IsInLine start first now last
-    → TakesOneLine start now
-TakesOneLine-inside start now first last inside = record {
-  line = omega (arith, inside.counted);
-  low = omega (arith, inside.counted, inside.short);
-}
+-- Inside a line no more than a line may have was taken.
+pub taken_inside : (start now : Reading) (first last : Option (List ℕ)) → IsInLine start first now last
+    → now.taken ≤ start.taken + (most_line + 1)
+taken_inside start now first last inside = omega (arith, inside.counted, inside.short)
 
 -- At its end its newline was taken too, or a byte beyond its bound.
-pub TakesOneLine-end : (next : NextLine) (start old new : Reading) (first last : Option (List ℕ))
-    → IsInLine start first old last → EndsRun (Some next) old new → TakesOneLine start new
-TakesOneLine-end Line start old new first last inside (run, short) =
-    let size = ap length run.line in
-    record {
-      line = omega (arith, inside.counted, run.taken, size, length-append old.line run.run);
-      low = omega (arith, inside.counted, run.taken, size, length-append old.line run.run, short);
-    }
-TakesOneLine-end End start old new first last inside ends = absurd ends
-TakesOneLine-end LongLine start old new first last inside (run, long) =
-    let size = ap length run.line in
-    record {
-      line = omega (arith, inside.counted, run.taken, size, length-append old.line run.run);
-      low = omega (arith, inside.counted, run.taken, size, length-append old.line run.run, long);
-    }
-TakesOneLine-end LongScript start old new first last inside (same, bound) =
-    subst (λ (r : Reading). TakesOneLine start r) (sym same) (TakesOneLine-inside start old first last inside)
+pub taken_end : (next : NextLine) (start old new : Reading) (first last : Option (List ℕ))
+    → IsInLine start first old last → EndsRun (Some next) old new → new.taken ≤ start.taken + (most_line + 1)
+taken_end Line start old new first last inside (run, short) =
+    omega (arith, inside.counted, run.taken, ap length run.line, length-append old.line run.run, short)
+taken_end End start old new first last inside ends = absurd ends
+taken_end LongLine start old new first last inside (run, long) =
+    omega (arith, inside.counted, run.taken, ap length run.line, length-append old.line run.run, long)
+taken_end LongScript start old new first last inside (same, bound) =
+    subst (λ (r : Reading). r.taken ≤ start.taken + (most_line + 1)) (sym same)
+    (taken_inside start old first last inside)

@@ -21,22 +21,11 @@ pub record IsWithin (reading : Reading) : Type 0 where
   pub read : reading.taken + length reading.unread ≤ most_script + 1
   pub ahead : length reading.unread ≤ most_piece
 
--- It took its line and the newline of that at most, and of a line at most one byte beyond its bound.
-pub record TakesOneLine (old new : Reading) : Type 0 where
-  pub line : new.taken ≤ old.taken + (length new.line + 1)
-  pub low : new.taken ≤ old.taken + (most_line + 1)
-
 -- What it has read settles what it tells next: a newline is in it, or the byte beyond the bound of a script.
 abbrev pub IsSettled : Reading → Type 0
 IsSettled reading = Contains reading.unread 10 ⊎ (most_script < reading.taken + length reading.unread)
 
 -- ---- what a call takes of the bytes that are to come: `before` when it begins, and `after` when it has ended
-
--- It took some of them from the front, and counted these. None is lost.
-pub record TakesBytes (old new : Reading) (before after : List ℕ) : Type 0 where
-  pub bytes : List ℕ
-  pub taken : before ≡ bytes ++ after
-  pub counted : new.taken ≡ old.taken + length bytes
 
 -- No byte of it is a newline.
 abbrev pub HasNoNewline : List ℕ → Type 0
@@ -47,3 +36,11 @@ pub record BeginsLine (old new : Reading) (before after : List ℕ) : Type 0 whe
   pub plain : HasNoNewline new.line
   pub bytes : before ≡ new.line ++ after
   pub counted : new.taken ≡ old.taken + length new.line
+
+-- It took its line, and what ends that: a newline at most. No other byte is taken, and none is lost.
+pub record TakesLine (old new : Reading) (before after : List ℕ) : Type 0 where
+  pub plain : HasNoNewline new.line
+  pub ending : List ℕ
+  pub short : length ending ≤ 1
+  pub bytes : before ≡ new.line ++ (ending ++ after)
+  pub counted : new.taken ≡ old.taken + length new.line + length ending

@@ -5,7 +5,7 @@
 ghost use Rattle.std.specs.Prelude.{◌≡◌, ◌≢◌, ◌+◌, ◌<◌, ◌≤◌, ℕ, List, [], ◌∷◌, ◌++◌, length, take, drop, slice_index, IsTrue, ◌↔◌, IfOk, OnOk, OnErr, IfSome, IfNone};
 ghost use Rattle.std.specs.Option.{ForSome, IsSomeAnd};
 ghost use Rattle.disk_model.specs.Causes.{HasCause};
-ghost use Rattle.script_reader.specs.Reading.{HasNoNewline, TakesOneLine};
+ghost use Rattle.script_reader.specs.Reading.{HasNoNewline};
 
 use crate::NextLine;
 use crate::piece::{PIECE, Piece};
@@ -45,7 +45,7 @@ impl Model for LineReader {
 impl LineReader {
     ghost use Rattle.device_model.specs.Grammar.{most_line};
     ghost use Rattle.device_model.specs.ScriptBytes.{most_script};
-    ghost use Rattle.script_reader.specs.Reading.{IsWithin, IsSettled, TakesBytes, BeginsLine};
+    ghost use Rattle.script_reader.specs.Reading.{IsWithin, IsSettled, TakesLine, BeginsLine};
     ghost use Rattle.script_reader.specs.Lines.{FindsLine};
     ghost use Rattle.script_reader.specs.Run.{EndsRun};
 
@@ -94,9 +94,9 @@ impl LineReader {
             (λ later. BeginsLine self.old self.new (self.old.unread ++ left) (self.new.unread ++ later)))) }
 
         ensures bytes { ForSome (S.left script.old) (λ left. IsSomeAnd (S.left script.new)
-            (λ later. TakesBytes self.old self.new (self.old.unread ++ left) (self.new.unread ++ later))) }
+            (λ later. TakesLine self.old self.new (self.old.unread ++ left) (self.new.unread ++ later))) }
         ensures within { IsWithin self.new }
-        ensures one { TakesOneLine self.old self.new }
+        ensures one { self.new.taken ≤ self.old.taken + (most_line + 1) }
         // The source is not called where what was read tells what is next.
         ensures script { IsSettled self.old → script.new ≡ script.old }
     {

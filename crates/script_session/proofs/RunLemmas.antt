@@ -2,6 +2,7 @@
 use Rattle.std.proofs.Common.{◌≡◌, ℕ, zero, suc, ◌+◌, List, [], ◌∷◌, ◌++◌, length, take, refl, sym, ◌∙◌, ap, subst, append-nil, append_assoc}
 use Rattle.std.specs.List.{AllByRecursion}
 use Rattle.std.proofs.lemmas.List.{append_cancel_right}
+use Rattle.std.proofs.lemmas.List.Sums.{fold-append}
 use Rattle.std.proofs.Math.Seq.{take-append-add}
 use Rattle.disk_model.specs.Disk.{Content, Image, EachImage}
 use Rattle.disk_model.specs.Moments.{EachMoment}
@@ -41,11 +42,6 @@ EachMoment-both {a} {b} {P} {Q} p q = record {
 
 -- ---- changes
 
-with_changes-append : (xs ys : List Change) (h : History)
-    → with_changes (xs ++ ys) h ≡ with_changes ys (with_changes xs h)
-with_changes-append [] ys h = refl
-with_changes-append (x ∷ xs) ys h = with_changes-append xs ys (with_change h x)
-
 -- Some of the first of some changes are some of the first of more.
 take_within : (made : ℕ) (xs ys : List Change) → (m : ℕ) × (take m (xs ++ ys) ≡ take made xs)
 take_within zero xs ys = (0, refl)
@@ -70,7 +66,8 @@ all_begun (Written write ∷ changes) = (0, refl)
 all_begun (Flushed ∷ changes) = (0, refl)
 
 module _ (kind : DeviceKind) (entry : Image) where
-  left-wider : (h : History) (xs ys : List Change) (c : Content) → IsLeftWithin kind entry h xs c
+  -- What is left within some changes is left within them and more, in front or behind.
+  pub left-wider : (h : History) (xs ys : List Change) (c : Content) → IsLeftWithin kind entry h xs c
       → IsLeftWithin kind entry h (xs ++ ys) c
   left-wider h xs ys c is =
       let m = take_within is.made xs ys in
@@ -80,13 +77,14 @@ module _ (kind : DeviceKind) (entry : Image) where
         left = subst (λ (l : List Change). EachImage (kind.MayBeLeft entry (with_changes l h)) c) (sym m.1) is.left;
       }
 
-  left-behind : (h : History) (xs ys : List Change) (c : Content)
+  pub left-behind : (h : History) (xs ys : List Change) (c : Content)
       → IsLeftWithin kind entry (with_changes xs h) ys c → IsLeftWithin kind entry h (xs ++ ys) c
   left-behind h xs ys c is = record {
     made = length xs + is.made;
     opens = is.opens;
     left = subst (λ (x : History). EachImage (kind.MayBeLeft entry x) c)
-        (sym (ap (λ (l : List Change). with_changes l h) (take-append-add xs ys is.made) ∙ with_changes-append xs (take is.made ys) h)) is.left;
+        (sym (ap (λ (l : List Change). with_changes l h) (take-append-add xs ys is.made)
+        ∙ fold-append with_change h xs (take is.made ys))) is.left;
   }
 
 -- ---- some events, and more

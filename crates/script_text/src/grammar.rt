@@ -1,6 +1,7 @@
 //! The line that bytes are, or why they are none.
 //!
-//! The words are read from left to right, each at its place, so that the first that does not fit is the first that is told.
+//! The words are read from left to right, each at its place, so that the first that does not fit is the first that
+//! is told.
 ghost use Rattle.std.specs.Prelude.{◌≡◌, ◌^◌, ◌<◌, ◌≤◌, [], ◌∷◌, IfOk, IfErr, IsTrue, ◌↔◌, codes};
 ghost use Rattle.std.specs.Fmt.{decimal};
 ghost use Rattle.device_model.specs.Grammar.{HasValues, IsFaultAt, IsFaultOf, IsFaultOfStart, IsFaultOfWords, IsLine, IsReadAs, IsText, IsWritable, ReadLine, ask_words, line_words, places_of, verb_word, words_in, NumberPlace, FillVerb, WriteVerb, ReadVerb};

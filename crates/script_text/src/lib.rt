@@ -1,8 +1,8 @@
 //! The lines of a script as values, and the text of what is told.
 //!
-//! A contract sees a line and a fault as those of the grammar (`specs/Line.antt`, the file to read first), and what is told
-//! as its text (`specs/Told.antt`). The grammar itself stands in `device_model`, `specs/Grammar.antt`. That any bytes are
-//! read by it, and that every script has a run, are laws (`specs/Laws.antt`, `specs/RunLaws.antt`).
+//! A contract sees a line and a fault as those of the grammar (`specs/Line.antt`, the file to read first), and what
+//! is told as its text (`specs/Told.antt`). The grammar itself stands in `device_model`, `specs/Grammar.antt`. That
+//! any bytes are read by it, and that every script has a run, are laws (`specs/Laws.antt`, `specs/RunLaws.antt`).
 #![tactic(auto)]
 
 mod generator;

@@ -1,7 +1,7 @@
 use Rattle.std.proofs.Common.{◌≡◌, ◌<◌, ◌∙◌, sym, subst, [], length, rules}
 use Rattle.script_reader.specs.Reading.{Reading, IsSettled}
 use Rattle.std.proofs.lemmas.List.{nil_from_length}
-use Rattle.script_reader.proofs.RunLemmas.{IsInLine-read, IsInLine-run, IsInLine-same, IsSettled-unread, IsSettled-run, TakesBytes-inside, TakesBytes-end, TakesOneLine-inside, TakesOneLine-end, FindsLine-run, FindsLine-end}
+use Rattle.script_reader.proofs.RunLemmas.{IsInLine-read, IsInLine-run, IsInLine-same, IsSettled-unread, IsSettled-run, TakesLine-inside, TakesLine-end, taken_inside, taken_end, FindsLine-run, FindsLine-end}
 use Rattle.script_reader.proofs.line_reader.LineReader.next_line.Goals as goal
 
 pub returns-in-Some-clause-found : goal.returns-in-Some-clause-found
@@ -27,7 +27,7 @@ returns-in-Some-clause-bytes g c =
     IsInLine-read start c.loop-self.self now first (g.S.Source.left c.loop-self.script) last
     c.loop-self.invariant.inside c.has_more.ensures.same
     c.in_ok-has_more.ensures.read in
-    TakesBytes-end c.in-Some.next start now c.take_run.new.self first last inside c.in-Some.ensures.run
+    TakesLine-end c.in-Some.next start now c.take_run.new.self first last inside c.in-Some.ensures.run
 
 pub loop-self-preserved : goal.loop-self-preserved
 loop-self-preserved g c =
@@ -68,7 +68,7 @@ returns-clause-bytes g c =
     let now = c.has_more.new.self in
     let first = g.S.Source.left c.args.script.now in
     let last = g.S.Source.left c.has_more.new.script in
-    TakesBytes-inside start now first last
+    TakesLine-inside start now first last
     (IsInLine-read start c.loop-self.self now first (g.S.Source.left c.loop-self.script) last
     c.loop-self.invariant.inside c.has_more.ensures.same
     c.in_ok-has_more.ensures.read)
@@ -80,7 +80,7 @@ returns-in_err-has_more-clause-bytes g c =
     let first = g.S.Source.left c.args.script.now in
     let last = g.S.Source.left c.has_more.new.script in
     let same = c.in_err-has_more.ensures.err in
-    TakesBytes-inside start now first last
+    TakesLine-inside start now first last
     (IsInLine-same start c.loop-self.self now first (g.S.Source.left c.loop-self.script) last
     c.loop-self.invariant.inside same.0 same.1)
 
@@ -94,7 +94,7 @@ returns-in-Some-clause-one g c =
     IsInLine-read start c.loop-self.self now first (g.S.Source.left c.loop-self.script) last
     c.loop-self.invariant.inside c.has_more.ensures.same
     c.in_ok-has_more.ensures.read in
-    TakesOneLine-end c.in-Some.next start now c.take_run.new.self first last inside c.in-Some.ensures.run
+    taken_end c.in-Some.next start now c.take_run.new.self first last inside c.in-Some.ensures.run
 
 pub returns-clause-one : goal.returns-clause-one
 returns-clause-one g c =
@@ -102,7 +102,7 @@ returns-clause-one g c =
     let now = c.has_more.new.self in
     let first = g.S.Source.left c.args.script.now in
     let last = g.S.Source.left c.has_more.new.script in
-    TakesOneLine-inside start now first last
+    taken_inside start now first last
     (IsInLine-read start c.loop-self.self now first (g.S.Source.left c.loop-self.script) last
     c.loop-self.invariant.inside c.has_more.ensures.same
     c.in_ok-has_more.ensures.read)
@@ -114,6 +114,6 @@ returns-in_err-has_more-clause-one g c =
     let first = g.S.Source.left c.args.script.now in
     let last = g.S.Source.left c.has_more.new.script in
     let same = c.in_err-has_more.ensures.err in
-    TakesOneLine-inside start now first last
+    taken_inside start now first last
     (IsInLine-same start c.loop-self.self now first (g.S.Source.left c.loop-self.script) last
     c.loop-self.invariant.inside same.0 same.1)
