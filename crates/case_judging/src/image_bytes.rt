@@ -1,4 +1,4 @@
-//! The small image: 80 blocks of 512 zero bytes with their tags.
+//! The small image: an empty journal, and 80 blocks of 512 zero bytes with their tags.
 //!
 //! It is made from the layout that the kernel's documentation gives, and by none of the program's code.
 use sha2::{Digest, Sha256};
@@ -17,6 +17,14 @@ const SUPERBLOCK: [u8; 32] = [
     b'i', b'n', b't', b'e', b'g', b'r', b't', 0, 4, 3, 32, 0, 1, 0, 0, 0, 80, 0, 0, 0, 0, 0, 0, 0,
     8, 0, 0, 0, 0, 15, 0, 0,
 ];
+
+/// The sectors of its journal, all of one section: eight of entries, and one of data for each of their 80.
+const JOURNAL_SECTORS: u64 = 88;
+
+/// How many entries stand in a sector of entries, and how many bytes each has.
+const ENTRIES: u64 = 10;
+
+const ENTRY_SIZE: u64 = 48;
 
 /// The byte where the data of a block lie. From sector 96 on there come areas, each of 8 sectors of
 /// tags and then 8 blocks.
@@ -82,10 +90,29 @@ pub fn digest_of(block: u64, data: &[u8]) -> [u8; 32] {
 pub fn small_image(alloc: Global) -> Result<Vec<u8>, AllocError> {
     let mut bytes = vec![in alloc; 0; SIZE]?;
     put_at(&mut bytes, 0, &SUPERBLOCK);
+    for sector in 0..JOURNAL_SECTORS {
+        put_journal_sector(&mut bytes, sector);
+    }
     for block in 0..BLOCKS {
         put_block(&mut bytes, block, &[], &digest_of(block, &[0; 512]));
     }
     Ok(bytes)
+}
+
+/// Puts a sector of the journal. Each entry is unused, which its first eight bytes tell, and the last eight bytes are
+/// the id of commit number 0 at this place of section 0.
+///
+/// Source: Linux, drivers/md/dm-integrity.c, `journal_entry_set_unused` and `dm_integrity_commit_id`.
+fn put_journal_sector(bytes: &mut [u8], sector: u64) {
+    let from = (sector % JOURNAL_SECTORS + 8) as usize * 512;
+    if sector < 8 {
+        for entry in 0..ENTRIES {
+            let at = from.saturating_add((entry * ENTRY_SIZE) as usize);
+            put_at(bytes, at, &[0, 0, 0, 0, 255, 255, 255, 255]);
+        }
+    }
+    let id = 0x1111_1111_1111_1111 ^ sector;
+    put_at(bytes, from.saturating_add(504), &id.to_le_bytes());
 }
 
 /// Whether these are the bytes of a small image: by the size, and by the first 64 bytes.

@@ -90,6 +90,21 @@ fn last_line(met: Met) -> &'static str {
     }
 }
 
+/// Looks at what is left of the making of an image: the bytes that it began with, which only a making leaves whose first
+/// sync has not succeeded; bytes without a magic; or those of the whole new image.
+pub fn judge_made(base: &[u8], made: &[u8], left: &[u8], has_synced: bool) -> Result<(), Wrong> {
+    if left == made || !left.starts_with(b"integrt\0") {
+        return Ok(());
+    }
+    if left != base {
+        return Err(Wrong::Run("a part of a new image is left"));
+    }
+    if has_synced {
+        return Err(Wrong::Run("the image of before is left behind the first sync"));
+    }
+    Ok(())
+}
+
 /// How many lines of the script a text tells whole. The last line of a run tells none.
 fn told_lines(text: &str) -> usize {
     let mut told = 0usize;

@@ -9,6 +9,6 @@ mod wrong;
 
 pub use image_bytes::{run_at, small_image};
 pub use judging::{
-    Met, Told, digests_of, images_after, judge_left, judge_reads, judge_text, reads,
+    Met, Told, digests_of, images_after, judge_left, judge_made, judge_reads, judge_text, reads,
 };
 pub use wrong::Wrong;

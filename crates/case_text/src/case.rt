@@ -47,6 +47,8 @@ pub enum Edit {
     Set { at: u64, byte: u64, value: u64 },
     /// A bit of a byte of a sector is flipped, 0 being the lowest.
     Flip { at: u64, byte: u64, bit: u64 },
+    /// So many sectors of a journal that have commit number 0 get another one, from 0 to 3.
+    Number { at: u64, count: u64, number: u64 },
 }
 
 /// So many bytes of a sector, from one on.

@@ -114,6 +114,11 @@ fn apply_three(case: &mut Case, words: &str, at: u64, first: u64, last: u64) -> 
             byte: first,
             bit: last,
         })?,
+        "number" => case.edits.push(Edit::Number {
+            at,
+            count: first,
+            number: last,
+        })?,
         "each bit" => case.bits.push(piece)?,
         "show bytes" => case.shows.push(Show::Bytes(piece))?,
         _ => bail!("it is no line of a case with three numbers"),

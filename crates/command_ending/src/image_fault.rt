@@ -1,7 +1,7 @@
 //! Why an image is refused.
 ghost use Rattle.std.specs.Prelude.{◌≡◌};
 
-use image_model::{GeomFault, SuperFault};
+use image_model::{GeomFault, ScanFault, SuperFault};
 
 /// Why an image is refused. The first that holds is told.
 #[derive(Clone, Copy, Debug, PartialEq, Eq)]
@@ -12,4 +12,6 @@ pub enum ImageFault {
     Geom(GeomFault),
     /// The superblock has other flags than the mode wants.
     Mode { flags: u32 },
+    /// The commit numbers of its journal make no plan.
+    Scan(ScanFault),
 }

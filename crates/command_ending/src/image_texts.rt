@@ -2,13 +2,14 @@
 ghost use Rattle.std.specs.Prelude.{◌≡◌, ◌++◌, codes};
 ghost use Rattle.std.specs.Fmt.{decimal};
 ghost use Rattle.disk_model.specs.Causes.{HasCause};
-ghost use Rattle.device_model.specs.Ending.{BySuperblock, ByGeometry, hexadecimal};
+ghost use Rattle.device_model.specs.Ending.{ByGeometry, ByJournal, BySuperblock, hexadecimal};
+ghost use Rattle.image_model.specs.Openable.{Scan};
 ghost use Rattle.command_ending.specs.Ended.{Puts, image_fault_of, image_line, image_line_of};
 
 use crate::ImageFault;
 use crate::hexadecimal::hexadecimal;
 use crate::pieces::put_pieces;
-use image_model::{GeomFault, SuperFault};
+use image_model::{GeomFault, ScanFault, SuperFault};
 use itoa::Buffer;
 use sector_disk::Failed;
 use stream_io::Sink;
@@ -26,6 +27,7 @@ pub(crate) fn put_image_fault<O: Sink>(out: &mut O, fault: ImageFault) -> Result
         ImageFault::Super(fault) => put_super_fault(out, fault),
         ImageFault::Geom(fault) => put_geom_fault(out, fault),
         ImageFault::Mode { flags } => put_flags(out, b"mode ", flags),
+        ImageFault::Scan(fault) => put_scan_fault(out, fault),
     }
 }
 
@@ -63,6 +65,21 @@ fn put_geom_fault<O: Sink>(out: &mut O, fault: GeomFault) -> Result<(), Failed>
             need,
             have,
         ),
+    }
+}
+
+/// Writes the line of a journal whose commit numbers make no plan. Of four numbers it tells no place.
+fn put_scan_fault<O: Sink>(out: &mut O, fault: ScanFault) -> Result<(), Failed>
+    ensures line { Puts (image_line_of (ByJournal (Scan fault))) (O.held out.old) (O.held out.new) result }
+    ensures cause { HasCause (O.faults out.old) (O.faults out.new) result }
+{
+    match fault {
+        ScanFault::NoNumber {
+            section,
+            sector,
+            ..
+        } => put_numbers(out, b"number ", section, sector),
+        ScanFault::FourNumbers { .. } => put_text(out, b"four numbers"),
     }
 }
 

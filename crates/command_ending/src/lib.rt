@@ -20,3 +20,4 @@ pub use form_fault::FormFault;
 pub use image_fault::ImageFault;
 pub use key_refusal::KeyRefusal;
 pub use line_refusal::LineRefusal;
+pub use pieces::put_pieces;

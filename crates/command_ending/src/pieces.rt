@@ -6,12 +6,12 @@ ghost use Rattle.command_ending.specs.Ended.{Puts, bytes_of};
 use sector_disk::Failed;
 use stream_io::{Sink, put_all};
 
-/// Writes these pieces one after the other.
+/// Writes these pieces one after the other. It takes no memory.
 ///
 /// # Errors
 ///
 /// - `Failed`: the sink failed. It has taken some of their bytes from the front, or none, and not all.
-pub(crate) fn put_pieces<O: Sink>(out: &mut O, pieces: &[&[u8]]) -> Result<(), Failed>
+pub fn put_pieces<O: Sink>(out: &mut O, pieces: &[&[u8]]) -> Result<(), Failed>
     ensures line { Puts (bytes_of pieces.now) (O.held out.old) (O.held out.new) result }
     ensures cause { HasCause (O.faults out.old) (O.faults out.new) result }
 {

@@ -1,6 +1,6 @@
 //! Each ending by its status and its last line.
 use crate::{Ended, FormFault, ImageFault, KeyRefusal, LineRefusal, end_without_memory};
-use image_model::{GeomFault, SuperFault};
+use image_model::{GeomFault, ScanFault, SuperFault};
 use script_session::MeaningFault;
 use script_text::LineFault;
 use sector_disk::Failed;
@@ -123,6 +123,21 @@ fn each_other_image_fault_has_its_line(rt: HostRuntime) -> Result<(), Fail> {
         (0xabcdef, "mode 0xabcdef"),
     ] {
         judge_image(&rt, rt.alloc(), ImageFault::Mode { flags }, text)?;
+    }
+    let found = 0;
+    let places = [(0, 0), (0, 1), (0, 2), (1, 0)];
+    for (fault, text) in [
+        (
+            ScanFault::NoNumber {
+                section: 2,
+                sector: 31,
+                found,
+            },
+            "number 2 31",
+        ),
+        (ScanFault::FourNumbers { places }, "four numbers"),
+    ] {
+        judge_image(&rt, rt.alloc(), ImageFault::Scan(fault), text)?;
     }
     Ok(())
 }

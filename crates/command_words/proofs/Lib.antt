@@ -1,3 +1,4 @@
+pub mod InterleaveLemmas
 pub mod HelpLemmas
 pub mod FoldLemmas
 pub mod NumberLemmas

@@ -12,5 +12,8 @@ run_has_come Journal = false
 
 -- The command has come.
 abbrev pub has_come : Command → Bool
+has_come (command.Format format) = true
 has_come (command.Run run) = run_has_come run.mode
-has_come _ = false
+has_come (command.Dump dump) = true
+has_come (command.Check check) = false
+has_come (command.Exercise exercise) = false

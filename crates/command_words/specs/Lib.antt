@@ -9,3 +9,4 @@ pub mod Answers
 pub mod Found
 pub mod Come
 pub mod PlainForm
+pub mod Sizes

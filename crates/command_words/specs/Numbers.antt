@@ -1,6 +1,6 @@
 -- Numbers in words: decimal digits without leading zeros, below 2^64.
 -- Own: they are written as in a script.
-use Rattle.std.specs.Int.{is_power_of_two}
+use Rattle.std.specs.Int.{is_power_of_two, trailing_zeros, w64}
 use Rattle.std.specs.Prelude.{◌&&◌, ◌^◌, ℕ, Bool, IsTrue, List, Option, Some, None, if◌then◌else◌, nat_lt, nat_le}
 use Rattle.std.specs.Prelude.{option_and_then}
 use Rattle.std.specs.Fmt.{decimal}
@@ -32,3 +32,7 @@ IsInterleave sectors = IsTrue (is_interleave sectors)
 -- The sectors, if an area may have so many.
 abbrev pub interleave_of : ℕ → Option ℕ
 interleave_of sectors = if is_interleave sectors then Some sectors else None
+
+-- The power of two that they are: the place of their lowest bit.
+abbrev pub log2_of : ℕ → ℕ
+log2_of sectors = trailing_zeros w64 sectors

@@ -5,15 +5,17 @@ ghost use Rattle.command_words.specs.Come.{has_come};
 use crate::command::{Command, Run};
 use crate::values::Mode;
 
-/// Whether the program has the command: it has `run` in direct mode, and no other.
+/// Whether the program has the command: it has `format`, `dump`, and `run` in direct mode.
 pub fn has_come(command: &Command) -> bool
     ensures { result ≡ has_come command.now }
 {
     matches!(
         command,
-        Command::Run(Run {
-            mode: Mode::Direct,
-            ..
-        })
+        Command::Format(_)
+            | Command::Dump(_)
+            | Command::Run(Run {
+                mode: Mode::Direct,
+                ..
+            })
     )
 }

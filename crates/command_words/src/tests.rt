@@ -1,6 +1,6 @@
 //! Words and the commands that they are.
 
-use crate::{FileName, Interleave, TagSize, WordsFault, has_come, parse};
+use crate::{BlockSize, FileName, Interleave, TagSize, WordsFault, has_come, parse};
 use std::alloc::{AllocError, Global};
 use std::test::Fail;
 
@@ -60,7 +60,7 @@ static TAKEN: [(&str, &str); 30] = [
     ),
     (
         "format|I",
-        "log2_blocks_per_bit: Within { number: 15 }, salt: None, padding: Fixed, wipe: Zeros }",
+        "number: 15 }, salt: None, padding: Fixed, wipe: Zeros }), come: true",
     ),
     (
         "format|I|--tag-size|1|--sections|1|--log2-blocks-per-bit|0",
@@ -205,7 +205,10 @@ fn values_are_what_they_are_made_of(rt: HostRuntime) -> Result<(), Fail> {
     let name = FileName::new(rt.alloc(), "I")?;
     assert!(rt; name.as_str() == "I");
     assert!(rt; matches!(TagSize::new(4), Some(size) if size.number() == 4));
-    assert!(rt; matches!(Interleave::new(16), Some(interleave) if interleave.sectors() == 16));
+    assert!(rt;
+        matches!(Interleave::new(16), Some(interleave) if interleave.sectors() == 16 && interleave.log2() == 4)
+    );
+    assert!(rt; BlockSize::Bytes4096.log2_sectors() == 3);
     assert!(rt; TagSize::new(33).is_none() && Interleave::new(24).is_none());
     Ok(())
 }

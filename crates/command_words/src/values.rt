@@ -1,6 +1,7 @@
 //! The values of places and options, in types that say what they are.
-ghost use Rattle.std.specs.Prelude.{◌≡◌, ◌≤◌, IfOk};
-ghost use Rattle.command_words.specs.Numbers.{IsInterleave, interleave_of, within};
+ghost use Rattle.std.specs.Prelude.{◌≡◌, ◌≤◌, ◌^◌, IfOk};
+ghost use Rattle.command_words.specs.Numbers.{IsInterleave, interleave_of, log2_of, within};
+ghost use Rattle.command_words.specs.Sizes.{log2_sectors};
 
 use std::alloc::{AllocError, Global};
 use std::marker::Model;
@@ -126,6 +127,15 @@ impl Interleave {
     {
         self.sectors
     }
+
+    /// The power of two that the sectors are, 3 to 31.
+    pub fn log2(self) -> u8
+        ensures log2 { result ≡ log2_of self }
+        ensures power { 2 ^ result ≡ self }
+        ensures range { (3 ≤ result) × (result ≤ 31) }
+    {
+        self.sectors.trailing_zeros() as u8
+    }
 }
 
 /// The size of a block of the device.
@@ -139,6 +149,21 @@ pub enum BlockSize {
     Bytes2048,
     /// 4096 bytes: eight sectors.
     Bytes4096,
+}
+
+impl BlockSize {
+    /// The power of two that its sectors are, at most 3.
+    pub fn log2_sectors(self) -> u8
+        ensures log2 { result ≡ log2_sectors self }
+        ensures range { result ≤ 3 }
+    {
+        match self {
+            BlockSize::Bytes512 => 0,
+            BlockSize::Bytes1024 => 1,
+            BlockSize::Bytes2048 => 2,
+            BlockSize::Bytes4096 => 3,
+        }
+    }
 }
 
 /// The hash that tags are made by, before its key is read.

@@ -14,13 +14,13 @@ use Rattle.image_model.specs.Superblock.{Superblock, superblock_of, fields_in}
 use Rattle.image_model.specs.Walk.{plan_of}
 use Rattle.image_model.specs.declared.geom_fault.GeomFault.TheVariants.{TooSmall}
 use Rattle.image_model.specs.declared.journal_plan.State.TheVariants.{Rest, Mixed, Erasing, Blank}
-use Rattle.image_model.specs.declared.scan_fault.ScanFault.TheVariants.{NoNumber, FourNumbers}
+use Rattle.image_model.specs.declared.scan_fault.ScanFault.TheVariants.{NoNumber}
 use Rattle.image_model.specs.declared.super_fields.SuperFault.TheVariants.{Magic}
 use Rattle.image_dump.specs.declared.dump_fault.DumpFault.TheVariants.{Super, Geom, Scan}
 use Rattle.image_dump.specs.declared.shown.Dump.{Dump}
 use Rattle.image_dump.specs.declared.shown.DumpJournal.TheVariants.{State, Bitmap}
 use Rattle.image_dump.specs.Dump.{dump_of}
-use Rattle.image_dump.specs.Lines.{dump_lines, joined_lines, scan_fault_text, state_text}
+use Rattle.image_dump.specs.Lines.{dump_lines, joined_lines, state_text}
 
 -- ---- images
 
@@ -163,8 +163,3 @@ state_text-each : (state_text (Rest 2 3) ≡ codes "rest next 2 number 3")
     × (state_text (Erasing 0) ≡ codes "erasing newest 0") × (state_text (Blank 3) ≡ codes "blank number 3")
 unfolding digits
 state_text-each = (refl, refl, refl, refl)
-
-scan_fault_text-each : (scan_fault_text (NoNumber 12 87 7) ≡ codes "number 12 87")
-    × (scan_fault_text (FourNumbers ((0, 30) ∷ (1, 42) ∷ (0, 0) ∷ (1, 32) ∷ [])) ≡ codes "four numbers")
-unfolding digits
-scan_fault_text-each = (refl, refl)

@@ -6,8 +6,6 @@ use Rattle.hex.specs.Hex.{encode_lower}
 use Rattle.device_model.specs.Ending.{hexadecimal}
 use Rattle.image_model.specs.declared.journal_plan.State.{State}
 use Rattle.image_model.specs.declared.journal_plan.State.TheVariants.{Rest, Mixed, Erasing, Blank}
-use Rattle.image_model.specs.declared.scan_fault.ScanFault.{ScanFault}
-use Rattle.image_model.specs.declared.scan_fault.ScanFault.TheVariants.{NoNumber, FourNumbers}
 use Rattle.image_model.specs.Geometry.{Geometry, initial, section_entries, section_sectors}
 use Rattle.image_model.specs.Superblock.{Superblock}
 use Rattle.image_dump.specs.declared.shown.Dump.{Dump}
@@ -59,9 +57,3 @@ dump_lines dump =
 -- Lines one after the other, each with its newline.
 abbrev pub joined_lines : List (List ℕ) → List ℕ
 joined_lines lines = flat_map (λ line. line ++ codes "\n") lines
-
--- Why the commit numbers of a journal make no plan, as the last line of a command tells it.
-abbrev pub scan_fault_text : ScanFault → List ℕ
-scan_fault_text (NoNumber section sector found) =
-    codes "number " ++ decimal section ++ codes " " ++ decimal sector
-scan_fault_text (FourNumbers places) = codes "four numbers"

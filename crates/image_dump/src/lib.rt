@@ -11,7 +11,6 @@ mod dumping;
 mod journal_grid;
 mod laws;
 mod pieces;
-mod scan_fault_lines;
 mod shown;
 #[cfg(test)]
 mod tests;
@@ -20,6 +19,5 @@ mod texts;
 pub use dump_fault::DumpFault;
 pub use dumping::dump;
 pub use laws::images_that_are_shown_are_told;
-pub use scan_fault_lines::scan_fault_line;
 pub use shown::{Dump, DumpJournal};
 pub use texts::dump_text;

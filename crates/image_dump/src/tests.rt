@@ -1,5 +1,5 @@
 //! What images in memory show, with their lines; each fault; and a disk that fails at each read.
-use crate::{Dump, DumpFault, DumpJournal, dump, dump_text, scan_fault_line};
+use crate::{Dump, DumpFault, DumpJournal, dump, dump_text};
 use commit_id::id;
 use image_model::{ScanFault, State};
 use layout::GeomFault;
@@ -250,28 +250,6 @@ fn a_disk_that_fails_at_a_read_is_told(rt: HostRuntime) -> Result<(), Fail> {
         assert_eq!(rt; refused, Some(DumpFault::Disk));
     }
     assert_eq!(rt; dump(rt.alloc(), &mut disk)?.format.geometry.blocks(), 80);
-    Ok(())
-}
-
-#[test]
-fn each_fault_of_the_scan_has_its_line(rt: HostRuntime) -> Result<(), Fail> {
-    let number = ScanFault::NoNumber {
-        section: 12,
-        sector: 87,
-        found: 7,
-    };
-    let four = ScanFault::FourNumbers {
-        places: [(0, 0); 4],
-    };
-    for (fault, line) in [
-        (number, "fault image number 12 87\n"),
-        (four, "fault image four numbers\n"),
-    ] {
-        assert_eq!(rt;
-            scan_fault_line(rt.alloc(), fault)?.as_slice(),
-            line.as_bytes()
-        );
-    }
     Ok(())
 }
 

@@ -72,7 +72,7 @@ fn try_kinds(
     undisturbed: &Ended,
     told: &mut String,
 ) -> Result<()> {
-    let trial = Trial::new(alloc, case, base)?;
+    let trial = Trial::new(alloc, case, base, undisturbed)?;
     for kind in &case.kinds {
         let wrong = counts.wrong;
         let tried = try_each(alloc, counts, &trial, case, undisturbed, *kind)?;
@@ -110,19 +110,44 @@ fn base_of(
     Ok(bytes)
 }
 
-/// Changes a byte of a disk.
+/// Changes bytes of a disk.
 fn edit_bytes(bytes: &mut [u8], edit: Edit) -> Result<()> {
-    let (at, byte) = match edit {
-        Edit::Set { at, byte, .. } | Edit::Flip { at, byte, .. } => (at, byte),
-    };
+    match edit {
+        Edit::Set { at, byte, value } => change_byte(bytes, at, byte, 0, (value % 256) as u8)?,
+        Edit::Flip { at, byte, bit } => change_byte(bytes, at, byte, 255, 1 << (bit % 8))?,
+        Edit::Number { at, count, number } => {
+            for k in 0..count {
+                put_number(bytes, at.saturating_add(k), number)?;
+            }
+        }
+    }
+    Ok(())
+}
+
+/// Changes a byte of a sector: the bits of `kept` stay, all others become 0, and then those of `flipped` are flipped.
+fn change_byte(bytes: &mut [u8], at: u64, byte: u64, kept: u8, flipped: u8) -> Result<()> {
     let from = at.saturating_mul(512).saturating_add(byte) as usize;
     let Some(place) = bytes.get_mut(from) else {
         bail!("the disk has no byte {byte} of sector {at}");
     };
-    *place = match edit {
-        Edit::Set { value, .. } => (value % 256) as u8,
-        Edit::Flip { bit, .. } => *place ^ (1 << (bit % 8)),
+    *place = (*place & kept) ^ flipped;
+    Ok(())
+}
+
+/// Gives a sector of a journal this commit number in place of 0: the pattern of a number stands in each of the last
+/// eight bytes, combined by exclusive or with the place of the sector.
+///
+/// Source: Linux, `drivers/md/dm-integrity.c`, `dm_integrity_commit_id`.
+fn put_number(bytes: &mut [u8], at: u64, number: u64) -> Result<()> {
+    let pattern: u8 = match number % 4 {
+        0 => 0x11,
+        1 => 0x22,
+        2 => 0x33,
+        _ => 0x44,
     };
+    for byte in 504..512 {
+        change_byte(bytes, at, byte, 255, 0x11 ^ pattern)?;
+    }
     Ok(())
 }
 

@@ -2,11 +2,11 @@
 use crate::running::{Ended, run};
 use crate::telling::{is_keyed, outcome_of};
 use anyhow::{Result, bail};
-use case_disks::{bytes_of, choice_of, copy_of, disk_of, image_of};
+use case_disks::{bytes_of, choice_of, copy_of, disk_of, image_left, image_of};
 use case_judging::{
-    Met, Told, digests_of, images_after, judge_left, judge_reads, judge_text, reads,
+    Met, Told, digests_of, images_after, judge_left, judge_made, judge_reads, judge_text, reads,
 };
-use case_text::{CHOICES, Case, Fails, Kind, name_of, with_failure};
+use case_text::{CHOICES, Candidates, Case, Fails, Kind, name_of, with_failure};
 use sector_disk::MemDisk;
 use std::alloc::Global;
 
@@ -35,11 +35,13 @@ pub struct Trial {
     script: String,
     reads: Case,
     is_keyed: bool,
+    /// The bytes of the image that the case makes, if it makes one.
+    made: Option<Vec<u8>>,
 }
 
 impl Trial {
     /// Looks at the disk that runs of a case begin with. Its script is text.
-    pub fn new(alloc: Global, case: &Case, base: Vec<u8>) -> Result<Trial> {
+    pub fn new(alloc: Global, case: &Case, base: Vec<u8>, undisturbed: &Ended) -> Result<Trial> {
         let Ok(script) = str::from_utf8(&case.script) else {
             bail!("a script that is tried is text");
         };
@@ -50,7 +52,19 @@ impl Trial {
             script: script.to_string(alloc)?,
             reads: Case::new(alloc, reads(alloc)?)?,
             is_keyed: is_keyed(case),
+            made: made_by(alloc, case, undisturbed)?,
         })
+    }
+}
+
+/// The bytes of the image that a case makes, if it makes one.
+fn made_by(alloc: Global, case: &Case, undisturbed: &Ended) -> Result<Option<Vec<u8>>> {
+    match case.words.get(1) {
+        Some(word) if word.as_str() == "format" => {
+            let mut image = image_left(alloc, &undisturbed.disk, Candidates::Last)?;
+            Ok(Some(bytes_of(alloc, &mut image)?))
+        }
+        _ => Ok(None),
     }
 }
 
@@ -125,12 +139,12 @@ fn judge(
     met: Met,
 ) -> Result<()> {
     judge_text(told_by(undisturbed), told_by(ended), met)?;
-    // The tags of a keyed image are judged by the texts of its cases alone.
-    if trial.is_keyed {
-        return Ok(());
-    }
-    if ended.key_calls > 0 {
+    if ended.key_calls > 0 && !trial.is_keyed {
         bail!("the key was touched");
+    }
+    // The tags of a keyed image are judged by the texts of its cases alone, unless it is made anew.
+    if trial.is_keyed && trial.made.is_none() {
+        return Ok(());
     }
     let text = ended.text.as_str();
     let images = images_after(alloc, &trial.base, trial.script.as_str(), text)?;
@@ -138,7 +152,7 @@ fn judge(
     for candidates in CHOICES {
         let choice = choice_of(alloc, &ended.disk, candidates)?;
         if !tried.contains(&choice) {
-            judge_choice(alloc, counts, trial, &images, &ended.disk.disk, &choice)?;
+            judge_choice(alloc, counts, trial, &images, ended, &choice)?;
             tried.push(choice)?;
         }
     }
@@ -151,13 +165,16 @@ fn judge_choice(
     counts: &mut Counts,
     trial: &Trial,
     images: &[Vec<u8>],
-    disk: &MemDisk,
+    ended: &Ended,
     choice: &[u32],
 ) -> Result<()> {
-    let mut image = image_of(alloc, disk, choice)?;
+    let mut image = image_of(alloc, &ended.disk.disk, choice)?;
     let left = bytes_of(alloc, &mut image)?;
-    judge_left(alloc, images, &left)?;
     counts.images = counts.images.saturating_add(1);
+    if let Some(made) = &trial.made {
+        return Ok(judge_made(&trial.base, made, &left, ended.disk.seen.syncs > 0)?);
+    }
+    judge_left(alloc, images, &left)?;
     counts.runs = counts.runs.saturating_add(1);
     let again = run(alloc, &trial.reads, Fails::NONE, image)?;
     judge_reads(alloc, &trial.base, &trial.digests, &left, told_by(&again))?;

@@ -45,7 +45,8 @@ use Rattle.integrity_tool.specs.Opening.{EndsImage}
 use Rattle.integrity_tool.specs.Running.{IsCounted, IsStopped, ending_by, only_close}
 use Rattle.integrity_tool.specs.declared.closing.CloseFault.{CloseFault}
 use Rattle.integrity_tool.specs.declared.closing.CloseFault.TheVariants as CloseFaults
-use Rattle.integrity_tool.proofs.RunningLemmas.{left_wider, told_nothing}
+use Rattle.script_session.proofs.RunLemmas.{left-wider}
+use Rattle.integrity_tool.proofs.RunningLemmas.{told_nothing}
 
 -- ---- what a close does
 
@@ -156,7 +157,7 @@ module _ (w : Standing) (found : TagsFound) (disk : DirectDisk) (a b : List Cont
           omega arith;
       outside = tt;
     });
-    since = EachMoment-weaker (λ (c : Content) left. left_wider kind w.entry w.state.history []
+    since = EachMoment-weaker (λ (c : Content) left. left-wider kind w.entry w.state.history []
         (changes_in (only_close w found).steps) c
         (subst (λ (l : List Change). IsLeftWithin kind w.entry w.state.history l c)
         (failed_close w.format w.state) left))

@@ -5,3 +5,6 @@ pub mod RunningLemmas
 pub mod StartLemmas
 pub mod TakenLemmas
 pub mod TopLemmas
+pub mod MakingLemmas
+pub mod PrintingLemmas
+pub mod TaskLemmas

@@ -1,12 +1,13 @@
 -- A run of a script before its next line, behind that, and at its end.
 use Rattle.std.proofs.Common.{Result, Ok, Err, map, ◌≡◌, ℕ, suc, ◌+◌, ◌<◌, ◌≤◌, Bool, true, false, List, []}
-use Rattle.std.proofs.Common.{◌∷◌, ◌++◌, length, take, refl, sym, ◌∙◌, ap, subst, arith, Option, Some, None, append-nil, append_assoc, length-append}
+use Rattle.std.proofs.Common.{◌≢◌, ◌==◌, if◌then◌else◌, ne_eqb, ◌∷◌, ◌++◌, length, take, refl, sym, ◌∙◌, ap, subst, arith, Option, Some, None, append-nil, append_assoc, length-append}
 use Rattle.std.specs.Prelude.{◌||◌, ltb}
 use Rattle.std.specs.List.{AllZip}
 use Rattle.std.specs.Option.{ForSome, IsSomeAnd}
 use Rattle.std.proofs.lemmas.Bool.{le-ltb, lt-ltb}
 use Rattle.std.proofs.lemmas.Grind.{flat_map-append}
 use Rattle.std.proofs.lemmas.List.Concat.{flat_map-cons}
+use Rattle.std.proofs.lemmas.List.Elements.{All-head, All-tail}
 use Rattle.std.proofs.Math.Seq.{take-append_seam}
 use Rattle.disk_model.specs.Causes.{Rose}
 use Rattle.disk_model.specs.Disk.{Content}
@@ -14,12 +15,12 @@ use Rattle.device_model.specs.Ending.{RefusedLine, RefusedLength, ScriptFailed, 
 use Rattle.device_model.specs.Grammar.{ReadLine, Means, Refused, IsReadAs}
 use Rattle.device_model.specs.LineFault.{TooLong}
 use Rattle.device_model.specs.Script.{line_outcome}
-use Rattle.device_model.specs.ScriptBytes.{lines_of, most_script}
+use Rattle.device_model.specs.ScriptBytes.{most_script}
 use Rattle.device_model.specs.ScriptRun.{IsRunOf, ScriptRun, ScriptStep, line_step, run_from, texts_of, with_step}
 use Rattle.device_model.proofs.UniqueReading.{read_once}
 use Rattle.script_text.proofs.ScriptRunLemmas.{run_is_split}
 use Rattle.script_reader.specs.Lines.{FindsEnd, FindsWholeLine}
-use Rattle.script_reader.specs.Reading.{IsWithin, Reading, TakesOneLine}
+use Rattle.script_reader.specs.Reading.{HasNoNewline, IsWithin, Reading, TakesLine, most_piece}
 use Rattle.script_reader.proofs.LinesLemmas.{is_too_long-script, lines_left-script}
 use Rattle.device_core.specs.declared.condition.Condition.TheVariants as Conditions
 use Rattle.device_core.specs.declared.parts.Parts.{Parts}
@@ -37,9 +38,9 @@ use Rattle.command_ending.specs.declared.ended.Ended.TheVariants as Endings
 use Rattle.command_ending.specs.declared.line_refusal.LineRefusal.{LineRefusal}
 use Rattle.integrity_tool.specs.Lines.{HasAdvanced, HasRunBytes, IsStoppedByBytes}
 use Rattle.integrity_tool.specs.Running.{HasEndCause, HasReadTo, HoldsText, IsAt, IsAtClose, IsStopped, Leads, is_beyond}
-use Rattle.integrity_tool.specs.Running.{bytes_of_lines, most_ahead, read_by}
+use Rattle.integrity_tool.specs.Running.{newlines_in}
 use Rattle.integrity_tool.specs.Running.{lines_behind, only_close}
-use Rattle.integrity_tool.proofs.RunningLemmas.{and_weaker, stopped_at_lines, stopped_by_itself, stopped_further}
+use Rattle.integrity_tool.proofs.RunningLemmas.{stopped_at_lines, stopped_by_itself, stopped_further}
 use Rattle.integrity_tool.proofs.RunningLemmas.{told_further, told_nothing}
 
 -- ---- lines and steps
@@ -50,10 +51,26 @@ texts_of-push steps step = flat_map-append (λ (s : ScriptStep). s.text) steps (
     ∙ ap (λ (text : List ℕ). texts_of steps ++ text)
     (flat_map-cons (λ (s : ScriptStep). s.text) step [] ∙ append-nil step.text)
 
-bytes_of_lines-push : (lines : List (List ℕ)) (line : List ℕ)
-    → bytes_of_lines (lines ++ line ∷ []) ≡ bytes_of_lines lines + (length line + 1)
-bytes_of_lines-push [] line = omega arith
-bytes_of_lines-push (first ∷ lines) line = let rest = bytes_of_lines-push lines line in omega (arith, rest)
+newlines_in-append : (one other : List ℕ) → newlines_in (one ++ other) ≡ newlines_in one + newlines_in other
+newlines_in-append [] other = omega arith
+newlines_in-append (byte ∷ one) other =
+    let rest = newlines_in-append one other in
+    omega (arith, ap {B = ℕ} (λ (n : ℕ). (if byte == 10 then 1 else 0) + n) rest)
+
+newlines_in-none : (bytes : List ℕ) → HasNoNewline bytes → newlines_in bytes ≡ 0
+newlines_in-none [] plain = refl
+newlines_in-none (byte ∷ bytes) plain =
+    let rest = newlines_in-none bytes (All-tail (λ byte. byte ≢ 10) byte bytes plain) in
+    omega (arith, rest, ap {B = ℕ} (λ (b : Bool). if b then 1 else 0) (ne_eqb byte 10 (All-head (λ byte. byte ≢ 10) byte bytes plain)))
+
+newlines_in-most : (bytes : List ℕ) → newlines_in bytes ≤ length bytes
+newlines_in-most [] = omega arith
+newlines_in-most (byte ∷ bytes) =
+    let rest = newlines_in-most bytes in by (byte == 10) rest
+  where
+    by : (is : Bool) → newlines_in bytes ≤ length bytes → (if is then 1 else 0) + newlines_in bytes ≤ suc (length bytes)
+    by true rest = omega (arith, rest)
+    by false rest = omega (arith, rest)
 
 -- Nothing is printed.
 pub holds_same : {held_before held : Option (List ℕ)} → held ≡ held_before → HoldsText [] held_before held
@@ -86,12 +103,11 @@ at_start w parts a held script run reader left is told is_run none =
       leads = leads_at_start w run _ a held is_split;
       passed = record {
         steps = [];
-        lines = [];
-        as_many = refl;
         is_split = ap (λ (r : ScriptRun). r.steps) is_split;
         printed = told_nothing held;
-        lines_are = sym (lines_left-script script);
-        low = omega arith;
+        front = [];
+        bytes = refl;
+        within = omega arith;
       };
     }))
   where
@@ -225,7 +241,7 @@ module _ (there : Standing) (run : ScriptRun) (start : List Content) (held_start
         (number_b : ℕ) → FindsWholeLine old new (old.unread ++ left) (new.unread ++ later)
         → HasRunBytes at.here new.line told parts_b now now_b held held_b
         → finds_fault found_b ≡ (finds_fault found || finds_fault told) → number_b ≡ number + 1
-        → TakesOneLine old new
+        → TakesLine old new (old.unread ++ left) (new.unread ++ later)
         → IsAt there run script start held_start number_b found_b new later parts_b now_b held_b
     line_done parts_b now_b held_b told found_b number_b finds ran either next takes =
         let same : is_beyond old left ≡ is_beyond new later = ap (ltb most_script) (sym finds.counted) in
@@ -238,8 +254,9 @@ module _ (there : Standing) (run : ScriptRun) (start : List Content) (held_start
         let here = standing_behind at.here (events_of at.here ran.line) ran.run.run.disk in
         let before = at.passed in
         let one : ScriptStep = line_step (line_outcome at.here.format at.here.state ran.line) in
-        let counted = before.as_many in
-        let low = before.low in
+        let within = before.within in
+        let ending = newlines_in-most takes.ending in
+        let short = takes.short in
         record {
           here = here;
           device = ran.run.run.device;
@@ -254,13 +271,6 @@ module _ (there : Standing) (run : ScriptRun) (start : List Content) (held_start
               there run start held_start) same behind.leads);
           passed = record {
             steps = before.steps ++ one ∷ [];
-            lines = before.lines ++ new.line ∷ [];
-            as_many = omega (
-              arith,
-              counted,
-              length-append before.lines (new.line ∷ []),
-              length-append before.steps (one ∷ []),
-            );
             is_split = behind.is_split
                 ∙ ap (λ (b : Bool). (before.steps ++ one ∷ [])
                 ++ (run_from here.format b (suc number) here.state (finds_fault found_b) behind.lines).steps) same
@@ -270,27 +280,30 @@ module _ (there : Standing) (run : ScriptRun) (start : List Content) (held_start
             printed = ran.run.told ∙ ap (held_with one.text) before.printed
                 ∙ told_further (texts_of before.steps) one.text held_start
                 ∙ ap (λ (text : List ℕ). held_with text held_start) (sym (texts_of-push before.steps one));
-            lines_are = before.lines_are ∙ ap (λ (l : List (List ℕ)). before.lines ++ l) finds.next
-                ∙ sym (append_assoc before.lines (new.line ∷ []) (lines_behind new later));
-            low = let more = takes.line in
-                omega (arith, low, more, bytes_of_lines-push before.lines new.line);
+            front = before.front ++ (new.line ++ takes.ending);
+            bytes = before.bytes ∙ ap (λ (l : List ℕ). before.front ++ l)
+                (takes.bytes ∙ sym (append_assoc new.line takes.ending (new.unread ++ later)))
+                ∙ sym (append_assoc before.front (new.line ++ takes.ending) (new.unread ++ later));
+            within = omega (
+              arith,
+              within,
+              ending,
+              short,
+              newlines_in-append before.front (new.line ++ takes.ending),
+              newlines_in-append new.line takes.ending,
+              newlines_in-none new.line takes.plain,
+              length-append before.steps (one ∷ []),
+            );
           };
         }
 
     -- The bytes that are taken when its line was looked for, the text of all lines before it being printed.
-    pub line_read : (after : Option (List ℕ)) (held_b : Option (List ℕ)) → TakesOneLine old new → IsWithin new
-        → HoldsText [] held held_b
-        → IsSomeAnd after (λ more. length script ≡ length more + read_by new)
-        → HasReadTo run script after held_start held_b
-    line_read after held_b takes within holds read =
+    pub line_read : (after : Option (List ℕ)) (held_b : Option (List ℕ))
+        → TakesLine old new (old.unread ++ left) (new.unread ++ later) → IsWithin new → after ≡ Some later
+        → HoldsText [] held held_b → HasReadTo run script after held_start held_b
+    line_read after held_b takes within told holds =
         let passed = at.passed in
-        let one = takes.low in
-        let low = passed.low in
         let ahead = within.ahead in
-        let lines_is : take (length passed.steps) (lines_of script) ≡ passed.lines =
-        ap (λ (n : ℕ). take n (lines_of script)) (sym passed.as_many)
-        ∙ ap (take (length passed.lines)) passed.lines_are
-        ∙ take-append_seam passed.lines (lines_behind old left) in
         let steps_is : take (length passed.steps) run.steps ≡ passed.steps =
         ap (take (length passed.steps)) passed.is_split ∙ take-append_seam passed.steps _ in
         record {
@@ -301,12 +314,17 @@ module _ (there : Standing) (run : ScriptRun) (start : List Content) (held_start
                 ∙ told_further (texts_of passed.steps) holds.more held_start
                 ∙ ap (λ (steps : List ScriptStep). held_with (texts_of steps ++ holds.more) held_start) (sym steps_is);
           };
-          taken = and_weaker
-              (λ (more : List ℕ). length script ≡ length more + read_by new)
-              (λ (more : List ℕ). length script
-              ≤ length more + (bytes_of_lines (take (length passed.steps) (lines_of script)) + most_ahead))
-              after
-              (λ more is. omega (arith, is, one, low, ahead, ap bytes_of_lines lines_is)) read;
+          front = passed.front;
+          line = new.line;
+          ending = takes.ending;
+          behind = new.unread ++ later;
+          bytes = passed.bytes ∙ ap (λ (l : List ℕ). passed.front ++ l) takes.bytes;
+          within = passed.within;
+          plain = takes.plain;
+          short = takes.short;
+          taken = subst (λ (o : Option (List ℕ)). IsSomeAnd o
+              (λ more. length (new.unread ++ later) ≤ length more + most_piece)) (sym told)
+              (omega (arith, ahead, length-append new.unread later));
         }
 
     -- A line is found and stops the run.
@@ -430,6 +448,11 @@ module _ (w : Standing) (run : ScriptRun) (script : List ℕ) (start : List Cont
   Advances before after result =
       ForSome before (λ left. IsSomeAnd after (λ later. HasAdvanced number old new left later result))
 
+  -- and no more than its line was taken.
+  abbrev pub Takes : (before after : Option (List ℕ)) → Type 0
+  Takes before after =
+      ForSome before (λ left. IsSomeAnd after (λ later. TakesLine old new (old.unread ++ left) (new.unread ++ later)))
+
   pub turn_stopped : (before after : Option (List ℕ)) (ended : Ended) → StandsAt before
       → Advances before after (Err ended) → IsStopped w run (ending_of ended) start now held_start held
   turn_stopped None after ended at advanced = absurd at
@@ -463,7 +486,7 @@ module _ (w : Standing) (run : ScriptRun) (script : List ℕ) (start : List Cont
       → Advances before after (Ok more) → more ≡ true → bytes ≡ new.line
       → ((here : Standing) → IsDevice here Conditions.Working parts now
       → HasRunBytes here bytes told parts_b now now_b held held_b)
-      → finds_fault found_b ≡ (finds_fault found || finds_fault told) → TakesOneLine old new
+      → finds_fault found_b ≡ (finds_fault found || finds_fault told) → Takes before after
       → IsSomeAnd after (λ later. IsAt w run script start held_start
       (number + 1) found_b new later parts_b now_b held_b)
   turn_done None after more bytes parts_b now_b held_b told found_b at advanced is same ran either takes = absurd at
@@ -479,7 +502,7 @@ module _ (w : Standing) (run : ScriptRun) (script : List ℕ) (start : List Cont
       found_b (number + 1) (advanced left refl)
       (subst (λ (l : List ℕ). HasRunBytes at.here l told parts_b now now_b held held_b) same
       (ran at.here at.device))
-      either refl takes
+      either refl (takes left refl)
 
   pub turn_ended : (before after : Option (List ℕ)) (more : Bool) → StandsAt before
       → Advances before after (Ok more)
@@ -492,13 +515,13 @@ module _ (w : Standing) (run : ScriptRun) (script : List ℕ) (start : List Cont
 
   -- What is taken of the script where its line was looked for,
   pub turn_read : (before after : Option (List ℕ)) (held_b : Option (List ℕ)) → StandsAt before
-      → TakesOneLine old new → IsWithin new → HoldsText [] held held_b
-      → IsSomeAnd after (λ more. length script ≡ length more + read_by new)
+      → Takes before after → IsWithin new → HoldsText [] held held_b
       → HasReadTo run script after held_start held_b
-  turn_read None after held_b at takes within holds read = absurd at
-  turn_read (Some left) after held_b at takes within holds read =
-      line_read w run start held_start number found old new left [] parts now held script at after held_b takes
-      within holds read
+  turn_read None after held_b at takes within holds = absurd at
+  turn_read (Some left) None held_b at takes within holds = absurd (takes left refl)
+  turn_read (Some left) (Some later) held_b at takes within holds =
+      line_read w run start held_start number found old new left later parts now held script at (Some later) held_b
+      (takes left refl) within refl holds
 
   -- and what a line that stops the run has printed.
   pub turn_held : (before after : Option (List ℕ)) (more : Bool) (bytes : List ℕ) (now_b : List Content)

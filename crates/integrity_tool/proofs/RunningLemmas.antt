@@ -1,16 +1,14 @@
 -- What stops the rest of a run, behind a line and at a line.
-use Rattle.std.proofs.Common.{◌≡◌, inl, inr, ℕ, zero, suc, ◌+◌, ◌<◌, Bool, true, false}
+use Rattle.std.proofs.Common.{◌≡◌, inl, inr, ℕ, suc, ◌+◌, ◌<◌, Bool, true, false}
 use Rattle.std.proofs.Common.{List, [], ◌∷◌, ◌++◌, length, take, refl, sym, ◌∙◌, ap, subst, arith, append_assoc}
 use Rattle.std.proofs.Common.{append-nil, length-append, length-take, Option, Some, None}
 use Rattle.std.specs.Prelude.{◌||◌}
 use Rattle.std.specs.Option.{IsSomeAnd}
 use Rattle.std.proofs.lemmas.List.Sums.{fold-append}
 use Rattle.std.proofs.lemmas.Option.{same_Some}
-use Rattle.std.proofs.Math.Seq.{take-append-add}
-use Rattle.disk_model.specs.Disk.{Content, Image, EachImage}
+use Rattle.disk_model.specs.Disk.{Content}
 use Rattle.disk_model.specs.Moments.{EachMoment, HasNow, content_now}
 use Rattle.disk_model.proofs.MomentsLemmas.{EachMoment-then, EachMoment-weaker, no_moment}
-use Rattle.device_model.specs.Device.{DeviceKind}
 use Rattle.device_model.specs.Ending.{Ending, Complete, RefusedLine, DiskFailed, SinkFailed, NoMemory, ByWords}
 use Rattle.device_model.specs.Ending.{ByMeaning}
 use Rattle.device_model.specs.Grammar.{ReadLine, Means, Refused}
@@ -41,8 +39,9 @@ use Rattle.command_ending.specs.declared.ended.Ended.{Ended}
 use Rattle.script_session.specs.LineRun.{HasEnded, HasRunLine, IsCutLine, IsHalfTold, IsLeftWithin, events_of}
 use Rattle.script_session.specs.LineRun.{WritesOnly, held_with, standing_behind}
 use Rattle.script_session.proofs.LineLemmas.{line_cut_begun, line_cut_failed}
+use Rattle.script_session.proofs.RunLemmas.{left-behind, left-wider}
 use Rattle.script_session.proofs.WritesLemmas.{WritesOnly-left, WritesOnly-then}
-use Rattle.device_model.specs.CommandRun.{IsComplete, IsEndedBy, IsFromOutside}
+use Rattle.command_model.specs.CommandRun.{IsComplete, IsEndedBy, IsFromOutside}
 use Rattle.integrity_tool.specs.Lines.{ended_by}
 use Rattle.integrity_tool.specs.Running.{IsStopped}
 
@@ -53,36 +52,6 @@ and_weaker P Q None f is = is
 and_weaker P Q (Some x) f is = f x is
 
 -- ---- moments
-
--- Some of the first of some changes are some of the first of more.
-take_within : (made : ℕ) (xs ys : List Change) → (m : ℕ) × (take m (xs ++ ys) ≡ take made xs)
-take_within zero xs ys = (0, refl)
-take_within (suc made) [] ys = (0, refl)
-take_within (suc made) (x ∷ xs) ys =
-    let rest = take_within made xs ys in
-    (suc rest.0, ap (λ (l : List Change). x ∷ l) rest.1)
-
-module _ (kind : DeviceKind) (entry : Image) where
-  pub left_wider : (h : History) (xs ys : List Change) (c : Content) → IsLeftWithin kind entry h xs c
-      → IsLeftWithin kind entry h (xs ++ ys) c
-  left_wider h xs ys c is =
-      let m = take_within is.made xs ys in
-      record {
-        made = m.0;
-        opens = is.opens;
-        left = subst (λ (l : List Change). EachImage (kind.MayBeLeft entry (with_changes l h)) c)
-            (sym m.1) is.left;
-      }
-
-  pub left_behind : (h : History) (xs ys : List Change) (c : Content)
-      → IsLeftWithin kind entry (with_changes xs h) ys c → IsLeftWithin kind entry h (xs ++ ys) c
-  left_behind h xs ys c is = record {
-    made = length xs + is.made;
-    opens = is.opens;
-    left = subst (λ (x : History). EachImage (kind.MayBeLeft entry x) c)
-        (sym (ap (λ (l : List Change). with_changes l h) (take-append-add xs ys is.made)
-        ∙ fold-append with_change h xs (take is.made ys))) is.left;
-  }
 
 -- Once a disk tells its content it tells it later too.
 told_later : (since before : List Content) (told : Content) → content_now before ≡ Some told
@@ -154,11 +123,11 @@ stopped_further w line found parts a b held_a held_b ran rest ending c held_c st
     (run_is_whole step rest).1 in
     let wider = λ (x : Content) (is : IsLeftWithin kind w.entry h step.changes x).
     subst (λ (l : List Change). IsLeftWithin kind w.entry h l x) (sym all)
-    (left_wider kind w.entry h step.changes (changes_in rest.steps) x is) in
+    (left-wider kind w.entry h step.changes (changes_in rest.steps) x is) in
     let behind = λ (x : Content)
     (is : IsLeftWithin (kind_of there.disk) w.entry there.state.history (changes_in rest.steps) x).
     subst (λ (l : List Change). IsLeftWithin kind w.entry h l x) (sym all)
-    (left_behind kind w.entry h step.changes (changes_in rest.steps) x
+    (left-behind kind w.entry h step.changes (changes_in rest.steps) x
     (subst (λ (y : History). IsLeftWithin kind w.entry y (changes_in rest.steps) x) history
     (subst (λ (f : DiskFormat). IsLeftWithin (placed_kind f.key f.sectors) w.entry there.state.history
     (changes_in rest.steps) x) ran.run.format is))) in
@@ -291,7 +260,7 @@ module _ (w : Standing) (condition : Condition) (parts : Parts) (a : List Conten
   since_line runnable since = EachMoment-weaker (λ (x : Content) left.
       subst (λ (l : List Change). IsLeftWithin (kind_of w.disk) w.entry w.state.history l x)
       (sym (ap (λ (r : ScriptRun). changes_in r.steps) (split runnable) ∙ (run_is_whole step behind).1))
-      (left_wider (kind_of w.disk) w.entry w.state.history step.changes (changes_in behind.steps) x left)) since
+      (left-wider (kind_of w.disk) w.entry w.state.history step.changes (changes_in behind.steps) x left)) since
 
   writes_line : meaning_fault w.format w.state.progress line ≡ None
       → WritesOnly w.disk.geometry step.changes a b → WritesOnly w.disk.geometry (changes_in run.steps) a b

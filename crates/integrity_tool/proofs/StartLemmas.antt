@@ -1,22 +1,25 @@
 -- A command that runs no line: what it starts on, what it leaves, and what its run is.
-use Rattle.std.proofs.Common.{◌≡◌, ◌⊎◌, inl, inr, ℕ, ◌+◌, ◌<◌, ◌≤◌, Bool, false, List, [], ◌++◌, length, take, append_assoc, arith, refl, sym, ◌∙◌, ap, subst, if◌then◌else◌, Option, Some, None, unwrap_or, Result, Ok, Err}
+use Rattle.std.proofs.Common.{◌≡◌, ◌⊎◌, inl, inr, ℕ, ◌+◌, ◌<◌, ◌≤◌, Bool, false, List, [], ◌∷◌, ◌++◌, length, take, drop, append_assoc, length-append, codes, arith, refl, sym, ◌∙◌, ap, subst, if◌then◌else◌, Option, Some, None, unwrap_or, Result, Ok, Err}
 use Rattle.std.specs.Option.{IsSomeAnd}
+use Rattle.std.specs.Fmt.{decimal}
+use Rattle.std.proofs.lemmas.List.{length-take}
+use Rattle.std.proofs.lemmas.List.Concat.{flat_map-cons}
 use Rattle.disk_model.specs.Disk.{Content, Image, IsImage, OnlyAdds, last_image, newest_only}
 use Rattle.disk_model.specs.Moments.{content_now, EachMoment, EachSince, HasNow}
 use Rattle.disk_model.proofs.MomentsLemmas.{EachMoment-kept, EachMoment-then, EachMoment-weaker, adds_then, content_at_end, sync_adds}
 use Rattle.device_model.specs.Device.{DeviceKind}
 use Rattle.disk_model.specs.Identity.{DiskIdentity, NamedDisk}
-use Rattle.device_model.specs.Ending.{Ending, Complete, DiskFailed, KeyFailed, NoMemory, RefusedWords, RefusedKey, KeyRefusal}
+use Rattle.device_model.specs.Ending.{Ending, Complete, DiskFailed, KeyFailed, NoMemory, RefusedImage, RefusedLength, RefusedLine, RefusedWords, RefusedKey, ScriptFailed, SinkFailed, KeyRefusal}
 use Rattle.device_model.specs.Mode.{DeviceFormat}
 use Rattle.device_model.specs.Progress.{DeviceState}
 use Rattle.device_model.specs.ScriptBytes.{is_too_long}
 use Rattle.device_model.specs.History.{IsWrittenIn}
-use Rattle.device_model.specs.ScriptRun.{ScriptRun, IsCameTo, IsRunOf, changes_in, only_ends, texts_of}
+use Rattle.device_model.specs.ScriptRun.{ScriptRun, ScriptStep, IsCameTo, IsRunOf, changes_in, only_ends, texts_of}
 use Rattle.place_model.specs.Kind.{CanOpenPlaced, placed_kind}
 use Rattle.direct_mode.specs.Places.{IsOfPlaces}
 use Rattle.device_core.specs.Opening.{IsRefused, opened_standing}
 use Rattle.script_session.proofs.RunLemmas.{EachMoment-both}
-use Rattle.script_text.proofs.ScriptRunLemmas.{came_to_end, came_to_nothing}
+use Rattle.script_text.proofs.ScriptRunLemmas.{came_into, came_to_end, came_to_nothing, run_is_whole}
 use Rattle.script_text.proofs.TotalLemmas.{has_run}
 use Rattle.place_model.proofs.FormatLemmas.{reads_on}
 use Rattle.image_model.specs.declared.flags.TheConstants.{DIRTY_BITMAP}
@@ -32,15 +35,28 @@ use Rattle.image_opening.specs.Format.{direct_format_of, format_by, format_with,
 use Rattle.command_ending.specs.Ended.{ending_of, key_refusal_of}
 use Rattle.command_ending.specs.declared.ended.Ended.{Ended}
 use Rattle.command_ending.specs.declared.ended.Ended.TheVariants as Endings
-use Rattle.integrity_tool.specs.Words.{Asked, asked_of, key_file_of_asked}
+use Rattle.image_dump.specs.declared.dump_fault.DumpFault.{DumpFault}
+use Rattle.image_dump.specs.declared.dump_fault.DumpFault.TheVariants as DumpFaults
+use Rattle.image_dump.specs.declared.shown.Dump.{Dump}
+use Rattle.image_dump.specs.Dump.{dump_of}
+use Rattle.image_dump.specs.Lines.{dump_lines, joined_lines}
+use Rattle.image_formatting.specs.declared.new_image.NewImage.{NewImage}
+use Rattle.image_formatting.specs.NewImage.{provided_of}
+use Rattle.integrity_tool.specs.declared.asked.Asked.{Asked}
+use Rattle.integrity_tool.specs.declared.asked.Task.{Task}
+use Rattle.integrity_tool.specs.declared.asked.Task.TheVariants as Tasks
+use Rattle.integrity_tool.specs.Dumping.{dump_outset, outset_by_dump}
+use Rattle.integrity_tool.specs.Making.{format_outset, formatted_text, outset_by_format}
+use Rattle.integrity_tool.specs.Words.{asked_of, key_file_of, key_file_of_asked}
 use Rattle.integrity_tool.specs.KeyFile.{HasFile, HasHash, IsKeyRefused, IsKeyed}
 use Rattle.integrity_tool.specs.Top.{Given, IsGiven, IsMomentIn, IsRefusedByKey, outset_in}
-use Rattle.device_model.specs.CommandRun.{Outset, RefusedBy, RunsOn, IsComplete, IsFromOutside, IsEndedShort, IsRunAt, IsUntouched, MayBeLeftAt}
-use Rattle.integrity_tool.specs.Opening.{HasReadIn, HasRunOn, IsMomentOf, IsMomentOn}
-use Rattle.integrity_tool.specs.Running.{HasReadTo, HoldsText, IsStopped, most_ahead}
+use Rattle.script_reader.specs.Reading.{most_piece}
+use Rattle.command_model.specs.CommandRun.{Making, Outset, RefusedBy, RunsOn, Prints, Makes, IsComplete, IsFromOutside, IsEndedShort, IsLeftOfMaking, IsRunAt, IsUntouched, MayBeLeftAt, only_prints}
+use Rattle.integrity_tool.specs.Opening.{HasReadIn, HasRunOn, IsMomentAt, IsMomentOf, IsMomentOn, WritesOnlyBy, WritesPlacesOnly}
+use Rattle.integrity_tool.specs.Running.{HasReadTo, HoldsText, IsStopped}
 use Rattle.integrity_tool.proofs.RunningLemmas.{complete_prints, told_further, told_nothing}
 use Rattle.script_session.specs.LineRun.{held_with}
-use Rattle.integrity_tool.specs.Outset.{ending_by_open, geometry_on, outset_by, outset_on, outset_under, outset_for}
+use Rattle.integrity_tool.specs.Outset.{ending_by_open, geometry_on, outset_at, outset_by, outset_on, outset_under, outset_for}
 
 -- ---- what a command starts on
 
@@ -48,6 +64,8 @@ use Rattle.integrity_tool.specs.Outset.{ending_by_open, geometry_on, outset_by, 
 abbrev pub IsFine : Outset → Type 0
 IsFine (RefusedBy ending) = (found : Bool) → ending ≡ Complete found → ⊥
 IsFine (RunsOn kind image) = Unit {0}
+IsFine (Prints text) = 0 < length text
+IsFine (Makes making) = (0 < length making.text) × ((start : Content) → making.MayBeLeft start start)
 
 abbrev is_complete_type : Ending → Type 0
 is_complete_type (Complete found) = Unit {0}
@@ -70,13 +88,66 @@ fine_by key sectors image (Err fault) = fine_open fault
 pub fine_on : (key : Option (List ℕ)) (sectors : ℕ) (image : Image) → IsFine (outset_on key sectors image)
 fine_on key sectors image = fine_by key sectors image (direct_format_of sectors image)
 
-fine_under : (told : Result (Option (List ℕ)) KeyRefusal) (sectors : ℕ) (image : Image) → IsFine (outset_under told sectors image)
-fine_under (Ok key) sectors image = fine_on key sectors image
-fine_under (Err refusal) sectors image = no_complete (RefusedKey refusal) (λ (x : ⊥). x)
+-- Lines have a text where the first one has.
+some_lines : (line : List ℕ) (lines : List (List ℕ)) → 0 < length line → 0 < length (joined_lines (line ∷ lines))
+some_lines line lines some =
+    let whole : length (joined_lines (line ∷ lines)) ≡ length (line ++ codes "\n") + length (joined_lines lines) =
+    ap length (flat_map-cons (λ (l : List ℕ). l ++ codes "\n") line lines)
+    ∙ length-append (line ++ codes "\n") (joined_lines lines) in
+    omega (arith, whole, length-append line (codes "\n"), some)
+
+shown_prints : (dump : Dump) → 0 < length (joined_lines (dump_lines dump))
+shown_prints dump =
+    some_lines (codes "version " ++ decimal dump.format.fields.version) (drop 1 (dump_lines dump))
+    (omega (arith, length-append (codes "version ") (decimal dump.format.fields.version)))
+
+pub made_prints : (provided : ℕ) → 0 < length (formatted_text provided)
+made_prints provided = omega (arith, length-append (codes "formatted provided ") (decimal provided ++ codes "\n"))
+
+fine_shown : (told : Result Dump DumpFault) → IsFine (outset_by_dump told)
+fine_shown (Ok dump) = shown_prints dump
+fine_shown (Err DumpFaults.Memory) = no_complete _ (λ (x : ⊥). x)
+fine_shown (Err DumpFaults.Disk) = no_complete _ (λ (x : ⊥). x)
+fine_shown (Err (DumpFaults.Super fault)) = no_complete _ (λ (x : ⊥). x)
+fine_shown (Err (DumpFaults.Geom fault)) = no_complete _ (λ (x : ⊥). x)
+fine_shown (Err (DumpFaults.Scan fault)) = no_complete _ (λ (x : ⊥). x)
+
+pub fine_dump : (sectors : ℕ) (image : Image) → IsFine (dump_outset sectors image)
+fine_dump sectors image = fine_shown (dump_of sectors image)
+
+fine_made : (key : Option (List ℕ)) (sectors : ℕ) (new : NewImage) (told : Result ℕ GeomFault) → IsFine (outset_by_format key sectors new told)
+fine_made key sectors new (Ok provided) = (made_prints provided, λ start image is. inl is)
+fine_made key sectors new (Err fault) = no_complete _ (λ (x : ⊥). x)
+
+pub fine_format : (key : Option (List ℕ)) (sectors : ℕ) (new : NewImage) → IsFine (format_outset key sectors new)
+fine_format key sectors new = fine_made key sectors new (provided_of new sectors)
+
+fine_at : (task : Task) (key : Option (List ℕ)) (sectors : ℕ) (image : Image) → IsFine (outset_at task key sectors image)
+fine_at Tasks.Run key sectors image = fine_on key sectors image
+fine_at Tasks.Dump key sectors image = fine_dump sectors image
+fine_at (Tasks.Format new) key sectors image = fine_format key sectors new
+
+fine_under : (task : Task) (told : Result (Option (List ℕ)) KeyRefusal) (sectors : ℕ) (image : Image) → IsFine (outset_under task told sectors image)
+fine_under task (Ok key) sectors image = fine_at task key sectors image
+fine_under task (Err refusal) sectors image = no_complete (RefusedKey refusal) (λ (x : ⊥). x)
 
 pub fine_for : (asked : Option Asked) (key_bytes : List ℕ) (sectors : ℕ) (image : Image) → IsFine (outset_for asked key_bytes sectors image)
 fine_for None key_bytes sectors image = no_complete RefusedWords (λ (x : ⊥). x)
-fine_for (Some asked) key_bytes sectors image = fine_under _ sectors image
+fine_for (Some asked) key_bytes sectors image = fine_under asked.task _ sectors image
+
+-- It is a run's, or is refused.
+abbrev pub IsOfRun : Outset → Type 0
+IsOfRun (RefusedBy ending) = Unit {0}
+IsOfRun (RunsOn kind image) = Unit {0}
+IsOfRun (Prints text) = ⊥
+IsOfRun (Makes making) = ⊥
+
+of_run_by : (key : Option (List ℕ)) (sectors : ℕ) (image : Image) (told : Result ImageFormat OpenFault) → IsOfRun (outset_by key sectors image told)
+of_run_by key sectors image (Ok format) = tt
+of_run_by key sectors image (Err fault) = tt
+
+pub of_run : (key : Option (List ℕ)) (sectors : ℕ) (image : Image) → IsOfRun (outset_on key sectors image)
+of_run key sectors image = of_run_by key sectors image (direct_format_of sectors image)
 
 -- ---- no sector is written
 
@@ -99,6 +170,34 @@ pub untouched_kept : {a b : List Content} (start : Content) → content_now a �
 untouched_kept start told same c here =
     inl (ap (λ (o : Option Content). unwrap_or o start) (sym here ∙ ap content_now same ∙ told))
 
+-- All is as it was before: a run may have synced the disk.
+abbrev pub IsAsBefore : Outset → (start later : Content) → Type 0
+IsAsBefore (RefusedBy ending) start later = IsUntouched start later
+IsAsBefore (RunsOn kind image) start later = IsUntouched start later
+IsAsBefore (Prints text) start later = later ≡ start
+IsAsBefore (Makes making) start later = later ≡ start
+
+as_synced : (outset : Outset) → IsOfRun outset → (start later : Content) → IsUntouched start later → IsAsBefore outset start later
+as_synced (RefusedBy ending) of start later untouched = untouched
+as_synced (RunsOn kind image) of start later untouched = untouched
+as_synced (Prints text) of start later untouched = absurd of
+as_synced (Makes making) of start later untouched = absurd of
+
+as_same : (outset : Outset) (start later : Content) → later ≡ start → IsAsBefore outset start later
+as_same (RefusedBy ending) start later same = inl same
+as_same (RunsOn kind image) start later same = inl same
+as_same (Prints text) start later same = same
+as_same (Makes making) start later same = same
+
+-- A run has synced the disk at most,
+pub before_synced : (outset : Outset) → IsOfRun outset → (start : Content) (b : List Content) → HasNow (IsUntouched start) b → HasNow (IsAsBefore outset start) b
+before_synced outset of start b untouched c told = as_synced outset of start c (untouched c told)
+
+-- or the moments are as before.
+pub before_kept : (outset : Outset) {a b : List Content} (start : Content) → content_now a ≡ Some start → b ≡ a → HasNow (IsAsBefore outset start) b
+before_kept outset start told same c here =
+    as_same outset start c (ap (λ (o : Option Content). unwrap_or o start) (sym here ∙ ap content_now same ∙ told))
+
 -- ---- no line is run
 
 -- The run of a script on a device that has just been opened.
@@ -109,11 +208,22 @@ run_on kind image script = has_run (kind.format image) (kind.opened image) scrip
 some_run : (outset : Outset) (script : List ℕ) → (run : ScriptRun) × IsRunAt outset script run
 some_run (RefusedBy ending) script = (only_ends ending, refl)
 some_run (RunsOn kind image) script = run_on kind image script
+some_run (Prints text) script = (only_prints text, refl)
+some_run (Makes making) script = (only_prints making.text, refl)
 
-pub untouched_may_be_left : (outset : Outset) (start : Content) (script : List ℕ) (later : Content) → IsUntouched start later → MayBeLeftAt outset start script later
-untouched_may_be_left (RefusedBy ending) start script later untouched = record { run = only_ends ending; is_run = refl; made = 0; left = untouched }
-untouched_may_be_left (RunsOn kind image) start script later untouched =
+pub untouched_may_be_left : (outset : Outset) → IsOfRun outset → (start : Content) (script : List ℕ) (later : Content) → IsUntouched start later → MayBeLeftAt outset start script later
+untouched_may_be_left (RefusedBy ending) of start script later untouched = record { run = only_ends ending; is_run = refl; made = 0; left = untouched }
+untouched_may_be_left (RunsOn kind image) of start script later untouched =
     let r = run_on kind image script in record { run = r.0; is_run = r.1; made = 0; left = inl (refl, untouched) }
+untouched_may_be_left (Prints text) of start script later untouched = absurd of
+untouched_may_be_left (Makes making) of start script later untouched = absurd of
+
+-- What a run writes is what it may.
+writes_by : (outset : Outset) → IsOfRun outset → (g : Geometry) (run : ScriptRun) (start later : Content) → WritesPlacesOnly g run start later → WritesOnlyBy outset g run start later
+writes_by (RefusedBy ending) of g run start later writes = writes
+writes_by (RunsOn kind image) of g run start later writes = writes
+writes_by (Prints text) of g run start later writes = absurd of
+writes_by (Makes making) of g run start later writes = absurd of
 
 -- What a read gives of a disk that tells its content is an image of that.
 abbrev pub ReadsImages : List Content → Type 0
@@ -126,16 +236,19 @@ adds_at W start told each =
     EachMoment-weaker (λ c from. subst (λ (o : Option Content). IsSomeAnd o (λ s. OnlyAdds W s c)) told from) each
 
 -- A disk that is synced at most stands at moments of any command.
-pub synced_moments : (outset : Outset) (g : Geometry) (start : Content) (script : List ℕ) {a b : List Content}
+pub synced_moments : (outset : Outset) → IsOfRun outset → (g : Geometry) (start : Content) (script : List ℕ) {a b : List Content}
     → content_now a ≡ Some start → ReadsImages a → EachSince (λ s c. c ≡ newest_only s) a b
     → EachMoment a b (IsMomentOf outset g start script)
-synced_moments outset g start script told reads synced =
+synced_moments outset of g start script told reads synced =
     let run = some_run outset script in
     let W = IsOfPlaces g (IsWrittenIn (changes_in run.0.steps)) in
     EachMoment-weaker
-    (λ c both. record { left = both.0; only = record { run = run.0; is_run = run.1; only = both.1 } })
+    (λ c both. record {
+      left = both.0;
+      only = record { run = run.0; is_run = run.1; only = writes_by outset of g run.0 start c both.1 };
+    })
     (EachMoment-both
-    (EachMoment-weaker (untouched_may_be_left outset start script) (untouched_through start told synced))
+    (EachMoment-weaker (untouched_may_be_left outset of start script) (untouched_through start told synced))
     (adds_at W start told (sync_adds W reads synced)))
 
 short_of : (f : DeviceFormat) (s : DeviceState) (script : List ℕ) (run : ScriptRun) (ending : Ending) → IsRunOf f s script run → IsFromOutside ending → IsEndedShort run [] [] ending
@@ -145,15 +258,68 @@ short_of f s script run ending is outside = record {
   outside = outside;
 }
 
+-- What is outside may end a command before it has begun: but the sink, which is not called then.
+abbrev pub IsEarly : Ending → Type 0
+IsEarly (Complete found_fault) = ⊥
+IsEarly RefusedWords = ⊥
+IsEarly (RefusedKey refusal) = ⊥
+IsEarly (RefusedLine number fault) = ⊥
+IsEarly RefusedLength = ⊥
+IsEarly (RefusedImage fault) = ⊥
+IsEarly DiskFailed = Unit {0}
+IsEarly KeyFailed = Unit {0}
+IsEarly ScriptFailed = ⊥
+IsEarly SinkFailed = ⊥
+IsEarly NoMemory = Unit {0}
+
+early_outside : (ending : Ending) → IsEarly ending → IsFromOutside ending
+early_outside (Complete found_fault) early = absurd early
+early_outside RefusedWords early = absurd early
+early_outside (RefusedKey refusal) early = absurd early
+early_outside (RefusedLine number fault) early = absurd early
+early_outside RefusedLength early = absurd early
+early_outside (RefusedImage fault) early = absurd early
+early_outside DiskFailed early = tt
+early_outside KeyFailed early = tt
+early_outside ScriptFailed early = absurd early
+early_outside SinkFailed early = absurd early
+early_outside NoMemory early = tt
+
+left_unmade : (making : Making) → IsFine (Makes making) → (start later : Content) (ending : Ending) → IsEarly ending → later ≡ start → IsLeftOfMaking making start ending later
+left_unmade making fine start later (Complete found_fault) early same = absurd early
+left_unmade making fine start later RefusedWords early same = absurd early
+left_unmade making fine start later (RefusedKey refusal) early same = absurd early
+left_unmade making fine start later (RefusedLine number fault) early same = absurd early
+left_unmade making fine start later RefusedLength early same = absurd early
+left_unmade making fine start later (RefusedImage fault) early same = absurd early
+left_unmade making fine start later DiskFailed early same =
+    subst (λ (c : Content). making.MayBeLeft start c) (sym same) (fine.1 start)
+left_unmade making fine start later KeyFailed early same = same
+left_unmade making fine start later ScriptFailed early same = absurd early
+left_unmade making fine start later SinkFailed early same = absurd early
+left_unmade making fine start later NoMemory early same = same
+
+-- A text is printed so far, and not to its end.
+pub text_short : (text : List ℕ) (count : ℕ) (ending : Ending) → count < length text → IsFromOutside ending → IsEndedShort (only_prints text) (take count text) [] ending
+text_short text count ending less outside =
+    let step : ScriptStep = record { text = text; changes = [] } in
+    let all : length (texts_of (only_prints text).steps) ≡ length text + 0 =
+    ap length (run_is_whole step (only_ends (Complete false))).0 ∙ length-append text [] in
+    record {
+      came = (came_into step (only_ends (Complete false))).text count less;
+      short = λ complete. omega (arith, less, length-take count text, all);
+      outside = outside;
+    }
+
 -- Something outside ended a command before its first line.
-pub nothing_run : (outset : Outset) → IsFine outset → (start : Content) (script : List ℕ) (ending : Ending) → IsFromOutside ending
-    → (after : List Content) → HasNow (IsUntouched start) after → (held_before held : Option (List ℕ)) → held ≡ held_before → HasRunOn outset start script ending after held_before held
+pub nothing_run : (outset : Outset) → IsFine outset → (start : Content) (script : List ℕ) (ending : Ending) → IsEarly ending
+    → (after : List Content) → HasNow (IsAsBefore outset start) after → (held_before held : Option (List ℕ)) → held ≡ held_before → HasRunOn outset start script ending after held_before held
 nothing_run (RefusedBy refused) fine start script ending outside after untouched held_before held same = record {
   run = only_ends refused;
   is_run = refl;
   text = [];
   changes = [];
-  ended = inr (record { came = came_to_end refused; short = λ complete. absurd (fine complete.0 complete.1); outside = outside });
+  ended = inr (record { came = came_to_end refused; short = λ complete. absurd (fine complete.0 complete.1); outside = early_outside ending outside });
   told = same ∙ told_nothing held_before;
   left = untouched;
 }
@@ -163,10 +329,28 @@ nothing_run (RunsOn kind image) fine start script ending outside after untouched
       is_run = r.1;
       text = [];
       changes = [];
-      ended = inr (short_of (kind.format image) (kind.opened image) script r.0 ending r.1 outside);
+      ended = inr (short_of (kind.format image) (kind.opened image) script r.0 ending r.1 (early_outside ending outside));
       told = same ∙ told_nothing held_before;
       left = λ c told. inl (refl, untouched c told);
     }
+nothing_run (Prints text) fine start script ending outside after untouched held_before held same = record {
+  run = only_prints text;
+  is_run = refl;
+  text = [];
+  changes = [];
+  ended = inr (text_short text 0 ending fine (early_outside ending outside));
+  told = same ∙ told_nothing held_before;
+  left = untouched;
+}
+nothing_run (Makes making) fine start script ending outside after untouched held_before held same = record {
+  run = only_prints making.text;
+  is_run = refl;
+  text = [];
+  changes = [];
+  ended = inr (text_short making.text 0 ending fine.0 (early_outside ending outside));
+  told = same ∙ told_nothing held_before;
+  left = λ c told. left_unmade making fine start c ending outside (untouched c told);
+}
 
 -- It was refused.
 pub refused_run : (outset : Outset) (start : Content) (script : List ℕ) (ending : Ending) → outset ≡ RefusedBy ending
@@ -242,11 +426,18 @@ ran_on key sectors start script run ending first mid after held_before held can 
     subst (λ (o : Outset). IsRunAt o script run) (sym (runs_on key sectors (last_image start) can)) is_run in
     let left : EachMoment first after (MayBeLeftAt outset start script) =
     EachMoment-then
-    (EachMoment-weaker (untouched_may_be_left outset start script) (untouched_through start told synced))
+    (EachMoment-weaker (untouched_may_be_left outset (of_run key sectors (last_image start)) start script) (untouched_through start told synced))
     (ran_through key sectors start script run ending mid after held_before held can is_run stopped) in (
       ran key sectors start script run ending mid after held_before held can is_run stopped,
       EachMoment-weaker
-          (λ c both. record { left = both.0; only = record { run = run; is_run = is; only = both.1 } })
+          (λ c both. record {
+            left = both.0;
+            only = record {
+              run = run;
+              is_run = is;
+              only = writes_by outset (of_run key sectors (last_image start)) (geometry_on sectors (last_image start)) run start c both.1;
+            };
+          })
           (EachMoment-both left (adds_at W start told (adds_then W (sync_adds W reads synced) stopped.writes))),
     )
 
@@ -275,7 +466,15 @@ read_none outset script held told =
       read = record {
         done = 0;
         printed = record { more = []; is = told_nothing held };
-        taken = subst (λ (o : Option (List ℕ)). IsSomeAnd o (λ more. length script ≤ length more + most_ahead))
+        front = [];
+        line = [];
+        ending = [];
+        behind = script;
+        bytes = refl;
+        within = omega arith;
+        plain = λ at x less is. absurd (omega (arith, less));
+        short = omega arith;
+        taken = subst (λ (o : Option (List ℕ)). IsSomeAnd o (λ more. length script ≤ length more + most_piece))
             (sym told) (omega arith);
       };
     }
@@ -293,6 +492,14 @@ read_further run script left held_before held read more = record {
         ∙ ap (λ (text : List ℕ). held_with text held_before)
         (append_assoc (texts_of (take read.done run.steps)) read.printed.more more.more);
   };
+  front = read.front;
+  line = read.line;
+  ending = read.ending;
+  behind = read.behind;
+  bytes = read.bytes;
+  within = read.within;
+  plain = read.plain;
+  short = read.short;
   taken = read.taken;
 }
 
@@ -347,16 +554,19 @@ module _ (key : Option (List ℕ)) (disk : DiskIdentity) (a b : List Content) (s
   pub refused_by_open : (fault : OpenFault) → IsRefused key disk fault a b
       → HasRunOn (outset_on key disk.sectors (last_image start)) start script (ending_by_open fault) b held held
   refused_by_open OpenFaults.Memory refused =
-      nothing_run (outset_on key disk.sectors (last_image start)) (fine_on key disk.sectors (last_image start)) start script NoMemory tt b (untouched_now start told synced) held held refl
+      nothing_run (outset_on key disk.sectors (last_image start)) (fine_on key disk.sectors (last_image start)) start script NoMemory tt b
+      (before_synced (outset_on key disk.sectors (last_image start)) (of_run key disk.sectors (last_image start)) start b (untouched_now start told synced)) held held refl
   refused_by_open OpenFaults.Disk refused =
-      nothing_run (outset_on key disk.sectors (last_image start)) (fine_on key disk.sectors (last_image start)) start script DiskFailed tt b (untouched_now start told synced) held held refl
+      nothing_run (outset_on key disk.sectors (last_image start)) (fine_on key disk.sectors (last_image start)) start script DiskFailed tt b
+      (before_synced (outset_on key disk.sectors (last_image start)) (of_run key disk.sectors (last_image start)) start b (untouched_now start told synced)) held held refl
   refused_by_open (OpenFaults.Super fault) refused = told_by (OpenFaults.Super fault) refused (λ (x : ⊥). x) (λ (x : ⊥). x)
   refused_by_open (OpenFaults.Geom fault) refused = told_by (OpenFaults.Geom fault) refused (λ (x : ⊥). x) (λ (x : ⊥). x)
   refused_by_open (OpenFaults.Mode flags) refused = told_by (OpenFaults.Mode flags) refused (λ (x : ⊥). x) (λ (x : ⊥). x)
 
   pub left_by_open : ReadsImages a → EachMoment a b (IsMomentOn key disk.sectors start script)
   left_by_open reads =
-      synced_moments (outset_on key disk.sectors (last_image start)) (geometry_on disk.sectors (last_image start))
+      synced_moments (outset_on key disk.sectors (last_image start)) (of_run key disk.sectors (last_image start))
+      (geometry_on disk.sectors (last_image start))
       start script told reads synced
 
 -- ---- a key is taken
@@ -368,6 +578,23 @@ no_key_by key sectors image (Err OpenFaults.Disk) is = is
 no_key_by key sectors image (Err (OpenFaults.Super fault)) is = is
 no_key_by key sectors image (Err (OpenFaults.Geom fault)) is = is
 no_key_by key sectors image (Err (OpenFaults.Mode flags)) is = is
+
+no_key_shown : (told : Result Dump DumpFault) → IsRefusedByKey (outset_by_dump told) → ⊥
+no_key_shown (Ok dump) is = is
+no_key_shown (Err DumpFaults.Memory) is = is
+no_key_shown (Err DumpFaults.Disk) is = is
+no_key_shown (Err (DumpFaults.Super fault)) is = is
+no_key_shown (Err (DumpFaults.Geom fault)) is = is
+no_key_shown (Err (DumpFaults.Scan fault)) is = is
+
+no_key_made : (key : Option (List ℕ)) (sectors : ℕ) (new : NewImage) (told : Result ℕ GeomFault) → IsRefusedByKey (outset_by_format key sectors new told) → ⊥
+no_key_made key sectors new (Ok provided) is = is
+no_key_made key sectors new (Err fault) is = is
+
+no_key_at : (task : Task) (key : Option (List ℕ)) (sectors : ℕ) (image : Image) → IsRefusedByKey (outset_at task key sectors image) → ⊥
+no_key_at Tasks.Run key sectors image is = no_key_by key sectors image (direct_format_of sectors image) is
+no_key_at Tasks.Dump key sectors image is = no_key_shown (dump_of sectors image) is
+no_key_at (Tasks.Format new) key sectors image is = no_key_made key sectors new (provided_of new sectors) is
 
 -- ---- by what a command is given
 
@@ -382,11 +609,11 @@ module _ (given : Given) (words : List (List ℕ)) (keys : List ℕ → Option (
   nothing_changed : (later : NamedDisk) → later.moments ≡ image.moments → EachMoment image.moments later.moments (IsMomentIn given)
   nothing_changed later same = EachMoment-kept _ same
 
-  pub outside_first : (ending : Ending) → IsFromOutside ending → (later : NamedDisk) → later.moments ≡ image.moments
+  pub outside_first : (ending : Ending) → IsEarly ending → (later : NamedDisk) → later.moments ≡ image.moments
       → HasRunOn (outset_in given) given.content given.script ending later.moments held held
       × EachMoment image.moments later.moments (IsMomentIn given)
   outside_first ending outside later same = (
-    nothing_run (outset_in given) fine_given given.content given.script ending outside later.moments (untouched_kept given.content is.content same) held held refl,
+    nothing_run (outset_in given) fine_given given.content given.script ending outside later.moments (before_kept (outset_in given) given.content is.content same) held held refl,
     nothing_changed later same,
   )
 
@@ -398,7 +625,7 @@ module _ (given : Given) (words : List (List ℕ)) (keys : List ℕ → Option (
     nothing_changed image refl,
   )
 
-  -- The words ask for no run.
+  -- The words ask for nothing.
   pub words_first : asked_of words ≡ None
       → HasRunOn (outset_in given) given.content given.script RefusedWords image.moments held held
       × EachMoment image.moments image.moments (IsMomentIn given)
@@ -417,18 +644,18 @@ module _ (given : Given) (words : List (List ℕ)) (keys : List ℕ → Option (
   ]
 
   module _ (asked : Asked) (asks : asked_of words ≡ Some asked) where
-    has_key : HasFile asked.key_file keys given.key_bytes
+    has_key : HasFile (key_file_of asked.hash) keys given.key_bytes
     has_key = subst (λ (o : Option Asked). HasFile (key_file_of_asked o) keys given.key_bytes) asks is.key
 
     -- The key file, or its source, ended it.
-    pub stopped_at_key : (faults_before faults : ℕ) (ended : Ended) → IsKeyRefused asked.key_file keys faults_before faults ended
+    pub stopped_at_key : (faults_before faults : ℕ) (ended : Ended) → IsKeyRefused (key_file_of asked.hash) keys faults_before faults ended
         → HasRunOn (outset_in given) given.content given.script (ending_of ended) image.moments held held
         × EachMoment image.moments image.moments (IsMomentIn given)
     stopped_at_key faults_before faults Endings.Words refused = absurd refused
     stopped_at_key faults_before faults (Endings.Key refusal) refused =
         refused_first (RefusedKey (key_refusal_of refusal))
         (outset_asked (Some asked) asks
-        ∙ ap (λ (told : Result (Option (List ℕ)) KeyRefusal). outset_under told given.sectors (last_image given.content)) (refused given.key_bytes has_key))
+        ∙ ap (λ (told : Result (Option (List ℕ)) KeyRefusal). outset_under asked.task told given.sectors (last_image given.content)) (refused given.key_bytes has_key))
     stopped_at_key faults_before faults (Endings.Line number refusal) refused = absurd refused
     stopped_at_key faults_before faults Endings.Length refused = absurd refused
     stopped_at_key faults_before faults (Endings.Image fault) refused = absurd refused
@@ -438,54 +665,54 @@ module _ (given : Given) (words : List (List ℕ)) (keys : List ℕ → Option (
     stopped_at_key faults_before faults Endings.Sink refused = absurd refused
     stopped_at_key faults_before faults Endings.Memory refused = outside_first NoMemory tt image refl
 
-    -- A script was run on the image, with this key.
-    pub ran_given : (key : Option (List ℕ)) → IsKeyed asked.key_file keys (HasHash key) → (sectors : ℕ) (mid after : List Content) (later : NamedDisk)
+    -- What is asked was done on the image, with this key.
+    pub ran_given : (key : Option (List ℕ)) → IsKeyed (key_file_of asked.hash) keys (HasHash key) → (sectors : ℕ) (mid after : List Content) (later : NamedDisk)
         → image ≡ record { sectors = sectors; moments = mid } → later.moments ≡ after → (ending : Ending) (held_after : Option (List ℕ))
-        → HasRunOn (outset_on key sectors (last_image given.content)) given.content given.script ending after held held_after
-        × EachMoment mid after (IsMomentOn key sectors given.content given.script)
+        → HasRunOn (outset_at asked.task key sectors (last_image given.content)) given.content given.script ending after held held_after
+        × EachMoment mid after (IsMomentAt asked.task key sectors given.content given.script)
         → HasRunOn (outset_in given) given.content given.script ending later.moments held held_after
         × EachMoment image.moments later.moments (IsMomentIn given)
     ran_given key keyed sectors mid after later there at_end ending held_after runs =
         let entry : Image = last_image given.content in
         let same_sectors : given.sectors ≡ sectors = is.sectors ∙ ap (λ (n : NamedDisk). n.sectors) there in
-        let same_outset : outset_in given ≡ outset_on key sectors entry =
+        let same_outset : outset_in given ≡ outset_at asked.task key sectors entry =
         outset_asked (Some asked) asks
-        ∙ ap (λ (told : Result (Option (List ℕ)) KeyRefusal). outset_under told given.sectors entry)
+        ∙ ap (λ (told : Result (Option (List ℕ)) KeyRefusal). outset_under asked.task told given.sectors entry)
         (keyed given.key_bytes has_key)
-        ∙ ap (λ (n : ℕ). outset_on key n entry) same_sectors in
+        ∙ ap (λ (n : ℕ). outset_at asked.task key n entry) same_sectors in
         let same_moments : image.moments ≡ mid = ap (λ (n : NamedDisk). n.moments) there in
         let At = λ (o : Outset) (n : ℕ). IsMomentOf o (geometry_on n entry) given.content given.script in (
           subst (λ (o : Outset). HasRunOn o given.content given.script ending later.moments held held_after)
               (sym same_outset)
               (subst (λ (m : List Content).
-              HasRunOn (outset_on key sectors entry) given.content given.script ending m held held_after)
+              HasRunOn (outset_at asked.task key sectors entry) given.content given.script ending m held held_after)
               (sym at_end) runs.0),
           subst (λ (o : Outset). EachMoment image.moments later.moments (At o given.sectors)) (sym same_outset)
-              (subst (λ (n : ℕ). EachMoment image.moments later.moments (At (outset_on key sectors entry) n))
+              (subst (λ (n : ℕ). EachMoment image.moments later.moments (At (outset_at asked.task key sectors entry) n))
               (sym same_sectors)
-              (subst (λ (m : List Content). EachMoment m later.moments (At (outset_on key sectors entry) sectors))
+              (subst (λ (m : List Content). EachMoment m later.moments (At (outset_at asked.task key sectors entry) sectors))
               (sym same_moments)
-              (subst (λ (m : List Content). EachMoment mid m (At (outset_on key sectors entry) sectors))
+              (subst (λ (m : List Content). EachMoment mid m (At (outset_at asked.task key sectors entry) sectors))
               (sym at_end) runs.1))),
         )
 
-    -- What is taken of the script of such a run is so of the command's.
-    pub read_given : (key : Option (List ℕ)) → IsKeyed asked.key_file keys (HasHash key) → (sectors : ℕ)
+    -- What is taken of its script is so of the command's.
+    pub read_given : (key : Option (List ℕ)) → IsKeyed (key_file_of asked.hash) keys (HasHash key) → (sectors : ℕ)
         (mid : List Content) → image ≡ record { sectors = sectors; moments = mid }
         → (left held_after : Option (List ℕ))
-        → HasReadIn (outset_on key sectors (last_image given.content)) given.script left held held_after
+        → HasReadIn (outset_at asked.task key sectors (last_image given.content)) given.script left held held_after
         → HasReadIn (outset_in given) given.script left held held_after
     read_given key keyed sectors mid there left held_after read =
         let entry : Image = last_image given.content in
         subst (λ (o : Outset). HasReadIn o given.script left held held_after)
         (sym (outset_asked (Some asked) asks
-        ∙ ap (λ (told : Result (Option (List ℕ)) KeyRefusal). outset_under told given.sectors entry)
+        ∙ ap (λ (told : Result (Option (List ℕ)) KeyRefusal). outset_under asked.task told given.sectors entry)
         (keyed given.key_bytes has_key)
-        ∙ ap (λ (n : ℕ). outset_on key n entry) (is.sectors ∙ ap (λ (n : NamedDisk). n.sectors) there))) read
+        ∙ ap (λ (n : ℕ). outset_at asked.task key n entry) (is.sectors ∙ ap (λ (n : NamedDisk). n.sectors) there))) read
 
     -- A key that is taken is not refused.
-    pub not_refused_by_key : (key : Option (List ℕ)) → IsKeyed asked.key_file keys (HasHash key) → IsRefusedByKey (outset_in given) → ⊥
+    pub not_refused_by_key : (key : Option (List ℕ)) → IsKeyed (key_file_of asked.hash) keys (HasHash key) → IsRefusedByKey (outset_in given) → ⊥
     not_refused_by_key key keyed refused =
-        no_key_by key given.sectors (last_image given.content) (direct_format_of given.sectors (last_image given.content))
+        no_key_at asked.task key given.sectors (last_image given.content)
         (subst IsRefusedByKey (outset_asked (Some asked) asks
-        ∙ ap (λ (told : Result (Option (List ℕ)) KeyRefusal). outset_under told given.sectors (last_image given.content)) (keyed given.key_bytes has_key)) refused)
+        ∙ ap (λ (told : Result (Option (List ℕ)) KeyRefusal). outset_under asked.task told given.sectors (last_image given.content)) (keyed given.key_bytes has_key)) refused)

@@ -1,16 +1,24 @@
 -- How much of a script's source is taken.
 use Rattle.std.proofs.Common.{◌≡◌, ℕ, ◌+◌, ◌≤◌, List, [], ◌++◌, length, length-append, refl, sym, ◌∙◌, ap, subst, arith, Option, Some, None}
 use Rattle.std.specs.Option.{ForSome, IsSomeAnd}
-use Rattle.script_reader.specs.Reading.{Reading, TakesBytes}
+use Rattle.script_reader.specs.Reading.{Reading, TakesLine}
 use Rattle.integrity_tool.specs.Running.{HasRead, HasTaken, most_taken, read_by}
 
 -- A reader that has taken some bytes has read as many of its source.
 pub taken_is_read : (old new : Reading) (left later : Option (List ℕ))
-    → ForSome left (λ bytes. IsSomeAnd later (λ more. TakesBytes old new (old.unread ++ bytes) (new.unread ++ more))) → HasRead old new left later
+    → ForSome left (λ bytes. IsSomeAnd later (λ more. TakesLine old new (old.unread ++ bytes) (new.unread ++ more))) → HasRead old new left later
 taken_is_read old new left None takes bytes told = absurd (takes bytes told)
 taken_is_read old new left (Some more) takes bytes told =
     let t = takes bytes told in
-    omega (arith, t.counted, ap length t.taken, length-append old.unread bytes, length-append t.bytes (new.unread ++ more), length-append new.unread more)
+    omega (
+      arith,
+      t.counted,
+      ap length t.bytes,
+      length-append old.unread bytes,
+      length-append new.line (t.ending ++ (new.unread ++ more)),
+      length-append t.ending (new.unread ++ more),
+      length-append new.unread more,
+    )
 
 pub read_at_start : (left : List ℕ) (reader : Reading) (source : Option (List ℕ)) → source ≡ Some left → reader ≡ record { unread = []; line = []; taken = 0 }
     → IsSomeAnd source (λ more. length left ≡ length more + read_by reader)

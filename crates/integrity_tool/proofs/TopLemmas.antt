@@ -1,5 +1,5 @@
 -- The last line of a command, its status, and what both tell.
-use Rattle.std.proofs.Common.{◌≡◌, ◌⊎◌, inl, inr, ℕ, ◌≤◌, Bool, true, false, List, [], ◌∷◌, ◌++◌, take, refl, sym, ◌∙◌, ap, subst, arith, append_assoc, append-nil, Option, Some, None, Result, Ok, Err, OnOk, OnErr}
+use Rattle.std.proofs.Common.{◌≡◌, inl, inr, ℕ, ◌≤◌, Bool, true, false, List, [], ◌∷◌, ◌++◌, take, refl, sym, ◌∙◌, ap, subst, arith, append_assoc, append-nil, Option, Some, None, Result, Ok, Err, OnOk, OnErr}
 use Rattle.std.specs.Option.{option_map, IsSomeAnd}
 use Rattle.disk_model.specs.Causes.{Rose}
 use Rattle.disk_model.specs.Disk.{Content}
@@ -11,7 +11,7 @@ use Rattle.script_session.specs.LineRun.{held_with}
 use Rattle.command_ending.specs.Ended.{ending_of}
 use Rattle.command_ending.specs.declared.ended.Ended.{Ended}
 use Rattle.command_ending.specs.declared.ended.Ended.TheVariants as Endings
-use Rattle.device_model.specs.CommandRun.{Outset, Faults, HasCauseIn, IsLastLine, Tells}
+use Rattle.command_model.specs.CommandRun.{Outset, Faults, HasCauseIn, IsLastLine, Tells}
 use Rattle.integrity_tool.specs.Opening.{HasRunOn}
 use Rattle.integrity_tool.specs.Running.{HoldsText, IsCounted}
 use Rattle.integrity_tool.specs.Top.{HasCommandCause, HasStatus, IsBeforeScript}

@@ -6,3 +6,6 @@ pub mod Opening
 pub mod Outset
 pub mod Running
 pub mod Top
+pub mod Dumping
+pub mod Making
+pub mod Tasks

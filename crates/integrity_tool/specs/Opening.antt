@@ -2,7 +2,7 @@
 use Rattle.std.specs.Prelude.{◌≡◌, ℕ, List, Option}
 use Rattle.disk_model.specs.Disk.{Content, OnlyAdds, last_image}
 use Rattle.disk_model.specs.Moments.{HasNow}
-use Rattle.device_model.specs.CommandRun.{Outset, IsEndedBy, IsLeftAt, IsRunAt, MayBeLeftAt}
+use Rattle.command_model.specs.CommandRun.{Outset, RefusedBy, RunsOn, Prints, Makes, IsEndedBy, IsLeftAfter, IsRunAt, MayBeLeftAt}
 use Rattle.device_model.specs.Ending.{Ending}
 use Rattle.device_model.specs.History.{Change, IsWrittenIn}
 use Rattle.device_model.specs.ScriptRun.{ScriptRun, changes_in}
@@ -11,7 +11,8 @@ use Rattle.image_model.specs.Geometry.{Geometry}
 use Rattle.script_session.specs.LineRun.{held_with}
 use Rattle.command_ending.specs.declared.ended.Ended.{Ended}
 use Rattle.command_ending.specs.declared.ended.Ended.TheVariants as Endings
-use Rattle.integrity_tool.specs.Outset.{geometry_on, outset_on}
+use Rattle.integrity_tool.specs.declared.asked.Task.{Task}
+use Rattle.integrity_tool.specs.Outset.{geometry_on, outset_at, outset_on}
 use Rattle.integrity_tool.specs.Running.{HasReadTo}
 
 -- The run came so far, and ended so: the sink holds its text behind what it held, and this is left of the disk.
@@ -23,14 +24,25 @@ pub record HasRunOn (outset : Outset) (start : Content) (script : List ℕ) (end
   pub changes : List Change
   pub ended : IsEndedBy run text changes ending
   pub told : held ≡ held_with text held_before
-  pub left : HasNow (IsLeftAt outset start changes) after
+  pub left : HasNow (IsLeftAfter outset start changes ending) after
 
--- No sector was written but those of tags, and of the blocks that some line of the run writes.
+-- No sector was written but those of tags, and of the blocks that the run writes.
+abbrev pub WritesPlacesOnly : Geometry → ScriptRun → (start later : Content) → Type 0
+WritesPlacesOnly g run start later = OnlyAdds (IsOfPlaces g (IsWrittenIn (changes_in run.steps))) start later
+
+-- What was written, by what the command starts on. What the making of an image may leave tells which sectors it writes.
+abbrev pub WritesOnlyBy : Outset → Geometry → ScriptRun → (start later : Content) → Type 0
+WritesOnlyBy (RefusedBy ending) g run start later = WritesPlacesOnly g run start later
+WritesOnlyBy (RunsOn kind image) g run start later = WritesPlacesOnly g run start later
+WritesOnlyBy (Prints text) g run start later = later ≡ start
+WritesOnlyBy (Makes making) g run start later = making.MayBeLeft start later
+
+-- No other sector was written.
 pub record IsOnlyWritten (outset : Outset) (g : Geometry) (start : Content) (script : List ℕ) (later : Content)
     : Type 0 where
   pub run : ScriptRun
   pub is_run : IsRunAt outset script run
-  pub only : OnlyAdds (IsOfPlaces g (IsWrittenIn (changes_in run.steps))) start later
+  pub only : WritesOnlyBy outset g run start later
 
 -- What stands at a moment of the command: what some of the first changes of its run leave, and no sector written that
 -- the run does not write.
@@ -43,6 +55,12 @@ pub record IsMomentOf (outset : Outset) (g : Geometry) (start : Content) (script
 abbrev pub IsMomentOn : Option (List ℕ) → (sectors : ℕ) → (start : Content) → List ℕ → (later : Content) → Type 0
 IsMomentOn key sectors start script later =
     IsMomentOf (outset_on key sectors (last_image start)) (geometry_on sectors (last_image start)) start script
+    later
+
+-- The same, of what is done on such a disk.
+abbrev pub IsMomentAt : Task → Option (List ℕ) → (sectors : ℕ) → (start : Content) → List ℕ → (later : Content) → Type 0
+IsMomentAt task key sectors start script later =
+    IsMomentOf (outset_at task key sectors (last_image start)) (geometry_on sectors (last_image start)) start script
     later
 
 -- No more of the script is taken than its run has come to.

@@ -1,27 +1,27 @@
 -- The run of a script on a device that stands somewhere in it: what stops it, and what leads there.
-use Rattle.std.specs.Prelude.{◌≡◌, ◌≢◌, ℕ, ◌+◌, ltb, Bool, List, [], ◌∷◌, ◌++◌, length, take, Option, Result, Ok, Err, ◌≤◌}
+use Rattle.std.specs.Prelude.{◌≡◌, ◌≢◌, ℕ, ◌+◌, ◌==◌, if◌then◌else◌, ltb, Bool, List, [], ◌∷◌, ◌++◌, length, take, Option, Result, Ok, Err, ◌≤◌}
 use Rattle.std.specs.List.{AllZip}
 use Rattle.std.specs.Option.{ForSome, IsSomeAnd}
 use Rattle.disk_model.specs.Disk.{Content}
 use Rattle.disk_model.specs.Moments.{EachMoment}
 use Rattle.device_model.specs.Ending.{Ending, Complete}
-use Rattle.device_model.specs.Grammar.{ReadLine, IsReadAs, most_line}
+use Rattle.device_model.specs.Grammar.{ReadLine, IsReadAs}
 use Rattle.device_model.specs.History.{Change, with_changes}
-use Rattle.device_model.specs.ScriptBytes.{lines_of, most_script}
+use Rattle.device_model.specs.ScriptBytes.{most_script}
 use Rattle.device_model.specs.ScriptRun.{ScriptRun, ScriptStep, changes_in, close_step, only_ends, run_from, texts_of, with_step}
 use Rattle.direct_laws.specs.MomentLaws.{IsLeftNow, kind_of}
 use Rattle.device_core.specs.declared.condition.Condition.TheVariants as Conditions
 use Rattle.device_core.specs.declared.parts.Parts.{Parts}
 use Rattle.device_core.specs.Device.{IsDevice, Standing}
 use Rattle.script_reader.specs.Lines.{lines_left}
-use Rattle.script_reader.specs.Reading.{Reading, most_piece}
+use Rattle.script_reader.specs.Reading.{HasNoNewline, Reading, most_piece}
 use Rattle.script_session.specs.declared.tags_found.TagsFound.{TagsFound}
 use Rattle.script_session.specs.LineRun.{IsLeftWithin, WritesOnly, held_with}
 use Rattle.script_session.specs.Told.{finds_fault}
 use Rattle.command_ending.specs.Ended.{ending_of}
 use Rattle.command_ending.specs.declared.ended.Ended.{Ended}
 use Rattle.command_ending.specs.declared.ended.Ended.TheVariants as Endings
-use Rattle.device_model.specs.CommandRun.{IsEndedBy}
+use Rattle.command_model.specs.CommandRun.{IsEndedBy}
 
 -- How a run ended.
 abbrev pub ending_by : Result TagsFound Ended → Ending
@@ -58,22 +58,21 @@ is_beyond reader left = ltb most_script (reader.taken + length (reader.unread ++
 abbrev pub lines_behind : Reading → List ℕ → List (List ℕ)
 lines_behind reader left = lines_left reader.taken (reader.unread ++ left)
 
--- How many bytes lines have, each with the newline behind it.
-abbrev pub bytes_of_lines : List (List ℕ) → ℕ
-bytes_of_lines [] = 0
-bytes_of_lines (line ∷ lines) = length line + 1 + bytes_of_lines lines
+-- How many newlines these bytes have.
+abbrev pub newlines_in : List ℕ → ℕ
+newlines_in [] = 0
+newlines_in (byte ∷ bytes) = (if byte == 10 then 1 else 0) + newlines_in bytes
 
--- These steps of a run are made: it goes on with the rest. Each was a line of the script, their text is printed, and no more
--- than the bytes of these lines is taken.
+-- These steps of a run are made: it goes on with the rest. Their text is printed, and what is taken of the script has no more
+-- newlines than they are many.
 pub record IsPassed (run rest : ScriptRun) (script : List ℕ) (held_start : Option (List ℕ)) (reader : Reading)
     (left : List ℕ) (held : Option (List ℕ)) : Type 0 where
   pub steps : List ScriptStep
-  pub lines : List (List ℕ)
-  pub as_many : length lines ≡ length steps
   pub is_split : run.steps ≡ steps ++ rest.steps
   pub printed : held ≡ held_with (texts_of steps) held_start
-  pub lines_are : lines_of script ≡ lines ++ lines_behind reader left
-  pub low : reader.taken ≤ bytes_of_lines lines
+  pub front : List ℕ
+  pub bytes : script ≡ front ++ (reader.unread ++ left)
+  pub within : newlines_in front ≤ length steps
 
 -- A run of a script stands before its line of this number.
 pub record IsAt (there : Standing) (run : ScriptRun) (script : List ℕ) (start : List Content)
@@ -152,19 +151,22 @@ most_taken = 16777217
 abbrev pub HasTaken : (left later : Option (List ℕ)) → Type 0
 HasTaken left later = ForSome left (λ bytes. IsSomeAnd later (λ more. length bytes ≤ length more + most_taken))
 
--- So many bytes are taken at most before a line is run: the line and one byte, and one piece behind it.
-abbrev pub most_ahead : ℕ
-most_ahead = most_line + 1 + most_piece
-
 -- The sink holds this text behind what it held, and maybe more.
 pub record HoldsText (text : List ℕ) (held_before held : Option (List ℕ)) : Type 0 where
   pub more : List ℕ
   pub is : held ≡ held_with (text ++ more) held_before
 
--- No more of a script is taken than some of its first lines, whose text is all printed, and what is taken before the next
--- line is run.
+-- No more of a script is taken than lines whose text is all printed, one line behind them, and one piece behind that. What
+-- ends a line is its newline, or nothing.
 pub record HasReadTo (run : ScriptRun) (script : List ℕ) (left held_before held : Option (List ℕ)) : Type 0 where
   pub done : ℕ
   pub printed : HoldsText (texts_of (take done run.steps)) held_before held
-  pub taken : IsSomeAnd left (λ more.
-      length script ≤ length more + (bytes_of_lines (take done (lines_of script)) + most_ahead))
+  pub front : List ℕ
+  pub line : List ℕ
+  pub ending : List ℕ
+  pub behind : List ℕ
+  pub bytes : script ≡ front ++ (line ++ (ending ++ behind))
+  pub within : newlines_in front ≤ done
+  pub plain : HasNoNewline line
+  pub short : length ending ≤ 1
+  pub taken : IsSomeAnd left (λ more. length behind ≤ length more + most_piece)

@@ -9,7 +9,7 @@ use Rattle.command_ending.specs.declared.ended.Ended.TheVariants as Endings
 use Rattle.integrity_tool.specs.Words.{asked_of, key_file_of_asked}
 use Rattle.device_model.specs.Ending.{Ending, Complete, RefusedWords, RefusedKey, RefusedLine, RefusedLength, RefusedImage}
 use Rattle.device_model.specs.Ending.{DiskFailed, KeyFailed, ScriptFailed, SinkFailed, NoMemory}
-use Rattle.device_model.specs.CommandRun.{Outset, RefusedBy, RunsOn}
+use Rattle.command_model.specs.CommandRun.{Outset, RefusedBy, RunsOn, Prints, Makes}
 use Rattle.integrity_tool.specs.KeyFile.{HasFile}
 use Rattle.integrity_tool.specs.Opening.{IsMomentOf}
 use Rattle.integrity_tool.specs.Outset.{geometry_on, outset_of}
@@ -98,3 +98,5 @@ IsKeyRefusal NoMemory = ⊥
 abbrev pub IsRefusedByKey : Outset → Type 0
 IsRefusedByKey (RefusedBy ending) = IsKeyRefusal ending
 IsRefusedByKey (RunsOn kind image) = ⊥
+IsRefusedByKey (Prints text) = ⊥
+IsRefusedByKey (Makes making) = ⊥

@@ -1,31 +1,82 @@
 -- What the words ask for.
--- Own: of the commands that words can be, the program has the runs in direct mode.
+-- Own: of the commands that words can be, the program has `format`, `dump`, and the runs in direct mode.
 use Rattle.std.specs.Prelude.{◌≡◌, ℕ, if◌then◌else◌, List, [], Option, Some, None}
 use Rattle.command_words.specs.Commands.{command_of}
 use Rattle.command_words.specs.Come.{has_come}
+use Rattle.command_words.specs.Numbers.{log2_of}
+use Rattle.command_words.specs.Sizes.{log2_sectors}
 use Rattle.command_words.specs.declared.command.Command.{Command}
 use Rattle.command_words.specs.declared.command.Command.TheVariants as Commands
+use Rattle.command_words.specs.declared.command.Dump.{Dump}
+use Rattle.command_words.specs.declared.command.Format.{Format}
 use Rattle.command_words.specs.declared.command.Run.{Run}
 use Rattle.command_words.specs.declared.values.HashChoice.{HashChoice}
 use Rattle.command_words.specs.declared.values.HashChoice.TheVariants.{Sha256, HmacSha256}
+use Rattle.command_words.specs.declared.values.Padding as words
+use Rattle.command_words.specs.declared.values.Padding.TheVariants as paddings
+use Rattle.command_words.specs.declared.values.Wipe as words_wipe
+use Rattle.command_words.specs.declared.values.Wipe.TheVariants as wipes
+use Rattle.image_formatting.specs.declared.new_image.NewImage.{NewImage}
+use Rattle.image_formatting.specs.declared.new_image.Padding.{Padding}
+use Rattle.image_formatting.specs.declared.new_image.Padding.TheVariants.{Fixed, Legacy}
+use Rattle.image_formatting.specs.declared.new_image.Wipe.{Wipe}
+use Rattle.image_formatting.specs.declared.new_image.Wipe.TheVariants.{Wiped, Kept}
+use Rattle.image_formatting.specs.NewImage.{IsNewImage}
+use Rattle.integrity_tool.specs.declared.asked.Asked.{Asked}
+use Rattle.integrity_tool.specs.declared.asked.Task.{Task}
+use Rattle.integrity_tool.specs.declared.asked.Task.TheVariants as Tasks
 
--- The image that a script is run on, and the file of the key, where its tags are keyed.
-pub record Asked : Type 0 where
-  pub image : List ℕ
-  pub key_file : Option (List ℕ)
+-- ---- the image that `format` is to make
 
-abbrev pub key_file_of : HashChoice → Option (List ℕ)
-key_file_of Sha256 = None
-key_file_of (HmacSha256 key_file) = Some key_file
+abbrev pub padding_as : words.Padding → Padding
+padding_as paddings.Fixed = Fixed
+padding_as paddings.Legacy = Legacy
 
--- What a run asks for.
-abbrev pub asked_in : Run → Asked
-asked_in run = record { image = run.image; key_file = key_file_of run.hash }
+abbrev pub wipe_as : words_wipe.Wipe → Wipe
+wipe_as wipes.Zeros = Wiped
+wipe_as wipes.Nothing = Kept
 
--- What a command asks for, if the program has it.
+abbrev pub new_image_of : Format → NewImage
+new_image_of format = record {
+  tag_size = format.tag_size;
+  log2_spb = log2_sectors format.block_size;
+  log2_interleave = log2_of format.interleave;
+  sections = format.sections;
+  log2_region = format.log2_blocks_per_bit;
+  salt = format.salt;
+  padding = padding_as format.padding;
+  wipe = wipe_as format.wipe;
+}
+
+-- Its fields are in their ranges. What else is done asks for none.
+abbrev pub IsTask : Task → Type 0
+IsTask Tasks.Run = Unit {0}
+IsTask Tasks.Dump = Unit {0}
+IsTask (Tasks.Format new) = IsNewImage new
+
+-- ---- by the words
+
+abbrev pub format_asked : Format → Asked
+format_asked format = record { image = format.image; hash = format.hash; task = Tasks.Format (new_image_of format) }
+
+abbrev pub run_asked : Run → Asked
+run_asked run = record { image = run.image; hash = run.hash; task = Tasks.Run }
+
+-- A dump looks at no tag, and needs no key.
+abbrev pub dump_asked : Dump → Asked
+dump_asked dump = record { image = dump.image; hash = Sha256; task = Tasks.Dump }
+
+-- What a command asks for.
+abbrev pub asked_in : Command → Option Asked
+asked_in (Commands.Format format) = Some (format_asked format)
+asked_in (Commands.Run run) = Some (run_asked run)
+asked_in (Commands.Dump dump) = Some (dump_asked dump)
+asked_in (Commands.Check check) = None
+asked_in (Commands.Exercise exercise) = None
+
+-- The same, if the program has it.
 abbrev pub asked_by : Command → Option Asked
-asked_by (Commands.Run run) = if has_come (Commands.Run run) then Some (asked_in run) else None
-asked_by command = None
+asked_by command = if has_come command then asked_in command else None
 
 abbrev pub asked_with : Option Command → Option Asked
 asked_with None = None
@@ -35,10 +86,6 @@ asked_with (Some command) = asked_by command
 abbrev pub asked_of : List (List ℕ) → Option Asked
 asked_of words = asked_with (command_of words)
 
--- The words ask for a run.
-abbrev pub IsAsked : List (List ℕ) → Type 0
-IsAsked words = (asked : Asked) × (asked_of words ≡ Some asked)
-
 -- The name of the image, and no bytes where the words ask for none.
 abbrev pub image_of : Option Asked → List ℕ
 image_of None = []
@@ -47,7 +94,24 @@ image_of (Some asked) = asked.image
 abbrev pub image_name : List (List ℕ) → List ℕ
 image_name words = image_of (asked_of words)
 
+-- The file of the key, where tags are keyed.
+abbrev pub key_file_of : HashChoice → Option (List ℕ)
+key_file_of Sha256 = None
+key_file_of (HmacSha256 key_file) = Some key_file
+
 -- The key file that the words name, if they name one.
 abbrev pub key_file_of_asked : Option Asked → Option (List ℕ)
 key_file_of_asked None = None
-key_file_of_asked (Some asked) = asked.key_file
+key_file_of_asked (Some asked) = key_file_of asked.hash
+
+-- ---- what has no script
+
+abbrev pub IsScriptless : Task → Type 0
+IsScriptless Tasks.Run = ⊥
+IsScriptless Tasks.Dump = Unit {0}
+IsScriptless (Tasks.Format new) = Unit {0}
+
+-- The words ask for nothing that reads a script.
+abbrev pub HasNoScript : Option Asked → Type 0
+HasNoScript None = Unit {0}
+HasNoScript (Some asked) = IsScriptless asked.task

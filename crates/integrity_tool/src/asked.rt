@@ -1,39 +1,152 @@
-//! The run that the words ask for.
-ghost use Rattle.std.specs.Prelude.{◌≡◌, ◌⊎◌, Err, IfErr, IfOk, None, map};
-ghost use Rattle.std.specs.Option.{option_map};
+//! What the words ask for.
+ghost use Rattle.std.specs.Prelude.{◌≡◌, ◌⊎◌, Err, IfErr, IfOk, IfSome, None, Some, map};
 ghost use Rattle.std.specs.String.{string_bytes};
 ghost use Rattle.command_ending.specs.declared.ended.Ended.TheVariants as Endings;
-ghost use Rattle.integrity_tool.specs.Words.{asked_by, asked_in, asked_of};
+ghost use Rattle.integrity_tool.specs.Words.{IsTask, asked_by, asked_in, asked_of, dump_asked, format_asked, new_image_of, padding_as, run_asked, wipe_as};
+ghost use Rattle.image_formatting.specs.NewImage.{IsNewImage};
 
 use command_ending::Ended;
-use command_words::{Command, Run, WordsFault, has_come, parse};
+use command_words::{
+    Command, Dump, FileName, Format, HashChoice, Padding, Run, Wipe, WordsFault, has_come, parse,
+};
+use image_formatting::NewImage;
 use std::alloc::Global;
 
-/// The command that the words are. The first is the program's name.
+/// What the words ask for.
+#[derive(Debug, Drop)]
+pub(crate) struct Asked {
+    /// The image.
+    pub(crate) image: FileName,
+    /// The hash of its tags. A dump looks at none of them, and needs no key.
+    pub(crate) hash: HashChoice,
+    /// What is done on it.
+    pub(crate) task: Task,
+}
+
+/// What is done on an image.
+#[derive(Clone, Copy, Debug)]
+pub(crate) enum Task {
+    /// A script is run on a device in direct mode.
+    Run,
+    /// What the image shows is printed.
+    Dump,
+    /// A new image is made.
+    Format(NewImage),
+}
+
+/// What the words ask for. The first is the program's name.
 ///
 /// # Errors
 ///
-/// - `Words`: they are none.
+/// - `Words`: they are no command that the program has.
 /// - `Memory`: there is none.
-pub(crate) fn command_of(alloc: Global, words: &[String]) -> Result<Command, Ended>
-    ensures command { IfOk result (λ command. asked_of (map string_bytes words.now) ≡ asked_by command) }
+pub(crate) fn words_asked(alloc: Global, words: &[String]) -> Result<Asked, Ended>
+    ensures asked { IfOk result (λ asked. asked_of (map string_bytes words.now) ≡ Some asked) }
+    ensures task { IfOk result (λ asked. IsTask asked.task) }
 
     ensures words { result ≡ Err Endings.Words → asked_of (map string_bytes words.now) ≡ None }
     ensures errors { IfErr result (λ ended. (ended ≡ Endings.Words) ⊎ (ended ≡ Endings.Memory)) }
 {
     match parse(alloc, words) {
-        Ok(command) => Ok(command),
+        Ok(command) => asked_by(command).ok_or(Ended::Words),
         Err(WordsFault::Refused) => Err(Ended::Words),
         Err(WordsFault::Memory) => Err(Ended::Memory),
     }
 }
 
-/// The run that a command is, if it is one that the program has.
-pub(crate) fn run_in(command: &Command) -> Option<&Run>
-    ensures { option_map (λ run. asked_in run.now) result ≡ asked_by command.now }
+/// What a command asks for, if it is one that the program has.
+fn asked_by(command: Command) -> Option<Asked>
+    ensures asked { result ≡ asked_by command }
+    ensures task { IfSome result (λ asked. IsTask asked.task) }
+{
+    if has_come(&command) {
+        asked_in(command)
+    } else {
+        None
+    }
+}
+
+/// What a command asks for, if it is one that the program will have in this form.
+fn asked_in(command: Command) -> Option<Asked>
+    ensures asked { result ≡ asked_in command }
+    ensures task { IfSome result (λ asked. IsTask asked.task) }
 {
     match command {
-        Command::Run(run) if has_come(command) => Some(run),
-        _ => None,
+        Command::Format(format) => Some(format_asked(format)),
+        Command::Run(run) => Some(run_asked(run)),
+        Command::Dump(dump) => Some(dump_asked(dump)),
+        Command::Check(_) | Command::Exercise(_) => None,
+    }
+}
+
+/// What `format` asks for.
+fn format_asked(format: Format) -> Asked
+    ensures asked { result ≡ format_asked format }
+    ensures task { IsTask result.task }
+{
+    let task = Task::Format(new_image(&format));
+    Asked {
+        image: format.image,
+        hash: format.hash,
+        task,
+    }
+}
+
+/// What `run` asks for.
+fn run_asked(run: Run) -> Asked
+    ensures { result ≡ run_asked run }
+{
+    Asked {
+        image: run.image,
+        hash: run.hash,
+        task: Task::Run,
+    }
+}
+
+/// What `dump` asks for.
+fn dump_asked(dump: Dump) -> Asked
+    ensures { result ≡ dump_asked dump }
+{
+    Asked {
+        image: dump.image,
+        hash: HashChoice::Sha256,
+        task: Task::Dump,
+    }
+}
+
+/// The image that `format` is to make.
+fn new_image(format: &Format) -> NewImage
+    ensures image { result ≡ new_image_of format.now }
+    ensures ranges { IsNewImage result }
+{
+    NewImage {
+        tag_size: format.tag_size.number() as u8,
+        log2_spb: format.block_size.log2_sectors(),
+        log2_interleave: format.interleave.log2(),
+        sections: format.sections.number() as u32,
+        log2_region: format.log2_blocks_per_bit.number() as u8,
+        salt: format.salt,
+        padding: padding(format.padding),
+        wipe: wipe(format.wipe),
+    }
+}
+
+/// The same padding.
+fn padding(padding: Padding) -> image_formatting::Padding
+    ensures { result ≡ padding_as padding }
+{
+    match padding {
+        Padding::Fixed => image_formatting::Padding::Fixed,
+        Padding::Legacy => image_formatting::Padding::Legacy,
+    }
+}
+
+/// The same wipe.
+fn wipe(wipe: Wipe) -> image_formatting::Wipe
+    ensures { result ≡ wipe_as wipe }
+{
+    match wipe {
+        Wipe::Zeros => image_formatting::Wipe::Wiped,
+        Wipe::Nothing => image_formatting::Wipe::Kept,
     }
 }

@@ -1,12 +1,16 @@
 //! The program as one call: what it does with its words, its disk, its key, its script and its output.
 //!
-//! `integrity` is the call, and its contract is the promise. `device_model`'s `CommandRun.antt` is the file to read first.
+//! `integrity` is the call, and its contract is the promise. `command_model`'s `CommandRun.antt` is the file to
+//! read first.
 #![tactic(auto)]
 
 mod asked;
+mod carrying_out;
 mod closing;
+mod dumping;
 mod keyed;
 mod lines;
+mod making;
 mod opening;
 mod running;
 mod top_call;

@@ -1,10 +1,10 @@
 //! Reads and runs one line of a script.
-ghost use Rattle.std.specs.Prelude.{◌≡◌, ◌≤◌, ◌+◌, ◌<◌, ◌^◌, Err, IfErr, IfOk, Ok, OnOk, true};
+ghost use Rattle.std.specs.Prelude.{◌≡◌, ◌≤◌, ◌+◌, ◌++◌, ◌<◌, ◌^◌, Err, IfErr, IfOk, Ok, OnOk, true};
 ghost use Rattle.std.specs.Option.{ForSome, IsSomeAnd};
 ghost use Rattle.disk_model.specs.Causes.{Rose};
 ghost use Rattle.device_core.specs.declared.condition.Condition.TheVariants.{Working};
 ghost use Rattle.device_core.specs.Device.{IsDevice, IsReady, Standing};
-ghost use Rattle.script_reader.specs.Reading.{IsWithin, TakesOneLine};
+ghost use Rattle.script_reader.specs.Reading.{IsWithin, TakesLine};
 ghost use Rattle.script_session.specs.Tickets.{AreInFlight, Stays};
 ghost use Rattle.integrity_tool.specs.Lines.{HasAdvanced, HasRunBytes, IsStoppedByBytes, ended_by};
 ghost use Rattle.integrity_tool.specs.Running.{EndsScript, HasEndCause, HasRead, IsCounted};
@@ -34,7 +34,9 @@ pub(crate) fn advance<S: Source>(
         (λ later. HasAdvanced number reader.old reader.new left later result)) }
     ensures taken { result ≡ Ok true → reader.old.taken < reader.new.taken }
     ensures read { HasRead reader.old reader.new (S.left script.old) (S.left script.new) }
-    ensures within { IsWithin reader.new × TakesOneLine reader.old reader.new }
+    ensures line { ForSome (S.left script.old) (λ left. IsSomeAnd (S.left script.new)
+        (λ later. TakesLine reader.old reader.new (reader.old.unread ++ left) (reader.new.unread ++ later))) }
+    ensures within { IsWithin reader.new }
 
     ensures ends { IfErr result EndsScript }
     ensures cause { IfErr result (HasEndCause ⊥ (Rose (S.faults script.old) (S.faults script.new)) ⊥) }

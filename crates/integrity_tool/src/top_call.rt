@@ -7,16 +7,16 @@ ghost use Rattle.disk_model.specs.Identity.{IsBoundTo, IsThere};
 ghost use Rattle.disk_model.specs.Moments.{content_now, EachMoment};
 ghost use Rattle.device_model.specs.Ending.{Complete, status_of};
 ghost use Rattle.script_session.specs.Told.{finds_fault};
-ghost use Rattle.integrity_tool.specs.Words.{asked_of, image_name, key_file_of_asked};
+ghost use Rattle.integrity_tool.specs.Words.{HasNoScript, asked_of, image_name, key_file_of_asked};
 ghost use Rattle.integrity_tool.specs.KeyFile.{HasReadKey};
-ghost use Rattle.device_model.specs.CommandRun.{Tells};
+ghost use Rattle.command_model.specs.CommandRun.{Tells};
 ghost use Rattle.integrity_tool.specs.Opening.{HasReadIn, HasRunOn};
 ghost use Rattle.integrity_tool.specs.Running.{HasTaken, IsCounted, ending_by};
 ghost use Rattle.integrity_tool.specs.Top.{Given, HasCommandCause, HasStatus, IsBeforeScript, IsGiven, IsMomentIn, IsRefusedByKey, outset_in};
 
-use crate::asked::{command_of, run_in};
+use crate::asked::words_asked;
+use crate::carrying_out::carry_out;
 use crate::keyed::hash_of;
-use crate::opening::run_image;
 use command_ending::Ended;
 use script_session::TagsFound;
 use sector_disk::Disk;
@@ -25,13 +25,14 @@ use stream_io::{NamedSource, Sink, Source};
 
 /// Does what the words say, and answers the status. The words are the program's name and then those of a command.
 ///
-/// There is one command, `run IMAGE --mode D`, with `--integrity` and `--integrity-key-file`. The key is bound and read,
-/// at most 4097 bytes of it, before the image is bound, and the script only once the device is open.
+/// The commands are `format IMAGE`, `dump IMAGE`, and `run IMAGE --mode D`. The key is bound and read, at most 4097
+/// bytes of it, before the image is bound, and the script of a run only once the device is open.
 ///
 /// # Statuses
 ///
-/// - 0: the script was run to its end, and the device closed.
-/// - 1: so it was, and a reply that was taken names a block whose stored tag differs.
+/// - 0: the command came to its end: the image is made, its lines are printed, or the script was run to its end and
+///   the device closed.
+/// - 1: the script was, and a reply that was taken names a block whose stored tag differs.
 /// - 2: the words are no command, the bytes of the key file no key, or the script is refused.
 /// - 3: the image is refused.
 /// - 4, 5, 6: the disk, the source of the key or of the script, or the sink failed.
@@ -68,7 +69,7 @@ pub fn integrity<D: Disk, K: NamedSource, S: Source, O: Sink>(
     ensures status { HasStatus (D.faults disk.old) (D.faults disk.new) (K.faults key.old) (K.faults key.new)
         (S.faults script.old) (S.faults script.new) (O.faults out.old) (O.faults out.new) result }
 
-    // Words that ask for no run touch nothing.
+    // Words that are no command touch nothing.
     ensures words { asked_of (map string_bytes words.now) ≡ None → ((result ≡ 2) ⊎ (result ≡ 7))
         × (disk.new ≡ disk.old) × (key.new ≡ key.old) × (script.new ≡ script.old) }
     // A key that is refused is so before the disk is called.
@@ -79,9 +80,10 @@ pub fn integrity<D: Disk, K: NamedSource, S: Source, O: Sink>(
     // No key file is read but the one that the words name, and of that at most 4097 bytes.
     ensures key { HasReadKey (key_file_of_asked (asked_of (map string_bytes words.now))) (K.named key.old)
         (K.left key.new) (key.new ≡ key.old) (result ≤ 1) }
-    // The script is not read where the image is refused, and never more than one byte beyond its bound. The disk is bound to
-    // the image, and has as many sectors as before.
-    ensures unread { result ≡ 3 → script.new ≡ script.old }
+    // The script is not read where the image is refused or the command has none, and never more than one byte beyond its
+    // bound. The disk is bound to the image, and has as many sectors as before.
+    ensures unread { (result ≡ 3) ⊎ HasNoScript (asked_of (map string_bytes words.now))
+        → script.new ≡ script.old }
     ensures taken { HasTaken (S.left script.old) (S.left script.new) }
     // A line is run before more than one piece behind it is taken.
     ensures ahead { (given : Given)
@@ -119,7 +121,7 @@ fn complete_status(found: TagsFound) -> u8
 ///
 /// # Errors
 ///
-/// What ends it, in the order of `Ended` as a run goes: the words, the key, the image, the script.
+/// What ends it, in this order: the words, the key, the image, the script.
 fn run<D: Disk, K: NamedSource, S: Source, O: Sink>(
     alloc: Global,
     words: &[String],
@@ -153,7 +155,8 @@ fn run<D: Disk, K: NamedSource, S: Source, O: Sink>(
         → IsRefusedByKey (outset_in given) → (disk.new ≡ disk.old) × (script.new ≡ script.old) }
     ensures key { HasReadKey (key_file_of_asked (asked_of (map string_bytes words.now))) (K.named key.old)
         (K.left key.new) (key.new ≡ key.old) (IsOk result) }
-    ensures unread { IfErr result (λ ended. IsBeforeScript ended → script.new ≡ script.old) }
+    ensures unread { IfErr result (λ ended. IsBeforeScript ended → script.new ≡ script.old)
+        × (HasNoScript (asked_of (map string_bytes words.now)) → script.new ≡ script.old) }
     ensures taken { HasTaken (S.left script.old) (S.left script.new) × ((given : Given)
         → IsGiven (map string_bytes words.now) (K.named key.old)
         (D.named disk.old (image_name (map string_bytes words.now))) (S.left script.old) given
@@ -165,13 +168,10 @@ fn run<D: Disk, K: NamedSource, S: Source, O: Sink>(
         (λ c. (D.named disk.new (image_name (map string_bytes words.now))).sectors
         ≡ (D.named disk.old (image_name (map string_bytes words.now))).sectors) }
 {
-    let command = command_of(alloc, words)?;
-    let Some(run) = run_in(&command) else {
-        return Err(Ended::Words);
-    };
-    let hash = hash_of(alloc, key, &run.hash)?;
-    bind_image(disk, run.image.as_str())?;
-    run_image(alloc, disk, hash, script, out)
+    let asked = words_asked(alloc, words)?;
+    let hash = hash_of(alloc, key, &asked.hash)?;
+    bind_image(disk, asked.image.as_str())?;
+    carry_out(alloc, disk, hash, asked.task, script, out)
 }
 
 /// Binds the disk to the name of an image.

@@ -9,8 +9,8 @@ use Rattle.integrity_tool.specs.Closing.{close_ending}
 use Rattle.integrity_tool.specs.Opening.{EndsImage, HasRunOn, IsMomentOn}
 use Rattle.integrity_tool.specs.Outset.{outset_on}
 use Rattle.integrity_tool.specs.Running.{IsCounted, ending_by}
-use Rattle.integrity_tool.proofs.StartLemmas.{fine_on, left_by_open, given_back, nothing_run, ran_on, read_further, read_none, read_on_image}
-use Rattle.integrity_tool.proofs.StartLemmas.{refused_by_open, untouched_kept}
+use Rattle.integrity_tool.proofs.StartLemmas.{before_kept, fine_on, left_by_open, given_back, nothing_run, ran_on, read_further, read_none, read_on_image}
+use Rattle.integrity_tool.proofs.StartLemmas.{refused_by_open}
 use Rattle.disk_model.proofs.MomentsLemmas.{no_moment}
 use Rattle.integrity_tool.proofs.TakenLemmas.{none_taken}
 use Rattle.integrity_tool.proofs.ClosingLemmas.{counted_by_close, ending_at_close, ends_at_close}
@@ -27,7 +27,7 @@ returns-in_default-clause-runs g c left told start told_start =
     let outset = outset_on key disk.sectors (last_image start) in
     let before = g.D.Disk.moments c.args.disk.now in (
       nothing_run outset (fine_on key disk.sectors (last_image start)) start left NoMemory tt before
-          (untouched_kept start told_start refl) _ _ refl,
+          (before_kept outset start told_start refl) _ _ refl,
       no_moment before (IsMomentOn key disk.sectors start left),
     )
 

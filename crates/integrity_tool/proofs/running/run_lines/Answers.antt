@@ -69,7 +69,7 @@ loop-tickets-preserved g c =
       submitted = let one = stays.submitted in let two = kept.submitted in omega (arith, one, two);
       number = let more = c.advance.ensures.taken (c.in_ok-advance.was ∙ ap Ok c.if-branch.true) in
           let before = kept.number in omega (arith, more, before);
-      taken = c.advance.ensures.within.0.taken;
+      taken = c.advance.ensures.within.taken;
       read = λ left told. read_on left c.loop-tickets.reader c.advance.new.reader _ _ (kept.read left told)
           c.advance.ensures.read;
       disk_same = counted.0.passed (not_ended _ _ c.in_ok-told.was) ∙ kept.disk_same;
@@ -84,7 +84,7 @@ loop-tickets-preserved g c =
           (g.S.Source.left c.advance.new.script)
           c.in_ok-advance.field-0 c.line.result.now _ _ _ c.in_ok-told.told _
           (kept.way w left run is told is_run) c.in_ok-advance.ensures.advanced c.if-branch.true
-          c.line.ensures c.in_ok-told.ensures.ran c.either-found.ensures c.advance.ensures.within.1;
+          c.line.ensures c.in_ok-told.ensures.ran c.either-found.ensures c.advance.ensures.line;
     }
 
 pub returns-clause-lines : goal.returns-clause-lines
@@ -99,48 +99,42 @@ returns-clause-lines g c w left run is told is_run =
 pub returns-in_err-advance-clause-taken : goal.returns-in_err-advance-clause-taken
 returns-in_err-advance-clause-taken g c = (
   λ left told.
-      read_within left c.advance.new.reader _ c.advance.ensures.within.0.read
+      read_within left c.advance.new.reader _ c.advance.ensures.within.read
       (read_on left c.loop-tickets.reader c.advance.new.reader _ _ (c.loop-tickets.invariant.read left told)
       c.advance.ensures.read),
   λ w left run is told is_run.
       turn_read w run left _ _ c.loop-tickets.number c.loop-tickets.found c.loop-tickets.reader
       c.advance.new.reader c.loop-tickets.device.parts _ _ (g.S.Source.left c.loop-tickets.script) _ _
-      (c.loop-tickets.invariant.way w left run is told is_run) c.advance.ensures.within.1
-      c.advance.ensures.within.0 (holds_same refl)
-      (read_on left c.loop-tickets.reader c.advance.new.reader _ _ (c.loop-tickets.invariant.read left told)
-      c.advance.ensures.read),
+      (c.loop-tickets.invariant.way w left run is told is_run) c.advance.ensures.line
+      c.advance.ensures.within (holds_same refl),
 )
 
 pub returns-in_err-told-clause-taken : goal.returns-in_err-told-clause-taken
 returns-in_err-told-clause-taken g c = (
   λ left told.
-      read_within left c.advance.new.reader _ c.advance.ensures.within.0.read
+      read_within left c.advance.new.reader _ c.advance.ensures.within.read
       (read_on left c.loop-tickets.reader c.advance.new.reader _ _ (c.loop-tickets.invariant.read left told)
       c.advance.ensures.read),
   λ w left run is told is_run.
       let at = c.loop-tickets.invariant.way w left run is told is_run in
       turn_read w run left _ _ c.loop-tickets.number c.loop-tickets.found c.loop-tickets.reader
       c.advance.new.reader c.loop-tickets.device.parts _ _ (g.S.Source.left c.loop-tickets.script) _ _ at
-      c.advance.ensures.within.1 c.advance.ensures.within.0
+      c.advance.ensures.line c.advance.ensures.within
       (turn_held w run left _ _ c.loop-tickets.number c.loop-tickets.found c.loop-tickets.reader
       c.advance.new.reader c.loop-tickets.device.parts _ _ (g.S.Source.left c.loop-tickets.script)
       (g.S.Source.left c.advance.new.script) c.in_ok-advance.field-0 c.line.result.now _ _ c.in_err-told.field-0.0
-      at c.in_ok-advance.ensures.advanced c.if-branch.true c.line.ensures c.in_err-told.ensures.stopped)
-      (read_on left c.loop-tickets.reader c.advance.new.reader _ _ (c.loop-tickets.invariant.read left told)
-      c.advance.ensures.read),
+      at c.in_ok-advance.ensures.advanced c.if-branch.true c.line.ensures c.in_err-told.ensures.stopped),
 )
 
 pub returns-clause-taken : goal.returns-clause-taken
 returns-clause-taken g c = (
   λ left told.
-      read_within left c.advance.new.reader _ c.advance.ensures.within.0.read
+      read_within left c.advance.new.reader _ c.advance.ensures.within.read
       (read_on left c.loop-tickets.reader c.advance.new.reader _ _ (c.loop-tickets.invariant.read left told)
       c.advance.ensures.read),
   λ w left run is told is_run.
       turn_read w run left _ _ c.loop-tickets.number c.loop-tickets.found c.loop-tickets.reader
       c.advance.new.reader c.loop-tickets.device.parts _ _ (g.S.Source.left c.loop-tickets.script) _ _
-      (c.loop-tickets.invariant.way w left run is told is_run) c.advance.ensures.within.1
-      c.advance.ensures.within.0 (holds_same refl)
-      (read_on left c.loop-tickets.reader c.advance.new.reader _ _ (c.loop-tickets.invariant.read left told)
-      c.advance.ensures.read),
+      (c.loop-tickets.invariant.way w left run is told is_run) c.advance.ensures.line
+      c.advance.ensures.within (holds_same refl),
 )

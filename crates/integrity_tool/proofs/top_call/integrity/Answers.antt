@@ -3,12 +3,12 @@ use Rattle.script_session.specs.declared.tags_found.TagsFound.{TagsFound}
 use Rattle.command_ending.specs.declared.ended.Ended.{Ended}
 use Rattle.integrity_tool.specs.Words.{asked_of, key_file_of_asked}
 use Rattle.integrity_tool.proofs.KeyLemmas.{read_as}
-use Rattle.std.proofs.Common.{ℕ, ◌≤◌, Result, IsOk, map, refl, ◌∙◌, sym, subst, arith}
+use Rattle.std.proofs.Common.{inl, inr, ℕ, ◌≤◌, Result, IsOk, map, refl, ◌∙◌, sym, subst, arith}
 use Rattle.std.proofs.lemmas.Result.{on_err_weaker}
 use Rattle.disk_model.specs.Causes.{Rose}
 use Rattle.script_session.specs.Told.{finds_fault}
 use Rattle.command_ending.specs.Ended.{ending_of}
-use Rattle.device_model.specs.CommandRun.{Faults}
+use Rattle.command_model.specs.CommandRun.{Faults}
 use Rattle.integrity_tool.specs.Top.{outset_in}
 use Rattle.integrity_tool.proofs.TopLemmas.{Counts, HasStatusIn, cause_in, cause_later, complete_is_low, image_refused, rose_earlier, rose_later}
 use Rattle.integrity_tool.proofs.TopLemmas.{ended_is_high, last_line_holds, status_complete, status_ended, tells_complete, tells_early, told_at_end}
@@ -38,11 +38,17 @@ returns-in-Err-clause-tells g c given before is held =
     c.put_last_line.ensures.written (on_err_weaker c.put_last_line.result (rose_earlier _ _ _ c.in-Err.ensures.counted.3.later) c.put_last_line.ensures.cause.failed) c.put_last_line.ensures.err
 
 pub returns-in-Ok-clause-unread : goal.returns-in-Ok-clause-unread
-returns-in-Ok-clause-unread g c is =
-    absurd (omega (arith, is, c.complete_status.ensures, complete_is_low (finds_fault c.in-Ok.found)))
+returns-in-Ok-clause-unread g c either = elim either [
+  | inl is ↦
+      absurd (omega (arith, is, c.complete_status.ensures, complete_is_low (finds_fault c.in-Ok.found)))
+  | inr none ↦ c.run.ensures.unread.1 none
+]
 
 pub returns-in-Err-clause-unread : goal.returns-in-Err-clause-unread
-returns-in-Err-clause-unread g c is = c.in-Err.ensures.unread (image_refused c.in-Err.ended (sym c.status.ensures ∙ is))
+returns-in-Err-clause-unread g c either = elim either [
+  | inl is ↦ c.in-Err.ensures.unread.0 (image_refused c.in-Err.ended (sym c.status.ensures ∙ is))
+  | inr none ↦ c.run.ensures.unread.1 none
+]
 
 pub returns-in-Ok-clause-status : goal.returns-in-Ok-clause-status
 returns-in-Ok-clause-status g c =

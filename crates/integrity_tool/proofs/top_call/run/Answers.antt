@@ -1,52 +1,43 @@
 use Rattle.std.proofs.Common.{refl}
-use Rattle.std.proofs.Common.{◌≡◌, ℕ, List, Some, None, Err, sym, ap, ◌∙◌, subst, map}
-use Rattle.std.specs.Option.{ForSome, option_map}
+use Rattle.std.proofs.Common.{◌≡◌, ℕ, List, Some, Err, sym, ap, ◌∙◌, subst, map}
+use Rattle.std.specs.Option.{ForSome}
 use Rattle.std.specs.String.{string_bytes}
 use Rattle.std.proofs.lemmas.Result.{err_from_is_err_and}
 use Rattle.disk_model.specs.Identity.{DiskIdentity, IsBoundTo, IsThere, NamedDisk}
 use Rattle.disk_model.specs.Moments.{content_now}
 use Rattle.device_model.specs.Ending.{DiskFailed}
 use Rattle.hmac_tag.specs.TagMaker.{key_of}
-use Rattle.integrity_tool.specs.Words.{asked_in, asked_of, image_name, image_of}
+use Rattle.integrity_tool.specs.declared.asked.Asked.{Asked}
+use Rattle.integrity_tool.specs.Words.{HasNoScript, asked_of, image_name, image_of}
 use Rattle.integrity_tool.specs.Running.{ending_by}
-use Rattle.integrity_tool.proofs.StartLemmas.{not_refused_by_key, outside_first, ran_given, read_given, read_none, stopped_at_key, stopped_at_words, words_first}
+use Rattle.integrity_tool.proofs.StartLemmas.{not_refused_by_key, outside_first, ran_given, read_given, read_none, stopped_at_key, stopped_at_words}
 use Rattle.integrity_tool.proofs.TopLemmas.{told_there}
 use Rattle.integrity_tool.proofs.TakenLemmas.{none_taken}
 use Rattle.integrity_tool.proofs.top_call.run.Goals as goal
 
-pub returns-in_err-command-clause-runs : goal.returns-in_err-command-clause-runs
-returns-in_err-command-clause-runs g c given is =
+pub returns-in_err-asked-clause-runs : goal.returns-in_err-asked-clause-runs
+returns-in_err-asked-clause-runs g c given is =
     let words = map string_bytes c.args.words.now in
     let image = g.D.Disk.named c.args.disk.now (image_name words) in
     let p = err_from_is_err_and c.from_residual.result c.from_residual.ensures.1 in
     rw (p.1, p.2) (stopped_at_words given words (g.K.NamedSource.named c.args.key.now) image (g.S.Source.left c.args.script.now) is (g.O.Sink.held c.args.out.now) _
-    c.in_err-command.ensures.errors (λ e. c.in_err-command.ensures.words (ap (λ x. Err x) e)))
-
-pub returns-in_default-clause-runs : goal.returns-in_default-clause-runs
-returns-in_default-clause-runs g c given is =
-    let words = map string_bytes c.args.words.now in
-    let image = g.D.Disk.named c.args.disk.now (image_name words) in
-    let none : asked_of words ≡ None = c.in_ok-command.ensures.command ∙ sym c.run_in.ensures ∙ ap (option_map _) c.in_default.is in
-    words_first given words (g.K.NamedSource.named c.args.key.now) image (g.S.Source.left c.args.script.now) is (g.O.Sink.held c.args.out.now) none
+    c.in_err-asked.ensures.errors (λ e. c.in_err-asked.ensures.words (ap (λ x. Err x) e)))
 
 pub returns-in_err-hash-clause-runs : goal.returns-in_err-hash-clause-runs
 returns-in_err-hash-clause-runs g c given is =
     let words = map string_bytes c.args.words.now in
     let image = g.D.Disk.named c.args.disk.now (image_name words) in
-    let run = c.in-Some.run'.now in
-    let asks : asked_of words ≡ Some (asked_in run) = c.in_ok-command.ensures.command ∙ sym c.run_in.ensures ∙ ap (option_map _) c.in-Some.is in
+    let asked = c.in_ok-asked.asked in
     let p = err_from_is_err_and c.from_residual-in_err-hash.result c.from_residual-in_err-hash.ensures.1 in
-    rw (p.1, p.2) (stopped_at_key given words (g.K.NamedSource.named c.args.key.now) image (g.S.Source.left c.args.script.now) is (g.O.Sink.held c.args.out.now) (asked_in run) asks _ _ _
-    c.in_err-hash.ensures.refused)
+    rw (p.1, p.2) (stopped_at_key given words (g.K.NamedSource.named c.args.key.now) image (g.S.Source.left c.args.script.now) is (g.O.Sink.held c.args.out.now) asked
+    c.in_ok-asked.ensures.asked _ _ _ c.in_err-hash.ensures.refused)
 
 pub returns-in_err-bind_image-clause-runs : goal.returns-in_err-bind_image-clause-runs
 returns-in_err-bind_image-clause-runs g c given is =
     let words = map string_bytes c.args.words.now in
     let old = g.D.Disk.named c.args.disk.now in
     let new = g.D.Disk.named c.bind_image.new.disk in
-    let run = c.in-Some.run'.now in
-    let asks : asked_of words ≡ Some (asked_in run) = c.in_ok-command.ensures.command ∙ sym c.run_in.ensures ∙ ap (option_map _) c.in-Some.is in
-    let name : image_name words ≡ c.as_str.result.now = ap image_of asks ∙ sym c.as_str.ensures in
+    let name : image_name words ≡ c.as_str.result.now = ap image_of c.in_ok-asked.ensures.asked ∙ sym c.as_str.ensures in
     let same : new (image_name words) ≡ old (image_name words) =
     subst (λ (n : List ℕ). ForSome (content_now (old n).moments) (λ d. new n ≡ old n)) (sym name) c.bind_image.ensures.same given.content is.content in
     let p = err_from_is_err_and c.from_residual-in_err-bind_image.result c.from_residual-in_err-bind_image.ensures.1 in
@@ -58,26 +49,24 @@ returns-clause-runs g c given is =
     let words = map string_bytes c.args.words.now in
     let old = g.D.Disk.named c.args.disk.now in
     let mid = c.bind_image.new.disk in
-    let run = c.in-Some.run'.now in
-    let asks : asked_of words ≡ Some (asked_in run) = c.in_ok-command.ensures.command ∙ sym c.run_in.ensures ∙ ap (option_map _) c.in-Some.is in
+    let asked = c.in_ok-asked.asked in
+    let asks = c.in_ok-asked.ensures.asked in
     let name : image_name words ≡ c.as_str.result.now = ap image_of asks ∙ sym c.as_str.ensures in
     let found = subst (λ (n : List ℕ). IsThere (old n) (g.D.Disk.identity mid).sectors (g.D.Disk.moments mid)) (sym name) c.in_ok-bind_image.ensures.found in
     let bound = subst (λ (n : List ℕ). IsBoundTo n (g.D.Disk.identity mid).name) (sym name) c.in_ok-bind_image.ensures.bound in
     let there = found.is given.content is.content in
-    let ends = g.met.D.Disk.named_if_bound c.run_image.new.disk (image_name words) (subst (λ (d : DiskIdentity). IsBoundTo (image_name words) d.name) (sym c.run_image.ensures.identity) bound) in
-    ran_given given words (g.K.NamedSource.named c.args.key.now) (old (image_name words)) (g.S.Source.left c.args.script.now) is (g.O.Sink.held c.args.out.now) (asked_in run) asks
-    (key_of c.in_ok-hash.hash) c.in_ok-hash.ensures.hash (g.D.Disk.identity mid).sectors (g.D.Disk.moments mid) (g.D.Disk.moments c.run_image.new.disk)
-    (g.D.Disk.named c.run_image.new.disk (image_name words)) there (ap (λ (n : NamedDisk). n.moments) ends) (ending_by c.run_image.result) (g.O.Sink.held c.run_image.new.out)
-    (c.run_image.ensures.runs given.script is.script_is given.content (told_there there is.content))
+    let ends = g.met.D.Disk.named_if_bound c.carry_out.new.disk (image_name words) (subst (λ (d : DiskIdentity). IsBoundTo (image_name words) d.name) (sym c.carry_out.ensures.identity) bound) in
+    ran_given given words (g.K.NamedSource.named c.args.key.now) (old (image_name words)) (g.S.Source.left c.args.script.now) is (g.O.Sink.held c.args.out.now) asked asks
+    (key_of c.in_ok-hash.hash) c.in_ok-hash.ensures.hash (g.D.Disk.identity mid).sectors (g.D.Disk.moments mid) (g.D.Disk.moments c.carry_out.new.disk)
+    (g.D.Disk.named c.carry_out.new.disk (image_name words)) there (ap (λ (n : NamedDisk). n.moments) ends) (ending_by c.carry_out.result) (g.O.Sink.held c.carry_out.new.out)
+    (c.carry_out.ensures.runs given.script is.script_is given.content (told_there there is.content))
 
 pub returns-in_err-bind_image-clause-sectors : goal.returns-in_err-bind_image-clause-sectors
 returns-in_err-bind_image-clause-sectors g c content told =
     let words = map string_bytes c.args.words.now in
     let old = g.D.Disk.named c.args.disk.now in
     let new = g.D.Disk.named c.bind_image.new.disk in
-    let run = c.in-Some.run'.now in
-    let asks : asked_of words ≡ Some (asked_in run) = c.in_ok-command.ensures.command ∙ sym c.run_in.ensures ∙ ap (option_map _) c.in-Some.is in
-    let name : image_name words ≡ c.as_str.result.now = ap image_of asks ∙ sym c.as_str.ensures in
+    let name : image_name words ≡ c.as_str.result.now = ap image_of c.in_ok-asked.ensures.asked ∙ sym c.as_str.ensures in
     let same : new (image_name words) ≡ old (image_name words) =
     subst (λ (n : List ℕ). ForSome (content_now (old n).moments) (λ d. new n ≡ old n)) (sym name) c.bind_image.ensures.same content told in
     ap (λ (n : NamedDisk). n.sectors) same
@@ -87,20 +76,15 @@ returns-clause-sectors g c content told =
     let words = map string_bytes c.args.words.now in
     let old = g.D.Disk.named c.args.disk.now in
     let mid = c.bind_image.new.disk in
-    let run = c.in-Some.run'.now in
-    let asks : asked_of words ≡ Some (asked_in run) = c.in_ok-command.ensures.command ∙ sym c.run_in.ensures ∙ ap (option_map _) c.in-Some.is in
-    let name : image_name words ≡ c.as_str.result.now = ap image_of asks ∙ sym c.as_str.ensures in
+    let name : image_name words ≡ c.as_str.result.now = ap image_of c.in_ok-asked.ensures.asked ∙ sym c.as_str.ensures in
     let found = subst (λ (n : List ℕ). IsThere (old n) (g.D.Disk.identity mid).sectors (g.D.Disk.moments mid)) (sym name) c.in_ok-bind_image.ensures.found in
     let bound = subst (λ (n : List ℕ). IsBoundTo n (g.D.Disk.identity mid).name) (sym name) c.in_ok-bind_image.ensures.bound in
     let there = found.is content told in
-    let ends = g.met.D.Disk.named_if_bound c.run_image.new.disk (image_name words) (subst (λ (d : DiskIdentity). IsBoundTo (image_name words) d.name) (sym c.run_image.ensures.identity) bound) in
-    ap (λ (n : NamedDisk). n.sectors) ends ∙ ap (λ (d : DiskIdentity). d.sectors) c.run_image.ensures.identity ∙ sym (ap (λ (n : NamedDisk). n.sectors) there)
+    let ends = g.met.D.Disk.named_if_bound c.carry_out.new.disk (image_name words) (subst (λ (d : DiskIdentity). IsBoundTo (image_name words) d.name) (sym c.carry_out.ensures.identity) bound) in
+    ap (λ (n : NamedDisk). n.sectors) ends ∙ ap (λ (d : DiskIdentity). d.sectors) c.carry_out.ensures.identity ∙ sym (ap (λ (n : NamedDisk). n.sectors) there)
 
-pub returns-in_err-command-clause-taken : goal.returns-in_err-command-clause-taken
-returns-in_err-command-clause-taken g c = (none_taken _ _ refl, λ given is. read_none _ given.script _ is.script_is)
-
-pub returns-in_default-clause-taken : goal.returns-in_default-clause-taken
-returns-in_default-clause-taken g c = (none_taken _ _ refl, λ given is. read_none _ given.script _ is.script_is)
+pub returns-in_err-asked-clause-taken : goal.returns-in_err-asked-clause-taken
+returns-in_err-asked-clause-taken g c = (none_taken _ _ refl, λ given is. read_none _ given.script _ is.script_is)
 
 pub returns-in_err-hash-clause-taken : goal.returns-in_err-hash-clause-taken
 returns-in_err-hash-clause-taken g c = (none_taken _ _ refl, λ given is. read_none _ given.script _ is.script_is)
@@ -110,33 +94,36 @@ returns-in_err-bind_image-clause-taken g c = (none_taken _ _ refl, λ given is. 
 
 pub returns-clause-taken : goal.returns-clause-taken
 returns-clause-taken g c = (
-  c.run_image.ensures.taken,
+  c.carry_out.ensures.taken,
   λ given is.
       let words = map string_bytes c.args.words.now in
       let old = g.D.Disk.named c.args.disk.now in
       let mid = c.bind_image.new.disk in
-      let run = c.in-Some.run'.now in
-      let asks : asked_of words ≡ Some (asked_in run) = c.in_ok-command.ensures.command ∙ sym c.run_in.ensures ∙ ap (option_map _) c.in-Some.is in
+      let asked = c.in_ok-asked.asked in
+      let asks = c.in_ok-asked.ensures.asked in
       let name : image_name words ≡ c.as_str.result.now = ap image_of asks ∙ sym c.as_str.ensures in
       let found = subst (λ (n : List ℕ). IsThere (old n) (g.D.Disk.identity mid).sectors (g.D.Disk.moments mid)) (sym name) c.in_ok-bind_image.ensures.found in
       let there = found.is given.content is.content in
-      read_given given words (g.K.NamedSource.named c.args.key.now) (old (image_name words)) (g.S.Source.left c.args.script.now) is (g.O.Sink.held c.args.out.now) (asked_in run) asks
+      read_given given words (g.K.NamedSource.named c.args.key.now) (old (image_name words)) (g.S.Source.left c.args.script.now) is (g.O.Sink.held c.args.out.now) asked asks
       (key_of c.in_ok-hash.hash) c.in_ok-hash.ensures.hash (g.D.Disk.identity mid).sectors (g.D.Disk.moments mid) there _ _
-      (c.run_image.ensures.ahead given.script is.script_is given.content (told_there there is.content)),
+      (c.carry_out.ensures.ahead given.script is.script_is given.content (told_there there is.content)),
+)
+
+pub returns-clause-unread : goal.returns-clause-unread
+returns-clause-unread g c = (
+  c.carry_out.ensures.unread.0,
+  λ none. c.carry_out.ensures.unread.1
+      (subst HasNoScript c.in_ok-asked.ensures.asked none),
 )
 
 pub returns-in_err-bind_image-clause-key_first : goal.returns-in_err-bind_image-clause-key_first
 returns-in_err-bind_image-clause-key_first g c given is refused =
     let words = map string_bytes c.args.words.now in
-    let run = c.in-Some.run'.now in
-    let asks : asked_of words ≡ Some (asked_in run) = c.in_ok-command.ensures.command ∙ sym c.run_in.ensures ∙ ap (option_map _) c.in-Some.is in
-    absurd (not_refused_by_key given words (g.K.NamedSource.named c.args.key.now) (g.D.Disk.named c.args.disk.now (image_name words)) (g.S.Source.left c.args.script.now) is (g.O.Sink.held c.args.out.now) (asked_in run) asks
-    (key_of c.in_ok-hash.hash) c.in_ok-hash.ensures.hash refused)
+    absurd (not_refused_by_key given words (g.K.NamedSource.named c.args.key.now) (g.D.Disk.named c.args.disk.now (image_name words)) (g.S.Source.left c.args.script.now) is (g.O.Sink.held c.args.out.now)
+    c.in_ok-asked.asked c.in_ok-asked.ensures.asked (key_of c.in_ok-hash.hash) c.in_ok-hash.ensures.hash refused)
 
 pub returns-clause-key_first : goal.returns-clause-key_first
 returns-clause-key_first g c given is refused =
     let words = map string_bytes c.args.words.now in
-    let run = c.in-Some.run'.now in
-    let asks : asked_of words ≡ Some (asked_in run) = c.in_ok-command.ensures.command ∙ sym c.run_in.ensures ∙ ap (option_map _) c.in-Some.is in
-    absurd (not_refused_by_key given words (g.K.NamedSource.named c.args.key.now) (g.D.Disk.named c.args.disk.now (image_name words)) (g.S.Source.left c.args.script.now) is (g.O.Sink.held c.args.out.now) (asked_in run) asks
-    (key_of c.in_ok-hash.hash) c.in_ok-hash.ensures.hash refused)
+    absurd (not_refused_by_key given words (g.K.NamedSource.named c.args.key.now) (g.D.Disk.named c.args.disk.now (image_name words)) (g.S.Source.left c.args.script.now) is (g.O.Sink.held c.args.out.now)
+    c.in_ok-asked.asked c.in_ok-asked.ensures.asked (key_of c.in_ok-hash.hash) c.in_ok-hash.ensures.hash refused)

@@ -1,0 +1,114 @@
+-- The making of a new image: what it prints, and what it leaves.
+use Rattle.std.proofs.Common.{◌≡◌, ◌≢◌, ◌↔◌, ◌∙◌, inl, inr, ℕ, false, List, [], ◌++◌, codes, refl, sym, ap, subst, arith, Option, Some, Result, Ok, Err}
+use Rattle.std.specs.Fmt.{decimal}
+use Rattle.std.specs.Option.{IsSomeAnd, option_map}
+use Rattle.disk_model.specs.Disk.{Content, last_image}
+use Rattle.disk_model.specs.Moments.{content_now, EachMoment, EachSince}
+use Rattle.disk_model.proofs.MomentsLemmas.{EachMoment-kept, EachMoment-weaker, content_at_end}
+use Rattle.device_model.specs.Ending.{Complete, DiskFailed, NoMemory, RefusedImage, ByGeometry, SinkFailed}
+use Rattle.stream_io.specs.Stream.{with_bytes, AddsPrefix}
+use Rattle.image_model.specs.Geometry.{Geometry}
+use Rattle.image_model.specs.declared.geom_fault.GeomFault.{GeomFault}
+use Rattle.image_formatting.specs.declared.format_fault.FormatFault.{FormatFault}
+use Rattle.image_formatting.specs.declared.format_fault.FormatFault.TheVariants as FormatFaults
+use Rattle.image_formatting.specs.declared.new_image.NewImage.{NewImage}
+use Rattle.image_formatting.specs.Formatted.{HasMade, IsLeftByFormat}
+use Rattle.image_formatting.specs.NewImage.{provided_of}
+use Rattle.command_ending.specs.Ended.{ending_of}
+use Rattle.command_model.specs.CommandRun.{Outset, Makes, only_prints}
+use Rattle.integrity_tool.specs.Making.{ended_by_format, format_outset, formatted_text, making_of, outset_by_format}
+use Rattle.integrity_tool.specs.Opening.{HasRunOn, IsMomentOf}
+use Rattle.integrity_tool.proofs.RunningLemmas.{told_nothing}
+use Rattle.integrity_tool.proofs.StartLemmas.{before_kept, fine_format, made_prints, nothing_run, refused_run, text_short, untouched_kept}
+use Rattle.integrity_tool.proofs.PrintingLemmas.{all_printed, part_printed}
+
+-- A formatting leaves what it began with, or what it may.
+left_since : (key : Option (List ℕ)) (sectors : ℕ) (new : NewImage) (start : Content) {a b : List Content} → content_now a ≡ Some start
+    → EachSince (IsLeftByFormat key sectors new) a b → EachMoment a b (IsLeftByFormat key sectors new start)
+left_since key sectors new start told since =
+    EachMoment-weaker
+    (λ c from. subst (λ (o : Option Content). IsSomeAnd o (λ s. IsLeftByFormat key sectors new s c)) told from) since
+
+makes : (key : Option (List ℕ)) (sectors : ℕ) (new : NewImage) (provided : ℕ) → provided_of new sectors ≡ Ok provided
+    → format_outset key sectors new ≡ Makes (making_of key sectors new provided)
+makes key sectors new provided is = ap (outset_by_format key sectors new) is
+
+-- The line of a new image, by its pieces.
+pub formatted_line : (d : List ℕ) (provided : ℕ) → d ≡ decimal provided
+    → codes "formatted provided " ++ (d ++ (codes "\n" ++ [])) ≡ formatted_text provided
+formatted_line d provided is = ap (λ (x : List ℕ). codes "formatted provided " ++ (x ++ codes "\n")) is
+
+module _ (key : Option (List ℕ)) (sectors : ℕ) (new : NewImage) (start : Content) (script : List ℕ) {a b : List Content} (told : content_now a ≡ Some start) where
+  -- It is made, and its line is printed,
+  pub made : (provided : ℕ) (held_before held : Option (List ℕ)) → HasMade key sectors new provided a b
+      → held ≡ option_map (with_bytes (formatted_text provided)) held_before
+      → HasRunOn (format_outset key sectors new) start script (Complete false) b held_before held
+  made provided held_before held all put =
+      subst (λ (o : Outset). HasRunOn o start script (Complete false) b held_before held) (sym (makes key sectors new provided all.is_provided))
+      (all_printed (Makes (making_of key sectors new provided)) (formatted_text provided) start script b held_before held (λ s. refl) put
+      (all.is_written start told))
+
+  -- or the sink failed at that.
+  pub made_untold : (provided : ℕ) (held_before held : Option (List ℕ)) → HasMade key sectors new provided a b
+      → AddsPrefix (formatted_text provided) held_before held
+      → HasRunOn (format_outset key sectors new) start script SinkFailed b held_before held
+  made_untold provided held_before held all put =
+      subst (λ (o : Outset). HasRunOn o start script SinkFailed b held_before held) (sym (makes key sectors new provided all.is_provided))
+      (part_printed (Makes (making_of key sectors new provided)) (formatted_text provided) start script b held_before held (λ s. refl) put
+      (all.is_written start told))
+
+  module _ (g : Geometry) (since : EachSince (IsLeftByFormat key sectors new) a b) where
+    amid : (provided : ℕ) → provided_of new sectors ≡ Ok provided → EachMoment a b (IsMomentOf (format_outset key sectors new) g start script)
+    amid provided is =
+        subst (λ (o : Outset). EachMoment a b (IsMomentOf o g start script)) (sym (makes key sectors new provided is))
+        (EachMoment-weaker (λ c left. record {
+          left = record { run = only_prints (formatted_text provided); is_run = refl; made = 0; left = left };
+          only = record { run = only_prints (formatted_text provided); is_run = refl; only = left };
+        }) (left_since key sectors new start told since))
+
+    pub made_through : (provided : ℕ) → HasMade key sectors new provided a b → EachMoment a b (IsMomentOf (format_outset key sectors new) g start script)
+    made_through provided all = amid provided all.is_provided
+
+    -- The disk failed, and what it may leave is left.
+    cut : (held : Option (List ℕ)) (provided : ℕ) → provided_of new sectors ≡ Ok provided
+        → HasRunOn (format_outset key sectors new) start script DiskFailed b held held
+    cut held provided is =
+        subst (λ (o : Outset). HasRunOn o start script DiskFailed b held held) (sym (makes key sectors new provided is)) (record {
+          run = only_prints (formatted_text provided);
+          is_run = refl;
+          text = [];
+          changes = [];
+          ended = inr (text_short (formatted_text provided) 0 DiskFailed (made_prints provided) tt);
+          told = told_nothing held;
+          left = content_at_end (left_since key sectors new start told since)
+              (λ c here. subst (λ (o : Option Content). IsSomeAnd o (λ s. IsLeftByFormat key sectors new start s)) (sym told ∙ here)
+              (λ image is. inl is));
+        })
+
+    -- Why it was not made.
+    pub not_made : (fault : FormatFault) (held : Option (List ℕ))
+        → ((f : GeomFault) → (fault ≡ FormatFaults.Geom f) ↔ (provided_of new sectors ≡ Err f)) → (fault ≢ FormatFaults.Disk → b ≡ a)
+        → HasRunOn (format_outset key sectors new) start script (ending_of (ended_by_format fault)) b held held
+        × EachMoment a b (IsMomentOf (format_outset key sectors new) g start script)
+    not_made (FormatFaults.Geom f) held geom untouched =
+        let same : b ≡ a = untouched (λ is. absurd (cc)) in (
+          refused_run (format_outset key sectors new) start script (RefusedImage (ByGeometry f))
+              (ap (outset_by_format key sectors new) ((geom f).0 refl)) b (untouched_kept start told same) held held refl,
+          EachMoment-kept (IsMomentOf (format_outset key sectors new) g start script) same,
+        )
+    not_made FormatFaults.Memory held geom untouched =
+        let same : b ≡ a = untouched (λ is. absurd (cc)) in (
+          nothing_run (format_outset key sectors new) (fine_format key sectors new) start script NoMemory tt b
+              (before_kept (format_outset key sectors new) start told same) held held refl,
+          EachMoment-kept (IsMomentOf (format_outset key sectors new) g start script) same,
+        )
+    not_made FormatFaults.Disk held geom untouched = by (provided_of new sectors) refl
+      where
+        by : (answer : Result ℕ GeomFault) → provided_of new sectors ≡ answer
+            → HasRunOn (format_outset key sectors new) start script DiskFailed b held held
+            × EachMoment a b (IsMomentOf (format_outset key sectors new) g start script)
+        by (Ok provided) is = (cut held provided is, amid provided is)
+        by (Err f) is = absurd (no_geom ((geom f).1 is))
+          where
+            no_geom : FormatFaults.Disk ≡ FormatFaults.Geom f → ⊥
+            no_geom same = cc

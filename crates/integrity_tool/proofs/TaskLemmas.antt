@@ -1,0 +1,70 @@
+-- The end of what has no script, as the end of a run.
+use Rattle.std.proofs.Common.{◌≡◌, ◌≢◌, ℕ, ◌≤◌, List, refl, ap, arith, Option, Result, Ok, Err, IfErr}
+use Rattle.disk_model.specs.Disk.{Content}
+use Rattle.command_ending.specs.declared.ended.Ended.{Ended}
+use Rattle.command_ending.specs.declared.ended.Ended.TheVariants as Endings
+use Rattle.command_model.specs.CommandRun.{Outset}
+use Rattle.integrity_tool.specs.Opening.{EndsImage, HasReadIn, HasRunOn}
+use Rattle.integrity_tool.specs.Running.{HasEndCause, IsCounted, ending_by}
+use Rattle.integrity_tool.specs.Tasks.{EndsTask, ending_done, found_by}
+use Rattle.integrity_tool.proofs.StartLemmas.{read_in_further, read_none}
+use Rattle.device_model.specs.Ending.{Ending}
+use Rattle.std.specs.Prelude.{Some}
+
+pub ending_found : (r : Result (Unit {0}) Ended) → ending_by (found_by r) ≡ ending_done r
+ending_found (Ok done) = refl
+ending_found (Err ended) = refl
+
+ends_image : (ended : Ended) → EndsTask ended → EndsImage ended
+ends_image Endings.Words ends = ends
+ends_image (Endings.Key refusal) ends = ends
+ends_image (Endings.Line number refusal) ends = tt
+ends_image Endings.Length ends = tt
+ends_image (Endings.Image fault) ends = tt
+ends_image Endings.Disk ends = tt
+ends_image Endings.KeySource ends = ends
+ends_image Endings.Script ends = tt
+ends_image Endings.Sink ends = tt
+ends_image Endings.Memory ends = tt
+
+pub ends_found : (r : Result (Unit {0}) Ended) → IfErr r EndsTask → IfErr (found_by r) EndsImage
+ends_found (Ok done) ends = tt
+ends_found (Err ended) ends = ends_image ended ends
+
+cause_wider : (disk script sink : Type 0) (ended : Ended) → HasEndCause disk ⊥ sink ended → HasEndCause disk script sink ended
+cause_wider disk script sink Endings.Words cause = tt
+cause_wider disk script sink (Endings.Key refusal) cause = tt
+cause_wider disk script sink (Endings.Line number refusal) cause = tt
+cause_wider disk script sink Endings.Length cause = tt
+cause_wider disk script sink (Endings.Image fault) cause = tt
+cause_wider disk script sink Endings.Disk cause = cause
+cause_wider disk script sink Endings.KeySource cause = tt
+cause_wider disk script sink Endings.Script cause = absurd cause
+cause_wider disk script sink Endings.Sink cause = cause
+cause_wider disk script sink Endings.Memory cause = tt
+
+pub cause_found : (disk script sink : Type 0) (r : Result (Unit {0}) Ended) → IfErr r (HasEndCause disk ⊥ sink) → IfErr (found_by r) (HasEndCause disk script sink)
+cause_found disk script sink (Ok done) cause = tt
+cause_found disk script sink (Err ended) cause = cause_wider disk script sink ended cause
+
+pub counted_found : (ended : Ended) (before after : ℕ) (r : Result (Unit {0}) Ended) → IsCounted ended before after r → IsCounted ended before after (found_by r)
+counted_found ended before after r counted = record {
+  later = counted.later;
+  passed = λ other. counted.passed (λ is. other (ap found_by is));
+}
+
+-- What is not called counts no fault.
+pub uncounted : {T : Type 0} (ended : Ended) (count : ℕ) (r : Result T Ended) → IsCounted ended count count r
+uncounted ended count r = record { later = omega arith; passed = λ other. refl }
+
+-- What holds whatever ended it.
+pub whatever_ended : {T : Type 0} (P : Ended → Type 0) → ((ended : Ended) → P ended) → (r : Result T Ended) → IfErr r P
+whatever_ended P holds (Ok x) = tt
+whatever_ended P holds (Err ended) = holds ended
+
+-- A script that is not called has all of it left, whatever is printed.
+pub read_no_script : (outset : Outset) (start : Content) (script : List ℕ) (ending : Ending) (after : List Content) (held_before held left : Option (List ℕ))
+    → left ≡ Some script → HasRunOn outset start script ending after held_before held → HasReadIn outset script left held_before held
+read_no_script outset start script ending after held_before held left told ran =
+    read_in_further outset script left held_before held_before (read_none outset script held_before told)
+    (record { more = ran.text; is = ran.told })

@@ -1,0 +1,126 @@
+use Rattle.std.proofs.Common.{◌≡◌, List, ℕ, Result, IfErr, refl, sym, ap, ◌∙◌, subst}
+use Rattle.disk_model.specs.Causes.{Rose}
+use Rattle.disk_model.specs.Disk.{Content, last_image}
+use Rattle.disk_model.specs.Moments.{EachMoment}
+use Rattle.disk_model.proofs.MomentsLemmas.{EachMoment-kept}
+use Rattle.device_model.specs.Ending.{Ending}
+use Rattle.hmac_tag.specs.TagMaker.{key_of}
+use Rattle.script_session.specs.declared.tags_found.TagsFound.{TagsFound}
+use Rattle.command_ending.specs.declared.ended.Ended.{Ended}
+use Rattle.command_ending.specs.declared.ended.Ended.TheVariants as Endings
+use Rattle.integrity_tool.specs.declared.asked.Task.{Task}
+use Rattle.integrity_tool.specs.declared.asked.Task.TheVariants as Tasks
+use Rattle.integrity_tool.specs.Opening.{EndsImage, HasReadIn, HasRunOn, IsMomentAt}
+use Rattle.integrity_tool.specs.Outset.{outset_at}
+use Rattle.integrity_tool.specs.Running.{HasEndCause, IsCounted, ending_by}
+use Rattle.integrity_tool.specs.Top.{IsBeforeScript}
+use Rattle.integrity_tool.specs.Words.{IsScriptless}
+use Rattle.integrity_tool.proofs.TakenLemmas.{none_taken}
+use Rattle.integrity_tool.proofs.TaskLemmas.{cause_found, counted_found, ending_found, ends_found, read_no_script, uncounted, whatever_ended}
+use Rattle.integrity_tool.proofs.carrying_out.carry_out.Goals as goal
+
+pub returns-in-Run-clause-runs : goal.returns-in-Run-clause-runs
+returns-in-Run-clause-runs g c = rw c.in-Run.is c.run_image.ensures.runs
+
+pub returns-in-Run-clause-unread : goal.returns-in-Run-clause-unread
+returns-in-Run-clause-unread g c = (c.run_image.ensures.unread, λ none. absurd (subst IsScriptless c.in-Run.is none))
+
+pub returns-in-Run-clause-ahead : goal.returns-in-Run-clause-ahead
+returns-in-Run-clause-ahead g c = rw c.in-Run.is c.run_image.ensures.ahead
+
+pub returns-in-Dump-clause-runs : goal.returns-in-Dump-clause-runs
+returns-in-Dump-clause-runs g c left told start told_start =
+    let key = key_of c.args.hash in
+    let sectors = (g.D.Disk.identity c.args.disk.now).sectors in
+    let before = g.D.Disk.moments c.args.disk.now in
+    let after = g.D.Disk.moments c.print_image.new.disk in
+    subst (λ (t : Task). HasRunOn (outset_at t key sectors (last_image start)) start left (ending_by c.done.result) after (g.O.Sink.held c.args.out.now) (g.O.Sink.held c.print_image.new.out)
+    × EachMoment before after (IsMomentAt t key sectors start left)) (sym c.in-Dump.is) (
+      subst (λ (e : Ending). HasRunOn (outset_at Tasks.Dump key sectors (last_image start)) start left e after (g.O.Sink.held c.args.out.now) (g.O.Sink.held c.print_image.new.out))
+          (sym (ap ending_by c.done.ensures ∙ ending_found c.print_image.result)) (c.print_image.ensures.runs left start told_start),
+      EachMoment-kept (IsMomentAt Tasks.Dump key sectors start left) c.print_image.ensures.kept,
+    )
+
+pub returns-in-Dump-clause-ends : goal.returns-in-Dump-clause-ends
+returns-in-Dump-clause-ends g c =
+    subst (λ (r : Result TagsFound Ended). IfErr r EndsImage) (sym c.done.ensures) (ends_found c.print_image.result c.print_image.ensures.ends)
+
+pub returns-in-Dump-clause-cause : goal.returns-in-Dump-clause-cause
+returns-in-Dump-clause-cause g c =
+    subst (λ (r : Result TagsFound Ended). IfErr r (HasEndCause (Rose (g.D.Counted.faults c.args.disk.now) (g.D.Counted.faults c.print_image.new.disk))
+    (Rose (g.S.Counted.faults c.args.script.now) (g.S.Counted.faults c.args.script.now))
+    (Rose (g.O.Counted.faults c.args.out.now) (g.O.Counted.faults c.print_image.new.out)))) (sym c.done.ensures)
+    (cause_found _ _ _ c.print_image.result c.print_image.ensures.cause)
+
+pub returns-in-Dump-clause-counted : goal.returns-in-Dump-clause-counted
+returns-in-Dump-clause-counted g c = (
+  subst (λ (r : Result TagsFound Ended). IsCounted Endings.Disk (g.D.Counted.faults c.args.disk.now) (g.D.Counted.faults c.print_image.new.disk) r)
+      (sym c.done.ensures) (counted_found Endings.Disk _ _ c.print_image.result c.print_image.ensures.counted.0),
+  uncounted Endings.Script _ c.done.result,
+  subst (λ (r : Result TagsFound Ended). IsCounted Endings.Sink (g.O.Counted.faults c.args.out.now) (g.O.Counted.faults c.print_image.new.out) r)
+      (sym c.done.ensures) (counted_found Endings.Sink _ _ c.print_image.result c.print_image.ensures.counted.1),
+)
+
+pub returns-in-Dump-clause-unread : goal.returns-in-Dump-clause-unread
+returns-in-Dump-clause-unread g c =
+    (whatever_ended (λ ended. IsBeforeScript ended → c.args.script.now ≡ c.args.script.now) (λ ended before. refl) c.done.result, λ none. refl)
+
+pub returns-in-Dump-clause-taken : goal.returns-in-Dump-clause-taken
+returns-in-Dump-clause-taken g c = none_taken _ _ refl
+
+pub returns-in-Dump-clause-ahead : goal.returns-in-Dump-clause-ahead
+returns-in-Dump-clause-ahead g c left told start told_start =
+    let key = key_of c.args.hash in
+    let sectors = (g.D.Disk.identity c.args.disk.now).sectors in
+    subst (λ (t : Task). HasReadIn (outset_at t key sectors (last_image start)) left (g.S.Source.left c.args.script.now) (g.O.Sink.held c.args.out.now) (g.O.Sink.held c.print_image.new.out))
+    (sym c.in-Dump.is)
+    (read_no_script (outset_at Tasks.Dump key sectors (last_image start)) start left _ _ _ _ _ told (c.print_image.ensures.runs left start told_start))
+
+pub returns-in-Format-clause-runs : goal.returns-in-Format-clause-runs
+returns-in-Format-clause-runs g c left told start told_start =
+    let key = key_of c.args.hash in
+    let sectors = (g.D.Disk.identity c.args.disk.now).sectors in
+    let before = g.D.Disk.moments c.args.disk.now in
+    let after = g.D.Disk.moments c.make_image.new.disk in
+    let new = c.in-Format.new in
+    subst (λ (t : Task). HasRunOn (outset_at t key sectors (last_image start)) start left (ending_by c.done-in-Format.result) after (g.O.Sink.held c.args.out.now) (g.O.Sink.held c.make_image.new.out)
+    × EachMoment before after (IsMomentAt t key sectors start left)) (sym c.in-Format.is) (
+      subst (λ (e : Ending). HasRunOn (outset_at (Tasks.Format new) key sectors (last_image start)) start left e after (g.O.Sink.held c.args.out.now) (g.O.Sink.held c.make_image.new.out))
+          (sym (ap ending_by c.done-in-Format.ensures ∙ ending_found c.make_image.result)) (c.make_image.ensures.runs left start told_start),
+      c.make_image.ensures.moments left start told_start,
+    )
+
+pub returns-in-Format-clause-ends : goal.returns-in-Format-clause-ends
+returns-in-Format-clause-ends g c =
+    subst (λ (r : Result TagsFound Ended). IfErr r EndsImage) (sym c.done-in-Format.ensures) (ends_found c.make_image.result c.make_image.ensures.ends)
+
+pub returns-in-Format-clause-cause : goal.returns-in-Format-clause-cause
+returns-in-Format-clause-cause g c =
+    subst (λ (r : Result TagsFound Ended). IfErr r (HasEndCause (Rose (g.D.Counted.faults c.args.disk.now) (g.D.Counted.faults c.make_image.new.disk))
+    (Rose (g.S.Counted.faults c.args.script.now) (g.S.Counted.faults c.args.script.now))
+    (Rose (g.O.Counted.faults c.args.out.now) (g.O.Counted.faults c.make_image.new.out)))) (sym c.done-in-Format.ensures)
+    (cause_found _ _ _ c.make_image.result c.make_image.ensures.cause)
+
+pub returns-in-Format-clause-counted : goal.returns-in-Format-clause-counted
+returns-in-Format-clause-counted g c = (
+  subst (λ (r : Result TagsFound Ended). IsCounted Endings.Disk (g.D.Counted.faults c.args.disk.now) (g.D.Counted.faults c.make_image.new.disk) r)
+      (sym c.done-in-Format.ensures) (counted_found Endings.Disk _ _ c.make_image.result c.make_image.ensures.counted.0),
+  uncounted Endings.Script _ c.done-in-Format.result,
+  subst (λ (r : Result TagsFound Ended). IsCounted Endings.Sink (g.O.Counted.faults c.args.out.now) (g.O.Counted.faults c.make_image.new.out) r)
+      (sym c.done-in-Format.ensures) (counted_found Endings.Sink _ _ c.make_image.result c.make_image.ensures.counted.1),
+)
+
+pub returns-in-Format-clause-unread : goal.returns-in-Format-clause-unread
+returns-in-Format-clause-unread g c =
+    (whatever_ended (λ ended. IsBeforeScript ended → c.args.script.now ≡ c.args.script.now) (λ ended before. refl) c.done-in-Format.result, λ none. refl)
+
+pub returns-in-Format-clause-taken : goal.returns-in-Format-clause-taken
+returns-in-Format-clause-taken g c = none_taken _ _ refl
+
+pub returns-in-Format-clause-ahead : goal.returns-in-Format-clause-ahead
+returns-in-Format-clause-ahead g c left told start told_start =
+    let key = key_of c.args.hash in
+    let sectors = (g.D.Disk.identity c.args.disk.now).sectors in
+    subst (λ (t : Task). HasReadIn (outset_at t key sectors (last_image start)) left (g.S.Source.left c.args.script.now) (g.O.Sink.held c.args.out.now) (g.O.Sink.held c.make_image.new.out))
+    (sym c.in-Format.is)
+    (read_no_script (outset_at (Tasks.Format c.in-Format.new) key sectors (last_image start)) start left _ _ _ _ _ told (c.make_image.ensures.runs left start told_start))

@@ -1,0 +1,41 @@
+-- What `format` makes and prints, or why an image is refused by it.
+use Rattle.std.specs.Prelude.{ℕ, List, ◌++◌, codes, Option, Result, Ok, Err}
+use Rattle.std.specs.Fmt.{decimal}
+use Rattle.device_model.specs.Ending.{RefusedImage, ByGeometry}
+use Rattle.image_model.specs.declared.geom_fault.GeomFault.{GeomFault}
+use Rattle.image_formatting.specs.declared.format_fault.FormatFault.{FormatFault}
+use Rattle.image_formatting.specs.declared.format_fault.FormatFault.TheVariants.{Geom, Memory, Disk}
+use Rattle.image_formatting.specs.declared.new_image.NewImage.{NewImage}
+use Rattle.image_formatting.specs.Formatted.{IsLeftByFormat, IsNewContent, format_with, rule_with}
+use Rattle.image_formatting.specs.NewImage.{provided_of}
+use Rattle.command_ending.specs.declared.ended.Ended.{Ended}
+use Rattle.command_ending.specs.declared.ended.Ended.TheVariants as Endings
+use Rattle.command_ending.specs.declared.image_fault.ImageFault.TheVariants as Faults
+use Rattle.command_model.specs.CommandRun.{Making, Outset, RefusedBy, Makes}
+
+-- What ends the making of an image that is not made.
+abbrev pub ended_by_format : FormatFault → Ended
+ended_by_format (Geom fault) = Endings.Image (Faults.Geom fault)
+ended_by_format Memory = Endings.Memory
+ended_by_format Disk = Endings.Disk
+
+-- The line that tells of an image with so many provided sectors.
+abbrev pub formatted_text : (provided : ℕ) → List ℕ
+formatted_text provided = codes "formatted provided " ++ decimal provided ++ codes "\n"
+
+-- The making of such an image with this key, on a disk of so many sectors.
+abbrev pub making_of : Option (List ℕ) → (sectors : ℕ) → NewImage → (provided : ℕ) → Making
+making_of key sectors new provided = record {
+  text = formatted_text provided;
+  MayBeLeft = IsLeftByFormat key sectors new;
+  IsMade = IsNewContent new.wipe (rule_with key new) (format_with new provided);
+}
+
+-- By how many sectors the image is to provide: it is made, or there is no room for it.
+abbrev pub outset_by_format : Option (List ℕ) → (sectors : ℕ) → NewImage → Result ℕ GeomFault → Outset
+outset_by_format key sectors new (Ok provided) = Makes (making_of key sectors new provided)
+outset_by_format key sectors new (Err fault) = RefusedBy (RefusedImage (ByGeometry fault))
+
+-- What the making of an image starts on, whatever stands on the disk.
+abbrev pub format_outset : Option (List ℕ) → (sectors : ℕ) → NewImage → Outset
+format_outset key sectors new = outset_by_format key sectors new (provided_of new sectors)

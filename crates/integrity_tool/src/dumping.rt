@@ -1,0 +1,69 @@
+//! Prints what an image shows.
+ghost use Rattle.std.specs.Prelude.{◌≡◌, ◌≤◌, IfErr, List, ℕ};
+ghost use Rattle.disk_model.specs.Causes.{Rose};
+ghost use Rattle.disk_model.specs.Disk.{last_image};
+ghost use Rattle.disk_model.specs.Identity.{IsBound};
+ghost use Rattle.disk_model.specs.Moments.{HasNow};
+ghost use Rattle.integrity_tool.specs.Dumping.{dump_outset, ended_by_dump};
+ghost use Rattle.integrity_tool.specs.Opening.{HasRunOn};
+ghost use Rattle.integrity_tool.specs.Running.{HasEndCause, IsCounted};
+ghost use Rattle.integrity_tool.specs.Tasks.{EndsTask, ending_done};
+
+use command_ending::{Ended, ImageFault};
+use image_dump::{DumpFault, dump, dump_text};
+use sector_disk::Disk;
+use std::alloc::Global;
+use stream_io::{Sink, put_all};
+
+/// Prints what the image shows that the disk is bound to. Nothing is written to the disk.
+///
+/// # Errors
+///
+/// - `Image`: the image is refused.
+/// - `Memory`: there is none for the numbers of its journal, or for the text.
+/// - `Disk`, `Sink`: that failed.
+pub(crate) fn print_image<D: Disk, O: Sink>(
+    alloc: Global,
+    disk: &mut D,
+    out: &mut O,
+) -> Result<(), Ended>
+    requires { IsBound (D.identity disk.old).name }
+
+    ensures runs { (script : List ℕ) → HasNow (λ c.
+        HasRunOn (dump_outset (D.identity disk.old).sectors (last_image c)) c script (ending_done result)
+        (D.moments disk.new) (O.held out.old) (O.held out.new)) (D.moments disk.old) }
+
+    ensures ends { IfErr result EndsTask }
+    ensures cause { IfErr result (HasEndCause (Rose (D.faults disk.old) (D.faults disk.new)) ⊥
+        (Rose (O.faults out.old) (O.faults out.new))) }
+    ensures counted { IsCounted Ended.Disk (D.faults disk.old) (D.faults disk.new) result
+        × IsCounted Ended.Sink (O.faults out.old) (O.faults out.new) result }
+
+    ensures identity { D.identity disk.new ≡ D.identity disk.old }
+    ensures kept { D.moments disk.new ≡ D.moments disk.old }
+{
+    let shown = match dump(alloc, disk) {
+        Ok(shown) => shown,
+        Err(fault) => return Err(ended_by(fault)),
+    };
+    let Ok(text) = dump_text(alloc, &shown) else {
+        return Err(Ended::Memory);
+    };
+    match put_all(out, &text) {
+        Ok(()) => Ok(()),
+        Err(_) => Err(Ended::Sink),
+    }
+}
+
+/// What ends a dump whose image is not shown.
+fn ended_by(fault: DumpFault) -> Ended
+    ensures { result ≡ ended_by_dump fault }
+{
+    match fault {
+        DumpFault::Memory => Ended::Memory,
+        DumpFault::Disk => Ended::Disk,
+        DumpFault::Super(fault) => Ended::Image(ImageFault::Super(fault)),
+        DumpFault::Geom(fault) => Ended::Image(ImageFault::Geom(fault)),
+        DumpFault::Scan(fault) => Ended::Image(ImageFault::Scan(fault)),
+    }
+}

@@ -1,0 +1,86 @@
+//! Makes a new image, and tells how many sectors it provides.
+ghost use Rattle.std.specs.Prelude.{◌≡◌, ◌≤◌, IfErr, List, ℕ};
+ghost use Rattle.disk_model.specs.Causes.{HasCause, Rose};
+ghost use Rattle.disk_model.specs.Identity.{IsBound};
+ghost use Rattle.disk_model.specs.Moments.{EachMoment, HasNow};
+ghost use Rattle.hmac_tag.specs.TagMaker.{key_of};
+ghost use Rattle.image_formatting.specs.NewImage.{IsNewImage};
+ghost use Rattle.command_ending.specs.Ended.{Puts};
+ghost use Rattle.integrity_tool.specs.declared.asked.Task.TheVariants.{Format};
+ghost use Rattle.integrity_tool.specs.Making.{ended_by_format, format_outset, formatted_text};
+ghost use Rattle.integrity_tool.specs.Opening.{HasRunOn, IsMomentAt};
+ghost use Rattle.integrity_tool.specs.Running.{HasEndCause, IsCounted};
+ghost use Rattle.integrity_tool.specs.Tasks.{EndsTask, ending_done};
+
+use command_ending::{Ended, ImageFault, put_pieces};
+use hmac_tag::Hash;
+use image_formatting::{FormatFault, NewImage, format};
+use itoa::Buffer;
+use sector_disk::{Disk, Failed};
+use std::alloc::Global;
+use stream_io::Sink;
+
+/// Makes a new image on the disk, and prints how many sectors it provides. All memory is taken before the first write.
+///
+/// # Errors
+///
+/// - `Image`: the disk has no room for the image.
+/// - `Memory`: there is none for what is written at once.
+/// - `Disk`, `Sink`: that failed.
+pub(crate) fn make_image<D: Disk, O: Sink>(
+    alloc: Global,
+    disk: &mut D,
+    hash: Hash,
+    new: NewImage,
+    out: &mut O,
+) -> Result<(), Ended>
+    requires bound { IsBound (D.identity disk.old).name }
+    requires new { IsNewImage new }
+
+    ensures runs { (script : List ℕ) → HasNow (λ c.
+        HasRunOn (format_outset (key_of hash) (D.identity disk.old).sectors new) c script (ending_done result)
+        (D.moments disk.new) (O.held out.old) (O.held out.new)) (D.moments disk.old) }
+    ensures moments { (script : List ℕ) → HasNow (λ c. EachMoment (D.moments disk.old) (D.moments disk.new)
+        (IsMomentAt (Format new) (key_of hash) (D.identity disk.old).sectors c script)) (D.moments disk.old) }
+
+    ensures ends { IfErr result EndsTask }
+    ensures cause { IfErr result (HasEndCause (Rose (D.faults disk.old) (D.faults disk.new)) ⊥
+        (Rose (O.faults out.old) (O.faults out.new))) }
+    ensures counted { IsCounted Ended.Disk (D.faults disk.old) (D.faults disk.new) result
+        × IsCounted Ended.Sink (O.faults out.old) (O.faults out.new) result }
+
+    ensures identity { D.identity disk.new ≡ D.identity disk.old }
+{
+    match format(alloc, disk, hash, new) {
+        Err(fault) => Err(ended_by(fault)),
+        Ok(provided) => match put_provided(out, provided) {
+            Ok(()) => Ok(()),
+            Err(_) => Err(Ended::Sink),
+        },
+    }
+}
+
+/// Writes the line of a new image.
+///
+/// # Errors
+///
+/// - `Failed`: the sink failed. It has taken some of the line from the front, or none, and not all.
+fn put_provided<O: Sink>(out: &mut O, provided: u64) -> Result<(), Failed>
+    ensures line { Puts (formatted_text provided) (O.held out.old) (O.held out.new) result }
+    ensures cause { HasCause (O.faults out.old) (O.faults out.new) result }
+{
+    let mut digits = Buffer::new();
+    let digits = digits.format(provided).as_bytes();
+    put_pieces(out, &[b"formatted provided ", digits, b"\n"])
+}
+
+/// What ends the making of an image that is not made.
+fn ended_by(fault: FormatFault) -> Ended
+    ensures { result ≡ ended_by_format fault }
+{
+    match fault {
+        FormatFault::Geom(fault) => Ended::Image(ImageFault::Geom(fault)),
+        FormatFault::Memory => Ended::Memory,
+        FormatFault::Disk => Ended::Disk,
+    }
+}
