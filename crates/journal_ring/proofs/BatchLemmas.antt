@@ -18,6 +18,7 @@ use Rattle.journal_model.proofs.Runs.{run_joins, run_drop}
 use Rattle.device_laws.proofs.StepLemmas.{sealed_law}
 use Rattle.journal_ring.specs.declared.marks.Marks.{Marks}
 use Rattle.journal_ring.specs.Batch.{next_of, batch_of, committed_marks}
+use Rattle.journal_ring.specs.RoomLaws.{HasBounds}
 use Rattle.journal_ring.specs.Sections.{wrap, section_bytes, used_in, filled}
 use Rattle.journal_ring.specs.Ring.{section_of, entries_held, view_of, number_at, IsRing}
 use Rattle.journal_ring.proofs.SectionsLemmas.{used-filled}
@@ -38,6 +39,13 @@ module _ (g : Geometry) (bytes counts : List ℕ) (m : Marks) (is : IsRing g byt
 
   pub batch_low : (batch_of g.sections m ≤ m.opened) × (next_of g.sections m + batch_of g.sections m ≤ g.sections)
   batch_low = let inside = next_inside in (omega arith, omega arith)
+
+  -- The ring lies in its journal.
+  pub bounds_of : HasBounds (view_of g bytes m)
+  bounds_of = record {
+    inside = next_inside;
+    fits = omega (arith, is.fits, length-map-range_with_len (entries_held g bytes m.first) 0 m.committed, length-map-range_with_len (entries_held g bytes m.first) m.committed m.opened);
+  }
 
   -- How many sections it has, by the ring.
   pub next_batch-is : next_batch (view_of g bytes m) ≡ batch_of g.sections m

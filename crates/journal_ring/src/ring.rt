@@ -66,6 +66,7 @@ impl<'p> Ring<'p> {
     ghost use Rattle.journal_ring.specs.Batch.{after_move, next_entries, HasCommitted, HasMoved, WritesBatch};
     ghost use Rattle.journal_ring.specs.declared.ring.Moved.TheVariants.{Did, Idle};
     ghost use Rattle.journal_ring.specs.Places.{entries_at, entry_of, is_committed, is_free, next_place, oldest_at, oldest_of, with_free};
+    ghost use Rattle.journal_ring.specs.RoomLaws.{HasBounds};
 
     /// The ring over a journal of which nothing is to be placed: the next section to be written is `next`, under
     /// `number`.
@@ -195,7 +196,10 @@ impl<'p> Ring<'p> {
 
     /// The oldest section that is not free. None where all are.
     pub fn oldest(&self) -> Option<u64>
-        ensures { result ≡ oldest_of self.now }
+        ensures oldest { result ≡ oldest_of self.now }
+
+        // What holds of every ring.
+        ensures bounds { HasBounds self.now }
     {
         if self.marks.committed + self.marks.opened == 0 {
             return None;
@@ -372,6 +376,7 @@ impl<'p> Ring<'p> {
             → (d : JournaledDisk) → IsSound d → IsRingOf self.old d
             → HasNow (StandsFor d) (D.moments disk.old)
             → HasCommitted d self.old self.new (D.moments disk.new)) }
+        ensures idle { IfOk result (λ moved. moved ≡ Idle → disk.new ≡ disk.old) }
 
         ensures cause { HasCause (D.faults disk.old) (D.faults disk.new) result }
         ensures err { OnErr result (self.new ≡ self.old) }

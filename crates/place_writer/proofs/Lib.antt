@@ -4,3 +4,4 @@ pub mod PlacementLemmas
 pub mod PlacedOnLemmas
 pub mod PlacingLawsLemmas
 pub mod Worked
+pub mod CommitLawsLemmas

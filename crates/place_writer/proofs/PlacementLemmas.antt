@@ -83,15 +83,15 @@ module _ (p : Placement) (ring : JournalRing) (is : IsPlacementOf p ring) where
     there : slice_get ring.committed p.sections ≡ Some (get_or ring.committed p.sections [])
     there = slice_get-get_or ring.committed p.sections [] more
 
-    pub section_inside : wrap ring.geometry.sections (oldest_at ring + p.sections) < ring.geometry.sections
-    section_inside =
-        let oldest = oldest_inside ring is.bounds in
-        wrap-inside ring.geometry.sections (oldest_at ring + p.sections) (omega (arith, oldest, is.bounds.fits, more))
+    pub section_inside : HasBounds ring → wrap ring.geometry.sections (oldest_at ring + p.sections) < ring.geometry.sections
+    section_inside bounds =
+        let oldest = oldest_inside ring bounds in
+        wrap-inside ring.geometry.sections (oldest_at ring + p.sections) (omega (arith, oldest, bounds.fits, more))
 
-    pub entries_here : entries_at ring (wrap ring.geometry.sections (oldest_at ring + p.sections)) ≡ get_or ring.committed p.sections []
-    entries_here =
+    pub entries_here : HasBounds ring → entries_at ring (wrap ring.geometry.sections (oldest_at ring + p.sections)) ≡ get_or ring.committed p.sections []
+    entries_here bounds =
         ap (λ (k : ℕ). get_or (ring.committed ++ ring.opened) k [])
-        (position-behind ring.geometry.sections (oldest_at ring) p.sections (oldest_inside ring is.bounds) (omega (arith, is.bounds.fits, more)))
+        (position-behind ring.geometry.sections (oldest_at ring) p.sections (oldest_inside ring bounds) (omega (arith, bounds.fits, more)))
         ∙ get_or_append_left ring.committed ring.opened [] p.sections more
 
     some_here : 1 ≤ length (get_or ring.committed p.sections [])
@@ -189,7 +189,6 @@ module _ (p : Placement) (ring : JournalRing) (is : IsPlacementOf p ring) where
       let left = length-drop p.sections ring.committed in
       record {
         ring_ = record {
-          bounds = record { inside = is.bounds.inside; fits = omega (arith, is.bounds.fits, left) };
           some = all_drop (λ (entries : List Entry). 1 ≤ length entries) p.sections ring.committed is.some;
           whole = all_drop (AllByRecursion (IsWholeEntry ring.geometry)) p.sections ring.committed is.whole;
           some_opened = is.some_opened;
@@ -233,18 +232,18 @@ pub record IsNextPlace (p : Placement) (ring : JournalRing) (place : Place) : Ty
   pub told : slice_get (entries_of ring.committed) (placed_in p ring) ≡ Some entry
   pub whole : IsWholeEntry ring.geometry entry
 
-pub next_found : (p : Placement) (ring : JournalRing) (place : Place) → IsPlacementOf p ring → next_place p ring ≡ Some place → IsNextPlace p ring place
-next_found p ring place is found =
+pub next_found : (p : Placement) (ring : JournalRing) (place : Place) → IsPlacementOf p ring → HasBounds ring → next_place p ring ≡ Some place → IsNextPlace p ring place
+next_found p ring place is bounds found =
     let more = next_more p ring place found in
     let at = next_there p ring place found in
     let section : place.section ≡ wrap ring.geometry.sections (oldest_at ring + p.sections) = ap (λ (x : Place). x.section) at in
     let number : place.entry ≡ p.entries = ap (λ (x : Place). x.entry) at in
-    let here : entries_at ring place.section ≡ get_or ring.committed p.sections [] = ap (entries_at ring) section ∙ entries_here p ring is more in
+    let here : entries_at ring place.section ≡ get_or ring.committed p.sections [] = ap (entries_at ring) section ∙ entries_here p ring is more bounds in
     let low = entry_low p ring is more in
     let entry = used_there (get_or ring.committed p.sections []) p.entries low in
     record {
       more = more;
-      inside = omega (arith, section, section_inside p ring is more);
+      inside = omega (arith, section, section_inside p ring is more bounds);
       here = here;
       low = omega (arith, number, low, ap length here);
       entry = entry.0;

@@ -1,7 +1,7 @@
 -- What is placed of a ring as it goes on, and what is in place once it is settled.
-use Rattle.std.proofs.Common.{◌≡◌, inl, inr, ⊎_elim, ℕ, ◌+◌, ◌<◌, ◌≤◌, Bool, true, false, if◌then◌else◌, refl, sym, ◌∙◌, ap, subst, arith, Option, None, List, [], ◌∷◌, ◌++◌, length, take, drop, get_or, length-append, length-drop, append-nil, slice_index}
+use Rattle.std.proofs.Common.{◌≡◌, inl, inr, ⊎_elim, ℕ, ◌+◌, ◌≤◌, Bool, true, false, refl, sym, ◌∙◌, ap, subst, arith, Option, None, List, [], ◌∷◌, ◌++◌, length, take, drop, get_or, length-append, append-nil, slice_index}
 use Rattle.std.specs.List.{AllByRecursion}
-use Rattle.std.proofs.lemmas.Bool.{cases_eq, cases_lt, eq-eqb, ltb-true, ne_eqb}
+use Rattle.std.proofs.lemmas.Bool.{cases_lt}
 use Rattle.std.proofs.lemmas.List.{drop_all, get_or_append_left, get_or_past, length-take-le, take-append-le, take_all}
 use Rattle.disk_model.specs.Disk.{sector_in}
 use Rattle.image_model.specs.Cells.{Cell, last_entry, salt_of}
@@ -13,9 +13,8 @@ use Rattle.device_laws.specs.Device.{IsJournalRing, freed_count}
 use Rattle.device_laws.proofs.RingLemmas.{held_at}
 use Rattle.journal_model.specs.Entries.{IsBlockEntry, cell_after}
 use Rattle.journal_model.specs.JournaledDisk.{JournaledDisk, IsFormed, IsSound, MayStandOutside, cell_at}
-use Rattle.journal_model.specs.Cuts.{next_after}
-use Rattle.journal_model.specs.Ring.{JournalRing, entries_of, has_open_section, has_room, next_batch, with_commit, with_put}
-use Rattle.journal_model.proofs.JournalRingLemmas.{all-put_last, kept_size, length-put_last, some-put_last}
+use Rattle.journal_model.specs.Ring.{JournalRing, entries_of, has_open_section, next_batch, with_commit, with_put}
+use Rattle.journal_model.proofs.JournalRingLemmas.{all-put_last, some-put_last}
 use Rattle.journal_model.proofs.PlaceLemmas.{placed_is}
 use Rattle.place_writer.specs.Placement.{IsPlacementOf, IsWholeEntry, IsWholeRing, placed_in}
 use Rattle.place_writer.specs.PlacingLaws.{BeginsLaw, CommitLaw, DiskRingLaw, PutLaw, SettledCellsLaw}
@@ -67,9 +66,7 @@ module _ (d : JournaledDisk) (ring : JournalRing) (sound : IsSound d) (is : IsJo
 
 pub disk_ring_law : DiskRingLaw
 disk_ring_law d ring sound is =
-    let same = ap (λ (y : Geometry). y.sections) is.geometry in
     record {
-      bounds = record { inside = omega (arith, is.rests.at.inside, is.next, same); fits = omega (arith, is.fits, same) };
       some = is.some_committed;
       whole = whole_entries d ring sound is;
       some_opened = is.some_opened;
@@ -79,8 +76,8 @@ disk_ring_law d ring sound is =
 -- ---- what is placed as the ring goes on
 
 pub begins_law : BeginsLaw
-begins_law g next number inside = record {
-  ring_ = record { bounds = record { inside = inside; fits = omega arith }; some = tt; whole = tt; some_opened = tt; whole_opened = tt };
+begins_law g next number = record {
+  ring_ = record { some = tt; whole = tt; some_opened = tt; whole_opened = tt };
   sections = omega arith;
   entries = inl refl;
 }
@@ -107,41 +104,25 @@ module _ (ring : JournalRing) (is : IsWholeRing ring) where
 
   committed_whole : IsWholeRing (with_commit ring)
   committed_whole =
-      let first = kept_size ring in
-      let left = length-drop (next_batch ring) ring.opened in
       record {
-        bounds = record { inside = next_inside (ring.next + batch) refl; fits = omega (arith, is.bounds.fits, first, left) };
         some = all_append (λ (entries : List Entry). 1 ≤ length entries) ring.committed (take batch ring.opened) is.some (all_take (λ (entries : List Entry). 1 ≤ length entries) batch ring.opened is.some_opened);
         whole = all_append (AllByRecursion (IsWholeEntry ring.geometry)) ring.committed (take batch ring.opened) is.whole (all_take (AllByRecursion (IsWholeEntry ring.geometry)) batch ring.opened is.whole_opened);
         some_opened = all_drop (λ (entries : List Entry). 1 ≤ length entries) batch ring.opened is.some_opened;
         whole_opened = all_drop (AllByRecursion (IsWholeEntry ring.geometry)) batch ring.opened is.whole_opened;
       }
-    where
-      next_inside : (at : ℕ) → at ≡ ring.next + next_batch ring → next_after ring.geometry.sections ring.next (next_batch ring) < ring.geometry.sections
-      next_inside at e = elim (cases_eq (ring.next + next_batch ring) ring.geometry.sections) [
-        | inl end ↦ subst (λ (t : Bool). (if t then 0 else ring.next + next_batch ring) < ring.geometry.sections) (sym (eq-eqb (ring.next + next_batch ring) ring.geometry.sections end)) (omega (arith, is.bounds.inside))
-        | inr other ↦ subst (λ (t : Bool). (if t then 0 else ring.next + next_batch ring) < ring.geometry.sections) (sym (ne_eqb (ring.next + next_batch ring) ring.geometry.sections other)) (omega (arith, is.bounds.inside, other))
-      ]
 
-  module _ (entry : Entry) (whole : IsWholeEntry ring.geometry entry) (room : has_room ring ≡ true) where
+  module _ (entry : Entry) (whole : IsWholeEntry ring.geometry entry) where
     put_whole : IsWholeRing (with_put entry ring)
     put_whole = by (has_open_section ring) refl
       where
         by : (t : Bool) → has_open_section ring ≡ t → IsWholeRing (with_put entry ring)
         by true open_ = rw open_ (record {
-          bounds = record { inside = is.bounds.inside; fits = omega (arith, is.bounds.fits, length-put_last entry ring.opened) };
           some = is.some;
           whole = is.whole;
           some_opened = some-put_last entry ring.opened is.some_opened;
           whole_opened = all-put_last (IsWholeEntry ring.geometry) entry ring.opened whole is.whole_opened;
         })
         by false open_ = rw open_ (record {
-          bounds = record {
-            inside = is.bounds.inside;
-            fits =
-                let free : length ring.opened + length ring.committed < ring.geometry.sections = ltb-true (length ring.opened + length ring.committed) ring.geometry.sections (rw open_ at room) in
-                omega (arith, free, length-append ring.opened ((entry ∷ []) ∷ []));
-          };
           some = is.some;
           whole = is.whole;
           some_opened = all_append (λ (entries : List Entry). 1 ≤ length entries) ring.opened ((entry ∷ []) ∷ []) is.some_opened (omega arith, tt);
@@ -152,7 +133,7 @@ pub commit_law : CommitLaw
 commit_law p ring is = goes_on p ring (with_commit ring) (take (next_batch ring) ring.opened) is refl (committed_whole ring is.ring_)
 
 pub put_law : PutLaw
-put_law p ring entry is room whole = goes_on p ring (with_put entry ring) [] is (sym (append-nil ring.committed)) (put_whole ring is.ring_ entry whole room)
+put_law p ring entry is whole = goes_on p ring (with_put entry ring) [] is (sym (append-nil ring.committed)) (put_whole ring is.ring_ entry whole)
 
 -- ---- what is settled is in place
 

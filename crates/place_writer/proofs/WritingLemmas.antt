@@ -37,7 +37,7 @@ abbrev KeepsNow : JournaledDisk → (Content → ℕ → List ℕ) → List Cont
 KeepsNow d tags moments = HasNow (λ c. KeepsCells d (tags c) c) moments
 
 -- Tags that are told alike are as good.
-keeps_same : (d : JournaledDisk) (tags now : ℕ → List ℕ) (c : Content) → ((b : ℕ) → b < d.geometry.blocks → now b ≡ tags b) → KeepsCells d tags c → KeepsCells d now c
+pub keeps_same : (d : JournaledDisk) (tags now : ℕ → List ℕ) (c : Content) → ((b : ℕ) → b < d.geometry.blocks → now b ≡ tags b) → KeepsCells d tags c → KeepsCells d now c
 keeps_same d tags now c same keeps = record {
   stands = keeps.stands;
   reads = keeps.reads;

@@ -41,17 +41,17 @@ pub record PlacesOne (old new : Placement) (ring : JournalRing) : Type 0 where
   pub more : placed_in old ring < length (entries_of ring.committed)
   pub next : placed_in new ring ≡ placed_in old ring + 1
 
--- All of them are, and nothing has changed.
-pub record FindsAllPlaced (old new : Placement) (ring : JournalRing) (before after : Store)
-    (first last : List Content) : Type 0 where
+-- All of them are, and nothing has changed: the disk was not called.
+pub record FindsAllPlaced {A : Type 0} (old new : Placement) (ring : JournalRing) (before after : Store)
+    (first last : A) : Type 0 where
   pub all : placed_in old ring ≡ length (entries_of ring.committed)
   pub placement : new ≡ old
   pub store : after ≡ before
-  pub moments : last ≡ first
+  pub disk : last ≡ first
 
 -- Placing did the one, or found the other.
-abbrev pub HasPlaced : Moved → (old new : Placement) → JournalRing → (before after : Store)
-    → (first last : List Content) → Type 0
+abbrev pub HasPlaced : {A : Type 0} → Moved → (old new : Placement) → JournalRing → (before after : Store)
+    → (first last : A) → Type 0
 HasPlaced Did old new ring before after first last = PlacesOne old new ring
 HasPlaced Idle old new ring before after first last = FindsAllPlaced old new ring before after first last
 
@@ -89,18 +89,18 @@ pub record FreesPlaced (old new : Placement) (ring left : JournalRing) : Type 0 
   pub rest : placed_in old ring
       ≡ placed_in new left + (length (entries_of ring.committed) - length (entries_of left.committed))
 
--- No committed section is wholly placed, and nothing has changed.
-pub record FindsNoneToFree (old new : Placement) (ring left : JournalRing) (before after : Store)
-    (first last : List Content) : Type 0 where
+-- No committed section is wholly placed, and nothing has changed: the disk was not called.
+pub record FindsNoneToFree {A : Type 0} (old new : Placement) (ring left : JournalRing)
+    (before after : Store) (first last : A) : Type 0 where
   pub none : with_settle (placed_in old ring) ring ≡ ring
   pub ring_ : left ≡ ring
   pub placement : new ≡ old
   pub store : after ≡ before
-  pub moments : last ≡ first
+  pub disk : last ≡ first
 
 -- Settling did the one, or found the other.
-abbrev pub HasSettled : Moved → (old new : Placement) → (ring left : JournalRing) → (before after : Store)
-    → (first last : List Content) → Type 0
+abbrev pub HasSettled : {A : Type 0} → Moved → (old new : Placement) → (ring left : JournalRing)
+    → (before after : Store) → (first last : A) → Type 0
 HasSettled Did old new ring left before after first last = FreesPlaced old new ring left
 HasSettled Idle old new ring left before after first last =
     FindsNoneToFree old new ring left before after first last

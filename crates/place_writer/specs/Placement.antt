@@ -6,7 +6,6 @@ use Rattle.image_model.specs.Section.{Entry}
 use Rattle.journal_model.specs.Ring.{JournalRing, entries_of}
 use Rattle.journal_overlay.specs.declared.place.Place.{Place}
 use Rattle.journal_ring.specs.Places.{oldest_at}
-use Rattle.journal_ring.specs.RoomLaws.{HasBounds}
 use Rattle.journal_ring.specs.Sections.{wrap}
 use Rattle.place_writer.specs.declared.placement.Placement.{Placement}
 
@@ -31,9 +30,8 @@ pub record IsWholeEntry (g : Geometry) (entry : Entry) : Type 0 where
   pub bytes : length entry.bytes ≡ 512 * g.shape.spb
   pub tag : length entry.tag ≡ g.shape.tag_size
 
--- The ring lies in its journal, and each of its sections has entries, all of whole blocks.
+-- Each of the ring's sections has entries, all of whole blocks.
 pub record IsWholeRing (ring : JournalRing) : Type 0 where
-  pub bounds : HasBounds ring
   pub some : AllByRecursion (λ entries. 1 ≤ length entries) ring.committed
   pub whole : AllByRecursion (AllByRecursion (IsWholeEntry ring.geometry)) ring.committed
   pub some_opened : AllByRecursion (λ entries. 1 ≤ length entries) ring.opened

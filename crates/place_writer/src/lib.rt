@@ -13,5 +13,5 @@ mod placement;
 mod placer;
 mod writing;
 
-pub use laws::{placement_goes_on, settled_is_in_place};
+pub use laws::{commit_keeps_what_is_placed, placement_goes_on, settled_is_in_place};
 pub use placer::Placer;

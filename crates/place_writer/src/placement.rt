@@ -1,5 +1,6 @@
 //! How far the committed entries of a ring are placed.
 ghost use Rattle.std.specs.Prelude.{◌≡◌, ◌+◌, ◌-◌, ◌^◌, ◌<◌};
+ghost use Rattle.journal_ring.specs.RoomLaws.{HasBounds};
 ghost use Rattle.journal_ring.specs.Sections.{wrap};
 ghost use Rattle.place_writer.specs.Placement.{IsPlacementOf, after_next, next_place};
 
@@ -19,7 +20,8 @@ pub(crate) struct Placement {
 pub(crate) fn next(placement: Placement, ring: &Ring<'_>) -> Option<Place>
     requires placement { IsPlacementOf placement ring.now }
 
-    ensures { result ≡ next_place placement ring.now }
+    ensures place { result ≡ next_place placement ring.now }
+    ensures bounds { HasBounds ring.now }
 {
     let Some(oldest) = ring.oldest() else {
         return None;

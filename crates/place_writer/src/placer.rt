@@ -66,8 +66,8 @@ impl Placer {
         requires geometry { ring.now.geometry ≡ tags.old.geometry }
         requires store { IsStore tags.old (D.identity disk.old) (D.moments disk.old) }
 
-        ensures moved { IfOk result (λ moved. HasPlaced moved self.old self.new ring.now tags.old tags.new
-            (D.moments disk.old) (D.moments disk.new)) }
+        ensures moved { IfOk result (λ moved. HasPlaced moved self.old self.new ring.now
+            tags.old tags.new disk.old disk.new) }
         ensures placed { IfOk result (λ moved. (d : JournaledDisk)
             → IsPlacedOn d self.old ring.now tags.old (D.moments disk.old)
             → IsPlacedOn (after_placing moved d) self.new ring.now tags.new (D.moments disk.new)) }
@@ -110,7 +110,7 @@ impl Placer {
         requires store { IsStore tags.old (D.identity disk.old) (D.moments disk.old) }
 
         ensures moved { IfOk result (λ moved. HasSettled moved self.old self.new ring.old ring.new
-            tags.old tags.new (D.moments disk.old) (D.moments disk.new)) }
+            tags.old tags.new disk.old disk.new) }
         ensures settled { IfOk result (λ moved. (d : JournaledDisk)
             → IsPlacedOn d self.old ring.old tags.old (D.moments disk.old)
             → IsLeftOn moved d self.new ring.new tags.new (D.moments disk.new)) }

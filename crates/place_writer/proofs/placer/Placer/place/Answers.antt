@@ -15,27 +15,27 @@ use Rattle.place_writer.proofs.placer.Placer.place.Goals as goal
 
 pub place_entry-requires-clause-entry : goal.place_entry-requires-clause-entry
 place_entry-requires-clause-entry g c =
-    (next_found c.args.self.now c.args.ring.now c.in-Some.place c.requires.placement
-    (ap (λ (p : Placement). next_place p c.args.ring.now) (sym c.self.view_is) ∙ sym c.next.ensures ∙ c.in-Some.is)).low
+    (next_found c.args.self.now c.args.ring.now c.in-Some.place c.requires.placement c.next.ensures.bounds
+    (ap (λ (p : Placement). next_place p c.args.ring.now) (sym c.self.view_is) ∙ sym c.next.ensures.place ∙ c.in-Some.is)).low
 
 pub place_entry-requires-clause-whole : goal.place_entry-requires-clause-whole
 place_entry-requires-clause-whole g c entry there =
-    let found = next_found c.args.self.now c.args.ring.now c.in-Some.place c.requires.placement
-    (ap (λ (p : Placement). next_place p c.args.ring.now) (sym c.self.view_is) ∙ sym c.next.ensures ∙ c.in-Some.is) in
+    let found = next_found c.args.self.now c.args.ring.now c.in-Some.place c.requires.placement c.next.ensures.bounds
+    (ap (λ (p : Placement). next_place p c.args.ring.now) (sym c.self.view_is) ∙ sym c.next.ensures.place ∙ c.in-Some.is) in
     subst (λ (x : Entry). IsWholeEntry c.args.ring.now.geometry x) (same_Some found.entry entry (sym found.is ∙ there)) found.whole
 
 pub returns-in_err-place_entry-clause-cuts : goal.returns-in_err-place_entry-clause-cuts
 returns-in_err-place_entry-clause-cuts g c d on =
     let ring = c.args.ring.now in
-    let found = next_found c.args.self.now ring c.in-Some.place c.requires.placement
-    (ap (λ (p : Placement). next_place p ring) (sym c.self.view_is) ∙ sym c.next.ensures ∙ c.in-Some.is) in
+    let found = next_found c.args.self.now ring c.in-Some.place c.requires.placement c.next.ensures.bounds
+    (ap (λ (p : Placement). next_place p ring) (sym c.self.view_is) ∙ sym c.next.ensures.place ∙ c.in-Some.is) in
     cuts_placed d (c.place_entry.ensures.stands d found.entry found.is (next_on d c.args.self.now ring c.args.tags.now on found.entry found.told) on.cells)
 
 pub returns-in_err-place_entry-clause-moments : goal.returns-in_err-place_entry-clause-moments
 returns-in_err-place_entry-clause-moments g c entry told =
     let ring = c.args.ring.now in
-    let found = next_found c.args.self.now ring c.in-Some.place c.requires.placement
-    (ap (λ (p : Placement). next_place p ring) (sym c.self.view_is) ∙ sym c.next.ensures ∙ c.in-Some.is) in
+    let found = next_found c.args.self.now ring c.in-Some.place c.requires.placement c.next.ensures.bounds
+    (ap (λ (p : Placement). next_place p ring) (sym c.self.view_is) ∙ sym c.next.ensures.place ∙ c.in-Some.is) in
     let same : found.entry ≡ entry = same_Some found.entry entry (sym found.told ∙ told) in
     subst (λ (x : Entry). EachSince (OnlyAdds (IsOfBlockOrTags ring.geometry (block_of ring.geometry x) x.bytes)) (g.D.Disk.moments c.args.disk.now) (g.D.Disk.moments c.place_entry.new.disk)) same
     (subst (λ (y : Geometry). EachSince (OnlyAdds (IsOfBlockOrTags y (block_of y found.entry) found.entry.bytes)) (g.D.Disk.moments c.args.disk.now) (g.D.Disk.moments c.place_entry.new.disk)) (sym c.requires.geometry)
@@ -44,22 +44,22 @@ returns-in_err-place_entry-clause-moments g c entry told =
 pub after_next-self-inside-requires-clause-sections : goal.after_next-self-inside-requires-clause-sections
 after_next-self-inside-requires-clause-sections g c =
     let ring = c.args.ring.now in
-    let found = next_found c.args.self.now ring c.in-Some.place c.requires.placement
-    (ap (λ (p : Placement). next_place p ring) (sym c.self.view_is) ∙ sym c.next.ensures ∙ c.in-Some.is) in
-    omega (arith, sections_few c.args.tags.now.geometry _ c.requires.store.geometry, ap (λ (y : Geometry). y.sections) c.requires.geometry, found.more, c.requires.placement.bounds.fits, ap (λ (p : Placement). p.sections) c.self.view_is)
+    let found = next_found c.args.self.now ring c.in-Some.place c.requires.placement c.next.ensures.bounds
+    (ap (λ (p : Placement). next_place p ring) (sym c.self.view_is) ∙ sym c.next.ensures.place ∙ c.in-Some.is) in
+    omega (arith, sections_few c.args.tags.now.geometry _ c.requires.store.geometry, ap (λ (y : Geometry). y.sections) c.requires.geometry, found.more, c.next.ensures.bounds.fits, ap (λ (p : Placement). p.sections) c.self.view_is)
 
 pub after_next-self-inside-requires-clause-entries : goal.after_next-self-inside-requires-clause-entries
 after_next-self-inside-requires-clause-entries g c =
     let ring = c.args.ring.now in
-    let found = next_found c.args.self.now ring c.in-Some.place c.requires.placement
-    (ap (λ (p : Placement). next_place p ring) (sym c.self.view_is) ∙ sym c.next.ensures ∙ c.in-Some.is) in
+    let found = next_found c.args.self.now ring c.in-Some.place c.requires.placement c.next.ensures.bounds
+    (ap (λ (p : Placement). next_place p ring) (sym c.self.view_is) ∙ sym c.next.ensures.place ∙ c.in-Some.is) in
     omega (arith, entry_low c.args.self.now ring c.requires.placement found.more, ap length found.here, c.entries_in.ensures, ap (λ (p : Placement). p.entries) c.self.view_is)
 
 pub returns-clause-moved : goal.returns-clause-moved
 returns-clause-moved g c =
     let ring = c.args.ring.now in
-    let found = next_found c.args.self.now ring c.in-Some.place c.requires.placement
-    (ap (λ (p : Placement). next_place p ring) (sym c.self.view_is) ∙ sym c.next.ensures ∙ c.in-Some.is) in
+    let found = next_found c.args.self.now ring c.in-Some.place c.requires.placement c.next.ensures.bounds
+    (ap (λ (p : Placement). next_place p ring) (sym c.self.view_is) ∙ sym c.next.ensures.place ∙ c.in-Some.is) in
     subst (λ (q : Placement). PlacesOne c.args.self.now q ring)
     (sym (c.after_next-self-inside.ensures ∙ ap (λ (p : Placement). after_next p c.entries_in.result) c.self.view_is
     ∙ ap (after_next c.args.self.now) (c.entries_in.ensures ∙ ap length found.here)))
@@ -68,8 +68,8 @@ returns-clause-moved g c =
 pub returns-clause-placement : goal.returns-clause-placement
 returns-clause-placement g c =
     let ring = c.args.ring.now in
-    let found = next_found c.args.self.now ring c.in-Some.place c.requires.placement
-    (ap (λ (p : Placement). next_place p ring) (sym c.self.view_is) ∙ sym c.next.ensures ∙ c.in-Some.is) in
+    let found = next_found c.args.self.now ring c.in-Some.place c.requires.placement c.next.ensures.bounds
+    (ap (λ (p : Placement). next_place p ring) (sym c.self.view_is) ∙ sym c.next.ensures.place ∙ c.in-Some.is) in
     subst (λ (q : Placement). IsPlacementOf q ring)
     (sym (c.after_next-self-inside.ensures ∙ ap (λ (p : Placement). after_next p c.entries_in.result) c.self.view_is
     ∙ ap (after_next c.args.self.now) (c.entries_in.ensures ∙ ap length found.here)))
@@ -78,8 +78,8 @@ returns-clause-placement g c =
 pub returns-clause-placed : goal.returns-clause-placed
 returns-clause-placed g c d on =
     let ring = c.args.ring.now in
-    let found = next_found c.args.self.now ring c.in-Some.place c.requires.placement
-    (ap (λ (p : Placement). next_place p ring) (sym c.self.view_is) ∙ sym c.next.ensures ∙ c.in-Some.is) in
+    let found = next_found c.args.self.now ring c.in-Some.place c.requires.placement c.next.ensures.bounds
+    (ap (λ (p : Placement). next_place p ring) (sym c.self.view_is) ∙ sym c.next.ensures.place ∙ c.in-Some.is) in
     let moved : PlacesOne c.args.self.now c.after_next-self-inside.result ring = returns-clause-moved g c in
     placed_on d c.args.self.now ring c.args.tags.now on c.after_next-self-inside.result c.place_entry.new.tags moved.next
     (c.in_ok-place_entry.ensures.placed d found.entry found.is (next_on d c.args.self.now ring c.args.tags.now on found.entry found.told) on.cells)
@@ -87,15 +87,15 @@ returns-clause-placed g c d on =
 pub returns-clause-cuts : goal.returns-clause-cuts
 returns-clause-cuts g c d on =
     let ring = c.args.ring.now in
-    let found = next_found c.args.self.now ring c.in-Some.place c.requires.placement
-    (ap (λ (p : Placement). next_place p ring) (sym c.self.view_is) ∙ sym c.next.ensures ∙ c.in-Some.is) in
+    let found = next_found c.args.self.now ring c.in-Some.place c.requires.placement c.next.ensures.bounds
+    (ap (λ (p : Placement). next_place p ring) (sym c.self.view_is) ∙ sym c.next.ensures.place ∙ c.in-Some.is) in
     cuts_placed d (c.place_entry.ensures.stands d found.entry found.is (next_on d c.args.self.now ring c.args.tags.now on found.entry found.told) on.cells)
 
 pub returns-clause-moments : goal.returns-clause-moments
 returns-clause-moments g c entry told =
     let ring = c.args.ring.now in
-    let found = next_found c.args.self.now ring c.in-Some.place c.requires.placement
-    (ap (λ (p : Placement). next_place p ring) (sym c.self.view_is) ∙ sym c.next.ensures ∙ c.in-Some.is) in
+    let found = next_found c.args.self.now ring c.in-Some.place c.requires.placement c.next.ensures.bounds
+    (ap (λ (p : Placement). next_place p ring) (sym c.self.view_is) ∙ sym c.next.ensures.place ∙ c.in-Some.is) in
     let same : found.entry ≡ entry = same_Some found.entry entry (sym found.told ∙ told) in
     subst (λ (x : Entry). EachSince (OnlyAdds (IsOfBlockOrTags ring.geometry (block_of ring.geometry x) x.bytes)) (g.D.Disk.moments c.args.disk.now) (g.D.Disk.moments c.place_entry.new.disk)) same
     (subst (λ (y : Geometry). EachSince (OnlyAdds (IsOfBlockOrTags y (block_of y found.entry) found.entry.bytes)) (g.D.Disk.moments c.args.disk.now) (g.D.Disk.moments c.place_entry.new.disk)) (sym c.requires.geometry)

@@ -15,7 +15,7 @@ returns-then-self-eq0-clause-moved g c = record {
   ring_ = refl;
   placement = refl;
   store = refl;
-  moments = refl;
+  disk = refl;
 }
 
 pub returns-in_err-flush-clause-cuts : goal.returns-in_err-flush-clause-cuts
