@@ -1,0 +1,111 @@
+-- A journal in memory, and what an image whose journal it is tells.
+use Rattle.std.proofs.Common.{◌≡◌, ℕ, ◌+◌, ◌-◌, ◌*◌, ◌/◌, ◌<◌, ◌≤◌, refl, sym, ◌∙◌, ap, subst, arith, Option, option_and_then, Result, Ok, Err, IsOk, List, [], ◌∷◌, ◌++◌, length, map, filter_map, slice_get}
+use Rattle.std.specs.List.{range_with_len, flat_map}
+use Rattle.std.specs.Option.{option_map, option_or}
+use Rattle.std.specs.Result.{result_err}
+use Rattle.std.proofs.lemmas.List.Elements.{filter_map-append}
+use Rattle.std.proofs.Math.Nat.{mul-le-mul_right}
+use Rattle.disk_model.specs.Disk.{Content, Image, Reads, last_image, sector_in}
+use Rattle.image_model.specs.declared.journal_plan.Plan.{Plan}
+use Rattle.image_model.specs.declared.scan_fault.ScanFault.{ScanFault}
+use Rattle.image_model.specs.Cells.{counted_sections, entry_of, entry_places, replayed_entries, section_bytes}
+use Rattle.image_model.specs.Geometry.{Geometry, IsGeometry, journal_sectors, section_at, section_entries, section_sectors}
+use Rattle.image_model.specs.Grid.{walk_of}
+use Rattle.image_model.specs.Openable.{JournalFault, Scan, entry_fault, journal_fault_of}
+use Rattle.image_model.specs.Section.{entry_at}
+use Rattle.image_model.specs.Sectors.{piece}
+use Rattle.image_model.specs.Walk.{sections_of}
+use Rattle.image_model.proofs.ScanLemmas.{place_low}
+use Rattle.image_model.proofs.SectorLemmas.{bytes_at_read, bytes_at-same, length-piece, piece-piece}
+use Rattle.place_model.proofs.JournalLemmas.{replayed_entries-same, walk-same, walk_of-same}
+use Rattle.journal_reading.specs.Journal.{HasJournal, journal_image}
+
+-- ---- sectors
+
+-- What is read of the journal's sectors is the journal.
+pub HasJournal-read : (g : Geometry) (bytes : List ℕ) (c : Content) → length bytes ≡ 512 * journal_sectors g → Reads 8 bytes c
+    → HasJournal g bytes (last_image c)
+HasJournal-read g bytes c size reads = record {
+  each = λ i j low narrow.
+      let k = i * section_sectors g.shape + j in
+      let inside = place_low g.sections (section_sectors g.shape) i j low narrow in
+      let at : section_at g i + j ≡ 8 + k = omega arith in
+      let back : k ≡ section_at g i + j - 8 = omega arith in
+      let count : k < length bytes / 512 = omega arith in
+      ap (last_image c) at ∙ sym (reads k count) ∙ ap (sector_in bytes) back;
+}
+
+-- The bytes of a section stand in it.
+pub section_bytes-piece : (g : Geometry) (bytes : List ℕ) (i : ℕ) → length bytes ≡ 512 * journal_sectors g → i < g.sections
+    → piece bytes (512 * (i * section_sectors g.shape)) (512 * section_sectors g.shape) ≡ section_bytes g (journal_image bytes) i
+section_bytes-piece g bytes i size low =
+    let sectors = section_sectors g.shape in
+    let from = 512 * (i * sectors) in
+    let fits = section_fits g i low in
+    bytes_at_read (journal_image bytes) (section_at g i) sectors (piece bytes from (512 * sectors))
+    (length-piece bytes from (512 * sectors) (omega arith))
+    (λ k narrow.
+    let place : from + 512 * k ≡ 512 * (section_at g i + k - 8) = omega arith in
+    piece-piece bytes from (512 * sectors) (512 * k) 512 (omega arith) ∙ ap (λ (at : ℕ). piece bytes at 512) place)
+  where
+    section_fits : (g : Geometry) (i : ℕ) → i < g.sections → i * section_sectors g.shape + section_sectors g.shape ≤ journal_sectors g
+    section_fits g i low =
+        let after : i + 1 ≤ g.sections = omega arith in
+        omega (arith, mul-le-mul_right (section_sectors g.shape) after)
+
+-- ---- an image with this journal
+
+module _ (g : Geometry) (sectors : ℕ) (bytes : List ℕ) (image : Image) (geometry : IsGeometry g sectors) (has : HasJournal g bytes image) where
+  -- has its walk,
+  pub walk_of-journal : walk_of g image ≡ walk_of g (journal_image bytes)
+  walk_of-journal = walk_of-same g sectors image (journal_image bytes) geometry has.each
+
+  -- its entries,
+  pub entry_of-journal : (i n : ℕ) → i < g.sections → entry_of g image (i, n) ≡ entry_of g (journal_image bytes) (i, n)
+  entry_of-journal i n low =
+      let same = bytes_at-same image (journal_image bytes) (section_at g i) (section_sectors g.shape) (λ sector above under.
+      let there : section_at g i + (sector - section_at g i) ≡ sector = omega arith in
+      subst (λ (k : ℕ). image k ≡ journal_image bytes k) there (has.each i (sector - section_at g i) low (omega arith))) in
+      ap (λ (xs : List ℕ). entry_at g.shape xs n) same
+
+  pub replayed_entries-journal : IsOk (walk_of g (journal_image bytes)) → replayed_entries g image ≡ replayed_entries g (journal_image bytes)
+  replayed_entries-journal ok = replayed_entries-same g sectors image (journal_image bytes) geometry has.each ok
+
+  module _ (key salt : Option (List ℕ)) where
+    -- The faults of the entries of a section,
+    abbrev fault_at : Image → ℕ × ℕ → Option JournalFault
+    fault_at other place = option_and_then (entry_fault key salt g place) (entry_of g other place)
+
+    abbrev faults_in : Image → ℕ → List JournalFault
+    faults_in other i = filter_map (fault_at other) (map (λ n. (i, n)) (range_with_len 0 (section_entries g.shape)))
+
+    -- and of some.
+    faults_of_places : (other : Image) (sections : List ℕ) → filter_map (fault_at other) (entry_places g sections) ≡ flat_map (faults_in other) sections
+    faults_of_places other [] = refl
+    faults_of_places other (i ∷ sections) =
+        filter_map-append (fault_at other) (map (λ n. (i, n)) (range_with_len 0 (section_entries g.shape))) (entry_places g sections)
+        ∙ ap (λ (ws : List JournalFault). faults_in other i ++ ws) (faults_of_places other sections)
+
+    faults_same : (i : ℕ) → i < g.sections → faults_in image i ≡ faults_in (journal_image bytes) i
+    faults_same i low = each (range_with_len 0 (section_entries g.shape))
+      where
+        each : (ns : List ℕ) → filter_map (fault_at image) (map (λ n. (i, n)) ns) ≡ filter_map (fault_at (journal_image bytes)) (map (λ n. (i, n)) ns)
+        each [] = refl
+        each (n ∷ ns) = let here = entry_of-journal i n low in rw (here, each ns) refl
+
+    abbrev fault_by : Image → Result Plan ScanFault → Option JournalFault
+    fault_by other walk = option_or (option_map Scan (result_err walk)) (slice_get (filter_map (fault_at other) (entry_places g (counted_sections walk))) 0)
+
+    by_walk : (walk : Result Plan ScanFault) → walk_of g image ≡ walk → fault_by image walk ≡ fault_by (journal_image bytes) walk
+    by_walk (Err fault) is = refl
+    by_walk (Ok plan) is =
+        ap (λ (faults : List JournalFault). slice_get faults 0)
+        (faults_of_places image (sections_of plan.walk)
+        ∙ walk-same g sectors image plan (faults_in image) (faults_in (journal_image bytes)) geometry is faults_same
+        ∙ sym (faults_of_places (journal_image bytes) (sections_of plan.walk)))
+
+    -- and is refused as it is.
+    pub journal_fault_of-journal : journal_fault_of key salt g image ≡ journal_fault_of key salt g (journal_image bytes)
+    unfolding journal_fault_of
+    journal_fault_of-journal =
+        by_walk (walk_of g image) refl ∙ ap (fault_by (journal_image bytes)) walk_of-journal

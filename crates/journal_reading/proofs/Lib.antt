@@ -1,0 +1,6 @@
+pub mod PlacesLemmas
+pub mod JournalLemmas
+pub mod GridLemmas
+pub mod EntryLemmas
+pub mod JudgingLemmas
+mod Worked

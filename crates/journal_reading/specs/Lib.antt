@@ -1,0 +1,4 @@
+pub mod Journal
+pub mod Places
+pub mod Entries
+pub mod Faults
