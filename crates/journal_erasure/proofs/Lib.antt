@@ -1,0 +1,6 @@
+pub mod PartsLemmas
+pub mod StepsLemmas
+pub mod EmptyLemmas
+pub mod ErasedLemmas
+pub mod LawsLemmas
+mod Worked

@@ -1,0 +1,6 @@
+pub mod Newest
+pub mod Parts
+pub mod EmptySections
+pub mod Erasing
+pub mod Erased
+pub mod ErasureLaws
