@@ -1,0 +1,5 @@
+pub mod ReplayingLemmas
+pub mod EntriesLemmas
+pub mod RecoveryLemmas
+pub mod ErasedLemmas
+pub mod FinishingLemmas

@@ -1,0 +1,274 @@
+-- From the image at the entry of a recovery to what the disk stands for.
+use Rattle.std.proofs.Common.{◌≡◌, inl, inr, ℕ, ◌<◌, false, refl, sym, ◌∙◌, ap, subst, arith, Option, None, Some, IsOk, List, [], length, take}
+use Rattle.std.specs.List.{AllByRecursion}
+use Rattle.std.proofs.lemmas.Option.{same_Some}
+use Rattle.std.proofs.lemmas.List.{take_all}
+use Rattle.disk_model.specs.Disk.{Content, EachImage, Image, last_image, sector_in}
+use Rattle.disk_model.specs.Moments.{EachMoment, content_now}
+use Rattle.disk_model.proofs.MomentsLemmas.{EachMoment-weaker}
+use Rattle.image_model.specs.declared.flags.TheConstants.{DIRTY_BITMAP}
+use Rattle.image_model.specs.Cells.{Cell, last_entry, placed_cells_of, recalculated_cell, replayed_entries, salt_of}
+use Rattle.image_model.specs.Geometry.{Geometry, IsGeometry, section_sectors}
+use Rattle.image_model.specs.Grid.{walk_of}
+use Rattle.image_model.specs.Openable.{IsReplayable, journal_fault_of}
+use Rattle.image_model.specs.Section.{Entry}
+use Rattle.image_model.specs.Superblock.{has_flag}
+use Rattle.image_model.specs.Tables.{IsAtRest}
+use Rattle.image_model.proofs.BitmapLemmas.{awaits-journal}
+use Rattle.image_model.proofs.CellsLemmas.{counted_entries-journal}
+use Rattle.image_model.proofs.NumberLemmas.{cases_option}
+use Rattle.image_model.proofs.OpenableLemmas.{journal_fault_law}
+use Rattle.hmac_tag.specs.TagMaker.{TagRule}
+use Rattle.place_model.specs.Format.{DiskFormat, HasCells as HasImageCells, HasWholeSectors, OpensAs, cells_on}
+use Rattle.place_model.specs.Journal.{numbers_on}
+use Rattle.place_model.proofs.FormatLemmas.{opens_from, opens_tells, reads_tells}
+use Rattle.place_model.proofs.PlacedLemmas.{placed_sector, recalculated-bytes, recalculated-tag}
+use Rattle.journal_model.specs.Entries.{cell_after}
+use Rattle.journal_model.specs.JournaledDisk.{IsCutOf, JournaledDisk, Rests, StandsFor, cell_at}
+use Rattle.journal_model.specs.Opening.{opened_disk, with_new_base}
+use Rattle.journal_model.specs.Recovery.{IsRecovered}
+use Rattle.journal_model.specs.Steps.{KeepsCells, after_settle}
+use Rattle.journal_model.proofs.CutOfLemmas.{cut_of_standing}
+use Rattle.journal_model.proofs.EntriesLemmas.{cell_after-none, cell_after-some}
+use Rattle.journal_model.proofs.OpeningLemmas.{base_cells_law, opened_cells_law, opened_law, rebased_law}
+use Rattle.journal_reading.specs.Journal.{HasJournal, journal_image}
+use Rattle.journal_reading.proofs.JournalLemmas.{journal_fault_of-journal, replayed_entries-journal}
+use Rattle.place_writer.specs.Cells.{HasCells}
+use Rattle.disk_model.specs.Identity.{DiskIdentity}
+use Rattle.tag_store.specs.Store.{IsStore, Store, given, given_tags}
+use Rattle.replay.specs.declared.recovered.Recovered.{Recovered}
+use Rattle.replay.specs.Recovery.{EntersRecovery, IsReplayed, LeavesRecovered}
+use Rattle.replay.specs.Replaying.{IsToReplay, all_placed}
+
+module _ (f : DiskFormat) (rule : TagRule) (sectors : ℕ) (store : Store) (bytes : List ℕ) (c : Content) (enters : EntersRecovery f rule sectors store c)
+    (has : HasJournal store.geometry bytes (last_image c)) (right : journal_fault_of rule.key rule.salt store.geometry (journal_image bytes) ≡ None)
+    (geometry : IsGeometry store.geometry sectors) where
+  abbrev image : Image
+  image = last_image c
+
+  right_there : journal_fault_of f.key (salt_of f.superblock) f.geometry image ≡ None
+  right_there =
+      ap (λ (key : Option (List ℕ)). journal_fault_of key (salt_of f.superblock) f.geometry image) enters.key
+      ∙ ap (λ (salt : Option (List ℕ)). journal_fault_of rule.key salt f.geometry image) enters.salt
+      ∙ ap (λ (g : Geometry). journal_fault_of rule.key rule.salt g image) enters.geometry
+      ∙ journal_fault_of-journal store.geometry sectors bytes image geometry has rule.key rule.salt
+      ∙ right
+
+  -- The image can be opened,
+  pub opens : OpensAs f image
+  opens =
+      let told = reads_tells f image enters.reads in
+      let law = (journal_fault_law f.key (salt_of f.superblock) f.geometry image).0 right_there in
+      opens_from f image (record {
+        head = told.head;
+        has_geometry = told.has_geometry;
+        is_geometry = told.is_geometry;
+        walk = λ _. law.0;
+        entries = subst (AllByRecursion (IsReplayable f.key (salt_of f.superblock) f.geometry)) (sym (counted_entries-journal f.key f.superblock f.geometry image enters.no_bitmap)) law.1;
+      })
+
+  -- its entries are those of the journal in memory,
+  pub to_replay : IsOk (walk_of store.geometry (journal_image bytes)) → IsToReplay (opened_disk f image) store.geometry bytes
+  to_replay ok = record {
+    geometry = enters.geometry;
+    entries = ap (λ (g : Geometry). replayed_entries g image) enters.geometry ∙ replayed_entries-journal store.geometry sectors bytes image geometry has ok;
+    none = refl;
+  }
+
+  -- and once these are settled they are replayed.
+  pub replayed_there : IsOk (walk_of store.geometry (journal_image bytes)) → IsReplayed (after_settle (all_placed (opened_disk f image))) store.geometry bytes
+  replayed_there ok = record { geometry = enters.geometry; journal = has; entries = (to_replay ok).entries; settled = refl; placed = refl }
+
+  module _ (whole : (sector : ℕ) → sector < sectors → length (image sector) ≡ 512) where
+    whole_there : HasWholeSectors f image
+    whole_there sector low = whole sector (omega (arith, enters.sectors_are))
+
+    -- the disk stands for that,
+    pub stands : StandsFor (opened_disk f image) c
+    stands = opened_law f c opens enters.no_bitmap enters.pending whole_there
+
+    placed_cell : (b : ℕ) → cell_at (opened_disk f image) 0 b ≡ recalculated_cell f.key f.superblock f.geometry image b
+    placed_cell b = cell_after-none f.geometry (recalculated_cell f.key f.superblock f.geometry image) [] b refl
+
+    -- and reads of it and of the store give what is placed.
+    pub keeps : KeepsCells (opened_disk f image) (given_tags store c) c
+    keeps =
+        let told = opens_tells f image opens in
+        record {
+          stands = stands;
+          reads = record {
+            each = λ b k low k_low.
+                sym (ap (λ (cell : Cell). sector_in cell.bytes k) (placed_cell b)
+                ∙ ap (λ (xs : List ℕ). sector_in xs k) (recalculated-bytes f.key f.superblock f.geometry image b)
+                ∙ placed_sector f.geometry f.sectors image b k told.is_geometry whole_there low k_low);
+          };
+          tags_are = record {
+            each = λ b low rests.
+                ap (λ (g : Geometry). (placed_cells_of g (given store c) b).tag) (sym enters.geometry)
+                ∙ ap (λ (other : Image). (placed_cells_of f.geometry other b).tag) enters.fresh
+                ∙ sym (recalculated-tag f.key f.superblock f.geometry image b (awaits-journal f.superblock f.geometry image b enters.no_bitmap ∙ rests))
+                ∙ ap (λ (cell : Cell). cell.tag) (sym (placed_cell b));
+          };
+        }
+
+    -- So it has its cells.
+    pub has_cells : (moments : List Content) → content_now moments ≡ Some c → HasCells (opened_disk f image) store moments
+    has_cells moments told = record {
+      sound = stands.sound;
+      geometry = enters.geometry;
+      now = λ other now. subst (λ (x : Content). KeepsCells (opened_disk f image) (given_tags store x) x) (same_Some _ _ (sym told ∙ now)) keeps;
+    }
+
+-- ---- while entries are placed
+
+-- The cells of each image are those of the image at the entry.
+pub cells_stay : (f : DiskFormat) (image : Image) {a b : List Content} → has_flag DIRTY_BITMAP f.superblock.flags ≡ false
+    → EachMoment a b (StandsFor (all_placed (opened_disk f image))) → EachMoment a b (EachImage (HasImageCells f (cells_on f image)))
+cells_stay f image clear m = EachMoment-weaker (λ c stands.
+    base_cells_law (all_placed (opened_disk f image)) (cells_on f image) c (λ b low. opened_cells_law f image clear b)
+    (cut_of_standing (all_placed (opened_disk f image)) c stands)) m
+
+-- ---- with what a call knows
+
+module _ (f : DiskFormat) (rule : TagRule) (g : Geometry) (disk : DiskIdentity) (store : Store) (bytes : List ℕ) (before read : List Content) (start : Content)
+    (same : g ≡ store.geometry) (is : IsStore store disk before) (told : content_now before ≡ Some start) (kept : read ≡ before)
+    (whole : (sector : ℕ) → sector < disk.sectors → length (last_image start sector) ≡ 512)
+    (there : HasJournal g bytes (last_image start)) (right : journal_fault_of rule.key rule.salt g (journal_image bytes) ≡ None)
+    (ok : IsOk (walk_of g (journal_image bytes))) (enters : EntersRecovery f rule disk.sectors store start) where
+  has_there : HasJournal store.geometry bytes (last_image start)
+  has_there = subst (λ (x : Geometry). HasJournal x bytes (last_image start)) same there
+
+  right_of_store : journal_fault_of rule.key rule.salt store.geometry (journal_image bytes) ≡ None
+  right_of_store = subst (λ (x : Geometry). journal_fault_of rule.key rule.salt x (journal_image bytes) ≡ None) same right
+
+  -- The disk has its cells before anything is placed,
+  pub cells_before : HasCells (opened_disk f (last_image start)) store read
+  cells_before = has_cells f rule disk.sectors store bytes start enters has_there right_of_store is.geometry whole read (ap content_now kept ∙ told)
+
+  -- and its entries are to be replayed.
+  pub entries_before : IsToReplay (opened_disk f (last_image start)) g bytes
+  entries_before =
+      subst (λ (x : Geometry). IsToReplay (opened_disk f (last_image start)) x bytes) (sym same)
+      (to_replay f rule disk.sectors store bytes start enters has_there right_of_store is.geometry (subst (λ (x : Geometry). IsOk (walk_of x (journal_image bytes))) same ok))
+
+  -- Once they are settled they are replayed.
+  pub replayed_after : IsReplayed (after_settle (all_placed (opened_disk f (last_image start)))) g bytes
+  replayed_after =
+      subst (λ (x : Geometry). IsReplayed (after_settle (all_placed (opened_disk f (last_image start)))) x bytes) (sym same)
+      (replayed_there f rule disk.sectors store bytes start enters has_there right_of_store is.geometry (subst (λ (x : Geometry). IsOk (walk_of x (journal_image bytes))) same ok))
+
+  -- So the cells stay while they are.
+  pub cells_through : {after : List Content} → EachMoment read after (StandsFor (all_placed (opened_disk f (last_image start))))
+      → EachMoment before after (EachImage (HasImageCells f (cells_on f (last_image start))))
+  cells_through {after} m =
+      cells_stay f (last_image start) enters.no_bitmap (subst (λ (x : List Content). EachMoment x after (StandsFor (all_placed (opened_disk f (last_image start))))) kept m)
+
+-- ---- once they are settled
+
+module _ (d : JournaledDisk) (next number : ℕ) where
+  -- Where writing goes on is told beside what the disk stands for.
+  abbrev pub moved : JournaledDisk
+  moved = record d { next = next; number = number }
+
+  StandsFor-moved : (c : Content) → StandsFor d c → StandsFor moved c
+  StandsFor-moved c stands = record {
+    sound = record {
+      formed = record {
+        has_geometry = stands.sound.formed.has_geometry;
+        is_geometry = stands.sound.formed.is_geometry;
+        no_bitmap = stands.sound.formed.no_bitmap;
+        settled_low = stands.sound.formed.settled_low;
+        placed_low = stands.sound.formed.placed_low;
+        base = stands.sound.formed.base;
+        each = stands.sound.formed.each;
+      };
+      has_walk = stands.sound.has_walk;
+      held = stands.sound.held;
+      start_low = stands.sound.start_low;
+    };
+    each = λ sector x is.
+        let may = stands.each sector x is in
+        record {
+          outside = record {
+            whole = may.outside.whole;
+            head = may.outside.head;
+            in_place = record { data_ = may.outside.in_place.data_; tags = may.outside.in_place.tags };
+          };
+          journal = may.journal;
+        };
+  }
+
+-- Entries change no cell of those after them.
+pub cell_after-again : (d : JournaledDisk) (b : ℕ) → cell_after d.geometry (cell_after d.geometry d.base d.entries) d.entries b ≡ cell_after d.geometry d.base d.entries b
+cell_after-again d b = elim (cases_option (last_entry d.geometry d.entries b)) [
+  | inr some ↦ cell_after-some d.geometry (cell_after d.geometry d.base d.entries) d.entries b some.0 some.1 ∙ sym (cell_after-some d.geometry d.base d.entries b some.0 some.1)
+  | inl none ↦ cell_after-none d.geometry (cell_after d.geometry d.base d.entries) d.entries b none
+]
+
+pub KeepsCells-moved : (d : JournaledDisk) (next number : ℕ) (tags : ℕ → List ℕ) (c : Content) → KeepsCells d tags c → KeepsCells (moved d next number) tags c
+KeepsCells-moved d next number tags c keeps = record {
+  stands = StandsFor-moved d next number c keeps.stands;
+  reads = keeps.reads;
+  tags_are = record { each = keeps.tags_are.each };
+}
+
+-- A disk at rest on which all entries are settled is recovered, where it has the format and the cells.
+unfoldable pub settled_recovered : (d now : JournaledDisk) (tags : ℕ → List ℕ) (c : Content) → KeepsCells now tags c → Rests now
+    → now.settled ≡ length now.entries → now.placed ≡ length now.entries → now.format ≡ d.format
+    → ((b : ℕ) → b < d.geometry.blocks → cell_after now.geometry now.base now.entries b ≡ cell_after d.geometry d.base d.entries b)
+    → IsRecovered d now.next now.number tags c
+settled_recovered d now tags c keeps rests settled placed format cells = record {
+  now = with_new_base now;
+  keeps = record {
+    stands = rebased_law now c keeps.stands settled;
+    reads = record { each = λ b k low k_low. keeps.reads.each b k low k_low ∙ ap (λ (cell : Cell). sector_in cell.bytes k) (same b) };
+    tags_are = record { each = λ b low rest. keeps.tags_are.each b low rest ∙ ap (λ (cell : Cell). cell.tag) (same b) };
+  };
+  rests = record { at = rests.at };
+  next_is = refl;
+  number_is = refl;
+  settled = settled;
+  same_format = format;
+  cells = cells;
+  again = λ b low. cell_after-again now b;
+}
+  where
+    same : (b : ℕ) → cell_at now now.placed b ≡ cell_at (with_new_base now) now.placed b
+    same b =
+        let all : take now.placed now.entries ≡ now.entries = take_all now.placed now.entries (omega (arith, placed)) in
+        ap (λ (entries : List Entry). cell_after now.geometry now.base entries b) all
+        ∙ sym (cell_after-again now b)
+        ∙ ap (λ (entries : List Entry). cell_after now.geometry (cell_after now.geometry now.base now.entries) entries b) (sym all)
+
+-- So is one whose journal was at rest at the entry.
+pub rest_recovered : (d : JournaledDisk) (next number : ℕ) (tags : ℕ → List ℕ) (c : Content) → KeepsCells (after_settle (all_placed d)) tags c
+    → IsAtRest d.geometry.sections (section_sectors d.geometry.shape) next number (numbers_on d.geometry d.journal) → IsRecovered d next number tags c
+rest_recovered d next number tags c keeps at =
+    settled_recovered d (moved (after_settle (all_placed d)) next number) tags c (KeepsCells-moved (after_settle (all_placed d)) next number tags c keeps)
+    (record { at = at }) refl refl refl (λ b low. refl)
+
+-- What is left of a disk with its entries placed and settled is left of it before that.
+pub leaves_same : (d : JournaledDisk) (at : Recovered) (tags : ℕ → List ℕ) (c : Content) → LeavesRecovered (after_settle (all_placed d)) at tags c → LeavesRecovered d at tags c
+leaves_same d at tags c left =
+    let is = left.recovered in
+    record {
+      recovered = record {
+        now = is.now;
+        keeps = is.keeps;
+        rests = is.rests;
+        next_is = is.next_is;
+        number_is = is.number_is;
+        settled = is.settled;
+        same_format = is.same_format;
+        cells = is.cells;
+        again = is.again;
+      };
+      pending = left.pending;
+      unused = left.unused;
+    }
+
+-- While such a disk is erased the cells of each image are those of the image at the entry.
+pub cells_stay_erased : (f : DiskFormat) (image : Image) {a b : List Content} → has_flag DIRTY_BITMAP f.superblock.flags ≡ false
+    → EachMoment a b (EachImage (IsCutOf (after_settle (all_placed (opened_disk f image))) [])) → EachMoment a b (EachImage (HasImageCells f (cells_on f image)))
+cells_stay_erased f image clear m = EachMoment-weaker (λ c cuts.
+    base_cells_law (after_settle (all_placed (opened_disk f image))) (cells_on f image) c (λ b low. opened_cells_law f image clear b) cuts) m

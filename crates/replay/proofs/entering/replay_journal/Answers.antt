@@ -1,0 +1,86 @@
+use Rattle.std.proofs.Common.{◌^◌, List, sym, ap, ◌∙◌, subst}
+use Rattle.std.specs.Result.{is_ok}
+use Rattle.disk_model.specs.Disk.{Content, last_image}
+use Rattle.disk_model.specs.Identity.{DiskIdentity}
+use Rattle.disk_model.proofs.MomentsLemmas.{EachMoment-kept}
+use Rattle.image_model.specs.Geometry.{Geometry, IsGeometry}
+use Rattle.direct_mode.proofs.StoreCalls.{reads_whole}
+use Rattle.journal_model.specs.Opening.{opened_disk}
+use Rattle.tag_store.specs.Store.{IsStore}
+use Rattle.replay.proofs.EntriesLemmas.{whole_entries}
+use Rattle.replay.proofs.RecoveryLemmas.{cells_before, cells_through, entries_before}
+use Rattle.replay.proofs.ReplayingLemmas.{geometry_of}
+use Rattle.replay.proofs.entering.replay_journal.Goals as goal
+
+pub read_judged-requires-clause-geometry : goal.read_judged-requires-clause-geometry
+read_judged-requires-clause-geometry g c =
+    subst (λ (x : Geometry). IsGeometry x (g.D.Disk.identity c.args.disk.now).sectors) (sym c.requires.geometry) c.requires.store.geometry
+
+pub replay-requires-clause-whole : goal.replay-requires-clause-whole
+replay-requires-clause-whole g c =
+    whole_entries c.args.geometry.now (2 ^ 48) c.read_judged.new.bytes
+    (geometry_of c.args.geometry.now c.args.tags.now (g.D.Disk.identity c.args.disk.now) (g.D.Disk.moments c.args.disk.now) c.requires.geometry c.requires.store)
+    (c.read_judged.auto.bytes ∙ c.requires.bytes) c.args.maker.now.key c.args.maker.now.salt c.in_ok-journal.ensures.journal.right
+
+pub replay-requires-clause-store : goal.replay-requires-clause-store
+replay-requires-clause-store g c =
+    subst (λ (m : List Content). IsStore c.args.tags.now (g.D.Disk.identity c.read_judged.new.disk) m) (sym c.read_judged.ensures.kept)
+    (subst (λ (i : DiskIdentity). IsStore c.args.tags.now i (g.D.Disk.moments c.args.disk.now)) (sym c.read_judged.ensures.identity) c.requires.store)
+
+pub returns-in_err-journal-clause-cuts : goal.returns-in_err-journal-clause-cuts
+returns-in_err-journal-clause-cuts g c f start told enters = EachMoment-kept _ c.read_judged.ensures.kept
+
+pub returns-in_err-count-clause-cuts : goal.returns-in_err-count-clause-cuts
+returns-in_err-count-clause-cuts g c f start told enters =
+    cells_through f c.args.maker.now c.args.geometry.now (g.D.Disk.identity c.args.disk.now) c.args.tags.now c.read_judged.new.bytes (g.D.Disk.moments c.args.disk.now)
+    (g.D.Disk.moments c.read_judged.new.disk) start c.requires.geometry c.requires.store told c.read_judged.ensures.kept
+    (reads_whole (g.D.Disk.identity c.args.disk.now) (g.D.Disk.moments c.args.disk.now) (g.met.D.Disk.reads_an_image c.args.disk.now) (g.met.D.Disk.whole_sectors c.args.disk.now) start told)
+    (c.in_ok-journal.ensures.read start told) c.in_ok-journal.ensures.journal.right (ap is_ok c.in_ok-journal.ensures.journal.plan) enters
+    (c.replay.ensures.stands (opened_disk f (last_image start))
+    (entries_before f c.args.maker.now c.args.geometry.now (g.D.Disk.identity c.args.disk.now) c.args.tags.now c.read_judged.new.bytes (g.D.Disk.moments c.args.disk.now)
+    (g.D.Disk.moments c.read_judged.new.disk) start c.requires.geometry c.requires.store told c.read_judged.ensures.kept
+    (reads_whole (g.D.Disk.identity c.args.disk.now) (g.D.Disk.moments c.args.disk.now) (g.met.D.Disk.reads_an_image c.args.disk.now) (g.met.D.Disk.whole_sectors c.args.disk.now) start told)
+    (c.in_ok-journal.ensures.read start told) c.in_ok-journal.ensures.journal.right (ap is_ok c.in_ok-journal.ensures.journal.plan) enters)
+    (cells_before f c.args.maker.now c.args.geometry.now (g.D.Disk.identity c.args.disk.now) c.args.tags.now c.read_judged.new.bytes (g.D.Disk.moments c.args.disk.now)
+    (g.D.Disk.moments c.read_judged.new.disk) start c.requires.geometry c.requires.store told c.read_judged.ensures.kept
+    (reads_whole (g.D.Disk.identity c.args.disk.now) (g.D.Disk.moments c.args.disk.now) (g.met.D.Disk.reads_an_image c.args.disk.now) (g.met.D.Disk.whole_sectors c.args.disk.now) start told)
+    (c.in_ok-journal.ensures.read start told) c.in_ok-journal.ensures.journal.right (ap is_ok c.in_ok-journal.ensures.journal.plan) enters))
+
+pub returns-clause-cuts : goal.returns-clause-cuts
+returns-clause-cuts g c f start told enters =
+    cells_through f c.args.maker.now c.args.geometry.now (g.D.Disk.identity c.args.disk.now) c.args.tags.now c.read_judged.new.bytes (g.D.Disk.moments c.args.disk.now)
+    (g.D.Disk.moments c.read_judged.new.disk) start c.requires.geometry c.requires.store told c.read_judged.ensures.kept
+    (reads_whole (g.D.Disk.identity c.args.disk.now) (g.D.Disk.moments c.args.disk.now) (g.met.D.Disk.reads_an_image c.args.disk.now) (g.met.D.Disk.whole_sectors c.args.disk.now) start told)
+    (c.in_ok-journal.ensures.read start told) c.in_ok-journal.ensures.journal.right (ap is_ok c.in_ok-journal.ensures.journal.plan) enters
+    (c.replay.ensures.stands (opened_disk f (last_image start))
+    (entries_before f c.args.maker.now c.args.geometry.now (g.D.Disk.identity c.args.disk.now) c.args.tags.now c.read_judged.new.bytes (g.D.Disk.moments c.args.disk.now)
+    (g.D.Disk.moments c.read_judged.new.disk) start c.requires.geometry c.requires.store told c.read_judged.ensures.kept
+    (reads_whole (g.D.Disk.identity c.args.disk.now) (g.D.Disk.moments c.args.disk.now) (g.met.D.Disk.reads_an_image c.args.disk.now) (g.met.D.Disk.whole_sectors c.args.disk.now) start told)
+    (c.in_ok-journal.ensures.read start told) c.in_ok-journal.ensures.journal.right (ap is_ok c.in_ok-journal.ensures.journal.plan) enters)
+    (cells_before f c.args.maker.now c.args.geometry.now (g.D.Disk.identity c.args.disk.now) c.args.tags.now c.read_judged.new.bytes (g.D.Disk.moments c.args.disk.now)
+    (g.D.Disk.moments c.read_judged.new.disk) start c.requires.geometry c.requires.store told c.read_judged.ensures.kept
+    (reads_whole (g.D.Disk.identity c.args.disk.now) (g.D.Disk.moments c.args.disk.now) (g.met.D.Disk.reads_an_image c.args.disk.now) (g.met.D.Disk.whole_sectors c.args.disk.now) start told)
+    (c.in_ok-journal.ensures.read start told) c.in_ok-journal.ensures.journal.right (ap is_ok c.in_ok-journal.ensures.journal.plan) enters))
+
+pub returns-clause-settled : goal.returns-clause-settled
+returns-clause-settled g c f start told enters =
+    c.in_ok-count.ensures.settled (opened_disk f (last_image start))
+    (entries_before f c.args.maker.now c.args.geometry.now (g.D.Disk.identity c.args.disk.now) c.args.tags.now c.read_judged.new.bytes (g.D.Disk.moments c.args.disk.now)
+    (g.D.Disk.moments c.read_judged.new.disk) start c.requires.geometry c.requires.store told c.read_judged.ensures.kept
+    (reads_whole (g.D.Disk.identity c.args.disk.now) (g.D.Disk.moments c.args.disk.now) (g.met.D.Disk.reads_an_image c.args.disk.now) (g.met.D.Disk.whole_sectors c.args.disk.now) start told)
+    (c.in_ok-journal.ensures.read start told) c.in_ok-journal.ensures.journal.right (ap is_ok c.in_ok-journal.ensures.journal.plan) enters)
+    (cells_before f c.args.maker.now c.args.geometry.now (g.D.Disk.identity c.args.disk.now) c.args.tags.now c.read_judged.new.bytes (g.D.Disk.moments c.args.disk.now)
+    (g.D.Disk.moments c.read_judged.new.disk) start c.requires.geometry c.requires.store told c.read_judged.ensures.kept
+    (reads_whole (g.D.Disk.identity c.args.disk.now) (g.D.Disk.moments c.args.disk.now) (g.met.D.Disk.reads_an_image c.args.disk.now) (g.met.D.Disk.whole_sectors c.args.disk.now) start told)
+    (c.in_ok-journal.ensures.read start told) c.in_ok-journal.ensures.journal.right (ap is_ok c.in_ok-journal.ensures.journal.plan) enters)
+
+pub returns-clause-refused : goal.returns-clause-refused
+returns-clause-refused g c some well content told = c.in_ok-journal.ensures.refused (λ e. cc) (λ e. cc) content told
+
+pub returns-clause-replayed : goal.returns-clause-replayed
+returns-clause-replayed g c = record {
+  judged = c.in_ok-journal.ensures.journal;
+  count = c.in_ok-count.ensures.count;
+  read = c.in_ok-journal.ensures.read;
+  pending = c.in_ok-count.ensures.pending;
+}

@@ -1,0 +1,23 @@
+use Rattle.std.proofs.Common.{◌≡◌, ◌≤◌}
+use Rattle.disk_model.specs.Moments.{EachMoment}
+use Rattle.journal_model.specs.JournaledDisk.{JournaledDisk, StandsFor}
+use Rattle.place_writer.specs.Cells.{HasCells}
+use Rattle.tag_store.specs.Store.{IsStore}
+use Rattle.replay.specs.Replaying.{IsToReplay, all_placed}
+use Rattle.replay.proofs.ReplayingLemmas.{front_count, placed_to}
+use Rattle.replay.proofs.placing.place_all.Given as goal
+
+-- The entries at the first places are placed.
+abbrev pub invariant-loop-k : goal.invariant-loop-k
+invariant-loop-k g l = record {
+  count : l.count ≡ front_count l.geometry l.bytes l.plan.walk l.k;
+  low : l.count ≤ l.k;
+  placed : (d : JournaledDisk) → IsToReplay d l.geometry l.bytes → HasCells d l.fn.tags (g.D.Disk.moments l.fn.disk)
+      → HasCells (placed_to l.geometry l.bytes l.plan.walk l.k d) l.tags (g.D.Disk.moments l.disk);
+  stands : (d : JournaledDisk) → IsToReplay d l.geometry l.bytes → HasCells d l.fn.tags (g.D.Disk.moments l.fn.disk)
+      → EachMoment (g.D.Disk.moments l.fn.disk) (g.D.Disk.moments l.disk) (StandsFor (all_placed d));
+  faults : g.D.Counted.faults l.disk ≡ g.D.Counted.faults l.fn.disk;
+  store : IsStore l.tags (g.D.Disk.identity l.disk) (g.D.Disk.moments l.disk);
+  geometry : l.tags.geometry ≡ l.fn.tags.geometry;
+  identity : g.D.Disk.identity l.disk ≡ g.D.Disk.identity l.fn.disk;
+}

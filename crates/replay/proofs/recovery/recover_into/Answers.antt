@@ -1,0 +1,60 @@
+use Rattle.std.proofs.Common.{refl, sym, ap, ◌∙◌}
+use Rattle.std.specs.Result.{is_ok}
+use Rattle.disk_model.specs.Disk.{last_image}
+use Rattle.disk_model.proofs.MomentsLemmas.{EachMoment-then}
+use Rattle.direct_mode.proofs.StoreCalls.{reads_whole}
+use Rattle.journal_model.specs.Opening.{opened_disk}
+use Rattle.journal_model.specs.Steps.{after_settle}
+use Rattle.replay.specs.Replaying.{all_placed}
+use Rattle.replay.proofs.RecoveryLemmas.{cells_stay_erased, leaves_same, replayed_after}
+use Rattle.replay.proofs.recovery.recover_into.Goals as goal
+
+pub finish-requires-clause-geometry : goal.finish-requires-clause-geometry
+finish-requires-clause-geometry g c = c.requires.geometry ∙ sym c.replay_journal.ensures.geometry
+
+pub finish-requires-clause-scratch : goal.finish-requires-clause-scratch
+finish-requires-clause-scratch g c = c.replay_journal.auto.bytes ∙ c.requires.bytes
+
+pub finish-requires-clause-grid : goal.finish-requires-clause-grid
+finish-requires-clause-grid g c = c.in_ok-replayed.ensures.replayed.judged.grid
+
+pub finish-requires-clause-plan : goal.finish-requires-clause-plan
+finish-requires-clause-plan g c = c.in_ok-replayed.ensures.replayed.judged.plan
+
+pub finish-requires-clause-count : goal.finish-requires-clause-count
+finish-requires-clause-count g c = c.in_ok-replayed.ensures.replayed.count
+
+pub returns-in_err-recovered-clause-cuts : goal.returns-in_err-recovered-clause-cuts
+returns-in_err-recovered-clause-cuts g c f start told enters =
+    EachMoment-then (c.replay_journal.ensures.cuts f start told enters)
+    (cells_stay_erased f (last_image start) enters.no_bitmap
+    (c.finish.ensures.cuts (after_settle (all_placed (opened_disk f (last_image start))))
+    (replayed_after f c.args.maker.now c.args.geometry.now (g.D.Disk.identity c.args.disk.now) c.args.tags.now c.replay_journal.new.bytes (g.D.Disk.moments c.args.disk.now)
+    (g.D.Disk.moments c.args.disk.now) start c.requires.geometry c.requires.store told refl
+    (reads_whole (g.D.Disk.identity c.args.disk.now) (g.D.Disk.moments c.args.disk.now) (g.met.D.Disk.reads_an_image c.args.disk.now) (g.met.D.Disk.whole_sectors c.args.disk.now) start told)
+    (c.in_ok-replayed.ensures.replayed.read start told) c.in_ok-replayed.ensures.replayed.judged.right (ap is_ok c.in_ok-replayed.ensures.replayed.judged.plan) enters)
+    (c.in_ok-replayed.ensures.settled f start told enters)))
+
+pub returns-clause-cuts : goal.returns-clause-cuts
+returns-clause-cuts g c f start told enters =
+    EachMoment-then (c.replay_journal.ensures.cuts f start told enters)
+    (cells_stay_erased f (last_image start) enters.no_bitmap
+    (c.finish.ensures.cuts (after_settle (all_placed (opened_disk f (last_image start))))
+    (replayed_after f c.args.maker.now c.args.geometry.now (g.D.Disk.identity c.args.disk.now) c.args.tags.now c.replay_journal.new.bytes (g.D.Disk.moments c.args.disk.now)
+    (g.D.Disk.moments c.args.disk.now) start c.requires.geometry c.requires.store told refl
+    (reads_whole (g.D.Disk.identity c.args.disk.now) (g.D.Disk.moments c.args.disk.now) (g.met.D.Disk.reads_an_image c.args.disk.now) (g.met.D.Disk.whole_sectors c.args.disk.now) start told)
+    (c.in_ok-replayed.ensures.replayed.read start told) c.in_ok-replayed.ensures.replayed.judged.right (ap is_ok c.in_ok-replayed.ensures.replayed.judged.plan) enters)
+    (c.in_ok-replayed.ensures.settled f start told enters)))
+
+pub returns-clause-left : goal.returns-clause-left
+returns-clause-left g c f start told enters now told_now =
+    leaves_same (opened_disk f (last_image start)) c.in_ok-recovered.recovered _ now
+    (c.in_ok-recovered.ensures.left (after_settle (all_placed (opened_disk f (last_image start))))
+    (replayed_after f c.args.maker.now c.args.geometry.now (g.D.Disk.identity c.args.disk.now) c.args.tags.now c.replay_journal.new.bytes (g.D.Disk.moments c.args.disk.now)
+    (g.D.Disk.moments c.args.disk.now) start c.requires.geometry c.requires.store told refl
+    (reads_whole (g.D.Disk.identity c.args.disk.now) (g.D.Disk.moments c.args.disk.now) (g.met.D.Disk.reads_an_image c.args.disk.now) (g.met.D.Disk.whole_sectors c.args.disk.now) start told)
+    (c.in_ok-replayed.ensures.replayed.read start told) c.in_ok-replayed.ensures.replayed.judged.right (ap is_ok c.in_ok-replayed.ensures.replayed.judged.plan) enters)
+    (c.in_ok-replayed.ensures.settled f start told enters) c.in_ok-replayed.ensures.replayed.pending now told_now)
+
+pub returns-clause-refused : goal.returns-clause-refused
+returns-clause-refused g c some well content told = c.in_ok-replayed.ensures.refused (λ e. cc) (λ e. cc) content told

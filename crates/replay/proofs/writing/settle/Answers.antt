@@ -1,0 +1,54 @@
+use Rattle.std.proofs.Common.{sym, subst}
+use Rattle.std.proofs.lemmas.Result.{on_ok_weaker}
+use Rattle.disk_model.specs.Disk.{Content}
+use Rattle.disk_model.proofs.DiskLemmas.{synced_has_nothing_pending}
+use Rattle.disk_model.proofs.MomentsLemmas.{EachMoment-then}
+use Rattle.image_model.specs.Geometry.{Geometry}
+use Rattle.buffer_cache.proofs.CachedLemmas.{changed_now}
+use Rattle.disk_model.specs.Moments.{content_now}
+use Rattle.direct_laws.specs.CallLaws.{ReadsTagsNow}
+use Rattle.tag_store.specs.Store.{given_tags}
+use Rattle.direct_mode.proofs.StoreCalls.{adds_back, gives_synced, reads_tags, reads_whole, writes_back}
+use Rattle.place_writer.proofs.WritingLemmas.{back_in, settled_in, sync_in, written_in}
+use Rattle.replay.proofs.writing.settle.Goals as goal
+
+pub returns-in_err-write_back-clause-stands : goal.returns-in_err-write_back-clause-stands
+returns-in_err-write_back-clause-stands g c d has =
+    let store = c.args.tags.now in
+    let disk = c.args.disk.now in
+    back_in d store has
+    (adds_back store c.write_back.new.self (g.D.Disk.identity disk) (g.D.Disk.identity c.write_back.new.disk) c.requires.store c.write_back.ensures.store
+    (reads_whole (g.D.Disk.identity disk) (g.D.Disk.moments disk) (g.met.D.Disk.reads_an_image disk) (g.met.D.Disk.whole_sectors disk))
+    c.write_back.ensures.moments)
+
+pub returns-clause-stands : goal.returns-clause-stands
+returns-clause-stands g c d has =
+    let store = c.args.tags.now in
+    let new = c.write_back.new.self in
+    let disk = c.args.disk.now in
+    let middle = c.write_back.new.disk in
+    let writes = writes_back store new (g.D.Disk.identity disk) (g.D.Disk.identity middle) c.requires.store c.write_back.ensures.store
+    (reads_whole (g.D.Disk.identity disk) (g.D.Disk.moments disk) (g.met.D.Disk.reads_an_image disk) (g.met.D.Disk.whole_sectors disk))
+    c.write_back.ensures.keeps c.write_back.ensures.moments in
+    EachMoment-then (back_in d store has writes.adds)
+    (sync_in d new (written_in d store new has writes c.write_back.ensures.keeps.geometry) (g.met.D.Disk.reads_an_image middle) c.sync.ensures.moments)
+
+pub returns-clause-settled : goal.returns-clause-settled
+returns-clause-settled g c = on_ok_weaker c.sync.result (λ synced d has.
+    let store = c.args.tags.now in
+    let new = c.write_back.new.self in
+    let disk = c.args.disk.now in
+    let middle = c.write_back.new.disk in
+    let whole = reads_whole (g.D.Disk.identity disk) (g.D.Disk.moments disk) (g.met.D.Disk.reads_an_image disk) (g.met.D.Disk.whole_sectors disk) in
+    let whole_middle = reads_whole (g.D.Disk.identity middle) (g.D.Disk.moments middle) (g.met.D.Disk.reads_an_image middle) (g.met.D.Disk.whole_sectors middle) in
+    let writes = writes_back store new (g.D.Disk.identity disk) (g.D.Disk.identity middle) c.requires.store c.write_back.ensures.store whole c.write_back.ensures.keeps c.write_back.ensures.moments in
+    settled_in d new (written_in d store new has writes c.write_back.ensures.keeps.geometry) (g.met.D.Disk.reads_an_image middle)
+    (subst (λ (y : Geometry). ReadsTagsNow y (given_tags new) (g.D.Disk.moments middle)) (sym c.write_back.ensures.keeps.geometry)
+    (reads_tags store new (g.D.Disk.identity disk) (g.D.Disk.identity middle) c.requires.store c.write_back.ensures.store whole c.write_back.ensures.keeps c.in_ok-write_back.ensures.unmarked
+    (λ x told. let first = changed_now _ (content_now (g.D.Disk.moments disk)) (content_now (g.D.Disk.moments middle)) c.in_ok-write_back.ensures.written x told in (first.0, first.1))))
+    synced
+    (gives_synced new (g.D.Disk.identity middle) (g.D.Disk.moments middle) (g.D.Disk.moments c.sync.new.self) c.write_back.ensures.store whole_middle synced)) c.sync.ensures.synced
+
+pub returns-clause-pending : goal.returns-clause-pending
+returns-clause-pending g c =
+    on_ok_weaker c.sync.result (λ synced. synced_has_nothing_pending (λ (x : Content). x) (content_now (g.D.Disk.moments c.write_back.new.disk)) (content_now (g.D.Disk.moments c.sync.new.self)) synced) c.sync.ensures.synced

@@ -1,0 +1,184 @@
+//! What follows once all entries are in their places: a journal at rest goes on, and any other is erased.
+ghost use Rattle.std.specs.Prelude.{◌≡◌, ◌↔◌, ◌⊎◌, false, ◌*◌, ◌<◌, ◌≤◌, [], length, slice_index_or, Ok, IfOk, OnOk};
+ghost use Rattle.commit_id.specs.Grid.{as_grid};
+ghost use Rattle.disk_model.specs.Causes.{HasCause};
+ghost use Rattle.disk_model.specs.Disk.{EachImage, HasNothingPending};
+ghost use Rattle.disk_model.specs.Moments.{EachMoment, HasNow};
+ghost use Rattle.image_model.specs.Cells.{replayed_entries};
+ghost use Rattle.image_model.specs.Geometry.{journal_sectors};
+ghost use Rattle.image_model.specs.Grid.{IsGridOf, walk_of};
+ghost use Rattle.image_model.specs.declared.journal_plan.State.TheVariants.{Erasing, Mixed};
+ghost use Rattle.journal_erasure.specs.Erasing.{IsErasureFor, IsErasureOf};
+ghost use Rattle.journal_model.specs.JournaledDisk.{IsCutOf, JournaledDisk};
+ghost use Rattle.journal_reading.specs.Journal.{journal_image};
+ghost use Rattle.place_writer.specs.Cells.{HasCells};
+ghost use Rattle.tag_store.specs.Store.{IsStore, given_tags};
+ghost use Rattle.replay.specs.Recovery.{IsReplayed, LeavesRecovered};
+
+use crate::entering::ReplayedJournal;
+use crate::recovered::Recovered;
+use commit_id::State;
+use journal_erasure::{Erasure, erase};
+use journal_reading::JudgedJournal;
+use layout::Geometry;
+use sector_disk::{Disk, Failed};
+use tag_store::Tags;
+
+/// How many commit numbers there are.
+///
+/// Source: Linux, `drivers/md/dm-integrity.c`, `N_COMMIT_IDS`.
+const NUMBERS: u8 = 4;
+
+/// Erases a journal whose entries are all in their places and synced, and tells where writing goes on. What stood in
+/// `scratch` is lost.
+///
+/// # Errors
+///
+/// - `Failed`: the disk failed. Every image has the same cells.
+pub(crate) fn erase_journal<D: Disk>(
+    disk: &mut D,
+    geometry: &Geometry,
+    tags: &Tags,
+    erasure: &Erasure,
+    scratch: &mut [u8],
+) -> Result<Recovered, Failed>
+    requires geometry { geometry.now ≡ tags.now.geometry }
+    requires erasure { IsErasureFor geometry.now erasure.now }
+    requires scratch { length scratch.old ≡ 512 * journal_sectors geometry.now }
+    requires store { IsStore tags.now (D.identity disk.old) (D.moments disk.old) }
+
+    ensures left { IfOk result (λ at. (d : JournaledDisk) → IsErasureOf geometry.now erasure.now d
+        → d.placed ≡ length d.entries → HasCells d tags.now (D.moments disk.old)
+        → HasNow (λ c. LeavesRecovered d at (given_tags tags.now c) c) (D.moments disk.new)) }
+
+    ensures unused { IfOk result (λ at. at.used ≡ false) }
+    ensures cause { HasCause (D.faults disk.old) (D.faults disk.new) result }
+
+    ensures store { OnOk result (IsStore tags.now (D.identity disk.new) (D.moments disk.new)) }
+    ensures identity { D.identity disk.new ≡ D.identity disk.old }
+
+    ensures cuts { (d : JournaledDisk) → IsErasureOf geometry.now erasure.now d
+        → HasCells d tags.now (D.moments disk.old)
+        → EachMoment (D.moments disk.old) (D.moments disk.new) (EachImage (IsCutOf d [])) }
+{
+    erase(disk, geometry, erasure, scratch)?;
+    Ok(Recovered {
+        next: 0,
+        number: (erasure.number + 3) % NUMBERS,
+        used: false,
+    })
+}
+
+/// The section that is erased before all others: the first of those that count, so that no cut leaves another reader of
+/// the format old entries as the newest.
+fn first_counted(walk: &[(u64, u64); 2], sections: u64) -> u64
+    requires first { (slice_index_or walk.now 0 (0, 0)).1 ≤ sections }
+    requires second { (slice_index_or walk.now 1 (0, 0)).1 ≤ sections }
+    requires some { 0 < sections }
+
+    ensures { result < sections }
+{
+    let [(first, first_end), (second, second_end)] = *walk;
+    if first < first_end {
+        first
+    } else if second < second_end {
+        second
+    } else {
+        0
+    }
+}
+
+/// Erases a journal that a scan has seen, whose newest number this is.
+///
+/// # Errors
+///
+/// - `Failed`: the disk failed. Every image has the same cells.
+fn erase_scanned<D: Disk>(
+    disk: &mut D,
+    geometry: &Geometry,
+    tags: &Tags,
+    journal: &JudgedJournal,
+    newest: u8,
+    scratch: &mut [u8],
+) -> Result<Recovered, Failed>
+    requires geometry { geometry.now ≡ tags.now.geometry }
+    requires scratch { length scratch.old ≡ 512 * journal_sectors geometry.now }
+    requires grid { IsGridOf geometry.now (journal_image scratch.old) (as_grid journal.now.grid) }
+    requires plan { walk_of geometry.now (journal_image scratch.old) ≡ Ok journal.now.plan }
+    requires newest { (journal.now.plan.state ≡ Mixed newest) ⊎ (journal.now.plan.state ≡ Erasing newest) }
+    requires store { IsStore tags.now (D.identity disk.old) (D.moments disk.old) }
+
+    ensures left { IfOk result (λ at. (d : JournaledDisk) → IsReplayed d geometry.now scratch.old
+        → HasCells d tags.now (D.moments disk.old)
+        → HasNow (λ c. LeavesRecovered d at (given_tags tags.now c) c) (D.moments disk.new)) }
+
+    ensures cause { HasCause (D.faults disk.old) (D.faults disk.new) result }
+
+    ensures store { OnOk result (IsStore tags.now (D.identity disk.new) (D.moments disk.new)) }
+    ensures identity { D.identity disk.new ≡ D.identity disk.old }
+
+    ensures cuts { (d : JournaledDisk) → IsReplayed d geometry.now scratch.old
+        → HasCells d tags.now (D.moments disk.old)
+        → EachMoment (D.moments disk.old) (D.moments disk.new) (EachImage (IsCutOf d [])) }
+{
+    let first = first_counted(&journal.plan.walk, geometry.sections());
+    let erasure = Erasure::scanned(&journal.grid, newest, first);
+    erase_journal(disk, geometry, tags, &erasure, scratch)
+}
+
+/// Whether anything is left in a journal at rest that goes on here, and of which so many entries were replayed.
+fn is_used(next: u64, count: u64) -> bool
+    ensures { (result ≡ false) ↔ ((next ≡ 0) × (count ≡ 0)) }
+{
+    next != 0 || count != 0
+}
+
+/// Goes on where a journal is at rest, and erases it where a commit or an erasure was cut. What stood in `scratch`,
+/// which holds the journal, is lost.
+///
+/// # Errors
+///
+/// - `Failed`: the disk failed. Every image has the same cells.
+pub(crate) fn finish<D: Disk>(
+    disk: &mut D,
+    geometry: &Geometry,
+    tags: &Tags,
+    replayed: &ReplayedJournal,
+    scratch: &mut [u8],
+) -> Result<Recovered, Failed>
+    requires geometry { geometry.now ≡ tags.now.geometry }
+    requires scratch { length scratch.old ≡ 512 * journal_sectors geometry.now }
+    requires grid { IsGridOf geometry.now (journal_image scratch.old) (as_grid replayed.now.journal.grid) }
+    requires plan { walk_of geometry.now (journal_image scratch.old) ≡ Ok replayed.now.journal.plan }
+    requires count { replayed.now.count ≡ length (replayed_entries geometry.now (journal_image scratch.old)) }
+    requires store { IsStore tags.now (D.identity disk.old) (D.moments disk.old) }
+
+    ensures left { IfOk result (λ at. (d : JournaledDisk) → IsReplayed d geometry.now scratch.old
+        → HasCells d tags.now (D.moments disk.old) → HasNow HasNothingPending (D.moments disk.old)
+        → HasNow (λ c. LeavesRecovered d at (given_tags tags.now c) c) (D.moments disk.new)) }
+
+    ensures cause { HasCause (D.faults disk.old) (D.faults disk.new) result }
+
+    ensures store { OnOk result (IsStore tags.now (D.identity disk.new) (D.moments disk.new)) }
+    ensures identity { D.identity disk.new ≡ D.identity disk.old }
+
+    ensures cuts { (d : JournaledDisk) → IsReplayed d geometry.now scratch.old
+        → HasCells d tags.now (D.moments disk.old)
+        → EachMoment (D.moments disk.old) (D.moments disk.new) (EachImage (IsCutOf d [])) }
+{
+    let plan = replayed.journal.plan;
+    match plan.state {
+        State::Rest { next, number } => Ok(Recovered {
+            next,
+            number,
+            used: is_used(next, replayed.count),
+        }),
+        State::Mixed { newest } => {
+            erase_scanned(disk, geometry, tags, &replayed.journal, newest, scratch)
+        }
+        State::Erasing { newest } => {
+            erase_scanned(disk, geometry, tags, &replayed.journal, newest, scratch)
+        }
+        State::Blank { .. } => unreachable!(),
+    }
+}

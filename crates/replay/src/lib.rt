@@ -1,0 +1,20 @@
+//! Recovery of a journal that was cut anywhere, in its own recovery too.
+//!
+//! The journal is read once and judged before anything is written. Each used entry of the sections that count is
+//! written to its place, in the order of the replay; then the tags are written back, and all is synced. A journal
+//! at rest goes on then, and any other is erased. What a recovery is entered with, and what it leaves, is said in
+//! `specs/Recovery.antt`, the file to read first.
+#![tactic(auto)]
+
+mod emptying;
+mod entering;
+mod finishing;
+mod placing;
+mod recovered;
+mod recovery;
+mod writing;
+
+pub use emptying::empty;
+pub use journal_reading::{JournalFault, ReplayFault};
+pub use recovered::Recovered;
+pub use recovery::recover;
