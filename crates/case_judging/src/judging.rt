@@ -90,8 +90,8 @@ fn last_line(met: Met) -> &'static str {
     }
 }
 
-/// Looks at what is left of the making of an image: the bytes that it began with, which only a making leaves whose first
-/// sync has not succeeded; bytes without a magic; or those of the whole new image.
+/// Looks at what is left of the making of an image: the bytes that it began with, which only a making leaves whose
+/// first sync has not succeeded; bytes without a magic; or those of the whole new image.
 pub fn judge_made(base: &[u8], made: &[u8], left: &[u8], has_synced: bool) -> Result<(), Wrong> {
     if left == made || !left.starts_with(b"integrt\0") {
         return Ok(());

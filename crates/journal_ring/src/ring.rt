@@ -65,7 +65,8 @@ impl<'p> Ring<'p> {
     ghost use Rattle.journal_ring.specs.Ring.{with_entry, with_open, with_section};
     ghost use Rattle.journal_ring.specs.Batch.{after_move, next_entries, HasCommitted, HasMoved, WritesBatch};
     ghost use Rattle.journal_ring.specs.declared.ring.Moved.TheVariants.{Did, Idle};
-    ghost use Rattle.journal_ring.specs.Places.{entries_at, entry_of, is_committed, is_free, next_place, oldest_at, oldest_of, with_free};
+    ghost use Rattle.journal_ring.specs.Places.{entries_at, entry_of, is_committed, is_free, next_place};
+    ghost use Rattle.journal_ring.specs.Places.{oldest_at, oldest_of, with_free};
     ghost use Rattle.journal_ring.specs.RoomLaws.{HasBounds};
 
     /// The ring over a journal of which nothing is to be placed: the next section to be written is `next`, under

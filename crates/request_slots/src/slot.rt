@@ -31,7 +31,8 @@ pub(crate) struct Slot {
 
 impl Slot {
     ghost use Rattle.request_slots.specs.Flight.{bytes_in, count_in, first_in, is_unfinished, newly_slotted, next_of};
-    ghost use Rattle.request_slots.specs.Serving.{next_bytes, with_block_counted, with_block_read, with_fault, with_finish};
+    ghost use Rattle.request_slots.specs.Serving.{next_bytes, with_block_counted, with_block_read};
+    ghost use Rattle.request_slots.specs.Serving.{with_fault, with_finish};
     ghost use Rattle.request_slots.specs.Taking.{reply_of};
 
     /// A request of which nothing is served yet.
