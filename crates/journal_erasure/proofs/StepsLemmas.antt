@@ -6,20 +6,19 @@ use Rattle.std.proofs.Math.Nat.{le-mul_of_pos_right, mul-le-mul_right}
 use Rattle.std.proofs.NetLemmas.Options.{map_some}
 use Rattle.std.proofs.lemmas.Bool.{cases_Bool, cases_lt, true≢false}
 use Rattle.disk_model.specs.Disk.{Content, IsOfRun, OnlyAdds, last_image, newest_only, sector_in, with_run}
+use Rattle.disk_model.specs.Identity.{DiskIdentity}
 use Rattle.disk_model.specs.Moments.{EachMoment, FromStart, HasNow}
 use Rattle.disk_model.proofs.DiskLemmas.{last_image-with_run, last_image-with_run_out, only_candidate, within_or_out}
 use Rattle.disk_model.proofs.MomentsLemmas.{EachMoment-join, EachMoment-weaker, FromStart-weaker}
 use Rattle.image_model.specs.Geometry.{Geometry, IsGeometry, journal_sectors, section_at, section_sectors}
 use Rattle.image_model.proofs.Bounds.{has_entries}
 use Rattle.image_model.proofs.GeometryLemmas.{data_at-inside}
-use Rattle.journal_erasure.specs.declared.newest.NewestSectors.{NewestSectors}
-use Rattle.journal_erasure.specs.declared.newest.NewestSectors.TheVariants.{Scanned, First}
 use Rattle.journal_erasure.specs.declared.part.Part.{Part}
 use Rattle.journal_erasure.specs.declared.part.Part.TheVariants.{Others, Newest}
 use Rattle.journal_erasure.specs.declared.erasure.Erasure.{Erasure}
-use Rattle.journal_erasure.specs.Newest.{HasSectors, is_newest}
-use Rattle.journal_erasure.specs.Parts.{is_of_part, with_chosen, IsOfChosen}
-use Rattle.journal_erasure.specs.Erasing.{with_part, IsOfPart, with_empty_journal, HasFirstErased, ErasesFirst}
+use Rattle.journal_erasure.specs.Newest.{is_newest}
+use Rattle.journal_erasure.specs.Parts.{is_of_part, IsOfChosen}
+use Rattle.journal_erasure.specs.Erasing.{with_part, IsErasing, IsOfPart, with_empty_journal, HasFirstErased, ErasesFirst}
 use Rattle.journal_erasure.proofs.PartsLemmas.{IsThere, there_or_not, last-chosen, last-other}
 
 -- The journal lies on the disk, behind the superblock.
@@ -29,6 +28,10 @@ journal_fits g sectors is = let block = data_at-inside g sectors 0 is is.blocks 
 -- Sections up to one that is no later have no more sectors.
 pub sectors_in_order : (g : Geometry) (from to : ℕ) → from ≤ to → from * section_sectors g.shape ≤ to * section_sectors g.shape
 sectors_in_order g from to low = mul-le-mul_right (section_sectors g.shape) low
+
+-- What is asked of a disk is asked of it behind a call.
+pub IsErasing-same : (g : Geometry) (e : Erasure) (bytes : List ℕ) {a b : DiskIdentity} → b ≡ a → IsErasing g e bytes a → IsErasing g e bytes b
+IsErasing-same g e bytes same is = subst (IsErasing g e bytes) (sym same) is
 
 module _ (g : Geometry) (e : Erasure) (empty : List ℕ) where
   abbrev width : ℕ

@@ -3,7 +3,8 @@
 use Rattle.std.specs.Prelude.{◌≡◌, ◌⊎◌, ℕ, ◌+◌, ◌*◌, ◌<◌, ◌≤◌, ◌==◌, true, if◌then◌else◌, List, length}
 use Rattle.std.specs.List.{Contains}
 use Rattle.disk_model.specs.Disk.{Content, OnlyAdds, newest_only, sector_in, with_run}
-use Rattle.image_model.specs.Geometry.{Geometry, journal_sectors, section_at, section_sectors}
+use Rattle.disk_model.specs.Identity.{DiskIdentity, IsBound}
+use Rattle.image_model.specs.Geometry.{Geometry, IsGeometry, journal_sectors, section_at, section_sectors}
 use Rattle.image_model.specs.Walk.{bears}
 use Rattle.place_model.specs.Journal.{numbers_on}
 use Rattle.journal_model.specs.JournaledDisk.{JournaledDisk}
@@ -30,6 +31,13 @@ pub record IsErasureOf (g : Geometry) (erasure : Erasure) (d : JournaledDisk) : 
   pub marks : (section sector : ℕ) → section < d.geometry.sections → sector < section_sectors d.geometry.shape
       → bears (numbers_on d.geometry d.journal section sector) erasure.number
       ≡ is_newest erasure.newest (section * section_sectors d.geometry.shape + sector)
+
+-- It is one for the journal of a disk that is bound and has this layout, and these are as many bytes as its sections have.
+pub record IsErasing (g : Geometry) (erasure : Erasure) (bytes : List ℕ) (disk : DiskIdentity) : Type 0 where
+  pub bound : IsBound disk.name
+  pub geometry : IsGeometry g disk.sectors
+  pub fits : IsErasureFor g erasure
+  pub size : length bytes ≡ 512 * journal_sectors g
 
 -- The erasure of a journal at rest: the newest number stands on the sections before the next one, or on all where that
 -- is the first; and the next one is erased before all others.

@@ -9,7 +9,8 @@ ghost use Rattle.image_model.specs.Walk.{later as number_later};
 ghost use Rattle.journal_model.specs.JournaledDisk.{JournaledDisk, IsCutOf, StandsFor};
 ghost use Rattle.journal_erasure.specs.EmptySections.{AreEmptySections, empty_image};
 ghost use Rattle.journal_erasure.specs.Erased.{IsErased};
-ghost use Rattle.journal_erasure.specs.Erasing.{ErasesFirst, IsErasureFor, IsErasureOf, IsOfPart, with_empty_journal, with_part};
+ghost use Rattle.journal_erasure.specs.Erasing.{ErasesFirst, IsErasing, IsErasureFor, IsErasureOf, IsOfPart};
+ghost use Rattle.journal_erasure.specs.Erasing.{with_empty_journal, with_part};
 ghost use Rattle.journal_erasure.specs.declared.part.Part.TheVariants.{Newest, Others};
 
 use crate::clearing::clear_sections;
@@ -79,10 +80,7 @@ fn erase_others<D: Disk>(
     erasure: &Erasure,
     empty: &[u8],
 ) -> Result<(), Failed>
-    requires bound { IsBound (D.identity disk.old).name }
-    requires geometry { IsGeometry geometry.now (D.identity disk.old).sectors }
-    requires erasure { IsErasureFor geometry.now erasure.now }
-    requires empty { length empty.now ≡ 512 * journal_sectors geometry.now }
+    requires erasing { IsErasing geometry.now erasure.now empty.now (D.identity disk.old) }
 
     ensures written { let g = geometry.now in OnOk result (IsChangedBy
         (λ c. newest_only (with_part g erasure.now Others 0 g.sections empty.now c))
@@ -113,10 +111,7 @@ fn erase_first<D: Disk>(
     erasure: &Erasure,
     empty: &[u8],
 ) -> Result<(), Failed>
-    requires bound { IsBound (D.identity disk.old).name }
-    requires geometry { IsGeometry geometry.now (D.identity disk.old).sectors }
-    requires erasure { IsErasureFor geometry.now erasure.now }
-    requires empty { length empty.now ≡ 512 * journal_sectors geometry.now }
+    requires erasing { IsErasing geometry.now erasure.now empty.now (D.identity disk.old) }
 
     ensures written { let first = erasure.now.first in OnOk result (IsChangedBy
         (λ c. newest_only (with_part geometry.now erasure.now Others first (first + 1) empty.now c))
@@ -153,10 +148,7 @@ fn erase_rest<D: Disk>(
     erasure: &Erasure,
     empty: &[u8],
 ) -> Result<(), Failed>
-    requires bound { IsBound (D.identity disk.old).name }
-    requires geometry { IsGeometry geometry.now (D.identity disk.old).sectors }
-    requires erasure { IsErasureFor geometry.now erasure.now }
-    requires empty { length empty.now ≡ 512 * journal_sectors geometry.now }
+    requires erasing { IsErasing geometry.now erasure.now empty.now (D.identity disk.old) }
 
     ensures written { let g = geometry.now in let first = erasure.now.first in OnOk result (IsChangedBy
         (λ c. newest_only (with_part g erasure.now Others (first + 1) g.sections empty.now
@@ -196,10 +188,7 @@ fn erase_newest<D: Disk>(
     erasure: &Erasure,
     empty: &[u8],
 ) -> Result<(), Failed>
-    requires bound { IsBound (D.identity disk.old).name }
-    requires geometry { IsGeometry geometry.now (D.identity disk.old).sectors }
-    requires erasure { IsErasureFor geometry.now erasure.now }
-    requires empty { length empty.now ≡ 512 * journal_sectors geometry.now }
+    requires erasing { IsErasing geometry.now erasure.now empty.now (D.identity disk.old) }
 
     ensures written { let g = geometry.now in OnOk result (IsChangedBy
         (λ c. newest_only (with_part g erasure.now Newest 0 g.sections empty.now c))
@@ -231,10 +220,7 @@ fn write_and_sync<D: Disk>(
     to: u64,
     empty: &[u8],
 ) -> Result<(), Failed>
-    requires bound { IsBound (D.identity disk.old).name }
-    requires geometry { IsGeometry geometry.now (D.identity disk.old).sectors }
-    requires erasure { IsErasureFor geometry.now erasure.now }
-    requires empty { length empty.now ≡ 512 * journal_sectors geometry.now }
+    requires erasing { IsErasing geometry.now erasure.now empty.now (D.identity disk.old) }
     requires range { from ≤ to }
     requires inside { to ≤ geometry.now.sections }
 
@@ -267,10 +253,7 @@ fn write_sections<D: Disk>(
     to: u64,
     empty: &[u8],
 ) -> Result<(), Failed>
-    requires bound { IsBound (D.identity disk.old).name }
-    requires geometry { IsGeometry geometry.now (D.identity disk.old).sectors }
-    requires erasure { IsErasureFor geometry.now erasure.now }
-    requires empty { length empty.now ≡ 512 * journal_sectors geometry.now }
+    requires erasing { IsErasing geometry.now erasure.now empty.now (D.identity disk.old) }
     requires range { from ≤ to }
     requires inside { to ≤ geometry.now.sections }
 

@@ -8,8 +8,20 @@ use Rattle.journal_erasure.specs.declared.part.Part.TheVariants.{Newest, Others}
 use Rattle.journal_erasure.specs.EmptySections.{AreEmptySections}
 use Rattle.journal_erasure.specs.Erasing.{IsOfPart}
 use Rattle.journal_erasure.proofs.ErasedLemmas.{cuts_first, cuts_last, erased_now}
-use Rattle.journal_erasure.proofs.StepsLemmas.{all_written, first_now, order_then, IsOfPart-run}
+use Rattle.journal_erasure.proofs.StepsLemmas.{IsErasing-same, all_written, first_now, order_then, IsOfPart-run}
 use Rattle.journal_erasure.proofs.erasing.erase.Goals as goal
+
+pub erase_others-requires : goal.erase_others-requires
+erase_others-requires g c = record {
+  erasing = record { bound = c.requires.bound; geometry = c.requires.geometry; fits = c.requires.erasure; size = c.clear_sections.ensures.size };
+}
+
+pub erase_newest-requires : goal.erase_newest-requires
+erase_newest-requires g c = record {
+  erasing =
+      IsErasing-same c.args.geometry.now c.args.erasure.now c.clear_sections.new.bytes c.erase_others.ensures.identity
+      (record { bound = c.requires.bound; geometry = c.requires.geometry; fits = c.requires.erasure; size = c.clear_sections.ensures.size });
+}
 
 pub returns-in_err-erase_others-clause-cuts : goal.returns-in_err-erase_others-clause-cuts
 returns-in_err-erase_others-clause-cuts g c d of now =

@@ -10,7 +10,7 @@ write_part-requires-clause-inside g c =
     let width : sectors ≡ section_sectors geometry.shape = c.shape-sectors.ensures.is_shape.sectors ∙ ap section_sectors c.shape-sectors.ensures.shape in
     let count : c.args.to * sectors ≡ c.args.to * section_sectors geometry.shape = ap (λ (n : ℕ). c.args.to * n) width in
     let next = sectors_in_order geometry c.args.to geometry.sections c.requires.inside in
-    let fits = journal_fits geometry _ c.requires.geometry in
+    let fits = journal_fits geometry _ c.requires.erasing.geometry in
     omega (arith, c.section_at-at.ensures, count, next, fits)
 
 pub returns-clause-moments : goal.returns-clause-moments
