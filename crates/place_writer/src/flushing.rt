@@ -1,8 +1,8 @@
 //! Writing the tags back, and a sync.
 ghost use Rattle.std.specs.Prelude.{◌≡◌, OnOk};
 ghost use Rattle.disk_model.specs.Causes.{HasCause};
-ghost use Rattle.disk_model.specs.Disk.{OnlyAdds};
-ghost use Rattle.disk_model.specs.Moments.{EachMoment, EachSince};
+ghost use Rattle.disk_model.specs.Disk.{HasNothingPending, OnlyAdds};
+ghost use Rattle.disk_model.specs.Moments.{EachMoment, EachSince, HasNow};
 ghost use Rattle.journal_model.specs.JournaledDisk.{JournaledDisk, StandsFor};
 ghost use Rattle.journal_model.specs.Steps.{after_settle};
 ghost use Rattle.place_writer.specs.Cells.{HasCells};
@@ -11,16 +11,19 @@ ghost use Rattle.tag_store.specs.Store.{IsMarkedTags, IsStore};
 use sector_disk::{Disk, Failed};
 use tag_store::Tags;
 
-/// Writes the tags back, and syncs: what is placed is settled then.
+/// Writes the tags back, and syncs: what is placed is settled then, and nothing is pending.
+///
+/// Source: Linux, `drivers/md/dm-integrity.c`, `do_journal_write`, which flushes before sections are free.
 ///
 /// # Errors
 ///
 /// - `Failed`: the disk failed. Nothing more is settled.
-pub(crate) fn flush<D: Disk>(disk: &mut D, tags: &mut Tags) -> Result<(), Failed>
+pub fn flush<D: Disk>(disk: &mut D, tags: &mut Tags) -> Result<(), Failed>
     requires store { IsStore tags.old (D.identity disk.old) (D.moments disk.old) }
 
     ensures settled { OnOk result ((d : JournaledDisk) → HasCells d tags.old (D.moments disk.old)
         → HasCells (after_settle d) tags.new (D.moments disk.new)) }
+    ensures pending { OnOk result (HasNow HasNothingPending (D.moments disk.new)) }
 
     ensures cause { HasCause (D.faults disk.old) (D.faults disk.new) result }
 

@@ -13,5 +13,7 @@ mod placement;
 mod placer;
 mod writing;
 
+pub use flushing::flush;
 pub use laws::{commit_keeps_what_is_placed, placement_goes_on, settled_is_in_place};
 pub use placer::Placer;
+pub use writing::write_entry;

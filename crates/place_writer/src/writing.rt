@@ -14,12 +14,15 @@ use hmac_tag::Tag;
 use sector_disk::{Disk, Failed};
 use tag_store::Tags;
 
-/// Writes the bytes of a block to their place, and then puts its tag.
+/// Writes the bytes of a block to their place by one call of the disk, and then puts its tag through the store. The
+/// bytes are one block's, and the tag has the geometry's size.
+///
+/// Source: Linux, `drivers/md/dm-integrity.c`, `do_journal_write`.
 ///
 /// # Errors
 ///
 /// - `Failed`: the disk failed. Any part of it may have been done.
-pub(crate) fn write_entry<D: Disk>(
+pub fn write_entry<D: Disk>(
     disk: &mut D,
     tags: &mut Tags,
     block: u64,

@@ -3,3 +3,4 @@ pub mod EntriesLemmas
 pub mod RecoveryLemmas
 pub mod ErasedLemmas
 pub mod FinishingLemmas
+pub mod WritesLemmas

@@ -3,7 +3,7 @@ use Rattle.std.proofs.Common.{◌≡◌, inl, inr, ℕ, zero, suc, ◌+◌, ◌^
 use Rattle.std.proofs.Math.Seq.{take-nil}
 use Rattle.std.specs.Prelude.{if◌then◌else◌}
 use Rattle.std.specs.Option.{is_some}
-use Rattle.std.specs.List.{AllByRecursion}
+use Rattle.std.specs.List.{AllByRecursion, Contains}
 use Rattle.std.proofs.lemmas.List.{take_more, take_all}
 use Rattle.std.proofs.lemmas.List.Elements.{filter_map-append}
 use Rattle.std.proofs.lemmas.Option.{none-some, same_Some, slice_get_within, get_or_from_slice_get}
@@ -204,6 +204,16 @@ replayed_at P g bytes plan k place entry is each there some =
     all_get P (filter_map (entry_of g (journal_image bytes)) (places_of g plan.walk)) _ entry
     (subst (AllByRecursion P) (replayed_entries-places g (journal_image bytes) plan is) each)
     (kept_at (entry_of g (journal_image bytes)) (places_of g plan.walk) k place entry there some)
+
+-- So is it one of them.
+pub among_replayed : (g : Geometry) (bytes : List ℕ) (plan : Plan) (k : ℕ) (place : ℕ × ℕ) (entry : Entry) → walk_of g (journal_image bytes) ≡ Ok plan
+    → slice_get (places_of g plan.walk) k ≡ Some place → entry_of g (journal_image bytes) place ≡ Some entry → Contains (replayed_entries g (journal_image bytes)) entry
+among_replayed g bytes plan k place entry is there some =
+    let kept = entry_of g (journal_image bytes) in
+    let at = length (filter_map kept (take k (places_of g plan.walk))) in
+    let next = kept_at kept (places_of g plan.walk) k place entry there some in
+    subst (λ (entries : List Entry). Contains entries entry) (sym (replayed_entries-places g (journal_image bytes) plan is))
+    (at, slice_get_within (filter_map kept (places_of g plan.walk)) at entry next, get_or_from_slice_get (filter_map kept (places_of g plan.walk)) at entry entry next)
 
 -- All of them are counted behind all places.
 pub front_count-all : (g : Geometry) (bytes : List ℕ) (plan : Plan) (k : ℕ) → walk_of g (journal_image bytes) ≡ Ok plan → k ≡ length (places_of g plan.walk)

@@ -1,13 +1,14 @@
 //! Emptying a journal at rest.
 ghost use Rattle.std.specs.Prelude.{◌≡◌, ◌*◌, ◌<◌, [], false, length, IfOk, Ok, OnOk};
 ghost use Rattle.disk_model.specs.Causes.{HasCause};
-ghost use Rattle.disk_model.specs.Disk.{EachImage};
-ghost use Rattle.disk_model.specs.Moments.{EachMoment, HasNow};
+ghost use Rattle.disk_model.specs.Disk.{EachImage, OnlyAdds};
+ghost use Rattle.disk_model.specs.Moments.{EachMoment, EachSince, HasNow};
 ghost use Rattle.image_model.specs.Geometry.{journal_sectors};
 ghost use Rattle.journal_model.specs.JournaledDisk.{IsCutOf, JournaledDisk};
 ghost use Rattle.place_writer.specs.Cells.{HasCells};
 ghost use Rattle.tag_store.specs.Store.{IsStore, given_tags};
 ghost use Rattle.replay.specs.Recovery.{IsAtRestOn, LeavesRecovered};
+ghost use Rattle.replay.specs.Writes.{IsOfEmptyJournal};
 
 use crate::finishing::erase_journal;
 use crate::recovered::Recovered;
@@ -45,10 +46,12 @@ pub fn empty<D: Disk>(
     ensures cause { HasCause (D.faults disk.old) (D.faults disk.new) result }
 
     ensures store { OnOk result (IsStore tags.now (D.identity disk.new) (D.moments disk.new)) }
+    ensures pool { length pool.new.bytes ≡ length pool.old.bytes }
     ensures identity { D.identity disk.new ≡ D.identity disk.old }
 
     ensures cuts { (d : JournaledDisk) → IsAtRestOn d at tags.now (D.moments disk.old)
         → EachMoment (D.moments disk.old) (D.moments disk.new) (EachImage (IsCutOf d [])) }
+    ensures moments { EachSince (OnlyAdds (IsOfEmptyJournal geometry.now)) (D.moments disk.old) (D.moments disk.new) }
 {
     if !at.used {
         return Ok(at);

@@ -1,7 +1,9 @@
 //! Recovery up to the erasure: the journal is read and judged, and its entries come to their places.
 ghost use Rattle.std.specs.Prelude.{◌≡◌, ◌≢◌, ◌*◌, length, Err, IfOk, IsErr};
-ghost use Rattle.disk_model.specs.Disk.{EachImage, last_image};
-ghost use Rattle.disk_model.specs.Moments.{EachMoment, HasNow};
+ghost use Rattle.std.specs.List.{Contains};
+ghost use Rattle.disk_model.specs.Disk.{EachImage, OnlyAdds, last_image};
+ghost use Rattle.disk_model.specs.Moments.{EachMoment, EachSince, HasNow};
+ghost use Rattle.image_model.specs.Cells.{replayed_entries};
 ghost use Rattle.image_model.specs.Geometry.{journal_sectors};
 ghost use Rattle.image_model.specs.Openable.{journal_fault_of};
 ghost use Rattle.journal_model.specs.Opening.{opened_disk};
@@ -12,6 +14,7 @@ ghost use Rattle.place_writer.specs.Cells.{HasCells};
 ghost use Rattle.tag_store.specs.Store.{IsStore};
 ghost use Rattle.replay.specs.Recovery.{EntersRecovery, HasReplayed};
 ghost use Rattle.replay.specs.Replaying.{all_placed};
+ghost use Rattle.replay.specs.Writes.{IsOfPlacing};
 
 use crate::placing::replay;
 use hmac_tag::TagMaker;
@@ -74,6 +77,8 @@ pub(crate) fn replay_journal<D: Disk>(
         EntersRecovery f maker.now (D.identity disk.old).sectors tags.old start
         → EachMoment (D.moments disk.old) (D.moments disk.new)
         (EachImage (HasImageCells f (cells_on f (last_image start))))) (D.moments disk.old) }
+    ensures moments { EachSince (λ start. OnlyAdds (IsOfPlacing geometry.now (Contains
+        (replayed_entries geometry.now (last_image start)))) start) (D.moments disk.old) (D.moments disk.new) }
 {
     let journal = read_judged(alloc, disk, geometry, maker, bytes)?;
     let count = replay(disk, tags, geometry, bytes, &journal.plan)?;

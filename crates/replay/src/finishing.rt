@@ -2,8 +2,8 @@
 ghost use Rattle.std.specs.Prelude.{◌≡◌, ◌↔◌, ◌⊎◌, false, ◌*◌, ◌<◌, ◌≤◌, [], length, slice_index_or, Ok, IfOk, OnOk};
 ghost use Rattle.commit_id.specs.Grid.{as_grid};
 ghost use Rattle.disk_model.specs.Causes.{HasCause};
-ghost use Rattle.disk_model.specs.Disk.{EachImage, HasNothingPending};
-ghost use Rattle.disk_model.specs.Moments.{EachMoment, HasNow};
+ghost use Rattle.disk_model.specs.Disk.{EachImage, HasNothingPending, OnlyAdds};
+ghost use Rattle.disk_model.specs.Moments.{EachMoment, EachSince, HasNow};
 ghost use Rattle.image_model.specs.Cells.{replayed_entries};
 ghost use Rattle.image_model.specs.Geometry.{journal_sectors};
 ghost use Rattle.image_model.specs.Grid.{IsGridOf, walk_of};
@@ -14,6 +14,7 @@ ghost use Rattle.journal_reading.specs.Journal.{journal_image};
 ghost use Rattle.place_writer.specs.Cells.{HasCells};
 ghost use Rattle.tag_store.specs.Store.{IsStore, given_tags};
 ghost use Rattle.replay.specs.Recovery.{IsReplayed, LeavesRecovered};
+ghost use Rattle.replay.specs.Writes.{IsOfEmptyJournal};
 
 use crate::entering::ReplayedJournal;
 use crate::recovered::Recovered;
@@ -60,6 +61,7 @@ pub(crate) fn erase_journal<D: Disk>(
     ensures cuts { (d : JournaledDisk) → IsErasureOf geometry.now erasure.now d
         → HasCells d tags.now (D.moments disk.old)
         → EachMoment (D.moments disk.old) (D.moments disk.new) (EachImage (IsCutOf d [])) }
+    ensures moments { EachSince (OnlyAdds (IsOfEmptyJournal geometry.now)) (D.moments disk.old) (D.moments disk.new) }
 {
     erase(disk, geometry, erasure, scratch)?;
     Ok(Recovered {
@@ -120,6 +122,7 @@ fn erase_scanned<D: Disk>(
     ensures cuts { (d : JournaledDisk) → IsReplayed d geometry.now scratch.old
         → HasCells d tags.now (D.moments disk.old)
         → EachMoment (D.moments disk.old) (D.moments disk.new) (EachImage (IsCutOf d [])) }
+    ensures moments { EachSince (OnlyAdds (IsOfEmptyJournal geometry.now)) (D.moments disk.old) (D.moments disk.new) }
 {
     let first = first_counted(&journal.plan.walk, geometry.sections());
     let erasure = Erasure::scanned(&journal.grid, newest, first);
@@ -165,6 +168,7 @@ pub(crate) fn finish<D: Disk>(
     ensures cuts { (d : JournaledDisk) → IsReplayed d geometry.now scratch.old
         → HasCells d tags.now (D.moments disk.old)
         → EachMoment (D.moments disk.old) (D.moments disk.new) (EachImage (IsCutOf d [])) }
+    ensures moments { EachSince (OnlyAdds (IsOfEmptyJournal geometry.now)) (D.moments disk.old) (D.moments disk.new) }
 {
     let plan = replayed.journal.plan;
     match plan.state {

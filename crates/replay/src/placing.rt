@@ -1,13 +1,12 @@
 //! Placing the entries of a journal in memory.
-ghost use Rattle.std.specs.Prelude.{◌≡◌, ◌*◌, ◌^◌, ◌<◌, length, Some, Ok, IfOk, OnOk, if◌then◌else◌};
-ghost use Rattle.std.specs.List.{AllByRecursion};
+ghost use Rattle.std.specs.Prelude.{◌≡◌, ◌*◌, ◌<◌, length, Some, IfOk, OnOk, if◌then◌else◌};
+ghost use Rattle.std.specs.List.{Contains};
 ghost use Rattle.std.specs.Option.{is_some};
 ghost use Rattle.disk_model.specs.Causes.{HasCause};
-ghost use Rattle.disk_model.specs.Disk.{HasNothingPending};
-ghost use Rattle.disk_model.specs.Moments.{EachMoment, HasNow};
+ghost use Rattle.disk_model.specs.Disk.{HasNothingPending, OnlyAdds};
+ghost use Rattle.disk_model.specs.Moments.{EachMoment, EachSince, HasNow};
 ghost use Rattle.image_model.specs.Cells.{entry_of, replayed_entries};
 ghost use Rattle.image_model.specs.Geometry.{journal_sectors, section_entries};
-ghost use Rattle.image_model.specs.Grid.{walk_of};
 ghost use Rattle.image_model.specs.Section.{Entry};
 ghost use Rattle.journal_model.specs.JournaledDisk.{JournaledDisk, StandsFor};
 ghost use Rattle.journal_model.specs.Steps.{after_settle};
@@ -15,14 +14,16 @@ ghost use Rattle.journal_reading.specs.Journal.{journal_image};
 ghost use Rattle.place_writer.specs.Cells.{HasCells};
 ghost use Rattle.place_writer.specs.Placement.{IsWholeEntry};
 ghost use Rattle.tag_store.specs.Store.{IsStore};
-ghost use Rattle.replay.specs.Replaying.{IsNext, IsToReplay, after_entry, all_placed};
+ghost use Rattle.replay.specs.Replaying.{IsNext, IsReplaying, IsToReplay, after_entry, all_placed};
+ghost use Rattle.replay.specs.Writes.{IsOfPlacing};
 
-use crate::writing::{settle, write_view};
+use crate::writing::write_view;
 use commit_id::Plan;
 use image_model::SECTOR_SIZE;
 use journal_overlay::Place;
 use journal_reading::{entry_count, entry_place, read_entry};
 use layout::Geometry;
+use place_writer::flush;
 use sector_disk::{Disk, Failed};
 use tag_store::Tags;
 
@@ -72,6 +73,9 @@ fn place_entry<D: Disk>(
         → HasCells d tags.old (D.moments disk.old)
         → EachMoment (D.moments disk.old) (D.moments disk.new) (StandsFor
         (after_entry (entry_of geometry.now (journal_image bytes.now) (place.section, place.entry)) d)) }
+    ensures moments { EachSince (OnlyAdds (IsOfPlacing geometry.now (λ entry.
+        entry_of geometry.now (journal_image bytes.now) (place.section, place.entry) ≡ Some entry)))
+        (D.moments disk.old) (D.moments disk.new) }
 {
     match read_entry(geometry, bytes, place, block) {
         None => Ok(0),
@@ -97,12 +101,8 @@ fn place_all<D: Disk>(
     bytes: &[u8],
     plan: &Plan,
 ) -> Result<u64, Failed>
-    requires geometry { geometry.now ≡ tags.old.geometry }
-    requires bytes { length bytes.now ≡ 512 * journal_sectors geometry.now }
-    requires plan { walk_of geometry.now (journal_image bytes.now) ≡ Ok plan.now }
-    requires whole { AllByRecursion (IsWholeEntry geometry.now)
-        (replayed_entries geometry.now (journal_image bytes.now)) }
-    requires store { IsStore tags.old (D.identity disk.old) (D.moments disk.old) }
+    requires replaying { IsReplaying geometry.now bytes.now plan.now tags.old
+        (D.identity disk.old) (D.moments disk.old) }
 
     ensures count { IfOk result (λ count. count
         ≡ length (replayed_entries geometry.now (journal_image bytes.now))) }
@@ -119,6 +119,9 @@ fn place_all<D: Disk>(
     ensures stands { (d : JournaledDisk) → IsToReplay d geometry.now bytes.now
         → HasCells d tags.old (D.moments disk.old)
         → EachMoment (D.moments disk.old) (D.moments disk.new) (StandsFor (all_placed d)) }
+    ensures moments { EachSince (OnlyAdds (IsOfPlacing geometry.now (Contains
+        (replayed_entries geometry.now (journal_image bytes.now)))))
+        (D.moments disk.old) (D.moments disk.new) }
 {
     let mut buffer = [0; LARGEST_BLOCK];
     let block = &mut buffer[..SECTOR_SIZE * geometry.shape().spb as usize];
@@ -144,12 +147,8 @@ pub(crate) fn replay<D: Disk>(
     bytes: &[u8],
     plan: &Plan,
 ) -> Result<u64, Failed>
-    requires geometry { geometry.now ≡ tags.old.geometry }
-    requires bytes { length bytes.now ≡ 512 * journal_sectors geometry.now }
-    requires plan { walk_of geometry.now (journal_image bytes.now) ≡ Ok plan.now }
-    requires whole { AllByRecursion (IsWholeEntry geometry.now)
-        (replayed_entries geometry.now (journal_image bytes.now)) }
-    requires store { IsStore tags.old (D.identity disk.old) (D.moments disk.old) }
+    requires replaying { IsReplaying geometry.now bytes.now plan.now tags.old
+        (D.identity disk.old) (D.moments disk.old) }
 
     ensures count { IfOk result (λ count. count
         ≡ length (replayed_entries geometry.now (journal_image bytes.now))) }
@@ -167,8 +166,11 @@ pub(crate) fn replay<D: Disk>(
     ensures stands { (d : JournaledDisk) → IsToReplay d geometry.now bytes.now
         → HasCells d tags.old (D.moments disk.old)
         → EachMoment (D.moments disk.old) (D.moments disk.new) (StandsFor (all_placed d)) }
+    ensures moments { EachSince (OnlyAdds (IsOfPlacing geometry.now (Contains
+        (replayed_entries geometry.now (journal_image bytes.now)))))
+        (D.moments disk.old) (D.moments disk.new) }
 {
     let count = place_all(disk, tags, geometry, bytes, plan)?;
-    settle(disk, tags)?;
+    flush(disk, tags)?;
     Ok(count)
 }

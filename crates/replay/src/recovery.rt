@@ -1,7 +1,8 @@
 //! Recovery, as it is asked for.
 ghost use Rattle.std.specs.Prelude.{◌≡◌, ◌≢◌, ◌*◌, length, Err, IfOk, IsErr, OnOk};
-ghost use Rattle.disk_model.specs.Disk.{EachImage, last_image};
-ghost use Rattle.disk_model.specs.Moments.{EachMoment, HasNow};
+ghost use Rattle.disk_model.specs.Disk.{EachImage, OnlyAdds, last_image};
+ghost use Rattle.disk_model.specs.Moments.{EachMoment, EachSince, HasNow};
+ghost use Rattle.image_model.specs.Cells.{replayed_entries};
 ghost use Rattle.image_model.specs.Geometry.{journal_sectors};
 ghost use Rattle.image_model.specs.Openable.{journal_fault_of};
 ghost use Rattle.journal_model.specs.Opening.{opened_disk};
@@ -9,6 +10,7 @@ ghost use Rattle.journal_reading.specs.Faults.{HasReplayCause, refusal_in};
 ghost use Rattle.place_model.specs.Format.{DiskFormat, HasCells as HasImageCells, cells_on};
 ghost use Rattle.tag_store.specs.Store.{IsStore, given_tags};
 ghost use Rattle.replay.specs.Recovery.{EntersRecovery, LeavesRecovered};
+ghost use Rattle.replay.specs.Writes.{IsOfRecovery};
 
 use crate::entering::replay_journal;
 use crate::finishing::finish;
@@ -61,53 +63,19 @@ pub fn recover<D: Disk>(
     ensures cause { HasReplayCause (D.faults disk.old) (D.faults disk.new) result }
 
     ensures store { OnOk result (IsStore tags.new (D.identity disk.new) (D.moments disk.new)) }
+    ensures geometry { tags.new.geometry ≡ tags.old.geometry }
+    ensures pool { length pool.new.bytes ≡ length pool.old.bytes }
     ensures identity { D.identity disk.new ≡ D.identity disk.old }
 
     ensures cuts { (f : DiskFormat) → HasNow (λ start.
         EntersRecovery f maker.now (D.identity disk.old).sectors tags.old start
         → EachMoment (D.moments disk.old) (D.moments disk.new)
         (EachImage (HasImageCells f (cells_on f (last_image start))))) (D.moments disk.old) }
+    // Nothing is written but entries in their places, sectors of tags, and empty sections of the journal.
+    ensures moments { EachSince (λ start. OnlyAdds (IsOfRecovery geometry.now
+        (replayed_entries geometry.now (last_image start))) start) (D.moments disk.old) (D.moments disk.new) }
 {
-    recover_into(alloc, disk, geometry, tags, maker, pool.bytes_mut())
-}
-
-/// The same, with the bytes of the run.
-///
-/// # Errors
-///
-/// As `recover` has them.
-fn recover_into<D: Disk>(
-    alloc: Global,
-    disk: &mut D,
-    geometry: &Geometry,
-    tags: &mut Tags,
-    maker: &TagMaker,
-    bytes: &mut [u8],
-) -> Result<Recovered, ReplayFault>
-    requires geometry { geometry.now ≡ tags.old.geometry }
-    requires maker { maker.now.size ≡ geometry.now.shape.tag_size }
-    requires bytes { length bytes.old ≡ 512 * journal_sectors geometry.now }
-    requires store { IsStore tags.old (D.identity disk.old) (D.moments disk.old) }
-
-    ensures left { IfOk result (λ at. (f : DiskFormat) → HasNow (λ start.
-        EntersRecovery f maker.now (D.identity disk.old).sectors tags.old start
-        → HasNow (λ c. LeavesRecovered (opened_disk f (last_image start)) at (given_tags tags.new c) c)
-        (D.moments disk.new)) (D.moments disk.old)) }
-
-    ensures refused { result ≢ Err ReplayFault.Memory → result ≢ Err ReplayFault.Disk
-        → HasNow (λ c. refusal_in result ≡ journal_fault_of maker.now.key maker.now.salt
-        geometry.now (last_image c)) (D.moments disk.old) }
-    ensures nothing { result ≢ Err ReplayFault.Disk → IsErr result → D.moments disk.new ≡ D.moments disk.old }
-    ensures cause { HasReplayCause (D.faults disk.old) (D.faults disk.new) result }
-
-    ensures store { OnOk result (IsStore tags.new (D.identity disk.new) (D.moments disk.new)) }
-    ensures identity { D.identity disk.new ≡ D.identity disk.old }
-
-    ensures cuts { (f : DiskFormat) → HasNow (λ start.
-        EntersRecovery f maker.now (D.identity disk.old).sectors tags.old start
-        → EachMoment (D.moments disk.old) (D.moments disk.new)
-        (EachImage (HasImageCells f (cells_on f (last_image start))))) (D.moments disk.old) }
-{
+    let bytes = pool.bytes_mut();
     let replayed = replay_journal(alloc, disk, geometry, tags, maker, bytes)?;
     let recovered = finish(disk, geometry, tags, &replayed, bytes)?;
     Ok(recovered)

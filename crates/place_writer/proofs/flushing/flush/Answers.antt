@@ -1,5 +1,7 @@
 use Rattle.std.proofs.Common.{sym, subst}
 use Rattle.std.proofs.lemmas.Result.{on_ok_weaker}
+use Rattle.disk_model.specs.Disk.{Content}
+use Rattle.disk_model.proofs.DiskLemmas.{synced_has_nothing_pending}
 use Rattle.disk_model.proofs.MomentsLemmas.{EachMoment-then, adds_then, sync_adds}
 use Rattle.image_model.specs.Geometry.{Geometry}
 use Rattle.buffer_cache.proofs.CachedLemmas.{changed_now, write_back_adds}
@@ -57,3 +59,7 @@ returns-clause-moments g c =
     let store = c.args.tags.now in
     adds_then (IsMarkedTags store) (marked_adds store (g.D.Disk.identity c.args.disk.now) c.requires.store (write_back_adds store.sectors c.write_back.ensures.moments))
     (sync_adds (IsMarkedTags store) (g.met.D.Disk.reads_an_image c.write_back.new.disk) c.sync.ensures.moments)
+
+pub returns-clause-pending : goal.returns-clause-pending
+returns-clause-pending g c =
+    on_ok_weaker c.sync.result (λ synced. synced_has_nothing_pending (λ (x : Content). x) (content_now (g.D.Disk.moments c.write_back.new.disk)) (content_now (g.D.Disk.moments c.sync.new.self)) synced) c.sync.ensures.synced

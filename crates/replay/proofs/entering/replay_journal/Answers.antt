@@ -1,31 +1,42 @@
 use Rattle.std.proofs.Common.{◌^◌, List, sym, ap, ◌∙◌, subst}
+use Rattle.std.specs.List.{Contains}
 use Rattle.std.specs.Result.{is_ok}
-use Rattle.disk_model.specs.Disk.{Content, last_image}
+use Rattle.disk_model.specs.Disk.{Content, OnlyAdds, last_image}
 use Rattle.disk_model.specs.Identity.{DiskIdentity}
+use Rattle.disk_model.specs.Moments.{EachSince}
 use Rattle.disk_model.proofs.MomentsLemmas.{EachMoment-kept}
+use Rattle.image_model.specs.Cells.{replayed_entries}
 use Rattle.image_model.specs.Geometry.{Geometry, IsGeometry}
 use Rattle.direct_mode.proofs.StoreCalls.{reads_whole}
 use Rattle.journal_model.specs.Opening.{opened_disk}
+use Rattle.journal_reading.specs.Journal.{journal_image}
 use Rattle.tag_store.specs.Store.{IsStore}
 use Rattle.replay.proofs.EntriesLemmas.{whole_entries}
 use Rattle.replay.proofs.RecoveryLemmas.{cells_before, cells_through, entries_before}
 use Rattle.replay.proofs.ReplayingLemmas.{geometry_of}
+use Rattle.replay.specs.Writes.{IsOfPlacing}
+use Rattle.replay.proofs.WritesLemmas.{replay_adds}
 use Rattle.replay.proofs.entering.replay_journal.Goals as goal
 
 pub read_judged-requires-clause-geometry : goal.read_judged-requires-clause-geometry
 read_judged-requires-clause-geometry g c =
     subst (λ (x : Geometry). IsGeometry x (g.D.Disk.identity c.args.disk.now).sectors) (sym c.requires.geometry) c.requires.store.geometry
 
-pub replay-requires-clause-whole : goal.replay-requires-clause-whole
-replay-requires-clause-whole g c =
-    whole_entries c.args.geometry.now (2 ^ 48) c.read_judged.new.bytes
-    (geometry_of c.args.geometry.now c.args.tags.now (g.D.Disk.identity c.args.disk.now) (g.D.Disk.moments c.args.disk.now) c.requires.geometry c.requires.store)
-    (c.read_judged.auto.bytes ∙ c.requires.bytes) c.args.maker.now.key c.args.maker.now.salt c.in_ok-journal.ensures.journal.right
-
-pub replay-requires-clause-store : goal.replay-requires-clause-store
-replay-requires-clause-store g c =
-    subst (λ (m : List Content). IsStore c.args.tags.now (g.D.Disk.identity c.read_judged.new.disk) m) (sym c.read_judged.ensures.kept)
-    (subst (λ (i : DiskIdentity). IsStore c.args.tags.now i (g.D.Disk.moments c.args.disk.now)) (sym c.read_judged.ensures.identity) c.requires.store)
+pub replay-requires : goal.replay-requires
+replay-requires g c = record {
+  replaying = record {
+    geometry = c.requires.geometry;
+    size = c.read_judged.auto.bytes ∙ c.requires.bytes;
+    plan_is = c.in_ok-journal.ensures.journal.plan;
+    whole =
+        whole_entries c.args.geometry.now (2 ^ 48) c.read_judged.new.bytes
+        (geometry_of c.args.geometry.now c.args.tags.now (g.D.Disk.identity c.args.disk.now) (g.D.Disk.moments c.args.disk.now) c.requires.geometry c.requires.store)
+        (c.read_judged.auto.bytes ∙ c.requires.bytes) c.args.maker.now.key c.args.maker.now.salt c.in_ok-journal.ensures.journal.right;
+    store_is =
+        subst (λ (m : List Content). IsStore c.args.tags.now (g.D.Disk.identity c.read_judged.new.disk) m) (sym c.read_judged.ensures.kept)
+        (subst (λ (i : DiskIdentity). IsStore c.args.tags.now i (g.D.Disk.moments c.args.disk.now)) (sym c.read_judged.ensures.identity) c.requires.store);
+  };
+}
 
 pub returns-in_err-journal-clause-cuts : goal.returns-in_err-journal-clause-cuts
 returns-in_err-journal-clause-cuts g c f start told enters = EachMoment-kept _ c.read_judged.ensures.kept
@@ -84,3 +95,22 @@ returns-clause-replayed g c = record {
   read = c.in_ok-journal.ensures.read;
   pending = c.in_ok-count.ensures.pending;
 }
+
+pub returns-in_err-journal-clause-moments : goal.returns-in_err-journal-clause-moments
+returns-in_err-journal-clause-moments g c = EachMoment-kept _ c.read_judged.ensures.kept
+
+pub returns-in_err-count-clause-moments : goal.returns-in_err-count-clause-moments
+returns-in_err-count-clause-moments g c =
+    replay_adds c.args.geometry.now (2 ^ 48) c.read_judged.new.bytes
+    (geometry_of c.args.geometry.now c.args.tags.now (g.D.Disk.identity c.args.disk.now) (g.D.Disk.moments c.args.disk.now) c.requires.geometry c.requires.store)
+    (ap is_ok c.in_ok-journal.ensures.journal.plan) c.in_ok-journal.ensures.read
+    (subst (λ (m : List Content). EachSince (OnlyAdds (IsOfPlacing c.args.geometry.now (Contains (replayed_entries c.args.geometry.now (journal_image c.read_judged.new.bytes))))) m (g.D.Disk.moments c.replay.new.disk))
+    c.read_judged.ensures.kept c.replay.ensures.moments)
+
+pub returns-clause-moments : goal.returns-clause-moments
+returns-clause-moments g c =
+    replay_adds c.args.geometry.now (2 ^ 48) c.read_judged.new.bytes
+    (geometry_of c.args.geometry.now c.args.tags.now (g.D.Disk.identity c.args.disk.now) (g.D.Disk.moments c.args.disk.now) c.requires.geometry c.requires.store)
+    (ap is_ok c.in_ok-journal.ensures.journal.plan) c.in_ok-journal.ensures.read
+    (subst (λ (m : List Content). EachSince (OnlyAdds (IsOfPlacing c.args.geometry.now (Contains (replayed_entries c.args.geometry.now (journal_image c.read_judged.new.bytes))))) m (g.D.Disk.moments c.replay.new.disk))
+    c.read_judged.ensures.kept c.replay.ensures.moments)

@@ -8,6 +8,7 @@ use Rattle.journal_erasure.specs.Erased.{IsErased}
 use Rattle.journal_erasure.specs.Erasing.{with_empty_journal}
 use Rattle.tag_store.specs.Store.{IsStore}
 use Rattle.replay.proofs.ErasedLemmas.{erased_recovered, store_erased}
+use Rattle.replay.proofs.WritesLemmas.{empty_adds}
 use Rattle.replay.proofs.finishing.erase_journal.Goals as goal
 
 pub erase-requires-clause-geometry : goal.erase-requires-clause-geometry
@@ -46,3 +47,9 @@ returns-clause-store g c =
 
 pub returns-clause-cuts : goal.returns-clause-cuts
 returns-clause-cuts g c d of has = c.erase.ensures.cuts d of (λ x told. (has.now x told).stands)
+
+pub returns-in_err-erase-clause-moments : goal.returns-in_err-erase-clause-moments
+returns-in_err-erase-clause-moments g c = empty_adds c.args.geometry.now _ c.erase.new.scratch c.erase.ensures.empty c.erase.ensures.moments
+
+pub returns-clause-moments : goal.returns-clause-moments
+returns-clause-moments g c = empty_adds c.args.geometry.now _ c.erase.new.scratch c.erase.ensures.empty c.erase.ensures.moments

@@ -28,3 +28,6 @@ unreachable-requires g c =
 
 pub returns-in-Erasing-clause-left : goal.returns-in-Erasing-clause-left
 returns-in-Erasing-clause-left g c = IfOk-weaker c.erase_scanned-in-Erasing.result _ _ (λ at left d replayed has pending. left d replayed has) c.erase_scanned-in-Erasing.ensures.left
+
+pub returns-in-Rest-clause-moments : goal.returns-in-Rest-clause-moments
+returns-in-Rest-clause-moments g c = no_moment (g.D.Disk.moments c.args.disk.now) _

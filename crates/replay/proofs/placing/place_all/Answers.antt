@@ -1,56 +1,59 @@
 use Rattle.std.proofs.Common.{ℕ, refl, sym, ◌∙◌, arith}
 use Rattle.std.specs.Option.{is_some}
-use Rattle.disk_model.proofs.MomentsLemmas.{EachMoment-then, no_moment}
+use Rattle.disk_model.proofs.MomentsLemmas.{EachMoment-then, adds_then, no_moment}
 use Rattle.image_model.specs.Cells.{entry_of}
+use Rattle.image_model.specs.Section.{Entry}
 use Rattle.journal_reading.specs.Journal.{journal_image}
 use Rattle.journal_reading.proofs.PlacesLemmas.{IsWalk-plan, place-inside}
 use Rattle.place_writer.specs.Placement.{IsWholeEntry}
-use Rattle.replay.proofs.ReplayingLemmas.{count_step, front_count-all, geometry_of, next_step, one_or_none, placed_every, placed_none, placed_step, placed_to, replayed_at, stands_step}
+use Rattle.replay.proofs.ReplayingLemmas.{among_replayed, count_step, front_count-all, geometry_of, next_step, one_or_none, placed_every, placed_none, placed_step, placed_to, replayed_at, stands_step}
+use Rattle.replay.proofs.WritesLemmas.{among_more}
 use Rattle.replay.proofs.placing.place_all.Goals as goal
 
 pub entry_count-k-end-requires-clause-geometry : goal.entry_count-k-end-requires-clause-geometry
 entry_count-k-end-requires-clause-geometry g c =
-    geometry_of c.args.geometry.now c.args.tags.now (g.D.Disk.identity c.args.disk.now) (g.D.Disk.moments c.args.disk.now) c.requires.geometry c.requires.store
+    geometry_of c.args.geometry.now c.args.tags.now (g.D.Disk.identity c.args.disk.now) (g.D.Disk.moments c.args.disk.now) c.requires.replaying.geometry c.requires.replaying.store_is
 
 pub entry_count-k-end-requires-clause-walk : goal.entry_count-k-end-requires-clause-walk
-entry_count-k-end-requires-clause-walk g c = IsWalk-plan c.args.geometry.now (journal_image c.args.bytes.now) c.args.plan.now c.requires.plan
+entry_count-k-end-requires-clause-walk g c = IsWalk-plan c.args.geometry.now (journal_image c.args.bytes.now) c.args.plan.now c.requires.replaying.plan_is
 
 pub loop-k-init : goal.loop-k-init
 loop-k-init g c = record {
   count = refl;
   low = omega arith;
-  placed = λ d to has. placed_none d c.args.geometry.now c.args.bytes.now c.args.plan.now c.requires.plan to c.args.tags.now (g.D.Disk.moments c.args.disk.now) has;
+  placed = λ d to has. placed_none d c.args.geometry.now c.args.bytes.now c.args.plan.now c.requires.replaying.plan_is to c.args.tags.now (g.D.Disk.moments c.args.disk.now) has;
   stands = λ d to has. no_moment (g.D.Disk.moments c.args.disk.now) _;
+  moments = no_moment (g.D.Disk.moments c.args.disk.now) _;
   faults = refl;
-  store = c.requires.store;
+  store = c.requires.replaying.store_is;
   geometry = refl;
   identity = refl;
 }
 
 pub entry_place-place-requires-clause-geometry : goal.entry_place-place-requires-clause-geometry
 entry_place-place-requires-clause-geometry g c =
-    geometry_of c.args.geometry.now c.args.tags.now (g.D.Disk.identity c.args.disk.now) (g.D.Disk.moments c.args.disk.now) c.requires.geometry c.requires.store
+    geometry_of c.args.geometry.now c.args.tags.now (g.D.Disk.identity c.args.disk.now) (g.D.Disk.moments c.args.disk.now) c.requires.replaying.geometry c.requires.replaying.store_is
 
 pub entry_place-place-requires-clause-walk : goal.entry_place-place-requires-clause-walk
-entry_place-place-requires-clause-walk g c = IsWalk-plan c.args.geometry.now (journal_image c.args.bytes.now) c.args.plan.now c.requires.plan
+entry_place-place-requires-clause-walk g c = IsWalk-plan c.args.geometry.now (journal_image c.args.bytes.now) c.args.plan.now c.requires.replaying.plan_is
 
 pub place_entry-requires-clause-geometry : goal.place_entry-requires-clause-geometry
-place_entry-requires-clause-geometry g c = c.requires.geometry ∙ sym c.loop-k.invariant.geometry
+place_entry-requires-clause-geometry g c = c.requires.replaying.geometry ∙ sym c.loop-k.invariant.geometry
 
 pub place_entry-requires-clause-section : goal.place_entry-requires-clause-section
 place_entry-requires-clause-section g c =
     (place-inside c.args.geometry.now c.args.plan.now.walk c.loop-k.k (c.entry_place-place.result.section, c.entry_place-place.result.entry)
-    (IsWalk-plan c.args.geometry.now (journal_image c.args.bytes.now) c.args.plan.now c.requires.plan) c.entry_place-place.ensures).0
+    (IsWalk-plan c.args.geometry.now (journal_image c.args.bytes.now) c.args.plan.now c.requires.replaying.plan_is) c.entry_place-place.ensures).0
 
 pub place_entry-requires-clause-entry : goal.place_entry-requires-clause-entry
 place_entry-requires-clause-entry g c =
     (place-inside c.args.geometry.now c.args.plan.now.walk c.loop-k.k (c.entry_place-place.result.section, c.entry_place-place.result.entry)
-    (IsWalk-plan c.args.geometry.now (journal_image c.args.bytes.now) c.args.plan.now c.requires.plan) c.entry_place-place.ensures).1
+    (IsWalk-plan c.args.geometry.now (journal_image c.args.bytes.now) c.args.plan.now c.requires.replaying.plan_is) c.entry_place-place.ensures).1
 
 pub place_entry-requires-clause-whole : goal.place_entry-requires-clause-whole
 place_entry-requires-clause-whole g c entry some =
     replayed_at (IsWholeEntry c.args.geometry.now) c.args.geometry.now c.args.bytes.now c.args.plan.now c.loop-k.k
-    (c.entry_place-place.result.section, c.entry_place-place.result.entry) entry c.requires.plan c.requires.whole c.entry_place-place.ensures some
+    (c.entry_place-place.result.section, c.entry_place-place.result.entry) entry c.requires.replaying.plan_is c.requires.replaying.whole c.entry_place-place.ensures some
 
 pub returns-in_err-placed-clause-stands : goal.returns-in_err-placed-clause-stands
 returns-in_err-placed-clause-stands g c d to has =
@@ -59,8 +62,14 @@ returns-in_err-placed-clause-stands g c d to has =
     let plan = c.args.plan.now in
     let place : ℕ × ℕ = (c.entry_place-place.result.section, c.entry_place-place.result.entry) in
     EachMoment-then (c.loop-k.invariant.stands d to has)
-    (stands_step d G B plan c.requires.plan to c.loop-k.k place c.entry_place-place.ensures
-    (c.place_entry.ensures.stands (placed_to G B plan.walk c.loop-k.k d) (next_step d G B plan c.requires.plan to c.loop-k.k place c.entry_place-place.ensures) (c.loop-k.invariant.placed d to has)))
+    (stands_step d G B plan c.requires.replaying.plan_is to c.loop-k.k place c.entry_place-place.ensures
+    (c.place_entry.ensures.stands (placed_to G B plan.walk c.loop-k.k d) (next_step d G B plan c.requires.replaying.plan_is to c.loop-k.k place c.entry_place-place.ensures) (c.loop-k.invariant.placed d to has)))
+
+pub returns-in_err-placed-clause-moments : goal.returns-in_err-placed-clause-moments
+returns-in_err-placed-clause-moments g c =
+    adds_then _ c.loop-k.invariant.moments
+    (among_more c.args.geometry.now _ _ (λ (e : Entry) some. among_replayed c.args.geometry.now c.args.bytes.now c.args.plan.now c.loop-k.k
+    (c.entry_place-place.result.section, c.entry_place-place.result.entry) e c.requires.replaying.plan_is c.entry_place-place.ensures some) c.place_entry.ensures.moments)
 
 pub overflow_add-count : goal.overflow_add-count
 overflow_add-count g c =
@@ -82,12 +91,16 @@ loop-k-preserved g c =
           omega (arith, more, c.in_ok-placed.ensures.count, c.loop-k.invariant.count);
       low = omega (arith, used, c.in_ok-placed.ensures.count, c.loop-k.invariant.low);
       placed = λ d to has.
-          placed_step d G B plan c.requires.plan to k place c.place_entry.new.tags (g.D.Disk.moments c.place_entry.new.disk) there
-          (c.in_ok-placed.ensures.placed (placed_to G B plan.walk k d) (next_step d G B plan c.requires.plan to k place there) (c.loop-k.invariant.placed d to has));
+          placed_step d G B plan c.requires.replaying.plan_is to k place c.place_entry.new.tags (g.D.Disk.moments c.place_entry.new.disk) there
+          (c.in_ok-placed.ensures.placed (placed_to G B plan.walk k d) (next_step d G B plan c.requires.replaying.plan_is to k place there) (c.loop-k.invariant.placed d to has));
       stands = λ d to has.
           EachMoment-then (c.loop-k.invariant.stands d to has)
-          (stands_step d G B plan c.requires.plan to k place there
-          (c.place_entry.ensures.stands (placed_to G B plan.walk k d) (next_step d G B plan c.requires.plan to k place there) (c.loop-k.invariant.placed d to has)));
+          (stands_step d G B plan c.requires.replaying.plan_is to k place there
+          (c.place_entry.ensures.stands (placed_to G B plan.walk k d) (next_step d G B plan c.requires.replaying.plan_is to k place there) (c.loop-k.invariant.placed d to has)));
+      moments =
+          adds_then _ c.loop-k.invariant.moments
+          (among_more c.args.geometry.now _ _ (λ (e : Entry) some. among_replayed c.args.geometry.now c.args.bytes.now c.args.plan.now c.loop-k.k
+          (c.entry_place-place.result.section, c.entry_place-place.result.entry) e c.requires.replaying.plan_is c.entry_place-place.ensures some) c.place_entry.ensures.moments);
       faults = c.in_ok-placed.ensures.cause.passed ∙ c.loop-k.invariant.faults;
       store = c.place_entry.ensures.store;
       geometry = c.place_entry.ensures.geometry ∙ c.loop-k.invariant.geometry;
@@ -97,11 +110,11 @@ loop-k-preserved g c =
 pub returns-clause-count : goal.returns-clause-count
 returns-clause-count g c =
     c.loop-k.invariant.count
-    ∙ front_count-all c.args.geometry.now c.args.bytes.now c.args.plan.now c.loop-k.k c.requires.plan (omega (arith, c.entry_count-k-end.ensures))
+    ∙ front_count-all c.args.geometry.now c.args.bytes.now c.args.plan.now c.loop-k.k c.requires.replaying.plan_is (omega (arith, c.entry_count-k-end.ensures))
 
 pub returns-clause-placed : goal.returns-clause-placed
 returns-clause-placed g c d to has =
-    placed_every d c.args.geometry.now c.args.bytes.now c.args.plan.now c.requires.plan to c.loop-k.k c.loop-k.tags (g.D.Disk.moments c.loop-k.disk)
+    placed_every d c.args.geometry.now c.args.bytes.now c.args.plan.now c.requires.replaying.plan_is to c.loop-k.k c.loop-k.tags (g.D.Disk.moments c.loop-k.disk)
     (omega (arith, c.entry_count-k-end.ensures)) (c.loop-k.invariant.placed d to has)
 
 pub returns-clause-stands : goal.returns-clause-stands

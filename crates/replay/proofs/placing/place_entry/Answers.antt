@@ -1,4 +1,4 @@
-use Rattle.std.proofs.Common.{Option, sym, ap, subst, if◌then◌else◌}
+use Rattle.std.proofs.Common.{Option, Some, sym, ◌∙◌, ap, subst, if◌then◌else◌}
 use Rattle.std.specs.Option.{is_some}
 use Rattle.disk_model.specs.Moments.{EachMoment}
 use Rattle.disk_model.proofs.MomentsLemmas.{no_moment}
@@ -10,6 +10,7 @@ use Rattle.place_writer.specs.Cells.{HasCells}
 use Rattle.place_writer.specs.Placement.{IsWholeEntry}
 use Rattle.replay.specs.Replaying.{IsNext, after_entry}
 use Rattle.replay.proofs.ReplayingLemmas.{geometry_of}
+use Rattle.replay.proofs.WritesLemmas.{among_more}
 use Rattle.replay.proofs.placing.place_entry.Goals as goal
 
 pub read_entry-requires-clause-geometry : goal.read_entry-requires-clause-geometry
@@ -48,3 +49,14 @@ pub returns-in_ok-write_view-in-Some-clause-stands : goal.returns-in_ok-write_vi
 returns-in_ok-write_view-in-Some-clause-stands g c d next has =
     subst (λ (o : Option Entry). EachMoment (g.D.Disk.moments c.args.disk.now) (g.D.Disk.moments c.write_view.new.disk) (StandsFor (after_entry o d))) c.in-Some.ensures
     (c.write_view.ensures.stands d (subst (λ (o : Option Entry). IsNext o d) (sym c.in-Some.ensures) next) has)
+
+pub returns-in_err-write_view-in-Some-clause-moments : goal.returns-in_err-write_view-in-Some-clause-moments
+returns-in_err-write_view-in-Some-clause-moments g c =
+    among_more c.args.geometry.now _ _ (λ (e : Entry) is. sym c.in-Some.ensures ∙ ap (λ (x : Entry). Some x) (sym is)) c.write_view.ensures.moments
+
+pub returns-in_ok-write_view-in-Some-clause-moments : goal.returns-in_ok-write_view-in-Some-clause-moments
+returns-in_ok-write_view-in-Some-clause-moments g c =
+    among_more c.args.geometry.now _ _ (λ (e : Entry) is. sym c.in-Some.ensures ∙ ap (λ (x : Entry). Some x) (sym is)) c.write_view.ensures.moments
+
+pub returns-in-None-clause-moments : goal.returns-in-None-clause-moments
+returns-in-None-clause-moments g c = no_moment (g.D.Disk.moments c.args.disk.now) _

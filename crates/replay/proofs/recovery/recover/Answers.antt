@@ -1,4 +1,4 @@
-use Rattle.std.proofs.Common.{refl, sym, ap, ◌∙◌}
+use Rattle.std.proofs.Common.{length, refl, sym, ap, ◌∙◌}
 use Rattle.std.specs.Result.{is_ok}
 use Rattle.disk_model.specs.Disk.{last_image}
 use Rattle.disk_model.proofs.MomentsLemmas.{EachMoment-then}
@@ -7,13 +7,14 @@ use Rattle.journal_model.specs.Opening.{opened_disk}
 use Rattle.journal_model.specs.Steps.{after_settle}
 use Rattle.replay.specs.Replaying.{all_placed}
 use Rattle.replay.proofs.RecoveryLemmas.{cells_stay_erased, leaves_same, replayed_after}
-use Rattle.replay.proofs.recovery.recover_into.Goals as goal
+use Rattle.replay.proofs.WritesLemmas.{recovery_adds, replay_only}
+use Rattle.replay.proofs.recovery.recover.Goals as goal
 
 pub finish-requires-clause-geometry : goal.finish-requires-clause-geometry
 finish-requires-clause-geometry g c = c.requires.geometry ∙ sym c.replay_journal.ensures.geometry
 
 pub finish-requires-clause-scratch : goal.finish-requires-clause-scratch
-finish-requires-clause-scratch g c = c.replay_journal.auto.bytes ∙ c.requires.bytes
+finish-requires-clause-scratch g c = c.replay_journal.auto.bytes ∙ ap length c.bytes_mut-bytes.ensures.bytes ∙ c.requires.pool
 
 pub finish-requires-clause-grid : goal.finish-requires-clause-grid
 finish-requires-clause-grid g c = c.in_ok-replayed.ensures.replayed.judged.grid
@@ -58,3 +59,12 @@ returns-clause-left g c f start told enters now told_now =
 
 pub returns-clause-refused : goal.returns-clause-refused
 returns-clause-refused g c some well content told = c.in_ok-replayed.ensures.refused (λ e. cc) (λ e. cc) content told
+
+pub returns-in_err-replayed-clause-moments : goal.returns-in_err-replayed-clause-moments
+returns-in_err-replayed-clause-moments g c = replay_only c.args.geometry.now c.replay_journal.ensures.moments
+
+pub returns-in_err-recovered-clause-moments : goal.returns-in_err-recovered-clause-moments
+returns-in_err-recovered-clause-moments g c = recovery_adds c.args.geometry.now c.replay_journal.ensures.moments c.finish.ensures.moments
+
+pub returns-clause-moments : goal.returns-clause-moments
+returns-clause-moments g c = recovery_adds c.args.geometry.now c.replay_journal.ensures.moments c.finish.ensures.moments

@@ -1,0 +1,30 @@
+-- Which sectors a recovery writes, and with which bytes.
+-- Source: Linux, drivers/md/dm-integrity.c, do_journal_write and init_journal.
+use Rattle.std.specs.Prelude.{◌⊎◌, ℕ, ◌/◌, List}
+use Rattle.std.specs.List.{Contains}
+use Rattle.disk_model.specs.Disk.{IsOfRun}
+use Rattle.image_model.specs.Geometry.{Geometry, data_at, section_at}
+use Rattle.image_model.specs.Section.{Entry}
+use Rattle.journal_erasure.specs.EmptySections.{AreEmptySections}
+use Rattle.tag_store.specs.Store.{HoldsTag}
+
+-- The bytes are those of one of these entries, in the place of its block.
+pub record IsOfEntry (g : Geometry) (Among : Entry → Type 0) (sector : ℕ) (x : List ℕ) : Type 0 where
+  pub entry : Entry
+  pub among : Among entry
+  pub in_place : IsOfRun (data_at g (entry.sector / g.shape.spb)) entry.bytes sector x
+
+-- They are so, or the sector is one of tags.
+abbrev pub IsOfPlacing : Geometry → (Entry → Type 0) → ℕ → List ℕ → Type 0
+IsOfPlacing g Among sector x = IsOfEntry g Among sector x ⊎ HoldsTag g sector
+
+-- They are those of a journal of empty sections, all of one commit number.
+pub record IsOfEmptyJournal (g : Geometry) (sector : ℕ) (x : List ℕ) : Type 0 where
+  pub number : ℕ
+  pub bytes : List ℕ
+  pub empty : AreEmptySections g number bytes
+  pub in_place : IsOfRun (section_at g 0) bytes sector x
+
+-- They come by a recovery of these entries.
+abbrev pub IsOfRecovery : Geometry → List Entry → ℕ → List ℕ → Type 0
+IsOfRecovery g entries sector x = IsOfPlacing g (Contains entries) sector x ⊎ IsOfEmptyJournal g sector x
