@@ -4,20 +4,20 @@ use Rattle.std.specs.List.{Contains}
 use Rattle.std.specs.Option.{option_map}
 use Rattle.std.proofs.lemmas.Option.{same_Some}
 use Rattle.std.proofs.lemmas.List.{drop-replicate}
-use Rattle.disk_model.specs.Disk.{Content, AddsSome, OnlyAdds, last_image, newest_only}
+use Rattle.disk_model.specs.Disk.{Content, AddsSome, EachImage, IsImage, OnlyAdds, last_image, newest_only}
 use Rattle.disk_model.specs.Moments.{content_now, EachMoment, FromStart}
 use Rattle.disk_model.proofs.DiskLemmas.{IsOfRun-one, OnlyAdds-image, only_candidate}
 use Rattle.disk_model.proofs.MomentsLemmas.{EachMoment-join, EachMoment-weaker, FromStart-weaker, write_adds}
 use Rattle.image_model.specs.Sectors.{zero_bytes}
 use Rattle.image_model.specs.Superblock.{Superblock, superblock_bytes}
-use Rattle.image_formatting.specs.FirstSector.{zero_sector, head_of, IsAmidForgetting, IsAmidFounding}
+use Rattle.image_formatting.specs.FirstSector.{zero_sector, head_of, HasZeroHead, IsAmidFounding}
 
 -- The bytes may come to the first sector alone.
-abbrev IsFirst : List ℕ → ℕ → List ℕ → Type 0
+abbrev pub IsFirst : List ℕ → ℕ → List ℕ → Type 0
 IsFirst bytes sector x = (sector ≡ 0) × (x ≡ bytes)
 
 -- What only adds zeros there.
-forgetting_is : (start later : Content) → OnlyAdds (IsFirst zero_sector) start later → IsAmidForgetting start later
+pub forgetting_is : (start later : Content) → OnlyAdds (IsFirst zero_sector) start later → EachImage (λ image. IsImage start image ⊎ HasZeroHead image) later
 forgetting_is start later adds image is =
     let at : (s : ℕ) → Contains (start s) (image s) ⊎ IsFirst zero_sector s (image s) = OnlyAdds-image (IsFirst zero_sector) start later image adds is in
     elim (at 0) [
@@ -48,9 +48,6 @@ founding_is s start later adds image is =
 -- A write of the first sector.
 pub first_adds : {a b : List Content} (bytes : List ℕ) → length bytes ≡ 512 → EachMoment a b (FromStart a (AddsSome 0 bytes)) → EachMoment a b (FromStart a (OnlyAdds (IsFirst bytes)))
 first_adds bytes one moments = write_adds (IsFirst bytes) 0 bytes moments (λ s x of. IsOfRun-one 0 bytes s x one of)
-
-pub amid_forgetting : {a b : List Content} → EachMoment a b (FromStart a (OnlyAdds (IsFirst zero_sector))) → EachMoment a b (FromStart a IsAmidForgetting)
-amid_forgetting {a} moments = EachMoment-weaker (FromStart-weaker a (OnlyAdds (IsFirst zero_sector)) IsAmidForgetting (λ start later told adds. forgetting_is start later adds)) moments
 
 -- The first sync of the founding.
 pub amid_first_sync : {a b : List Content} (s : Superblock) → EachMoment a b (FromStart a (λ start c. c ≡ newest_only start)) → EachMoment a b (FromStart a (IsAmidFounding s))

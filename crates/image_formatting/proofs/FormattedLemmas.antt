@@ -7,7 +7,6 @@ use Rattle.std.proofs.lemmas.List.{length-replicate}
 use Rattle.disk_model.specs.Disk.{Content, Image, last_candidate, last_image, newest_only, with_run}
 use Rattle.disk_model.specs.Moments.{content_now, EachMoment, FromStart, HasNow}
 use Rattle.disk_model.proofs.DiskLemmas.{last_image-with_one, last_image-with_other, newest_only-pending, only_candidate}
-use Rattle.disk_model.proofs.MomentsLemmas.{EachMoment-join, EachMoment-weaker, FromStart-weaker}
 use Rattle.hmac_tag.specs.TagMaker.{TagRule}
 use Rattle.image_model.specs.Cells.{section_bytes}
 use Rattle.image_model.specs.CommitId.{commit_number}
@@ -20,11 +19,13 @@ use Rattle.place_model.specs.Tags.{tag_byte_at}
 use Rattle.place_model.proofs.TagsLemmas.{tag_byte-behind}
 use Rattle.image_formatting.specs.declared.new_image.Wipe.{Wipe}
 use Rattle.image_formatting.specs.declared.new_image.Wipe.TheVariants.{Wiped, Kept}
-use Rattle.image_formatting.specs.FirstSector.{zero_sector, head_of, forgotten, founded, IsAmidForgetting, HasHead, IsAmidFounding}
+use Rattle.image_formatting.specs.FirstSector.{zero_sector, head_of, forgotten, founded, HasZeroHead, HasHead, IsAmidFounding}
 use Rattle.image_formatting.specs.Stays.{KeepsBytes, ReadsKeep}
-use Rattle.image_formatting.specs.Formatted.{HasBlocks, HasFilled, IsImageByte, IsFillSector, IsFormatted, IsAmidWriting, IsNewContent, IsWritten}
+use Rattle.image_formatting.specs.Formatted.{HasBlocks, HasFilled, IsImageByte, IsFillSector, IsFormatted, IsAmidWriting, IsNewContent, IsWritten, IsWrittenBehindSync, IsWrittenInOrder}
 use Rattle.image_formatting.specs.Journal.{HasEmptySection}
+use Rattle.image_formatting.specs.Order.{HasFirstSync, IsForgotten, IsInOrder, IsUnsettled}
 use Rattle.image_formatting.specs.Runs.{ChangesOnly}
+use Rattle.image_formatting.proofs.OrderLemmas.{first_sync_then, first_sync_weaker, in_order, order_weaker, silent, silent_order}
 use Rattle.image_formatting.proofs.RunsLemmas.{changed_now, since_end}
 
 -- ---- images that differ in the first sector alone
@@ -67,7 +68,7 @@ HasFilled-same wipe rule g sectors one other is same h = record {
 zero_sector_whole : length zero_sector ≡ 512
 zero_sector_whole = length-replicate {A = ℕ} 512 0
 
-forgotten_first : (start : Content) → forgotten start 0 ≡ zero_sector ∷ []
+pub forgotten_first : (start : Content) → forgotten start 0 ≡ zero_sector ∷ []
 forgotten_first start = ap (λ (x : List ℕ). x ∷ []) (last_image-with_one 0 zero_sector start zero_sector_whole)
 
 forgotten_other : (start : Content) (s : ℕ) → s ≢ 0 → last_image (forgotten start) s ≡ last_image start s
@@ -103,18 +104,21 @@ module _ (wipe : Wipe) (rule : TagRule) (format : ImageFormat) (sectors : ℕ) (
 
   -- ---- the moments
 
-  pub amid_forget : {a b : List Content} → EachMoment a b (FromStart a IsAmidForgetting) → EachMoment a b (FromStart a (IsAmidWriting wipe rule format))
-  amid_forget {a} m = EachMoment-weaker (FromStart-weaker a IsAmidForgetting (IsAmidWriting wipe rule format) (λ start later told h image of. ⊎_elim inl (λ zeros. inr (inl zeros)) (h image of))) m
+  pub amid_forget : {a b : List Content} → IsInOrder (IsUnsettled HasZeroHead) IsForgotten a b → IsWrittenInOrder wipe rule format a b
+  amid_forget order = order_weaker (IsUnsettled HasZeroHead) (IsUnsettled HasZeroHead) IsForgotten (IsAmidWriting wipe rule format) (λ start later e. e)
+      (λ start later is image of. inl (only_candidate zero_sector (image 0) (subst (λ (xs : List (List ℕ)). Contains xs (image 0)) (ap (λ (x : Content). x 0) is ∙ forgotten_first start) (of 0)))) order
 
   start_is : (a b : List Content) (start middle : Content) → content_now b ≡ option_map forgotten (content_now a) → content_now a ≡ Some start → content_now b ≡ Some middle → middle ≡ forgotten start
   start_is a b start middle forgot told told_middle = sym (same_Some _ _ (sym (forgot ∙ ap (option_map forgotten) told) ∙ told_middle))
 
-  pub amid_fill : {a b c : List Content} → EachMoment a b (FromStart a IsAmidForgetting) → content_now b ≡ option_map forgotten (content_now a)
-      → EachMoment b c (FromStart b (ChangesOnly (IsFillSector wipe format.geometry))) → EachMoment a c (FromStart a (IsAmidWriting wipe rule format))
-  amid_fill {a} {b} {c} first forgot second = EachMoment-join (IsAmidWriting wipe rule format) (ChangesOnly (IsFillSector wipe format.geometry)) (amid_forget first) second
-      (λ start middle later told told_middle so_far changes image of.
+  behind_fill : {a b c : List Content} → HasFirstSync (IsUnsettled HasZeroHead) (IsAmidWriting wipe rule format) a b → content_now b ≡ option_map forgotten (content_now a)
+      → EachMoment b c (FromStart b (ChangesOnly (IsFillSector wipe format.geometry))) → IsWrittenBehindSync wipe rule format a c
+  behind_fill {a} {b} first forgot second = first_sync_then (IsUnsettled HasZeroHead) (IsAmidWriting wipe rule format) (IsAmidWriting wipe rule format) (ChangesOnly (IsFillSector wipe format.geometry))
+      (λ start later e. e)
+      (λ start middle later told told_middle changes image of.
       let changed = subst (λ (x : Content). ChangesOnly (IsFillSector wipe format.geometry) x later) (start_is a b start middle forgot told told_middle) changes in
-      inr (inl (only_candidate zero_sector (image 0) (subst (λ (xs : List (List ℕ)). Contains xs (image 0)) (fill_first start later changed) (of 0)))))
+      inl (only_candidate zero_sector (image 0) (subst (λ (xs : List (List ℕ)). Contains xs (image 0)) (fill_first start later changed) (of 0))))
+      first second
 
   middle_is : (a b c : List Content) (start middle : Content) → content_now b ≡ option_map forgotten (content_now a) → EachMoment b c (FromStart b (ChangesOnly (IsFillSector wipe format.geometry)))
       → HasNow (λ x. HasFilled wipe rule format.geometry (last_image x)) c → ReadsKeep (IsImageByte wipe format.geometry) b c → content_now a ≡ Some start → content_now c ≡ Some middle → IsFilled start middle
@@ -130,13 +134,37 @@ module _ (wipe : Wipe) (rule : TagRule) (format : ImageFormat) (sectors : ℕ) (
         bytes = subst (λ (x : Content). KeepsBytes (IsImageByte wipe format.geometry) (last_image x) (last_image middle)) from (stays end.0 end.1 middle told_middle);
       }
 
-  pub amid_found : {a b c d : List Content} → superblock_of (head_of format.fields) ≡ Ok format.fields → EachMoment a b (FromStart a IsAmidForgetting) → content_now b ≡ option_map forgotten (content_now a)
+  behind_found : {a b c d : List Content} → superblock_of (head_of format.fields) ≡ Ok format.fields → IsWrittenBehindSync wipe rule format a c → content_now b ≡ option_map forgotten (content_now a)
       → EachMoment b c (FromStart b (ChangesOnly (IsFillSector wipe format.geometry))) → HasNow (λ x. HasFilled wipe rule format.geometry (last_image x)) c → ReadsKeep (IsImageByte wipe format.geometry) b c
-      → EachMoment c d (FromStart c (IsAmidFounding format.fields)) → EachMoment a d (FromStart a (IsAmidWriting wipe rule format))
-  amid_found {a} {b} {c} reads first forgot second filled stays third = EachMoment-join (IsAmidWriting wipe rule format) (IsAmidFounding format.fields) (amid_fill first forgot second) third
-      (λ start middle later told told_middle so_far amid image of.
+      → EachMoment c d (FromStart c (IsAmidFounding format.fields)) → IsWrittenBehindSync wipe rule format a d
+  behind_found {a} {b} {c} reads first forgot second filled stays third = first_sync_then (IsUnsettled HasZeroHead) (IsAmidWriting wipe rule format) (IsAmidWriting wipe rule format) (IsAmidFounding format.fields)
+      (λ start later e. e)
+      (λ start middle later told told_middle amid image of.
       let is_filled = middle_is a b c start middle forgot second filled stays told told_middle in
-      inr (⊎_elim (λ same. inl (same ∙ ap last_candidate (fill_first start middle is_filled.changes))) (λ head. inr (formatted_by start middle image reads is_filled head)) (amid image of)))
+      ⊎_elim (λ same. inl (same ∙ ap last_candidate (fill_first start middle is_filled.changes))) (λ head. inr (formatted_by start middle image reads is_filled head)) (amid image of))
+      first third
+
+  module _ (a b : List Content) (order : IsInOrder (IsUnsettled HasZeroHead) IsForgotten a b) (synced : HasNow (λ start. HasFirstSync (IsUnsettled HasZeroHead) IsForgotten a b) a)
+      (forgot : content_now b ≡ option_map forgotten (content_now a)) where
+    wider : (start : Content) → content_now a ≡ Some start → HasFirstSync (IsUnsettled HasZeroHead) (IsAmidWriting wipe rule format) a b
+    wider start told = first_sync_weaker (IsUnsettled HasZeroHead) (IsUnsettled HasZeroHead) IsForgotten (IsAmidWriting wipe rule format) (λ start later e. e)
+        (λ start later is image of. inl (only_candidate zero_sector (image 0) (subst (λ (xs : List (List ℕ)). Contains xs (image 0)) (ap (λ (x : Content). x 0) is ∙ forgotten_first start) (of 0)))) (synced start told)
+
+    pub amid_fill : {c : List Content} → EachMoment b c (FromStart b (ChangesOnly (IsFillSector wipe format.geometry))) → IsWrittenInOrder wipe rule format a c
+    amid_fill {c} second = in_order (IsUnsettled HasZeroHead) a c (IsAmidWriting wipe rule format)
+        (λ none. silent (ChangesOnly (IsFillSector wipe format.geometry)) second (silent_order (IsUnsettled HasZeroHead) IsForgotten order none))
+        (λ start told. behind_fill (wider start told) forgot second)
+
+    module _ {c d : List Content} (reads : superblock_of (head_of format.fields) ≡ Ok format.fields) (second : EachMoment b c (FromStart b (ChangesOnly (IsFillSector wipe format.geometry))))
+        (filled : HasNow (λ x. HasFilled wipe rule format.geometry (last_image x)) c) (stays : ReadsKeep (IsImageByte wipe format.geometry) b c)
+        (third : EachMoment c d (FromStart c (IsAmidFounding format.fields))) where
+      pub synced_found : HasNow (λ start. IsWrittenBehindSync wipe rule format a d) a
+      synced_found start told = behind_found reads (behind_fill (wider start told) forgot second) forgot second filled stays third
+
+      pub amid_found : IsWrittenInOrder wipe rule format a d
+      amid_found = in_order (IsUnsettled HasZeroHead) a d (IsAmidWriting wipe rule format)
+          (λ none. silent (IsAmidFounding format.fields) third (silent (ChangesOnly (IsFillSector wipe format.geometry)) second (silent_order (IsUnsettled HasZeroHead) IsForgotten order none)))
+          synced_found
 
   -- ---- the end
 

@@ -1,12 +1,13 @@
 mod FirstSectorLemmas
 mod FormattedLemmas
+mod OrderLemmas
 mod JournalLemmas
 mod PlanningLemmas
 mod RunsLemmas
 mod TaggingLemmas
 mod WipingLemmas
 mod FillingLemmas
-mod WholeLemmas
+pub mod WholeLemmas
 mod FormattedLawsLemmas
 mod Worked
 mod StaysLemmas

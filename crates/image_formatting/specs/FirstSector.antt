@@ -1,7 +1,7 @@
 -- The first sector of a disk that is formatted: what is written to it, and what a cut leaves there.
 -- Own: zeros come first, and the superblock last, each between two syncs.
 use Rattle.std.specs.Prelude.{◌≡◌, ◌≢◌, ◌⊎◌, ℕ, List, ◌++◌}
-use Rattle.disk_model.specs.Disk.{Content, Image, IsImage, EachImage, last_image, newest_only, with_run}
+use Rattle.disk_model.specs.Disk.{Content, Image, EachImage, last_image, newest_only, with_run}
 use Rattle.image_model.specs.Sectors.{zero_bytes}
 use Rattle.image_model.specs.Superblock.{Superblock, superblock_bytes}
 
@@ -21,9 +21,9 @@ forgotten content = newest_only (with_run 0 zero_sector content)
 abbrev pub founded : Superblock → Content → Content
 founded s content = newest_only (with_run 0 (head_of s) (newest_only content))
 
--- While zeros come to the first sector: each image is one at the start, or has them.
-abbrev pub IsAmidForgetting : (start later : Content) → Type 0
-IsAmidForgetting start = EachImage (λ image. IsImage start image ⊎ (image 0 ≡ zero_sector))
+-- The first sector of an image is zero.
+abbrev pub HasZeroHead : Image → Type 0
+HasZeroHead image = image 0 ≡ zero_sector
 
 -- The image is the last one at the start, with these fields.
 pub record HasHead (s : Superblock) (start : Content) (image : Image) : Type 0 where

@@ -16,9 +16,10 @@ use Rattle.image_formatting.specs.declared.new_image.NewImage.{NewImage}
 use Rattle.image_formatting.specs.declared.new_image.Wipe.{Wipe}
 use Rattle.image_formatting.specs.declared.new_image.Wipe.TheVariants.{Wiped, Kept}
 use Rattle.image_formatting.specs.Blocks.{HasZeroBlocks, IsSectorOf}
-use Rattle.image_formatting.specs.FirstSector.{zero_sector, head_of}
+use Rattle.image_formatting.specs.FirstSector.{HasZeroHead, head_of}
 use Rattle.image_formatting.specs.Journal.{HasEmptyJournal}
 use Rattle.image_formatting.specs.NewImage.{fields_of, provided_of}
+use Rattle.image_formatting.specs.Order.{HasFirstSync, IsInOrder, IsUnsettled}
 use Rattle.image_formatting.specs.Runs.{HasZeros}
 use Rattle.image_formatting.specs.Stays.{IsBlockByte, KeepsBytes}
 
@@ -69,11 +70,17 @@ pub record IsFormatted (wipe : Wipe) (rule : TagRule) (format : ImageFormat)
 
 -- ---- while it is written
 
--- A cut leaves an image that was there at the start, or one whose first sector is zero, or the new one.
+-- Once the first sector is settled, a cut leaves an image whose first sector is zero, or the new one.
 abbrev pub IsAmidWriting : Wipe → TagRule → ImageFormat → (start later : Content) → Type 0
 IsAmidWriting wipe rule format start = EachImage
-    (λ image. IsImage start image
-    ⊎ ((image 0 ≡ zero_sector) ⊎ IsFormatted wipe rule format (last_image start) image))
+    (λ image. HasZeroHead image ⊎ IsFormatted wipe rule format (last_image start) image)
+
+-- Zeros are settled in the first sector before all else is written.
+abbrev pub IsWrittenInOrder : Wipe → TagRule → ImageFormat → (before after : List Content) → Type 0
+IsWrittenInOrder wipe rule format = IsInOrder (IsUnsettled HasZeroHead) (IsAmidWriting wipe rule format)
+
+abbrev pub IsWrittenBehindSync : Wipe → TagRule → ImageFormat → (before after : List Content) → Type 0
+IsWrittenBehindSync wipe rule format = HasFirstSync (IsUnsettled HasZeroHead) (IsAmidWriting wipe rule format)
 
 -- All is written, and nothing is pending.
 pub record IsNewContent (wipe : Wipe) (rule : TagRule) (format : ImageFormat)
@@ -115,7 +122,24 @@ pub record IsNewOf (key : Option (List ℕ)) (sectors : ℕ) (new : NewImage)
   pub is_provided : provided_of new sectors ≡ Ok provided
   pub formatted : IsFormatted new.wipe (rule_with key new) (format_with new provided) before image
 
--- A cut leaves an image that was there at the start, or one without a magic, or the whole new one.
+-- Until the first sync has succeeded, a cut leaves an image that was there at the start, or one without a magic.
+abbrev pub IsLeftUnsynced : (sectors : ℕ) → (start later : Content) → Type 0
+IsLeftUnsynced sectors = IsUnsettled (HasNoMagic sectors)
+
+-- From then on, it leaves one without a magic, or the whole new one.
+abbrev pub IsLeftSynced : Option (List ℕ) → (sectors : ℕ) → NewImage → (start later : Content) → Type 0
+IsLeftSynced key sectors new start = EachImage
+    (λ image. HasNoMagic sectors image ⊎ IsNewOf key sectors new (last_image start) image)
+
+-- The first sync of the formatting has succeeded, behind zeros in the first sector and before all else.
+abbrev pub HasSynced : Option (List ℕ) → (sectors : ℕ) → NewImage → (before after : List Content) → Type 0
+HasSynced key sectors new = HasFirstSync (IsLeftUnsynced sectors) (IsLeftSynced key sectors new)
+
+-- It has, or the formatting has not come beyond those zeros.
+abbrev pub IsLeftInOrder : Option (List ℕ) → (sectors : ℕ) → NewImage → (before after : List Content) → Type 0
+IsLeftInOrder key sectors new = IsInOrder (IsLeftUnsynced sectors) (IsLeftSynced key sectors new)
+
+-- What one or the other leaves: an image that was there at the start, or one without a magic, or the whole new one.
 abbrev pub IsLeftByFormat : Option (List ℕ) → (sectors : ℕ) → NewImage → (start later : Content) → Type 0
 IsLeftByFormat key sectors new start = EachImage (λ image. IsImage start image
     ⊎ (HasNoMagic sectors image ⊎ IsNewOf key sectors new (last_image start) image))

@@ -4,6 +4,7 @@ pub mod Formatted
 pub mod FormattedLaws
 pub mod Journal
 pub mod NewImage
+pub mod Order
 pub mod Room
 pub mod Runs
 pub mod Stays

@@ -2,12 +2,12 @@
 ghost use Rattle.std.specs.Prelude.{◌≡◌, ◌≢◌, ◌↔◌, ℕ, Err, IfErr, IfOk, OnOk};
 ghost use Rattle.disk_model.specs.Causes.{HasCause};
 ghost use Rattle.disk_model.specs.Identity.{IsBound};
-ghost use Rattle.disk_model.specs.Moments.{EachSince};
+ghost use Rattle.disk_model.specs.Moments.{HasNow};
 ghost use Rattle.commit_id.specs.Shape.{as_shape};
 ghost use Rattle.hmac_tag.specs.TagMaker.{key_of};
 ghost use Rattle.image_opening.specs.Format.{IsFormat};
 ghost use Rattle.image_model.specs.declared.geom_fault.GeomFault.{GeomFault};
-ghost use Rattle.image_formatting.specs.Formatted.{HasFormatCause, HasMade, IsAmidWriting, IsLeftByFormat, IsWritten, format_with};
+ghost use Rattle.image_formatting.specs.Formatted.{HasFormatCause, HasMade, HasSynced, IsLeftInOrder, IsWritten, IsWrittenBehindSync, IsWrittenInOrder, format_with};
 ghost use Rattle.image_formatting.specs.NewImage.{IsNewImage, provided_of};
 ghost use Rattle.image_formatting.specs.Room.{HasRoom};
 
@@ -45,6 +45,8 @@ pub fn format<D: Disk>(
 
     ensures made { IfOk result (λ provided. HasMade (key_of hash) (D.identity disk.old).sectors new provided
         (D.moments disk.old) (D.moments disk.new)) }
+    ensures synced { OnOk result (HasNow (λ start. HasSynced (key_of hash) (D.identity disk.old).sectors new
+        (D.moments disk.old) (D.moments disk.new)) (D.moments disk.old)) }
 
     ensures geom { (fault : GeomFault) → (result ≡ Err (FormatFault.Geom fault))
         ↔ (provided_of new (D.identity disk.old).sectors ≡ Err fault) }
@@ -54,8 +56,9 @@ pub fn format<D: Disk>(
 
     ensures identity { D.identity disk.new ≡ D.identity disk.old }
 
-    // A cut leaves the disk as it was, or without a magic, or with the whole new image.
-    ensures moments { EachSince (IsLeftByFormat (key_of hash) (D.identity disk.old).sectors new)
+    // A cut leaves the disk as it was, only before the first sync has succeeded, or without a magic, or
+    // with the whole new image.
+    ensures moments { IsLeftInOrder (key_of hash) (D.identity disk.old).sectors new
         (D.moments disk.old) (D.moments disk.new) }
 {
     let format = plan(&new, disk.sectors())?;
@@ -84,12 +87,14 @@ fn write_image<D: Disk>(
 
     ensures written { OnOk result (IsWritten wipe maker.now format.now
         (D.moments disk.old) (D.moments disk.new)) }
+    ensures synced { OnOk result (HasNow (λ start. IsWrittenBehindSync wipe maker.now format.now
+        (D.moments disk.old) (D.moments disk.new)) (D.moments disk.old)) }
 
     ensures cause { HasCause (D.faults disk.old) (D.faults disk.new) result }
 
     ensures identity { D.identity disk.new ≡ D.identity disk.old }
 
-    ensures moments { EachSince (IsAmidWriting wipe maker.now format.now)
+    ensures moments { IsWrittenInOrder wipe maker.now format.now
         (D.moments disk.old) (D.moments disk.new) }
 {
     forget(disk)?;

@@ -4,8 +4,8 @@
 //! A contract sees a `NewImage` and a `FormatFault` as they are. What the image has stands in
 //! `specs/Formatted.antt`, the file to read first. Zeros come to the first sector before all else,
 //! and are synced; the superblock comes behind a sync of all else. So a cut leaves the disk as it
-//! was, or without a magic, or with the whole new image. All memory is taken before the first
-//! write.
+//! was, which it can only before the first sync has succeeded (`specs/Order.antt`), or without a
+//! magic, or with the whole new image. All memory is taken before the first write.
 #![tactic(auto)]
 
 mod emptying;

@@ -11,7 +11,7 @@ use Rattle.device_model.specs.Ending.{Complete, DiskFailed, SinkFailed}
 use Rattle.device_model.specs.History.{Change, History, IsWrittenIn, with_changes}
 use Rattle.device_model.specs.Mode.{DeviceFormat}
 use Rattle.device_model.specs.Progress as Model
-use Rattle.device_model.specs.Progress.{DeviceState, Event, Close, FailedClose, after_event, event_result}
+use Rattle.device_model.specs.Progress.{DeviceState, Event, Close, FailedClose, event_result}
 use Rattle.device_model.specs.Progress.{result_in}
 use Rattle.device_model.specs.ScriptRun.{ScriptStep, changes_in, close_step}
 use Rattle.device_model.specs.ScriptRun.{only_ends, texts_of}

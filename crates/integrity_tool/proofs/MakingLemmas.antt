@@ -1,8 +1,8 @@
 -- The making of a new image: what it prints, and what it leaves.
-use Rattle.std.proofs.Common.{◌≡◌, ◌≢◌, ◌↔◌, ◌∙◌, inl, inr, ℕ, false, List, [], ◌++◌, codes, refl, sym, ap, subst, arith, Option, Some, Result, Ok, Err}
+use Rattle.std.proofs.Common.{◌≡◌, ◌≢◌, ◌↔◌, ◌∙◌, inl, inr, ℕ, false, List, [], ◌++◌, codes, refl, sym, ap, subst, Option, Some, Result, Ok, Err}
 use Rattle.std.specs.Fmt.{decimal}
 use Rattle.std.specs.Option.{IsSomeAnd, option_map}
-use Rattle.disk_model.specs.Disk.{Content, last_image}
+use Rattle.disk_model.specs.Disk.{Content}
 use Rattle.disk_model.specs.Moments.{content_now, EachMoment, EachSince}
 use Rattle.disk_model.proofs.MomentsLemmas.{EachMoment-kept, EachMoment-weaker, content_at_end}
 use Rattle.device_model.specs.Ending.{Complete, DiskFailed, NoMemory, RefusedImage, ByGeometry, SinkFailed}

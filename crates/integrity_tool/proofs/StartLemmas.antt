@@ -49,14 +49,15 @@ use Rattle.integrity_tool.specs.Dumping.{dump_outset, outset_by_dump}
 use Rattle.integrity_tool.specs.Making.{format_outset, formatted_text, outset_by_format}
 use Rattle.integrity_tool.specs.Words.{asked_of, key_file_of, key_file_of_asked}
 use Rattle.integrity_tool.specs.KeyFile.{HasFile, HasHash, IsKeyRefused, IsKeyed}
-use Rattle.integrity_tool.specs.Top.{Given, IsGiven, IsMomentIn, IsRefusedByKey, outset_in}
+use Rattle.integrity_tool.specs.Top.{Given, HasMomentsIn, IsGiven, IsRefusedByKey, outset_in}
 use Rattle.script_reader.specs.Reading.{most_piece}
 use Rattle.command_model.specs.CommandRun.{Making, Outset, RefusedBy, RunsOn, Prints, Makes, IsComplete, IsFromOutside, IsEndedShort, IsLeftOfMaking, IsRunAt, IsUntouched, MayBeLeftAt, only_prints}
-use Rattle.integrity_tool.specs.Opening.{HasReadIn, HasRunOn, IsMomentAt, IsMomentOf, IsMomentOn, WritesOnlyBy, WritesPlacesOnly}
+use Rattle.integrity_tool.specs.Opening.{HasReadIn, HasRunOn, IsMomentOf, IsMomentOn, WritesOnlyBy, WritesPlacesOnly}
+use Rattle.integrity_tool.specs.Order.{HasMomentsAt, IsInOrderAt, IsInOrderFor, IsInOrderUnder}
 use Rattle.integrity_tool.specs.Running.{HasReadTo, HoldsText, IsStopped}
 use Rattle.integrity_tool.proofs.RunningLemmas.{complete_prints, told_further, told_nothing}
 use Rattle.script_session.specs.LineRun.{held_with}
-use Rattle.integrity_tool.specs.Outset.{ending_by_open, geometry_on, outset_at, outset_by, outset_on, outset_under, outset_for}
+use Rattle.integrity_tool.specs.Outset.{ending_by_open, geometry_on, key_by, outset_at, outset_by, outset_on, outset_under, outset_for}
 
 -- ---- what a command starts on
 
@@ -596,6 +597,22 @@ no_key_at Tasks.Run key sectors image is = no_key_by key sectors image (direct_f
 no_key_at Tasks.Dump key sectors image is = no_key_shown (dump_of sectors image) is
 no_key_at (Tasks.Format new) key sectors image is = no_key_made key sectors new (provided_of new sectors) is
 
+-- ---- the order
+
+-- A disk that is not written keeps to every order.
+kept_at : (task : Task) (key : Option (List ℕ)) (sectors : ℕ) {a b : List Content} → b ≡ a → IsInOrderAt task key sectors a b
+kept_at Tasks.Run key sectors same = tt
+kept_at Tasks.Dump key sectors same = tt
+kept_at (Tasks.Format new) key sectors same = inl (EachMoment-kept _ same)
+
+kept_under : (task : Task) (told : Result (Option (List ℕ)) KeyRefusal) (sectors : ℕ) {a b : List Content} → b ≡ a → IsInOrderUnder task told sectors a b
+kept_under task (Ok key) sectors same = kept_at task key sectors same
+kept_under task (Err refusal) sectors same = tt
+
+kept_for : (asked : Option Asked) (key_bytes : List ℕ) (sectors : ℕ) {a b : List Content} → b ≡ a → IsInOrderFor asked key_bytes sectors a b
+kept_for None key_bytes sectors same = tt
+kept_for (Some asked) key_bytes sectors same = kept_under asked.task (key_by (key_file_of asked.hash) key_bytes) sectors same
+
 -- ---- by what a command is given
 
 module _ (given : Given) (words : List (List ℕ)) (keys : List ℕ → Option (List ℕ)) (image : NamedDisk) (script : Option (List ℕ)) (is : IsGiven words keys image script given)
@@ -606,12 +623,12 @@ module _ (given : Given) (words : List (List ℕ)) (keys : List ℕ → Option (
   fine_given : IsFine (outset_in given)
   fine_given = fine_for (asked_of given.words) given.key_bytes given.sectors (last_image given.content)
 
-  nothing_changed : (later : NamedDisk) → later.moments ≡ image.moments → EachMoment image.moments later.moments (IsMomentIn given)
-  nothing_changed later same = EachMoment-kept _ same
+  nothing_changed : (later : NamedDisk) → later.moments ≡ image.moments → HasMomentsIn given image.moments later.moments
+  nothing_changed later same = record { each = EachMoment-kept _ same; order = kept_for (asked_of given.words) given.key_bytes given.sectors same }
 
   pub outside_first : (ending : Ending) → IsEarly ending → (later : NamedDisk) → later.moments ≡ image.moments
       → HasRunOn (outset_in given) given.content given.script ending later.moments held held
-      × EachMoment image.moments later.moments (IsMomentIn given)
+      × HasMomentsIn given image.moments later.moments
   outside_first ending outside later same = (
     nothing_run (outset_in given) fine_given given.content given.script ending outside later.moments (before_kept (outset_in given) given.content is.content same) held held refl,
     nothing_changed later same,
@@ -619,7 +636,7 @@ module _ (given : Given) (words : List (List ℕ)) (keys : List ℕ → Option (
 
   refused_first : (ending : Ending) → outset_in given ≡ RefusedBy ending
       → HasRunOn (outset_in given) given.content given.script ending image.moments held held
-      × EachMoment image.moments image.moments (IsMomentIn given)
+      × HasMomentsIn given image.moments image.moments
   refused_first ending refused = (
     refused_run (outset_in given) given.content given.script ending refused image.moments (untouched_kept given.content is.content refl) held held refl,
     nothing_changed image refl,
@@ -628,19 +645,19 @@ module _ (given : Given) (words : List (List ℕ)) (keys : List ℕ → Option (
   -- The words ask for nothing.
   pub words_first : asked_of words ≡ None
       → HasRunOn (outset_in given) given.content given.script RefusedWords image.moments held held
-      × EachMoment image.moments image.moments (IsMomentIn given)
+      × HasMomentsIn given image.moments image.moments
   words_first none = refused_first RefusedWords (outset_asked None none)
 
   pub stopped_at_words : (ended : Ended) → (ended ≡ Endings.Words) ⊎ (ended ≡ Endings.Memory) → (ended ≡ Endings.Words → asked_of words ≡ None)
       → HasRunOn (outset_in given) given.content given.script (ending_of ended) image.moments held held
-      × EachMoment image.moments image.moments (IsMomentIn given)
+      × HasMomentsIn given image.moments image.moments
   stopped_at_words ended ends none = elim ends [
     | inl words_end ↦
         subst (λ (e : Ended). HasRunOn (outset_in given) given.content given.script (ending_of e) image.moments held held
-        × EachMoment image.moments image.moments (IsMomentIn given)) (sym words_end) (words_first (none words_end))
+        × HasMomentsIn given image.moments image.moments) (sym words_end) (words_first (none words_end))
     | inr memory ↦
         subst (λ (e : Ended). HasRunOn (outset_in given) given.content given.script (ending_of e) image.moments held held
-        × EachMoment image.moments image.moments (IsMomentIn given)) (sym memory) (outside_first NoMemory tt image refl)
+        × HasMomentsIn given image.moments image.moments) (sym memory) (outside_first NoMemory tt image refl)
   ]
 
   module _ (asked : Asked) (asks : asked_of words ≡ Some asked) where
@@ -650,7 +667,7 @@ module _ (given : Given) (words : List (List ℕ)) (keys : List ℕ → Option (
     -- The key file, or its source, ended it.
     pub stopped_at_key : (faults_before faults : ℕ) (ended : Ended) → IsKeyRefused (key_file_of asked.hash) keys faults_before faults ended
         → HasRunOn (outset_in given) given.content given.script (ending_of ended) image.moments held held
-        × EachMoment image.moments image.moments (IsMomentIn given)
+        × HasMomentsIn given image.moments image.moments
     stopped_at_key faults_before faults Endings.Words refused = absurd refused
     stopped_at_key faults_before faults (Endings.Key refusal) refused =
         refused_first (RefusedKey (key_refusal_of refusal))
@@ -669,9 +686,9 @@ module _ (given : Given) (words : List (List ℕ)) (keys : List ℕ → Option (
     pub ran_given : (key : Option (List ℕ)) → IsKeyed (key_file_of asked.hash) keys (HasHash key) → (sectors : ℕ) (mid after : List Content) (later : NamedDisk)
         → image ≡ record { sectors = sectors; moments = mid } → later.moments ≡ after → (ending : Ending) (held_after : Option (List ℕ))
         → HasRunOn (outset_at asked.task key sectors (last_image given.content)) given.content given.script ending after held held_after
-        × EachMoment mid after (IsMomentAt asked.task key sectors given.content given.script)
+        × HasMomentsAt asked.task key sectors given.content given.script mid after
         → HasRunOn (outset_in given) given.content given.script ending later.moments held held_after
-        × EachMoment image.moments later.moments (IsMomentIn given)
+        × HasMomentsIn given image.moments later.moments
     ran_given key keyed sectors mid after later there at_end ending held_after runs =
         let entry : Image = last_image given.content in
         let same_sectors : given.sectors ≡ sectors = is.sectors ∙ ap (λ (n : NamedDisk). n.sectors) there in
@@ -687,13 +704,20 @@ module _ (given : Given) (words : List (List ℕ)) (keys : List ℕ → Option (
               (subst (λ (m : List Content).
               HasRunOn (outset_at asked.task key sectors entry) given.content given.script ending m held held_after)
               (sym at_end) runs.0),
-          subst (λ (o : Outset). EachMoment image.moments later.moments (At o given.sectors)) (sym same_outset)
-              (subst (λ (n : ℕ). EachMoment image.moments later.moments (At (outset_at asked.task key sectors entry) n))
-              (sym same_sectors)
-              (subst (λ (m : List Content). EachMoment m later.moments (At (outset_at asked.task key sectors entry) sectors))
-              (sym same_moments)
-              (subst (λ (m : List Content). EachMoment mid m (At (outset_at asked.task key sectors entry) sectors))
-              (sym at_end) runs.1))),
+          record {
+            each = subst (λ (o : Outset). EachMoment image.moments later.moments (At o given.sectors)) (sym same_outset)
+                (subst (λ (n : ℕ). EachMoment image.moments later.moments (At (outset_at asked.task key sectors entry) n))
+                (sym same_sectors)
+                (subst (λ (m : List Content). EachMoment m later.moments (At (outset_at asked.task key sectors entry) sectors))
+                (sym same_moments)
+                (subst (λ (m : List Content). EachMoment mid m (At (outset_at asked.task key sectors entry) sectors))
+                (sym at_end) runs.1.each)));
+            order = subst (λ (o : Option Asked). IsInOrderFor o given.key_bytes given.sectors image.moments later.moments) (sym (ap asked_of is.words_are ∙ asks))
+                (subst (λ (told : Result (Option (List ℕ)) KeyRefusal). IsInOrderUnder asked.task told given.sectors image.moments later.moments) (sym (keyed given.key_bytes has_key))
+                (subst (λ (n : ℕ). IsInOrderAt asked.task key n image.moments later.moments) (sym same_sectors)
+                (subst (λ (m : List Content). IsInOrderAt asked.task key sectors m later.moments) (sym same_moments)
+                (subst (λ (m : List Content). IsInOrderAt asked.task key sectors mid m) (sym at_end) runs.1.order))));
+          },
         )
 
     -- What is taken of its script is so of the command's.

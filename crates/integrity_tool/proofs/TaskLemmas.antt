@@ -1,5 +1,5 @@
 -- The end of what has no script, as the end of a run.
-use Rattle.std.proofs.Common.{◌≡◌, ◌≢◌, ℕ, ◌≤◌, List, refl, ap, arith, Option, Result, Ok, Err, IfErr}
+use Rattle.std.proofs.Common.{◌≡◌, ℕ, List, refl, ap, arith, Option, Result, Ok, Err, IfErr}
 use Rattle.disk_model.specs.Disk.{Content}
 use Rattle.command_ending.specs.declared.ended.Ended.{Ended}
 use Rattle.command_ending.specs.declared.ended.Ended.TheVariants as Endings

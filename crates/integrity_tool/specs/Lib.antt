@@ -3,6 +3,7 @@ pub mod Closing
 pub mod KeyFile
 pub mod Lines
 pub mod Opening
+pub mod Order
 pub mod Outset
 pub mod Running
 pub mod Top

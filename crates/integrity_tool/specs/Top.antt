@@ -3,7 +3,7 @@ use Rattle.std.specs.Prelude.{◌≡◌, ◌≢◌, ◌⊎◌, ℕ, ◌≤◌, L
 use Rattle.disk_model.specs.Causes.{Rose}
 use Rattle.disk_model.specs.Disk.{Content, last_image}
 use Rattle.disk_model.specs.Identity.{NamedDisk}
-use Rattle.disk_model.specs.Moments.{content_now}
+use Rattle.disk_model.specs.Moments.{content_now, EachMoment}
 use Rattle.command_ending.specs.declared.ended.Ended.{Ended}
 use Rattle.command_ending.specs.declared.ended.Ended.TheVariants as Endings
 use Rattle.integrity_tool.specs.Words.{asked_of, key_file_of_asked}
@@ -12,6 +12,7 @@ use Rattle.device_model.specs.Ending.{DiskFailed, KeyFailed, ScriptFailed, SinkF
 use Rattle.command_model.specs.CommandRun.{Outset, RefusedBy, RunsOn, Prints, Makes}
 use Rattle.integrity_tool.specs.KeyFile.{HasFile}
 use Rattle.integrity_tool.specs.Opening.{IsMomentOf}
+use Rattle.integrity_tool.specs.Order.{IsInOrderFor}
 use Rattle.integrity_tool.specs.Outset.{geometry_on, outset_of}
 
 -- The words; the bytes of the key file, where they name one; how many sectors the image has that they name, and what it
@@ -32,6 +33,11 @@ abbrev pub IsMomentIn : Given → (later : Content) → Type 0
 IsMomentIn given later =
     IsMomentOf (outset_in given) (geometry_on given.sectors (last_image given.content)) given.content given.script
     later
+
+-- What stands at each moment of it, and in which order.
+pub record HasMomentsIn (given : Given) (before after : List Content) : Type 0 where
+  pub each : EachMoment before after (IsMomentIn given)
+  pub order : IsInOrderFor (asked_of given.words) given.key_bytes given.sectors before after
 
 -- It is given this, where the source of keys, the disk and the source of the script tell what they have.
 pub record IsGiven (words : List (List ℕ)) (keys : List ℕ → Option (List ℕ)) (image : NamedDisk)

@@ -1,6 +1,6 @@
 -- What the words ask for.
 -- Own: of the commands that words can be, the program has `format`, `dump`, and the runs in direct mode.
-use Rattle.std.specs.Prelude.{◌≡◌, ℕ, if◌then◌else◌, List, [], Option, Some, None}
+use Rattle.std.specs.Prelude.{ℕ, if◌then◌else◌, List, [], Option, Some, None}
 use Rattle.command_words.specs.Commands.{command_of}
 use Rattle.command_words.specs.Come.{has_come}
 use Rattle.command_words.specs.Numbers.{log2_of}

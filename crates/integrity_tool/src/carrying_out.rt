@@ -3,9 +3,10 @@ ghost use Rattle.std.specs.Prelude.{◌≡◌, ◌≤◌, IfErr, List, ℕ, Some
 ghost use Rattle.disk_model.specs.Causes.{Rose};
 ghost use Rattle.disk_model.specs.Disk.{last_image};
 ghost use Rattle.disk_model.specs.Identity.{IsBound};
-ghost use Rattle.disk_model.specs.Moments.{EachMoment, HasNow};
+ghost use Rattle.disk_model.specs.Moments.{HasNow};
 ghost use Rattle.hmac_tag.specs.TagMaker.{key_of};
-ghost use Rattle.integrity_tool.specs.Opening.{EndsImage, HasReadIn, HasRunOn, IsMomentAt};
+ghost use Rattle.integrity_tool.specs.Opening.{EndsImage, HasReadIn, HasRunOn};
+ghost use Rattle.integrity_tool.specs.Order.{HasMomentsAt};
 ghost use Rattle.integrity_tool.specs.Outset.{outset_at};
 ghost use Rattle.integrity_tool.specs.Running.{HasEndCause, HasTaken, IsCounted, ending_by};
 ghost use Rattle.integrity_tool.specs.Tasks.{found_by};
@@ -46,8 +47,8 @@ pub(crate) fn carry_out<D: Disk, S: Source, O: Sink>(
     ensures runs { (left : List ℕ) → S.left script.old ≡ Some left
         → HasNow (λ c. let outset = outset_at task (key_of hash) (D.identity disk.old).sectors (last_image c) in
         HasRunOn outset c left (ending_by result) (D.moments disk.new) (O.held out.old) (O.held out.new)
-        × EachMoment (D.moments disk.old) (D.moments disk.new)
-        (IsMomentAt task (key_of hash) (D.identity disk.old).sectors c left)) (D.moments disk.old) }
+        × HasMomentsAt task (key_of hash) (D.identity disk.old).sectors c left
+        (D.moments disk.old) (D.moments disk.new)) (D.moments disk.old) }
 
     ensures ends { IfErr result EndsImage }
     ensures cause { IfErr result (HasEndCause (Rose (D.faults disk.old) (D.faults disk.new))

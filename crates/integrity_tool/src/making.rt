@@ -2,13 +2,14 @@
 ghost use Rattle.std.specs.Prelude.{◌≡◌, ◌≤◌, IfErr, List, ℕ};
 ghost use Rattle.disk_model.specs.Causes.{HasCause, Rose};
 ghost use Rattle.disk_model.specs.Identity.{IsBound};
-ghost use Rattle.disk_model.specs.Moments.{EachMoment, HasNow};
+ghost use Rattle.disk_model.specs.Moments.{HasNow};
 ghost use Rattle.hmac_tag.specs.TagMaker.{key_of};
 ghost use Rattle.image_formatting.specs.NewImage.{IsNewImage};
 ghost use Rattle.command_ending.specs.Ended.{Puts};
 ghost use Rattle.integrity_tool.specs.declared.asked.Task.TheVariants.{Format};
 ghost use Rattle.integrity_tool.specs.Making.{ended_by_format, format_outset, formatted_text};
-ghost use Rattle.integrity_tool.specs.Opening.{HasRunOn, IsMomentAt};
+ghost use Rattle.integrity_tool.specs.Opening.{HasRunOn};
+ghost use Rattle.integrity_tool.specs.Order.{HasMomentsAt};
 ghost use Rattle.integrity_tool.specs.Running.{HasEndCause, IsCounted};
 ghost use Rattle.integrity_tool.specs.Tasks.{EndsTask, ending_done};
 
@@ -40,8 +41,9 @@ pub(crate) fn make_image<D: Disk, O: Sink>(
     ensures runs { (script : List ℕ) → HasNow (λ c.
         HasRunOn (format_outset (key_of hash) (D.identity disk.old).sectors new) c script (ending_done result)
         (D.moments disk.new) (O.held out.old) (O.held out.new)) (D.moments disk.old) }
-    ensures moments { (script : List ℕ) → HasNow (λ c. EachMoment (D.moments disk.old) (D.moments disk.new)
-        (IsMomentAt (Format new) (key_of hash) (D.identity disk.old).sectors c script)) (D.moments disk.old) }
+    ensures moments { (script : List ℕ) → HasNow (λ c.
+        HasMomentsAt (Format new) (key_of hash) (D.identity disk.old).sectors c script
+        (D.moments disk.old) (D.moments disk.new)) (D.moments disk.old) }
 
     ensures ends { IfErr result EndsTask }
     ensures cause { IfErr result (HasEndCause (Rose (D.faults disk.old) (D.faults disk.new)) ⊥

@@ -4,7 +4,7 @@ ghost use Rattle.std.specs.Option.{ForSome, IsSomeAnd};
 ghost use Rattle.std.specs.String.{string_bytes};
 ghost use Rattle.disk_model.specs.Causes.{Rose};
 ghost use Rattle.disk_model.specs.Identity.{IsBoundTo, IsThere};
-ghost use Rattle.disk_model.specs.Moments.{content_now, EachMoment};
+ghost use Rattle.disk_model.specs.Moments.{content_now};
 ghost use Rattle.device_model.specs.Ending.{Complete, status_of};
 ghost use Rattle.script_session.specs.Told.{finds_fault};
 ghost use Rattle.integrity_tool.specs.Words.{HasNoScript, asked_of, image_name, key_file_of_asked};
@@ -12,7 +12,7 @@ ghost use Rattle.integrity_tool.specs.KeyFile.{HasReadKey};
 ghost use Rattle.command_model.specs.CommandRun.{Tells};
 ghost use Rattle.integrity_tool.specs.Opening.{HasReadIn, HasRunOn};
 ghost use Rattle.integrity_tool.specs.Running.{HasTaken, IsCounted, ending_by};
-ghost use Rattle.integrity_tool.specs.Top.{Given, HasCommandCause, HasStatus, IsBeforeScript, IsGiven, IsMomentIn, IsRefusedByKey, outset_in};
+ghost use Rattle.integrity_tool.specs.Top.{Given, HasCommandCause, HasMomentsIn, HasStatus, IsBeforeScript, IsGiven, IsRefusedByKey, outset_in};
 
 use crate::asked::words_asked;
 use crate::carrying_out::carry_out;
@@ -57,12 +57,12 @@ pub fn integrity<D: Disk, K: NamedSource, S: Source, O: Sink>(
           script = Rose (S.faults script.old) (S.faults script.new);
           sink = Rose (O.faults out.old) (O.faults out.new);
         }))) }
-    // What is left at each moment, and what is written.
+    // What is left at each moment, what is written, and in which order an image is made.
     ensures moments { (given : Given)
         → IsGiven (map string_bytes words.now) (K.named key.old)
         (D.named disk.old (image_name (map string_bytes words.now))) (S.left script.old) given
-        → EachMoment (D.named disk.old (image_name (map string_bytes words.now))).moments
-        (D.named disk.new (image_name (map string_bytes words.now))).moments (IsMomentIn given) }
+        → HasMomentsIn given (D.named disk.old (image_name (map string_bytes words.now))).moments
+        (D.named disk.new (image_name (map string_bytes words.now))).moments }
 
     // What each status but 0 to 3 comes from, and that no fault is passed over, whether the disk and the streams tell
     // what they hold or not.
@@ -80,8 +80,8 @@ pub fn integrity<D: Disk, K: NamedSource, S: Source, O: Sink>(
     // No key file is read but the one that the words name, and of that at most 4097 bytes.
     ensures key { HasReadKey (key_file_of_asked (asked_of (map string_bytes words.now))) (K.named key.old)
         (K.left key.new) (key.new ≡ key.old) (result ≤ 1) }
-    // The script is not read where the image is refused or the command has none, and never more than one byte beyond its
-    // bound. The disk is bound to the image, and has as many sectors as before.
+    // The script is not read where the image is refused or the command has none, and never more than one byte beyond
+    // its bound. The disk is bound to the image, and has as many sectors as before.
     ensures unread { (result ≡ 3) ⊎ HasNoScript (asked_of (map string_bytes words.now))
         → script.new ≡ script.old }
     ensures taken { HasTaken (S.left script.old) (S.left script.new) }
@@ -135,8 +135,8 @@ fn run<D: Disk, K: NamedSource, S: Source, O: Sink>(
         (D.named disk.old (image_name (map string_bytes words.now))) (S.left script.old) given
         → HasRunOn (outset_in given) given.content given.script (ending_by result)
         (D.named disk.new (image_name (map string_bytes words.now))).moments (O.held out.old) (O.held out.new)
-        × EachMoment (D.named disk.old (image_name (map string_bytes words.now))).moments
-        (D.named disk.new (image_name (map string_bytes words.now))).moments (IsMomentIn given) }
+        × HasMomentsIn given (D.named disk.old (image_name (map string_bytes words.now))).moments
+        (D.named disk.new (image_name (map string_bytes words.now))).moments }
 
     ensures cause { IfErr result (HasCommandCause (Rose (D.faults disk.old) (D.faults disk.new))
         (Rose (K.faults key.old) (K.faults key.new)) (Rose (S.faults script.old) (S.faults script.new))

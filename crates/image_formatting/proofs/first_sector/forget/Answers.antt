@@ -1,12 +1,16 @@
-use Rattle.std.proofs.Common.{rules}
-use Rattle.disk_model.proofs.MomentsLemmas.{adds_then, sync_adds}
-use Rattle.image_formatting.proofs.FirstSectorLemmas.{amid_forgetting, first_adds}
+use Rattle.std.proofs.Common.{inl}
+use Rattle.std.proofs.lemmas.Result.{on_ok_weaker}
+use Rattle.image_formatting.proofs.OrderLemmas.{amid_zeros, first_sync, forget_order}
 use Rattle.image_formatting.proofs.first_sector.forget.Goals as goal
 
 pub returns-in_err-write_run-clause-moments : goal.returns-in_err-write_run-clause-moments
-returns-in_err-write_run-clause-moments g c = amid_forgetting (first_adds _ (search rules) c.write_run.ensures.moments)
+returns-in_err-write_run-clause-moments g c = inl (amid_zeros c.write_run.ensures.moments)
 
 pub returns-clause-moments : goal.returns-clause-moments
-returns-clause-moments g c =
-    amid_forgetting (adds_then _ (first_adds _ (search rules) c.write_run.ensures.moments)
-    (sync_adds _ (g.met.D.Disk.reads_an_image c.write_run.new.self) c.sync.ensures.moments))
+returns-clause-moments g c = forget_order _ _ _ c.sync.result (g.met.D.Disk.reads_an_image c.args.disk.now)
+    c.write_run.ensures.moments c.in_ok-write_run.ensures.written c.sync.ensures.moments c.sync.ensures.synced c.sync.ensures.err
+
+pub returns-clause-synced : goal.returns-clause-synced
+returns-clause-synced g c = on_ok_weaker c.sync.result (λ synced.
+    first_sync _ _ _ (g.met.D.Disk.reads_an_image c.args.disk.now)
+    c.write_run.ensures.moments c.in_ok-write_run.ensures.written c.sync.ensures.moments synced) c.sync.ensures.synced

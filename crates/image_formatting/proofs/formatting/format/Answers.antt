@@ -3,7 +3,7 @@ use Rattle.hmac_tag.specs.TagMaker.{TagRule, key_of}
 use Rattle.image_model.specs.Geometry.{Shape}
 use Rattle.image_opening.specs.declared.reading.ImageFormat.{ImageFormat}
 use Rattle.image_formatting.specs.Room.{HasRoom}
-use Rattle.image_formatting.proofs.WholeLemmas.{left_by, made_by, planned_is}
+use Rattle.image_formatting.proofs.WholeLemmas.{left_by, made_by, planned_is, synced_by}
 use Rattle.image_formatting.proofs.formatting.format.Goals as goal
 
 pub write_image-requires-clause-size : goal.write_image-requires-clause-size
@@ -33,3 +33,8 @@ pub returns-clause-moments : goal.returns-clause-moments
 returns-clause-moments g c =
     let is = planned_is _ c.args.new c.in_ok-format.format c.in_ok-format.ensures.format c.in_ok-format.ensures.fields in
     left_by (key_of c.args.hash) _ c.args.new c.in_ok-format.format c.new-maker.result (rw c.sectors.ensures at c.in_ok-format.ensures.provided) is c.new-maker.ensures c.write_image.ensures.moments
+
+pub returns-clause-synced : goal.returns-clause-synced
+returns-clause-synced g c =
+    let is = planned_is _ c.args.new c.in_ok-format.format c.in_ok-format.ensures.format c.in_ok-format.ensures.fields in
+    synced_by (key_of c.args.hash) _ c.args.new c.in_ok-format.format c.new-maker.result (rw c.sectors.ensures at c.in_ok-format.ensures.provided) is c.new-maker.ensures c.in_ok-write_image.ensures.synced

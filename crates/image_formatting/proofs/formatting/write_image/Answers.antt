@@ -1,5 +1,5 @@
 use Rattle.std.proofs.lemmas.Result.{on_ok_weaker}
-use Rattle.image_formatting.proofs.FormattedLemmas.{amid_forget, amid_fill, amid_found, written_is}
+use Rattle.image_formatting.proofs.FormattedLemmas.{amid_forget, amid_fill, amid_found, synced_found, written_is}
 use Rattle.image_formatting.proofs.formatting.write_image.Goals as goal
 
 pub returns-in_err-forget-clause-moments : goal.returns-in_err-forget-clause-moments
@@ -8,11 +8,17 @@ returns-in_err-forget-clause-moments g c =
 
 pub returns-in_err-fill-clause-moments : goal.returns-in_err-fill-clause-moments
 returns-in_err-fill-clause-moments g c =
-    amid_fill c.args.wipe c.args.maker.now c.args.format.now _ c.requires.format.geometry c.forget.ensures.moments c.in_ok-forget.ensures.forgotten c.fill.ensures.moments
+    amid_fill c.args.wipe c.args.maker.now c.args.format.now _ c.requires.format.geometry _ _ c.forget.ensures.moments c.in_ok-forget.ensures.synced c.in_ok-forget.ensures.forgotten c.fill.ensures.moments
 
 pub returns-clause-moments : goal.returns-clause-moments
 returns-clause-moments g c =
-    amid_found c.args.wipe c.args.maker.now c.args.format.now _ c.requires.format.geometry c.found.ensures.told c.forget.ensures.moments c.in_ok-forget.ensures.forgotten c.fill.ensures.moments c.in_ok-fill.ensures.filled c.in_ok-fill.ensures.stays c.found.ensures.moments
+    amid_found c.args.wipe c.args.maker.now c.args.format.now _ c.requires.format.geometry _ _ c.forget.ensures.moments c.in_ok-forget.ensures.synced c.in_ok-forget.ensures.forgotten
+    c.found.ensures.told c.fill.ensures.moments c.in_ok-fill.ensures.filled c.in_ok-fill.ensures.stays c.found.ensures.moments
+
+pub returns-clause-synced : goal.returns-clause-synced
+returns-clause-synced g c = on_ok_weaker c.found.result (λ founded.
+    synced_found c.args.wipe c.args.maker.now c.args.format.now _ c.requires.format.geometry _ _ c.forget.ensures.moments c.in_ok-forget.ensures.synced c.in_ok-forget.ensures.forgotten
+    c.found.ensures.told c.fill.ensures.moments c.in_ok-fill.ensures.filled c.in_ok-fill.ensures.stays c.found.ensures.moments) c.found.ensures.founded
 
 pub returns-clause-written : goal.returns-clause-written
 returns-clause-written g c = on_ok_weaker c.found.result (λ founded.

@@ -1,7 +1,6 @@
-use Rattle.std.proofs.Common.{◌≡◌, List, ℕ, Result, IfErr, refl, sym, ap, ◌∙◌, subst}
+use Rattle.std.proofs.Common.{◌≡◌, Result, IfErr, refl, sym, ap, ◌∙◌, subst}
 use Rattle.disk_model.specs.Causes.{Rose}
-use Rattle.disk_model.specs.Disk.{Content, last_image}
-use Rattle.disk_model.specs.Moments.{EachMoment}
+use Rattle.disk_model.specs.Disk.{last_image}
 use Rattle.disk_model.proofs.MomentsLemmas.{EachMoment-kept}
 use Rattle.device_model.specs.Ending.{Ending}
 use Rattle.hmac_tag.specs.TagMaker.{key_of}
@@ -11,6 +10,7 @@ use Rattle.command_ending.specs.declared.ended.Ended.TheVariants as Endings
 use Rattle.integrity_tool.specs.declared.asked.Task.{Task}
 use Rattle.integrity_tool.specs.declared.asked.Task.TheVariants as Tasks
 use Rattle.integrity_tool.specs.Opening.{EndsImage, HasReadIn, HasRunOn, IsMomentAt}
+use Rattle.integrity_tool.specs.Order.{HasMomentsAt}
 use Rattle.integrity_tool.specs.Outset.{outset_at}
 use Rattle.integrity_tool.specs.Running.{HasEndCause, IsCounted, ending_by}
 use Rattle.integrity_tool.specs.Top.{IsBeforeScript}
@@ -20,7 +20,14 @@ use Rattle.integrity_tool.proofs.TaskLemmas.{cause_found, counted_found, ending_
 use Rattle.integrity_tool.proofs.carrying_out.carry_out.Goals as goal
 
 pub returns-in-Run-clause-runs : goal.returns-in-Run-clause-runs
-returns-in-Run-clause-runs g c = rw c.in-Run.is c.run_image.ensures.runs
+returns-in-Run-clause-runs g c left told start told_start =
+    let key = key_of c.args.hash in
+    let sectors = (g.D.Disk.identity c.args.disk.now).sectors in
+    let before = g.D.Disk.moments c.args.disk.now in
+    let after = g.D.Disk.moments c.run_image.new.disk in
+    let runs = c.run_image.ensures.runs left told start told_start in
+    subst (λ (t : Task). HasRunOn (outset_at t key sectors (last_image start)) start left (ending_by c.run_image.result) after (g.O.Sink.held c.args.out.now) (g.O.Sink.held c.run_image.new.out)
+    × HasMomentsAt t key sectors start left before after) (sym c.in-Run.is) (runs.0, record { each = runs.1; order = tt })
 
 pub returns-in-Run-clause-unread : goal.returns-in-Run-clause-unread
 returns-in-Run-clause-unread g c = (c.run_image.ensures.unread, λ none. absurd (subst IsScriptless c.in-Run.is none))
@@ -35,10 +42,10 @@ returns-in-Dump-clause-runs g c left told start told_start =
     let before = g.D.Disk.moments c.args.disk.now in
     let after = g.D.Disk.moments c.print_image.new.disk in
     subst (λ (t : Task). HasRunOn (outset_at t key sectors (last_image start)) start left (ending_by c.done.result) after (g.O.Sink.held c.args.out.now) (g.O.Sink.held c.print_image.new.out)
-    × EachMoment before after (IsMomentAt t key sectors start left)) (sym c.in-Dump.is) (
+    × HasMomentsAt t key sectors start left before after) (sym c.in-Dump.is) (
       subst (λ (e : Ending). HasRunOn (outset_at Tasks.Dump key sectors (last_image start)) start left e after (g.O.Sink.held c.args.out.now) (g.O.Sink.held c.print_image.new.out))
           (sym (ap ending_by c.done.ensures ∙ ending_found c.print_image.result)) (c.print_image.ensures.runs left start told_start),
-      EachMoment-kept (IsMomentAt Tasks.Dump key sectors start left) c.print_image.ensures.kept,
+      record { each = EachMoment-kept (IsMomentAt Tasks.Dump key sectors start left) c.print_image.ensures.kept; order = tt },
     )
 
 pub returns-in-Dump-clause-ends : goal.returns-in-Dump-clause-ends
@@ -84,7 +91,7 @@ returns-in-Format-clause-runs g c left told start told_start =
     let after = g.D.Disk.moments c.make_image.new.disk in
     let new = c.in-Format.new in
     subst (λ (t : Task). HasRunOn (outset_at t key sectors (last_image start)) start left (ending_by c.done-in-Format.result) after (g.O.Sink.held c.args.out.now) (g.O.Sink.held c.make_image.new.out)
-    × EachMoment before after (IsMomentAt t key sectors start left)) (sym c.in-Format.is) (
+    × HasMomentsAt t key sectors start left before after) (sym c.in-Format.is) (
       subst (λ (e : Ending). HasRunOn (outset_at (Tasks.Format new) key sectors (last_image start)) start left e after (g.O.Sink.held c.args.out.now) (g.O.Sink.held c.make_image.new.out))
           (sym (ap ending_by c.done-in-Format.ensures ∙ ending_found c.make_image.result)) (c.make_image.ensures.runs left start told_start),
       c.make_image.ensures.moments left start told_start,

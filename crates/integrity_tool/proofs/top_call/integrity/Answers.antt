@@ -19,13 +19,13 @@ use Rattle.integrity_tool.proofs.top_call.integrity.Goals as goal
 pub returns-in-Ok-clause-tells : goal.returns-in-Ok-clause-tells
 returns-in-Ok-clause-tells g c given before is held =
     let runs = c.in-Ok.ensures.runs given is in
-    let now = told_at_end given.content is.content runs.1 in
+    let now = told_at_end given.content is.content runs.1.each in
     tells_complete (outset_in given) given.content given.script (finds_fault c.in-Ok.found) _ _ _ before now.0 _ _ runs.0 held now.1 c.complete_status.ensures
 
 pub returns-in-Err-clause-tells : goal.returns-in-Err-clause-tells
 returns-in-Err-clause-tells g c given before is held =
     let runs = c.in-Err.ensures.runs given is in
-    let now = told_at_end given.content is.content runs.1 in
+    let now = told_at_end given.content is.content runs.1.each in
     let faults : Faults = record {
       disk = Rose (g.D.Counted.faults c.args.disk.now) (g.D.Counted.faults c.run.new.disk);
       key = Rose (g.K.Counted.faults c.args.key.now) (g.K.Counted.faults c.run.new.key);

@@ -1,5 +1,5 @@
 use Rattle.std.proofs.Common.{refl}
-use Rattle.std.proofs.Common.{◌≡◌, ℕ, List, Some, Err, sym, ap, ◌∙◌, subst, map}
+use Rattle.std.proofs.Common.{◌≡◌, ℕ, List, Err, sym, ap, ◌∙◌, subst, map}
 use Rattle.std.specs.Option.{ForSome}
 use Rattle.std.specs.String.{string_bytes}
 use Rattle.std.proofs.lemmas.Result.{err_from_is_err_and}
@@ -7,8 +7,7 @@ use Rattle.disk_model.specs.Identity.{DiskIdentity, IsBoundTo, IsThere, NamedDis
 use Rattle.disk_model.specs.Moments.{content_now}
 use Rattle.device_model.specs.Ending.{DiskFailed}
 use Rattle.hmac_tag.specs.TagMaker.{key_of}
-use Rattle.integrity_tool.specs.declared.asked.Asked.{Asked}
-use Rattle.integrity_tool.specs.Words.{HasNoScript, asked_of, image_name, image_of}
+use Rattle.integrity_tool.specs.Words.{HasNoScript, image_name, image_of}
 use Rattle.integrity_tool.specs.Running.{ending_by}
 use Rattle.integrity_tool.proofs.StartLemmas.{not_refused_by_key, outside_first, ran_given, read_given, read_none, stopped_at_key, stopped_at_words}
 use Rattle.integrity_tool.proofs.TopLemmas.{told_there}

@@ -1,0 +1,35 @@
+-- The moments of a command, and the order in which they come.
+use Rattle.std.specs.Prelude.{ℕ, List, Option, Some, None, Result, Ok, Err}
+use Rattle.disk_model.specs.Disk.{Content}
+use Rattle.disk_model.specs.Moments.{EachMoment}
+use Rattle.device_model.specs.Ending.{KeyRefusal}
+use Rattle.image_formatting.specs.Formatted.{IsLeftInOrder}
+use Rattle.integrity_tool.specs.declared.asked.Asked.{Asked}
+use Rattle.integrity_tool.specs.declared.asked.Task.{Task}
+use Rattle.integrity_tool.specs.declared.asked.Task.TheVariants as Tasks
+use Rattle.integrity_tool.specs.Opening.{IsMomentAt}
+use Rattle.integrity_tool.specs.Outset.{key_by}
+use Rattle.integrity_tool.specs.Words.{key_file_of}
+
+-- A new image is made in its order, and nothing else has one.
+abbrev pub IsInOrderAt : Task → (key : Option (List ℕ)) → (sectors : ℕ) → (before after : List Content) → Type 0
+IsInOrderAt Tasks.Run key sectors before after = Unit {0}
+IsInOrderAt Tasks.Dump key sectors before after = Unit {0}
+IsInOrderAt (Tasks.Format new) key sectors before after = IsLeftInOrder key sectors new before after
+
+-- The same, under the key that is told, where one is.
+abbrev pub IsInOrderUnder : Task → Result (Option (List ℕ)) KeyRefusal → ℕ → (before after : List Content) → Type 0
+IsInOrderUnder task (Ok key) sectors before after = IsInOrderAt task key sectors before after
+IsInOrderUnder task (Err refusal) sectors before after = Unit {0}
+
+-- The same, of what is asked, where the key file has these bytes.
+abbrev pub IsInOrderFor : Option Asked → (key_bytes : List ℕ) → (sectors : ℕ) → (before after : List Content) → Type 0
+IsInOrderFor None key_bytes sectors before after = Unit {0}
+IsInOrderFor (Some asked) key_bytes sectors before after =
+    IsInOrderUnder asked.task (key_by (key_file_of asked.hash) key_bytes) sectors before after
+
+-- What stands at each moment of what is done on a disk of so many sectors with this key, and in which order.
+pub record HasMomentsAt (task : Task) (key : Option (List ℕ)) (sectors : ℕ) (start : Content) (script : List ℕ)
+    (before after : List Content) : Type 0 where
+  pub each : EachMoment before after (IsMomentAt task key sectors start script)
+  pub order : IsInOrderAt task key sectors before after
