@@ -70,8 +70,13 @@ fn last_candidates(left: &WatchedDisk) -> Result<Vec<u32>> {
 
 /// A choice of candidates of what a run left.
 pub fn choice_of(alloc: Global, left: &WatchedDisk, candidates: Candidates) -> Result<Vec<u32>> {
+    choice_from(alloc, &last_candidates(left)?, candidates)
+}
+
+/// A choice of candidates, by the last one of each sector.
+pub fn choice_from(alloc: Global, last: &[u32], candidates: Candidates) -> Result<Vec<u32>> {
     let mut choice = Vec::new(alloc);
-    for (sector, last) in last_candidates(left)?.iter().enumerate() {
+    for (sector, last) in last.iter().enumerate() {
         let is_last = match candidates {
             Candidates::First | Candidates::Middle => false,
             Candidates::Last => true,

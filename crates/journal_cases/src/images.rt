@@ -1,9 +1,8 @@
 //! The images that are looked at of what a run left.
-use crate::running::Ran;
-use anyhow::Result;
-use case_disks::{bytes_of, choice_of, image_of};
-use case_text::Candidates;
-use std::alloc::Global;
+use crate::kept::KeptDisk;
+use anyhow::{Result, bail};
+use case_disks::{bytes_of, image_of};
+use std::alloc::{AllocError, Global};
 
 /// Which candidate of each sector a cut leaves.
 #[derive(Clone, Copy)]
@@ -24,29 +23,50 @@ pub const CHOICES: [Choice; 4] = [
     Choice::Scattered(1),
 ];
 
-/// The candidates of what a run left that a choice takes.
-pub fn chosen(alloc: Global, ran: &Ran, choice: Choice) -> Result<Vec<u32>> {
-    let seed = match choice {
-        Choice::First => return choice_of(alloc, &ran.disk, Candidates::First),
-        Choice::Last => return choice_of(alloc, &ran.disk, Candidates::Last),
-        Choice::Alternate => return choice_of(alloc, &ran.disk, Candidates::Alternate),
-        Choice::Scattered(seed) => seed,
-    };
-    let mut chosen = choice_of(alloc, &ran.disk, Candidates::Last)?;
+/// The candidates that a choice takes, where each sector has so many beside its first one.
+pub fn chosen(alloc: Global, added: &[u32], choice: Choice) -> Result<Vec<u32>, AllocError> {
+    let mut chosen = added.to_vec(alloc)?;
     for (sector, last) in chosen.iter_mut().enumerate() {
-        let mixed = (sector as u64)
-            .wrapping_add(seed.wrapping_mul(0x9e37_79b9_7f4a_7c15))
-            .wrapping_mul(0xbf58_476d_1ce4_e5b9)
-            / 0x1_0000_0000;
-        if let Some(index) = mixed.checked_rem((*last as u64).saturating_add(1)) {
-            *last = index as u32;
+        if *last > 0 {
+            *last = candidate(sector as u64, *last, choice);
         }
     }
     Ok(chosen)
 }
 
+/// The candidate of a sector that a choice takes, of so many beside the first one.
+fn candidate(sector: u64, last: u32, choice: Choice) -> u32 {
+    match choice {
+        Choice::First => 0,
+        Choice::Last => last,
+        Choice::Alternate if sector % 2 == 0 => last,
+        Choice::Alternate => 0,
+        Choice::Scattered(seed) => {
+            let mixed = sector
+                .wrapping_add(seed.wrapping_mul(0x9e37_79b9_7f4a_7c15))
+                .wrapping_mul(0xbf58_476d_1ce4_e5b9)
+                / 0x1_0000_0000;
+            match mixed.checked_rem((last as u64).saturating_add(1)) {
+                Some(index) => index as u32,
+                None => 0,
+            }
+        }
+    }
+}
+
 /// The bytes of the image with these candidates.
-pub fn image_bytes(alloc: Global, ran: &Ran, chosen: &[u32]) -> Result<Vec<u8>> {
-    let mut image = image_of(alloc, &ran.disk.disk, chosen)?;
-    bytes_of(alloc, &mut image)
+pub fn image_bytes(alloc: Global, disk: &KeptDisk, chosen: &[u32]) -> Result<Vec<u8>> {
+    match disk.kept.image(alloc, chosen)? {
+        Some(image) => Ok(image),
+        None => bail!("there was no memory to note a write"),
+    }
+}
+
+/// Compares an image with that of the disk itself.
+pub fn judge_image(alloc: Global, disk: &KeptDisk, chosen: &[u32], image: &[u8]) -> Result<()> {
+    let mut own = image_of(alloc, &disk.disk, chosen)?;
+    if bytes_of(alloc, &mut own)?.as_slice() != image {
+        bail!("the disk has another image");
+    }
+    Ok(())
 }

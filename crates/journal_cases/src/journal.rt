@@ -5,10 +5,10 @@ ghost use Rattle.image_model.specs.Geometry.{initial, IsGeometry};
 ghost use Rattle.journal_ring.specs.Places.{entries_at};
 ghost use Rattle.place_writer.specs.Placement.{IsPlacementOf};
 
+use crate::kept::KeptDisk;
 use crate::places::Form;
 use anyhow::{Result, bail};
 use buffer_cache::Cache;
-use case_disks::WatchedDisk;
 use hmac_tag::Tag;
 use journal_overlay::Place;
 use journal_ring::{Moved, Ring, RingRoom};
@@ -25,7 +25,7 @@ use tag_store::{Tags, store_is_of_its_disk};
 #[derive(Drop)]
 pub struct Journal<'p> {
     geometry: Geometry,
-    disk: WatchedDisk,
+    disk: KeptDisk,
     ring: Ring<'p>,
     tags: Tags,
     placer: Placer,
@@ -78,7 +78,7 @@ impl<'p> Journal<'p> {
     pub fn new(
         alloc: Global,
         form: Form,
-        disk: WatchedDisk,
+        disk: KeptDisk,
         slots: u64,
         begin: Begin,
         region: &'p mut Region,
@@ -177,12 +177,12 @@ impl<'p> Journal<'p> {
     }
 
     /// The disk.
-    pub fn disk(&self) -> &WatchedDisk {
+    pub fn disk(&self) -> &KeptDisk {
         &self.disk
     }
 
     /// The disk, once nothing else is wanted.
-    pub fn into_disk(self) -> WatchedDisk {
+    pub fn into_disk(self) -> KeptDisk {
         self.disk
     }
 }

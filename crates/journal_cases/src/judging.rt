@@ -1,5 +1,5 @@
 //! Judges what a cut leaves, by the definition of the walk and of what each block reads as.
-use crate::cells::{Write, entries_of, has_no_other, make_writes, placed_in};
+use crate::cells::{Entry, entries_of, has_no_other, is_of_write, make_entries, placed_in};
 use crate::history::History;
 use crate::walk::{State, Walk, walk_of};
 use anyhow::{Result, bail};
@@ -22,12 +22,12 @@ pub fn judge(alloc: Global, history: &History, bytes: &[u8]) -> Result<Shown> {
     let walk = walk_of(alloc, places, bytes)?;
     let entries = entries_of(alloc, places, bytes, &walk.sections)?;
     let mut cells = placed_in(alloc, places, bytes)?;
-    make_writes(places, &mut cells, &entries);
+    make_entries(places, bytes, &entries, &mut cells);
     if !has_no_other(alloc, places, bytes)? {
         bail!("a byte is written that is none of the journal, a block or a tag");
     }
     for writes in history.left_by_cuts(alloc)? {
-        if is_of(history, &entries, writes) && history.cells_after(writes)? == cells {
+        if are_last(history, bytes, &entries, writes) && history.cells_after(writes)? == cells {
             let entries = entries.len();
             return Ok(Shown {
                 walk,
@@ -42,14 +42,17 @@ pub fn judge(alloc: Global, history: &History, bytes: &[u8]) -> Result<Shown> {
     );
 }
 
-/// Whether these entries are the last of so many writes.
-fn is_of(history: &History, entries: &[Write], writes: usize) -> bool {
+/// Whether these entries of an image are the last of so many writes.
+fn are_last(history: &History, bytes: &[u8], entries: &[Entry], writes: usize) -> bool {
     let Some(first) = writes.checked_sub(entries.len()) else {
         return false;
     };
+    let places = &history.places;
     match history.writes.get(first..writes) {
-        Some(made) => made.iter().zip(entries).all(|(write, entry)| write.block == entry.block
-            && write.cell == entry.cell),
+        Some(made) => made
+            .iter()
+            .zip(entries)
+            .all(|(write, entry)| is_of_write(places, bytes, *entry, write)),
         None => false,
     }
 }

@@ -10,6 +10,7 @@ mod history;
 mod images;
 mod journal;
 mod judging;
+mod kept;
 mod pieces;
 mod places;
 mod running;

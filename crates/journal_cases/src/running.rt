@@ -2,10 +2,11 @@
 use crate::cells::Write;
 use crate::history::History;
 use crate::journal::{Begin, Journal};
+use crate::kept::KeptDisk;
 use crate::places::{Form, Places};
 use crate::steps::{Case, Step};
 use anyhow::{Result, bail};
-use case_disks::{WatchedDisk, copy_of};
+use case_disks::copy_of;
 use case_text::Fails;
 use journal_ring::Moved;
 use sector_disk::{Failed, MemDisk};
@@ -18,6 +19,8 @@ pub struct Base {
     pub form: Form,
     pub places: Places,
     pub disk: MemDisk,
+    /// Its bytes.
+    pub bytes: Vec<u8>,
     pub begin: Begin,
     /// What each block reads as in its place.
     pub cells: Vec<u8>,
@@ -29,7 +32,7 @@ pub struct Ran {
     /// What was answered.
     pub told: String,
     pub history: History,
-    pub disk: WatchedDisk,
+    pub disk: KeptDisk,
     /// The bytes of the ring's memory.
     pub region: Vec<u8>,
 }
@@ -61,7 +64,12 @@ pub fn run(
     order: u64,
     fails: Fails,
 ) -> Result<Ran> {
-    let disk = WatchedDisk::new(alloc, copy_of(alloc, &base.disk)?, fails)?;
+    let disk = KeptDisk::new(
+        alloc,
+        copy_of(alloc, &base.disk)?,
+        base.bytes.clone()?,
+        fails,
+    );
     let mut region = Region::new();
     let journal = Journal::new(alloc, base.form, disk, case.slots, base.begin, &mut region)?;
     let cells = base.cells.clone()?;

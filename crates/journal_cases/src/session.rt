@@ -1,6 +1,6 @@
 //! Runs cases one after the other, and tells what each shows.
-use crate::cells::{entries_of, make_writes, placed_in};
-use crate::images::{Choice, chosen, image_bytes};
+use crate::cells::{entries_of, make_entries, placed_in, writes_of};
+use crate::images::{Choice, chosen, image_bytes, judge_image};
 use crate::journal::{Begin, geometry_of};
 use crate::judging::{judge, told_of};
 use crate::pieces::piece;
@@ -10,7 +10,7 @@ use crate::steps::{Case, Show, Start, Step};
 use crate::trying::try_each;
 use crate::walk::{State, walk_of};
 use anyhow::{Result, bail};
-use case_disks::{bytes_of, disk_of};
+use case_disks::disk_of;
 use case_text::Fails;
 use journal_section::clear;
 use std::alloc::Global;
@@ -43,7 +43,6 @@ pub struct Session {
 pub struct Trial<'c> {
     pub case: &'c Case,
     base: Base,
-    bytes: Vec<u8>,
 }
 
 impl Session {
@@ -71,11 +70,7 @@ impl Session {
         let ran = trial.run(alloc, 0, case.fails)?;
         self.counts.runs = self.counts.runs.saturating_add(1);
         let mut told = ran.told.clone()?;
-        for choice in [Choice::First, Choice::Last] {
-            let candidates = chosen(alloc, &ran, choice)?;
-            judge(alloc, &ran.history, &image_bytes(alloc, &ran, &candidates)?)?;
-            self.counts.images = self.counts.images.saturating_add(1);
-        }
+        self.judge_left(alloc, &ran)?;
         for show in &case.shows {
             told.push_str("\n")?;
             told.push_str(shown(alloc, &ran, *show)?.as_str())?;
@@ -84,9 +79,20 @@ impl Session {
             told.push_str("\n")?;
             told.push_str(try_each(alloc, &mut self.counts, &trial, *kind)?.as_str())?;
         }
-        let candidates = chosen(alloc, &ran, Choice::Last)?;
-        self.left = Some((form, image_bytes(alloc, &ran, &candidates)?));
+        self.left = Some((form, image_left(alloc, &ran, Choice::Last)?));
         Ok(told)
+    }
+
+    /// Judges what a run left, by the first and by the last candidates.
+    fn judge_left(&mut self, alloc: Global, ran: &Ran) -> Result<()> {
+        for choice in [Choice::First, Choice::Last] {
+            let candidates = chosen(alloc, &ran.disk.kept.added(alloc)?, choice)?;
+            let image = image_bytes(alloc, &ran.disk, &candidates)?;
+            judge_image(alloc, &ran.disk, &candidates, &image)?;
+            judge(alloc, &ran.history, &image)?;
+            self.counts.images = self.counts.images.saturating_add(1);
+        }
+        Ok(())
     }
 }
 
@@ -100,11 +106,8 @@ impl<'c> Trial<'c> {
         };
         let cells = placed_in(alloc, &places, &bytes)?;
         let mut read = cells.clone()?;
-        make_writes(
-            &places,
-            &mut read,
-            &entries_of(alloc, &places, &bytes, &walk.sections)?,
-        );
+        let entries = entries_of(alloc, &places, &bytes, &walk.sections)?;
+        make_entries(&places, &bytes, &entries, &mut read);
         if read != cells {
             bail!("an entry of the journal is not in its place");
         }
@@ -114,22 +117,23 @@ impl<'c> Trial<'c> {
                 form,
                 places,
                 disk: disk_of(alloc, &bytes)?,
+                bytes,
                 begin: Begin {
                     next,
                     number: (number % 4) as u8,
                 },
                 cells,
             },
-            bytes,
         })
     }
 
     /// Runs the case, with this order of the steps that are either, where this fails.
     pub fn run(&self, alloc: Global, order: u64, fails: Fails) -> Result<Ran> {
-        let places = &self.base.places;
-        let walk = walk_of(alloc, places, &self.bytes)?;
-        let entries = entries_of(alloc, places, &self.bytes, &walk.sections)?;
-        run(alloc, self.case, &self.base, entries, order, fails)
+        let (places, bytes) = (&self.base.places, &self.base.bytes);
+        let walk = walk_of(alloc, places, bytes)?;
+        let entries = entries_of(alloc, places, bytes, &walk.sections)?;
+        let writes = writes_of(alloc, places, bytes, &entries)?;
+        run(alloc, self.case, &self.base, writes, order, fails)
     }
 
     /// How many sectors are written by the steps before the first one that is either.
@@ -143,7 +147,7 @@ impl<'c> Trial<'c> {
         }
         let before = self.case.with_steps(alloc, steps);
         let ran = run(alloc, &before, &self.base, Vec::new(alloc), 0, Fails::NONE)?;
-        Ok(ran.disk.seen.writes)
+        Ok(ran.disk.kept.writes)
     }
 }
 
@@ -174,16 +178,16 @@ fn shown(alloc: Global, ran: &Ran, show: Show) -> Result<String> {
             Ok(format!(in alloc; "first: {first}\nlast: {last}")?)
         }
         Show::Bytes { at, first, count } => {
-            let left = image_bytes(alloc, ran, &chosen(alloc, ran, Choice::Last)?)?;
+            let left = image_left(alloc, ran, Choice::Last)?;
             let from = at.saturating_mul(512).saturating_add(first);
             Ok(hex::encode(alloc, piece(&left, from, count))?)
         }
         Show::Writes => {
-            let (writes, syncs) = (ran.disk.seen.writes, ran.disk.seen.syncs);
+            let (writes, syncs) = (ran.disk.kept.writes, ran.disk.kept.syncs);
             Ok(format!(in alloc; "{writes} sectors written, {syncs} syncs")?)
         }
         Show::Region => {
-            let left = image_bytes(alloc, ran, &chosen(alloc, ran, Choice::Last)?)?;
+            let left = image_left(alloc, ran, Choice::Last)?;
             same_as(
                 alloc,
                 &ran.region,
@@ -195,9 +199,14 @@ fn shown(alloc: Global, ran: &Ran, show: Show) -> Result<String> {
 
 /// What an image of what is left shows.
 fn left_by(alloc: Global, ran: &Ran, choice: Choice) -> Result<String> {
-    let candidates = chosen(alloc, ran, choice)?;
-    let shown = judge(alloc, &ran.history, &image_bytes(alloc, ran, &candidates)?)?;
+    let shown = judge(alloc, &ran.history, &image_left(alloc, ran, choice)?)?;
     told_of(alloc, &shown)
+}
+
+/// The image of what a run left that a choice takes.
+fn image_left(alloc: Global, ran: &Ran, choice: Choice) -> Result<Vec<u8>> {
+    let added = ran.disk.kept.added(alloc)?;
+    image_bytes(alloc, &ran.disk, &chosen(alloc, &added, choice)?)
 }
 
 /// How many sectors of the memory are those of the journal.

@@ -62,7 +62,7 @@ fn try_order(
             "failure {number} in order {order}: {}",
             ran.told
         ))?;
-        if ran.disk.seen.failed == 0 {
+        if ran.disk.kept.failed == 0 {
             return Ok(());
         }
         tried.failed = tried.failed.saturating_add(1);
@@ -72,13 +72,15 @@ fn try_order(
 
 /// Looks at what a run left, by each choice of candidates once.
 fn judge_left(alloc: Global, tried: &mut Tried, ran: &Ran) -> Result<()> {
+    let added = ran.disk.kept.added(alloc)?;
     let mut looked: Vec<Vec<u32>> = Vec::new(alloc);
     for choice in CHOICES {
-        let candidates = chosen(alloc, ran, choice)?;
+        let candidates = chosen(alloc, &added, choice)?;
         if looked.contains(&candidates) {
             continue;
         }
-        let shown = judge(alloc, &ran.history, &image_bytes(alloc, ran, &candidates)?)?;
+        let image = image_bytes(alloc, &ran.disk, &candidates)?;
+        let shown = judge(alloc, &ran.history, &image)?;
         if !tried.writes.contains(&shown.writes) {
             tried.writes.push(shown.writes)?;
         }
