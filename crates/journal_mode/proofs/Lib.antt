@@ -1,0 +1,12 @@
+pub mod JournalLemmas
+pub mod PlacesLemmas
+pub mod PutLemmas
+pub mod PutsLemmas
+pub mod NewestLemmas
+pub mod ReadsLemmas
+pub mod CommitLemmas
+pub mod FlushLemmas
+pub mod MovesLemmas
+pub mod FreeingLemmas
+pub mod ClosingLemmas
+pub mod OpeningLemmas

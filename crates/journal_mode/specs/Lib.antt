@@ -1,0 +1,9 @@
+pub mod Journal
+pub mod Standing
+pub mod Puts
+pub mod Reads
+pub mod Commits
+pub mod Moves
+pub mod Freeing
+pub mod Closing
+pub mod Opening
