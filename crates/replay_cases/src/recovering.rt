@@ -89,9 +89,6 @@ pub fn run_recovery(
     if !given.empties {
         return Ok(Ok(at));
     }
-    if at.next >= geometry.sections() || at.number >= 4 {
-        bail!("writing is to go on where there is no section or number");
-    }
     match empty(disk, &geometry, &tags, &mut pool, at) {
         Ok(at) => Ok(Ok(at)),
         Err(_) => Ok(Err(Fault::Failed)),

@@ -37,8 +37,10 @@ impl Model for Slots {
 }
 
 impl Slots {
-    ghost use Rattle.request_slots.specs.Flight.{is_in_flight, is_of, no_requests, slot_of, turn_of, FitsFlight, IsRead, IsTurnWithin, IsWrite};
-    ghost use Rattle.request_slots.specs.Serving.{with_change, with_block_read, with_block_counted, with_fault, with_finish, next_bytes};
+    ghost use Rattle.request_slots.specs.Flight.{is_in_flight, is_of, no_requests, slot_of, turn_of};
+    ghost use Rattle.request_slots.specs.Flight.{FitsFlight, IsRead, IsTurnWithin, IsWrite};
+    ghost use Rattle.request_slots.specs.Serving.{with_change, with_block_read, with_block_counted};
+    ghost use Rattle.request_slots.specs.Serving.{with_fault, with_finish, next_bytes};
     ghost use Rattle.request_slots.specs.Submitting.{answer_by, after_submit, blocks_fault, fault_of, slots_fault};
     ghost use Rattle.request_slots.specs.Taking.{taken_by, after_take};
 

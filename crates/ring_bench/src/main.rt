@@ -1,8 +1,9 @@
 //! Fills and commits a ring of the journal many times, so that `bench/ring` can time what a put and a commit cost.
 //!
-//! `ring_bench WAY LAPS FILE` makes LAPS laps, in each of which every section of a journal in FILE is filled with entries
-//! of 512 bytes, committed and freed. The ways are `put`, where nothing is written; `commit`, where a commit is written,
-//! but not synced; and `write`, where nothing is written but as many bytes by one call of the system behind each lap.
+//! `ring_bench WAY LAPS FILE` makes LAPS laps, in each of which every section of a journal in FILE is filled with
+//! entries of 512 bytes, committed and freed. The ways are `put`, where nothing is written; `commit`, where a commit is
+//! written, but not synced; and `write`, where nothing is written but as many bytes by one call of the system behind
+//! each lap.
 //! With `digest` it makes as many digests of 512 bytes as a lap has entries, by `sha2` alone, and no lap. It prints how
 //! many entries were put, or the sum of the digests' first bytes.
 #![tactic(auto)]

@@ -158,7 +158,8 @@ impl Named for MemDisk {
 }
 
 impl Disk for MemDisk {
-    ghost use Rattle.sector_disk.specs.MemDisk.{record_of, moments_told, named_by, IsRefused, sectors_left, after_call, with_writes, with_sync};
+    ghost use Rattle.sector_disk.specs.MemDisk.{record_of, moments_told, named_by, IsRefused};
+    ghost use Rattle.sector_disk.specs.MemDisk.{sectors_left, after_call, with_writes, with_sync};
     ghost use Rattle.sector_disk.specs.ReadsAnImage.{candidates_are_whole, last_image_is_image};
     ghost use Rattle.disk_model.specs.Identity.{AnyName, NamedDisk};
     ghost use Rattle.std.proofs.Common.{ap, refl};

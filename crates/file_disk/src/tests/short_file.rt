@@ -101,7 +101,8 @@ impl SectorFile for ShortFile {
     ghost reads_an_image = { λ file c told. last_image_is_image file.disk.base.items file.disk.events.items c told };
 
     ghost whole_sectors = { λ file c sector x told low has. candidates_are_whole file.disk.sectors
-        file.disk.base.items file.disk.events.items c sector x file.disk.base_size file.disk.whole_events told low has };
+        file.disk.base.items file.disk.events.items c sector x file.disk.base_size file.disk.whole_events
+        told low has };
 }
 
 /// A folder with one file, whose name is `image`.
