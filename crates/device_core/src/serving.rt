@@ -1,15 +1,14 @@
 //! Serving a request: one block is read or written, or all is flushed.
-ghost use Rattle.std.specs.Prelude.{◌≡◌, ◌↔◌, Err, Ok, ◌*◌, ◌<◌, ◌^◌, true, length, IfOk, OnErr, OnOk};
+ghost use Rattle.std.specs.Prelude.{◌≡◌, ◌↔◌, Err, Ok, ◌<◌, true, IfOk, OnErr, OnOk};
 ghost use Rattle.disk_model.specs.Causes.{HasCause};
 ghost use Rattle.request_slots.specs.Flight.{FitsFlight, is_in_flight, turn_of};
 ghost use Rattle.request_slots.specs.declared.turn.Turn.TheVariants as Turns;
 ghost use Rattle.device_core.specs.declared.condition.Condition.TheVariants.{Working};
-ghost use Rattle.device_core.specs.Answers.{HasFailedIn, HasServed, HasStepCause, IsServedAs, KeepsParts, after_read, condition_by, served_by, turns_left};
+ghost use Rattle.device_core.specs.Answers.{HasFailedIn, HasServed, HasStepCause, IsServedAs, KeepsParts, condition_by, served_by, turns_left};
 ghost use Rattle.device_core.specs.Device.{IsDevice, IsReady, Standing};
 
 use crate::{Condition, Parts, Served, StepFault};
 use direct_mode::{flush, read_block, serve_block};
-use hmac_tag::Tag;
 use request_slots::{Ticket, Turn};
 use sector_disk::{Disk, Failed};
 
@@ -111,7 +110,7 @@ fn serve_read<D: Disk>(
         (D.moments disk.old) (D.moments disk.new) }
 {
     let stored = read_block(disk, &mut parts.tags, block, &mut parts.buffer)?;
-    put_read(parts, ticket, block, stored);
+    parts.put_read(ticket, block, stored);
     Ok(served(parts, ticket))
 }
 
@@ -171,24 +170,6 @@ fn serve_flush<D: Disk>(disk: &mut D, parts: &mut Parts, ticket: &Ticket) -> Res
     flush(disk, &mut parts.tags)?;
     parts.slots.finish(ticket);
     Ok(Served::Done)
-}
-
-/// Puts the block in the buffer where its tag is this one, and else the fault.
-fn put_read(parts: &mut Parts, ticket: &Ticket, block: u64, stored: Tag)
-    requires there { is_in_flight ticket.now parts.old.slots ≡ true }
-    requires turn { turn_of parts.old.slots ticket.now ≡ Turns.Read block }
-    requires size { length parts.old.buffer.items ≡ parts.old.slots.block_size }
-    requires sector { block * parts.old.spb < 2 ^ 64 }
-
-    ensures { parts.new ≡ record parts.old { slots = after_read ticket.now block stored parts.old } }
-{
-    let sector = block * parts.spb;
-    if parts.maker.matches(sector, &parts.buffer, &stored) {
-        parts.slots.put_block(ticket, &parts.buffer);
-    } else {
-        let computed = parts.maker.tag(sector, &parts.buffer);
-        parts.slots.put_fault(ticket, block, stored, computed);
-    }
 }
 
 /// What a request answers that was served.

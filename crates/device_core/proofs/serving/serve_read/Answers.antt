@@ -36,9 +36,9 @@ returns-clause-served g c w is =
     let mid : Parts = record c.args.parts.now { tags = c.read_block.new.tags; buffer = with_items c.args.parts.now.buffer c.read_block.new.out } in
     let out : length c.read_block.new.out ≡ c.args.parts.now.buffer.len = search rules in
     let whole : length mid.buffer.items ≡ c.args.parts.now.slots.block_size = search rules in
-    subst (λ (x : Served). IsServedAs w c.args.ticket.now x c.put_read.new.parts (g.D.Disk.moments c.args.disk.now) (g.D.Disk.moments c.read_block.new.disk)) (sym c.served.ensures)
+    subst (λ (x : Served). IsServedAs w c.args.ticket.now x c.put_read.new.self (g.D.Disk.moments c.args.disk.now) (g.D.Disk.moments c.read_block.new.disk)) (sym c.served.ensures)
     (serve_read_done w c.args.parts.now (g.D.Disk.moments c.args.disk.now) is c.args.ticket.now c.requires.there c.args.block c.requires.turn c.requires.within
-    (g.D.Disk.identity c.args.disk.now) mid c.put_read.new.parts c.in_ok-stored.stored (g.D.Disk.moments c.read_block.new.disk) c.requires.ready refl refl refl
+    (g.D.Disk.identity c.args.disk.now) mid c.put_read.new.self c.in_ok-stored.stored (g.D.Disk.moments c.read_block.new.disk) c.requires.ready refl refl refl
     whole c.put_read.ensures (c.read_block.ensures.kept w.disk w.state.progress.regions.awaiting (is.cells refl))
     (subst (λ (xs : List ℕ). HasNow (Reads (data_at c.args.parts.now.tags.geometry c.args.block) xs) (g.D.Disk.moments c.args.disk.now)) (sym (with_items_is c.args.parts.now.buffer c.read_block.new.out out)) c.in_ok-stored.ensures.read)
     c.in_ok-stored.ensures.tag)
