@@ -89,6 +89,7 @@ module _ (w : JournalStanding) (flushed_at placed_at : PlacedRing) (store then_ 
     closed_is Did new last after has free = record {
       counts = has.counts;
       disk = after_settle (placed_standing placed).disk;
+      format = flushed.format;
       stands = has.stands;
       settled = all_there;
       images = λ c told. same_content c (has_content (placed_standing placed) placed_at then_ middle placed.stands idle none all_there c (has.images c told));
@@ -101,6 +102,7 @@ module _ (w : JournalStanding) (flushed_at placed_at : PlacedRing) (store then_ 
         record {
           counts = placed.counts;
           disk = d;
+          format = flushed.format;
           stands = has.stands;
           settled = settled;
           images = λ c told. same_content c (has_content (placed_standing placed) new last after has.stands idle free.none_opened all_there c

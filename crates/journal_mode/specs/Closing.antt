@@ -30,11 +30,13 @@ HasContent w image = (b : ℕ) → b < w.disk.geometry.blocks
     → recalculated_cell w.disk.key w.disk.superblock w.disk.geometry image b
     ≡ cells_now w.format.blocks.tag w.history b
 
--- The device has all flushed, all entries of its disk are settled, and each image has the content in its places.
+-- The device has all flushed, over a disk of the same format of which all entries are settled, and each image has the
+-- content in its places.
 pub record HasClosed (w : JournalStanding) (new : PlacedRing) (store : Store) (moments : List Content)
     : Type 0 where
   pub counts : JournalCounts
   pub disk : JournaledDisk
+  pub format : disk.format ≡ w.disk.format
   pub stands : StandsAs (record (with_disk counts disk w) { history = with_change w.history Flushed })
       new store moments
   pub settled : disk.settled ≡ length disk.entries

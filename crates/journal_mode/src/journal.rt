@@ -53,7 +53,8 @@ impl<'p> Journal<'p> {
     ghost use Rattle.journal_mode.specs.Journal.{after_put, empty_journal};
     ghost use Rattle.journal_mode.specs.Standing.{IsLeftThrough, JournalStanding, StandsAs};
     ghost use Rattle.journal_mode.specs.Puts.{HasPut, TakesWrite, sections_with};
-    ghost use Rattle.journal_mode.specs.Commits.{CommitsAs, HasCommitted, HasFlushed, WritesBatches, after_flush, after_one};
+    ghost use Rattle.journal_mode.specs.Commits.{CommitsAs, HasCommitted, HasFlushed, WritesBatches};
+    ghost use Rattle.journal_mode.specs.Commits.{after_flush, after_one};
     ghost use Rattle.journal_mode.specs.Closing.{HasClosed, HasPlacedMore, IsAllFree};
     ghost use Rattle.journal_mode.specs.Moves.{PlacesAs, SettlesAs};
     ghost use Rattle.journal_mode.specs.Reads.{GivesBlock, HasRead, KeepsStanding, newest_in};
@@ -184,6 +185,7 @@ impl<'p> Journal<'p> {
             → IsLeftThrough w (D.moments disk.old) (D.moments disk.new) }
         ensures moments { WritesBatch self.old.ring (D.moments disk.old) (D.moments disk.new) }
     {
+        // The store is named in the contract alone: a commit moves no tag.
         let _ = tags;
         let moved = self.ring.commit(disk)?;
         Ok(moved)

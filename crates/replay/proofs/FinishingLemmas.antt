@@ -1,5 +1,5 @@
 -- What the state of a journal says once its entries are in place.
-use Rattle.std.proofs.Common.{◌≡◌, ◌↔◌, ◌⊎◌, inl, inr, ℕ, ◌*◌, ◌<◌, false, refl, sym, ◌∙◌, ap, subst, arith, Some, Result, Ok, IfOk, List, [], ◌∷◌, length}
+use Rattle.std.proofs.Common.{◌≡◌, ◌↔◌, ◌⊎◌, inl, inr, ℕ, ◌*◌, ◌<◌, Bool, false, refl, sym, ◌∙◌, ap, subst, arith, Some, Result, Ok, IfOk, List, [], ◌∷◌, length}
 use Rattle.disk_model.specs.Disk.{Image}
 use Rattle.image_model.specs.declared.journal_plan.Plan.{Plan}
 use Rattle.image_model.specs.declared.journal_plan.State.TheVariants.{Rest, Mixed, Erasing, Blank}
@@ -31,7 +31,7 @@ use Rattle.std.specs.Result.{is_ok}
 use Rattle.journal_model.specs.Steps.{KeepsCells}
 use Rattle.journal_reading.proofs.JournalLemmas.{replayed_entries-journal}
 use Rattle.replay.specs.declared.recovered.Recovered.{Recovered}
-use Rattle.replay.specs.Recovery.{IsAtRestOn, IsReplayed, LeavesRecovered}
+use Rattle.replay.specs.Recovery.{GoesOnIn, IsAtRestOn, IsReplayed, LeavesRecovered}
 use Rattle.disk_model.specs.Moments.{content_now}
 use Rattle.tag_store.specs.Store.{Store, given_tags}
 use Rattle.replay.proofs.RecoveryLemmas.{KeepsCells-moved, moved, settled_recovered}
@@ -49,6 +49,13 @@ not_blank g sectors image plan number geometry is state =
     let blank = subst (IsPlanOf grid (sections_of plan.walk)) state rules in
     let low = blank.0.some.2.0 in
     absurd (omega (arith, low, blank_bound-none g))
+
+-- A journal at rest goes on in one of its sections.
+pub rest_place : (g : Geometry) (sectors : ℕ) (image : Image) (plan : Plan) (next number : ℕ) (used : Bool) → IsGeometry g sectors → walk_of g image ≡ Ok plan → plan.state ≡ Rest next number
+    → GoesOnIn g (record { next = next; number = number; used = used })
+rest_place g sectors image plan next number used geometry is state =
+    let at = (state_law g sectors image plan geometry is).rest next number state in
+    record { next = at.inside; number = at.low }
 
 -- What is told of a disk whose journal it is.
 module _ (d : JournaledDisk) (g : Geometry) (sectors : ℕ) (bytes : List ℕ) (plan : Plan) (geometry : IsGeometry g sectors) (replayed : IsReplayed d g bytes) (is : walk_of g (journal_image bytes) ≡ Ok plan) where

@@ -1,6 +1,6 @@
 -- What a recovery is entered with, and what it leaves.
 -- Own: an opening syncs before it, so that nothing is pending.
-use Rattle.std.specs.Prelude.{◌≡◌, ◌↔◌, ℕ, false, List, [], length}
+use Rattle.std.specs.Prelude.{◌≡◌, ◌↔◌, ℕ, ◌<◌, false, List, [], length}
 use Rattle.disk_model.specs.Disk.{Content, HasNothingPending, last_image}
 use Rattle.disk_model.specs.Moments.{HasNow}
 use Rattle.image_model.specs.declared.flags.TheConstants.{DIRTY_BITMAP}
@@ -36,6 +36,11 @@ pub record LeavesRecovered (d : JournaledDisk) (at : Recovered) (tags : ℕ → 
   pub pending : HasNothingPending c
   pub unused : (at.used ≡ false)
       ↔ ((at.next ≡ 0) × (replayed_entries recovered.now.geometry recovered.now.journal ≡ []))
+
+-- Writing goes on in a section of the journal, with a commit number.
+pub record GoesOnIn (g : Geometry) (at : Recovered) : Type 0 where
+  pub next : at.next < g.sections
+  pub number : at.number < 4
 
 -- The entries of the journal with these bytes, which is that of the disk, are all in their places and synced.
 pub record IsReplayed (d : JournaledDisk) (g : Geometry) (bytes : List ℕ) : Type 0 where

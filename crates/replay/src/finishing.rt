@@ -13,7 +13,8 @@ ghost use Rattle.journal_model.specs.JournaledDisk.{IsCutOf, JournaledDisk};
 ghost use Rattle.journal_reading.specs.Journal.{journal_image};
 ghost use Rattle.place_writer.specs.Cells.{HasCells};
 ghost use Rattle.tag_store.specs.Store.{IsStore, given_tags};
-ghost use Rattle.replay.specs.Recovery.{IsReplayed, LeavesRecovered};
+ghost use Rattle.place_model.specs.Opened.{next_by};
+ghost use Rattle.replay.specs.Recovery.{GoesOnIn, IsReplayed, LeavesRecovered};
 ghost use Rattle.replay.specs.Writes.{IsOfEmptyJournal};
 
 use crate::entering::ReplayedJournal;
@@ -52,6 +53,8 @@ pub(crate) fn erase_journal<D: Disk>(
         → d.placed ≡ length d.entries → HasCells d tags.now (D.moments disk.old)
         → HasNow (λ c. LeavesRecovered d at (given_tags tags.now c) c) (D.moments disk.new)) }
 
+    ensures next { IfOk result (λ at. at.next ≡ 0) }
+    ensures place { IfOk result (GoesOnIn geometry.now) }
     ensures unused { IfOk result (λ at. at.used ≡ false) }
     ensures cause { HasCause (D.faults disk.old) (D.faults disk.new) result }
 
@@ -114,6 +117,9 @@ fn erase_scanned<D: Disk>(
         → HasCells d tags.now (D.moments disk.old)
         → HasNow (λ c. LeavesRecovered d at (given_tags tags.now c) c) (D.moments disk.new)) }
 
+    ensures next { IfOk result (λ at. at.next ≡ 0) }
+    ensures place { IfOk result (GoesOnIn geometry.now) }
+
     ensures cause { HasCause (D.faults disk.old) (D.faults disk.new) result }
 
     ensures store { OnOk result (IsStore tags.now (D.identity disk.new) (D.moments disk.new)) }
@@ -159,6 +165,9 @@ pub(crate) fn finish<D: Disk>(
     ensures left { IfOk result (λ at. (d : JournaledDisk) → IsReplayed d geometry.now scratch.old
         → HasCells d tags.now (D.moments disk.old) → HasNow HasNothingPending (D.moments disk.old)
         → HasNow (λ c. LeavesRecovered d at (given_tags tags.now c) c) (D.moments disk.new)) }
+
+    ensures next { IfOk result (λ at. at.next ≡ next_by replayed.now.journal.plan.state) }
+    ensures place { IfOk result (GoesOnIn geometry.now) }
 
     ensures cause { HasCause (D.faults disk.old) (D.faults disk.new) result }
 

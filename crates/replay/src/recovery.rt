@@ -4,12 +4,14 @@ ghost use Rattle.disk_model.specs.Disk.{EachImage, OnlyAdds, last_image};
 ghost use Rattle.disk_model.specs.Moments.{EachMoment, EachSince, HasNow};
 ghost use Rattle.image_model.specs.Cells.{replayed_entries};
 ghost use Rattle.image_model.specs.Geometry.{journal_sectors};
+ghost use Rattle.image_model.specs.Grid.{walk_of};
 ghost use Rattle.image_model.specs.Openable.{journal_fault_of};
 ghost use Rattle.journal_model.specs.Opening.{opened_disk};
 ghost use Rattle.journal_reading.specs.Faults.{HasReplayCause, refusal_in};
 ghost use Rattle.place_model.specs.Format.{DiskFormat, HasCells as HasImageCells, cells_on};
+ghost use Rattle.place_model.specs.Opened.{next_after_walk};
 ghost use Rattle.tag_store.specs.Store.{IsStore, given_tags};
-ghost use Rattle.replay.specs.Recovery.{EntersRecovery, LeavesRecovered};
+ghost use Rattle.replay.specs.Recovery.{EntersRecovery, GoesOnIn, LeavesRecovered};
 ghost use Rattle.replay.specs.Writes.{IsOfRecovery};
 
 use crate::entering::replay_journal;
@@ -55,6 +57,9 @@ pub fn recover<D: Disk>(
         EntersRecovery f maker.now (D.identity disk.old).sectors tags.old start
         → HasNow (λ c. LeavesRecovered (opened_disk f (last_image start)) at (given_tags tags.new c) c)
         (D.moments disk.new)) (D.moments disk.old)) }
+    ensures next { IfOk result (λ at. HasNow (λ start. at.next
+        ≡ next_after_walk (walk_of geometry.now (last_image start))) (D.moments disk.old)) }
+    ensures place { IfOk result (GoesOnIn geometry.now) }
 
     ensures refused { result ≢ Err ReplayFault.Memory → result ≢ Err ReplayFault.Disk
         → HasNow (λ c. refusal_in result ≡ journal_fault_of maker.now.key maker.now.salt

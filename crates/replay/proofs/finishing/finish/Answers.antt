@@ -1,8 +1,9 @@
-use Rattle.std.proofs.Common.{◌^◌, inl, refl}
+use Rattle.std.proofs.Common.{◌^◌, inl, refl, sym, ◌∙◌, ap}
 use Rattle.std.proofs.lemmas.Result.{IfOk-weaker}
 use Rattle.disk_model.proofs.MomentsLemmas.{no_moment}
 use Rattle.journal_reading.specs.Journal.{journal_image}
-use Rattle.replay.proofs.FinishingLemmas.{not_blank, rest_left}
+use Rattle.place_model.specs.Opened.{next_by}
+use Rattle.replay.proofs.FinishingLemmas.{not_blank, rest_left, rest_place}
 use Rattle.replay.proofs.ReplayingLemmas.{geometry_of}
 use Rattle.replay.proofs.finishing.finish.Goals as goal
 
@@ -31,3 +32,17 @@ returns-in-Erasing-clause-left g c = IfOk-weaker c.erase_scanned-in-Erasing.resu
 
 pub returns-in-Rest-clause-moments : goal.returns-in-Rest-clause-moments
 returns-in-Rest-clause-moments g c = no_moment (g.D.Disk.moments c.args.disk.now) _
+
+pub returns-in-Rest-clause-next : goal.returns-in-Rest-clause-next
+returns-in-Rest-clause-next g c = sym (ap next_by c.in-Rest.is)
+
+pub returns-in-Rest-clause-place : goal.returns-in-Rest-clause-place
+returns-in-Rest-clause-place g c =
+    let geometry = geometry_of c.args.geometry.now c.args.tags.now (g.D.Disk.identity c.args.disk.now) (g.D.Disk.moments c.args.disk.now) c.requires.geometry c.requires.store in
+    rest_place c.args.geometry.now (2 ^ 48) (journal_image c.args.scratch.now) c.args.replayed.now.journal.plan c.in-Rest.next c.in-Rest.number _ geometry c.requires.plan c.in-Rest.is
+
+pub returns-in-Mixed-clause-next : goal.returns-in-Mixed-clause-next
+returns-in-Mixed-clause-next g c = IfOk-weaker c.erase_scanned.result _ _ (λ at first. first ∙ sym (ap next_by c.in-Mixed.is)) c.erase_scanned.ensures.next
+
+pub returns-in-Erasing-clause-next : goal.returns-in-Erasing-clause-next
+returns-in-Erasing-clause-next g c = IfOk-weaker c.erase_scanned-in-Erasing.result _ _ (λ at first. first ∙ sym (ap next_by c.in-Erasing.is)) c.erase_scanned-in-Erasing.ensures.next

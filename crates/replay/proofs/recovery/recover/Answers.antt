@@ -1,11 +1,14 @@
-use Rattle.std.proofs.Common.{length, refl, sym, ap, ◌∙◌}
+use Rattle.std.proofs.Common.{◌^◌, length, refl, sym, ap, ◌∙◌}
 use Rattle.std.specs.Result.{is_ok}
 use Rattle.disk_model.specs.Disk.{last_image}
 use Rattle.disk_model.proofs.MomentsLemmas.{EachMoment-then}
 use Rattle.direct_mode.proofs.StoreCalls.{reads_whole}
 use Rattle.journal_model.specs.Opening.{opened_disk}
+use Rattle.journal_reading.proofs.JournalLemmas.{walk_of-journal}
+use Rattle.place_model.specs.Opened.{next_after_walk}
 use Rattle.journal_model.specs.Steps.{after_settle}
 use Rattle.replay.specs.Replaying.{all_placed}
+use Rattle.replay.proofs.ReplayingLemmas.{geometry_of}
 use Rattle.replay.proofs.RecoveryLemmas.{cells_stay_erased, leaves_same, replayed_after}
 use Rattle.replay.proofs.WritesLemmas.{recovery_adds, replay_only}
 use Rattle.replay.proofs.recovery.recover.Goals as goal
@@ -68,3 +71,10 @@ returns-in_err-recovered-clause-moments g c = recovery_adds c.args.geometry.now 
 
 pub returns-clause-moments : goal.returns-clause-moments
 returns-clause-moments g c = recovery_adds c.args.geometry.now c.replay_journal.ensures.moments c.finish.ensures.moments
+
+pub returns-clause-next : goal.returns-clause-next
+returns-clause-next g c start told =
+    let geometry = geometry_of c.args.geometry.now c.args.tags.now (g.D.Disk.identity c.args.disk.now) (g.D.Disk.moments c.args.disk.now) c.requires.geometry c.requires.store in
+    let journal = c.in_ok-replayed.ensures.replayed.read start told in
+    c.in_ok-recovered.ensures.next
+    ∙ sym (ap next_after_walk (walk_of-journal c.args.geometry.now (2 ^ 48) c.replay_journal.new.bytes (last_image start) geometry journal ∙ c.in_ok-replayed.ensures.replayed.judged.plan))
