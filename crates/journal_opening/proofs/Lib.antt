@@ -1,0 +1,5 @@
+pub mod FaultsLemmas
+pub mod MomentsLemmas
+pub mod RecoveringLemmas
+pub mod OpeningLemmas
+pub mod OpenedLemmas

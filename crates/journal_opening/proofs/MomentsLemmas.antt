@@ -1,0 +1,39 @@
+-- The first sync of an opening, and what comes behind it.
+use Rattle.std.proofs.Common.{◌≡◌, ℕ, sym, ◌∙◌, ap, subst, Option, Some, None, List}
+use Rattle.std.specs.Option.{IsSomeAnd, option_map}
+use Rattle.std.proofs.lemmas.Option.{none-some, same_Some}
+use Rattle.disk_model.specs.Disk.{Content, Image, OnlyAdds, last_image, newest_only}
+use Rattle.disk_model.specs.Moments.{EachMoment, EachSince, IsChangedBy, content_now}
+use Rattle.disk_model.proofs.DiskLemmas.{OnlyAdds-none}
+use Rattle.disk_model.proofs.MomentsLemmas.{EachMoment-join, EachMoment-weaker, FromStart-weaker}
+
+-- What is told at the start is known of it.
+from_told : (o : Option Content) (P : Content → Type 0) (start : Content) → o ≡ Some start → IsSomeAnd o P → P start
+from_told None P start told p = absurd (none-some start told)
+from_told (Some c) P start told p = subst P (same_Some c start told) p
+
+pub told_synced : (a b : Option Content) (c : Content) → b ≡ option_map newest_only a → a ≡ Some c → b ≡ Some (newest_only c)
+told_synced a b c synced told = synced ∙ ap (option_map newest_only) told
+
+-- Each content since is so, where it is by the start and that is told.
+pub each_from : {a b : List Content} (P : Content → Content → Type 0) (start : Content) → content_now a ≡ Some start → EachSince P a b → EachMoment a b (P start)
+each_from {a} P start told m = EachMoment-weaker (λ c from. from_told (content_now a) (λ x. P x c) start told from) m
+
+module _ (W : Image → ℕ → List ℕ → Type 0) where
+  -- What an opening may add: a part of what is settled, and then these.
+  abbrev Settles : Content → Content → Type 0
+  Settles start = OnlyAdds (W (last_image start)) (newest_only start)
+
+  -- The sync alone adds nothing to it,
+  pub sync_settles : {a b : List Content} → EachSince (λ start c. c ≡ newest_only start) a b → EachSince Settles a b
+  sync_settles {a} m =
+      EachMoment-weaker (FromStart-weaker a (λ start c. c ≡ newest_only start) Settles (λ start c told is.
+      subst (λ (x : Content). Settles start x) (sym is) (OnlyAdds-none (W (last_image start)) (newest_only start)))) m
+
+  -- and what comes behind it adds to that.
+  pub settles_then : {a b c : List Content} → EachSince (λ start c. c ≡ newest_only start) a b → IsChangedBy newest_only a b → EachSince (λ start. OnlyAdds (W (last_image start)) start) b c → EachSince Settles a c
+  settles_then {a} {b} first synced second =
+      EachMoment-join Settles (λ start. OnlyAdds (W (last_image start)) start) (sync_settles first) second
+      (λ start middle later told told_middle so_far adds.
+      let is : middle ≡ newest_only start = same_Some middle (newest_only start) (sym told_middle ∙ told_synced (content_now a) (content_now b) start synced told) in
+      subst (λ (x : Content). OnlyAdds (W (last_image x)) x later) is adds)

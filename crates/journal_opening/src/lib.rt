@@ -1,0 +1,22 @@
+//! The opening of a device in journal mode: the first sector is read and judged, all memory is taken, and the disk is
+//! synced; then the image is recovered, and its journal goes on.
+//!
+//! A contract sees an `OpenedJournal`, an `OpeningRoom` and a `RecoveredImage` as their fields. What is open then, why
+//! a disk is refused, and what a cut leaves meanwhile, stands in `specs/Opening.antt`, the file to read first.
+#![tactic(auto)]
+
+mod laws;
+mod open_fault;
+mod opened;
+mod opening;
+mod recovering;
+mod room;
+#[cfg(test)]
+mod tests;
+
+pub use laws::images_that_open_are_not_refused;
+pub use open_fault::JournalOpenFault;
+pub use opened::OpenedJournal;
+pub use opening::{open_format, open_journal};
+pub use recovering::{RecoveredImage, recover_image};
+pub use room::OpeningRoom;
