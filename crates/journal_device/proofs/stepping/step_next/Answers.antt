@@ -1,0 +1,71 @@
+use Rattle.std.proofs.Common.{inr, refl, ◌∙◌, sym, ap}
+use Rattle.direct_mode.proofs.ServingLemmas.{on_err_always}
+use Rattle.journal_mode.proofs.FlushLemmas.{one_is}
+use Rattle.journal_mode.proofs.ClosingLemmas.{batch_geometry}
+use Rattle.journal_device.specs.Device.{standing_of}
+use Rattle.journal_device.proofs.DoneLemmas.{stands_now}
+use Rattle.journal_device.proofs.EventLemmas.{clean_step, commit_step, place_step, recalc_step, settle_step, step_failed}
+use Rattle.journal_device.proofs.WriteLemmas.{ready_tags}
+use Rattle.journal_device.proofs.stepping.step_next.Goals as goal
+use Rattle.journal_device.proofs.stepping.step_next.Goals.{in-Commit+in_ok-moved-in-Commit, in-Place+in_ok-moved-in-Place, in-Settle+in_ok-moved-in-Settle, in-Clean, in-Recalc}
+
+pub returns-in_err-moved-in-Commit-clause-err : goal.returns-in_err-moved-in-Commit-clause-err
+returns-in_err-moved-in-Commit-clause-err g c = on_err_always c.from_residual.result (λ w is.
+    let before = g.D.Disk.moments c.args.disk.now in
+    step_failed w c.args.parts.now c.args.journal.now before is _ c.args.parts.now c.commit.new.self (g.D.Disk.moments c.commit.new.disk) refl refl
+    (c.commit.ensures.left (standing_of w) (stands_now w c.args.parts.now c.args.journal.now before is)))
+
+pub returns-in_err-moved-in-Place-clause-err : goal.returns-in_err-moved-in-Place-clause-err
+returns-in_err-moved-in-Place-clause-err g c = on_err_always c.from_residual-in_err-moved-in-Place.result (λ w is.
+    let before = g.D.Disk.moments c.args.disk.now in
+    step_failed w c.args.parts.now c.args.journal.now before is _ (record c.args.parts.now { tags = c.place.new.tags }) c.place.new.self (g.D.Disk.moments c.place.new.disk) refl refl
+    (c.place.ensures.left (standing_of w) (stands_now w c.args.parts.now c.args.journal.now before is)))
+
+pub returns-in_err-moved-in-Settle-clause-err : goal.returns-in_err-moved-in-Settle-clause-err
+returns-in_err-moved-in-Settle-clause-err g c = on_err_always c.from_residual-in_err-moved-in-Settle.result (λ w is.
+    let before = g.D.Disk.moments c.args.disk.now in
+    step_failed w c.args.parts.now c.args.journal.now before is _ (record c.args.parts.now { tags = c.settle.new.tags }) c.settle.new.self (g.D.Disk.moments c.settle.new.disk) refl refl
+    (c.settle.ensures.left (standing_of w) (stands_now w c.args.parts.now c.args.journal.now before is)))
+
+pub returns-clause-stepped : goal.returns-clause-stepped
+returns-clause-stepped g c w is =
+    let parts = c.args.parts.now in
+    let journal = c.args.journal.now in
+    let before = g.D.Disk.moments c.args.disk.now in
+    let stands = stands_now w parts journal before is in
+    elim c.match-actor.branch [
+      | in-Commit+in_ok-moved-in-Commit x ↦ rw (c.moved_as.ensures, x.moved-is, x.disk-is, x.parts-is, x.journal-is, x.in-Commit.is)
+          (commit_step w parts journal before is _ parts x.commit.new.self (g.D.Disk.moments x.commit.new.disk) refl refl
+          (x.in_ok-moved-in-Commit.ensures.committed (standing_of w) stands) (x.commit.ensures.left (standing_of w) stands))
+      | in-Place+in_ok-moved-in-Place x ↦ rw (c.moved_as.ensures, x.moved-is, x.disk-is, x.parts-is, x.journal-is, x.in-Place.is)
+          (place_step w parts journal before is _ (record parts { tags = x.place.new.tags }) x.place.new.self (g.D.Disk.moments x.place.new.disk) refl refl
+          (x.in_ok-moved-in-Place.ensures.placed (standing_of w) stands) (x.place.ensures.left (standing_of w) stands))
+      | in-Settle+in_ok-moved-in-Settle x ↦ rw (c.moved_as.ensures, x.moved-is, x.disk-is, x.parts-is, x.journal-is, x.in-Settle.is)
+          (settle_step w parts journal before is _ (record parts { tags = x.settle.new.tags }) x.settle.new.self (g.D.Disk.moments x.settle.new.disk) refl refl
+          (x.in_ok-moved-in-Settle.ensures.settled (standing_of w) stands) (x.settle.ensures.left (standing_of w) stands))
+      | in-Clean x ↦ rw (c.moved_as.ensures, x.moved-is, x.disk-is, x.parts-is, x.journal-is, x.in-Clean.is) (clean_step w parts journal before is)
+      | in-Recalc x ↦ rw (c.moved_as.ensures, x.moved-is, x.disk-is, x.parts-is, x.journal-is, x.in-Recalc.is) (recalc_step w parts journal before is)
+    ]
+
+pub returns-clause-ready : goal.returns-clause-ready
+returns-clause-ready g c =
+    let parts = c.args.parts.now in
+    let journal = c.args.journal.now in
+    let before = g.D.Disk.moments c.args.disk.now in
+    let disk = g.D.Disk.identity c.args.disk.now in
+    elim c.match-actor.branch [
+      | in-Commit+in_ok-moved-in-Commit x ↦ rw (x.disk-is, x.parts-is, x.journal-is) (record {
+        parts_ = λ _. ready_tags parts parts.tags disk (g.D.Disk.identity x.commit.new.disk) before (g.D.Disk.moments x.commit.new.disk) (c.requires.parts_ refl) x.in_ok-moved-in-Commit.ensures.store refl;
+        geometry = batch_geometry journal x.commit.new.self (inr (one_is journal x.commit.new.self _ _ _ _ _ x.in_ok-moved-in-Commit.ensures.moved)) ∙ c.requires.geometry;
+      })
+      | in-Place+in_ok-moved-in-Place x ↦ rw (x.disk-is, x.parts-is, x.journal-is) (record {
+        parts_ = λ _. ready_tags parts x.place.new.tags disk (g.D.Disk.identity x.place.new.disk) before (g.D.Disk.moments x.place.new.disk) (c.requires.parts_ refl) x.place.ensures.store x.place.ensures.geometry;
+        geometry = ap (λ r. r.geometry) x.place.ensures.ring ∙ c.requires.geometry ∙ sym x.place.ensures.geometry;
+      })
+      | in-Settle+in_ok-moved-in-Settle x ↦ rw (x.disk-is, x.parts-is, x.journal-is) (record {
+        parts_ = λ _. ready_tags parts x.settle.new.tags disk (g.D.Disk.identity x.settle.new.disk) before (g.D.Disk.moments x.settle.new.disk) (c.requires.parts_ refl) x.settle.ensures.store x.settle.ensures.geometry.0;
+        geometry = x.settle.ensures.geometry.1 ∙ c.requires.geometry ∙ sym x.settle.ensures.geometry.0;
+      })
+      | in-Clean x ↦ rw (x.disk-is, x.parts-is, x.journal-is) c.requires
+      | in-Recalc x ↦ rw (x.disk-is, x.parts-is, x.journal-is) c.requires
+    ]

@@ -1,0 +1,17 @@
+-- A flush behind a write, where that is asked.
+use Rattle.std.specs.Prelude.{◌≡◌, Bool, true, false, List}
+use Rattle.disk_model.specs.Disk.{Content}
+use Rattle.tag_store.specs.Store.{Store}
+use Rattle.journal_mode.specs.Commits.{HasFlushed, WritesBatches}
+use Rattle.journal_mode.specs.Journal.{PlacedRing}
+use Rattle.journal_mode.specs.Standing.{JournalStanding, StandsAs}
+
+-- All is flushed where that is asked, and else nothing is done.
+abbrev pub HasFlushedIf : Bool → JournalStanding → PlacedRing → Store → List Content → Type 0
+HasFlushedIf true w journal store moments = HasFlushed w journal store moments
+HasFlushedIf false w journal store moments = StandsAs w journal store moments
+
+-- So batches of the journal are written, or nothing.
+abbrev pub WritesIf : Bool → PlacedRing → (before after : List Content) → Type 0
+WritesIf true journal before after = WritesBatches journal before after
+WritesIf false journal before after = after ≡ before

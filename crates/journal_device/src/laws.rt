@@ -1,0 +1,12 @@
+//! Laws of the calls that make no call of the disk.
+ghost use Rattle.journal_device.specs.Answers.{SubmitLaw, TakeLaw};
+
+/// A request that is submitted to the slots of a device, or refused by it, is submitted to the device. It does nothing.
+pub fn requests_are_submitted()
+    ensures { SubmitLaw }
+{}
+
+/// A reply that is taken from the slots of a device is the one that the device gives. It does nothing.
+pub fn replies_are_taken()
+    ensures { TakeLaw }
+{}
