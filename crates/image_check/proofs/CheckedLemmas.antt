@@ -1,0 +1,281 @@
+-- What is kept of an image tells which of its blocks are bad.
+use Rattle.std.proofs.Common.{◌≡◌, inl, inr, ℕ, suc, ◌+◌, ◌-◌, ◌*◌, ◌<◌, ◌≤◌, true, false, Bool, refl, sym, ◌∙◌, ap, subst, arith, Option, Some, None, is_some, Result, Err, IfOk, List, [], ◌∷◌, ◌++◌, bytes_eq, filter_map, filter, length}
+use Rattle.std.specs.List.{range_with_len, slice_get}
+use Rattle.std.proofs.lemmas.Bool.{cases_Bool}
+use Rattle.std.proofs.lemmas.List.{append-nil, map-id}
+use Rattle.std.proofs.lemmas.List.Elements.{filter_map-append}
+use Rattle.std.proofs.lemmas.List.FromFn.{map-range_with_len_more}
+use Rattle.std.proofs.lemmas.Result.{IfOk-weaker}
+use Rattle.std.proofs.lemmas.Slice.Eq.{bytes_eq-Decides}
+use Rattle.disk_model.specs.Disk.{Content, Image, last_image}
+use Rattle.disk_model.specs.Identity.{DiskIdentity, IsBound}
+use Rattle.disk_model.specs.Moments.{HasNow, content_now}
+use Rattle.image_model.specs.declared.flags.TheConstants.{DIRTY_BITMAP, RECALCULATING}
+use Rattle.image_model.specs.Bitmap.{awaits}
+use Rattle.image_model.specs.Cells.{Cell, block_tag, cells_of, last_entry, placed_cells_of, replayed_entries, salt_of}
+use Rattle.image_model.specs.Geometry.{Geometry}
+use Rattle.image_model.specs.Openable.{IsReplayable}
+use Rattle.image_model.specs.Section.{Entry}
+use Rattle.image_model.specs.Superblock.{IsAccepted, Superblock, has_flag}
+use Rattle.image_model.proofs.CellsLemmas.{cells_of-entry, cells_of-placed, counted_entries-journal}
+use Rattle.image_model.proofs.SuperblockLemmas.{flag_unset}
+use Rattle.image_opening.specs.Format.{IsDirectFormat, IsReadNow, disk_format}
+use Rattle.hmac_tag.specs.TagMaker.{TagRule}
+use Rattle.journal_model.proofs.PlaceLemmas.{last_entry-tells}
+use Rattle.journal_overlay.specs.Kept.{Places, newest_of}
+use Rattle.place_model.specs.Format.{DiskFormat, format_on}
+use Rattle.sector_window.specs.Window.{Window}
+use Rattle.sector_window.proofs.WindowLemmas.{Reads-none}
+use Rattle.image_check.specs.Bad.{bad_block, bad_blocks, bad_by, bad_cell, first_bad_from}
+use Rattle.image_check.specs.declared.bad.Bad.{Bad}
+use Rattle.image_check.specs.Checked.{Checked, IsCheckOf, IsJournalOf, IsSameCheck, bad_kept, checked_format, what_of}
+use Rattle.image_check.specs.declared.bad.What.{What}
+use Rattle.image_check.specs.declared.check_fault.CheckFault.{CheckFault}
+use Rattle.image_check.specs.declared.check_fault.CheckFault.TheVariants.{Memory, Disk, Super, Geom, Mode, Journal}
+use Rattle.image_check.specs.declared.report.Report.{Report}
+use Rattle.image_check.specs.Faults.{refusal_in}
+use Rattle.image_check.specs.Index.{IsIndexOn}
+use Rattle.image_check.specs.Report.{IsReportOf, with_found}
+use Rattle.image_check.specs.Windows.{HasRoom}
+
+-- ---- one block
+
+-- Equal tags are not told.
+bad_by-same : (block : ℕ) (stored computed : List ℕ) → stored ≡ computed → bad_by block stored computed ≡ None
+bad_by-same block stored computed same =
+    let equal : bytes_eq stored computed ≡ true = (bytes_eq-Decides stored computed).1 same in
+    rw equal refl
+
+-- Without a bitmap no block awaits its tag, since the flag for that is not known.
+pub no_awaits : (s : Superblock) (g : Geometry) (image : Image) (b : ℕ) → IsAccepted s → has_flag DIRTY_BITMAP s.flags ≡ false → awaits s g image b ≡ false
+unfolding awaits
+no_awaits s g image b accepted clear =
+    let still : has_flag RECALCULATING s.flags ≡ false = flag_unset RECALCULATING s.flags refl accepted.layout.flags in
+    rw (clear, still) refl
+
+some_of : {A : Type 0} (o : Option A) → is_some o ≡ true → (x : A) × (o ≡ Some x)
+some_of None e = absurd (cc)
+some_of (Some x) e = (x, refl)
+
+none_of : {A : Type 0} (o : Option A) → is_some o ≡ false → o ≡ None
+none_of None e = refl
+none_of (Some x) e = absurd (cc)
+
+module _ (rule : TagRule) (s : Superblock) (g : Geometry) (image : Image) (accepted : IsAccepted s) (clear : has_flag DIRTY_BITMAP s.flags ≡ false) (b : ℕ) where
+  -- A block that has an entry has its tag, and any other is as it is placed.
+  kept_cell : (places : Places) → IsIndexOn rule.key rule.salt g image places
+      → bad_kept rule g (Some places) image b ≡ bad_cell rule.key rule.salt g b (cells_of rule.key s g image b)
+  kept_cell places is = elim (cases_Bool (is_some (newest_of b places.kept))) [
+    | inl has ↦
+        let there = some_of (last_entry g (replayed_entries g image) b) (sym (is.index.each b) ∙ has) in
+        let entry = there.0 in
+        let tells = last_entry-tells (IsReplayable rule.key rule.salt g) g (replayed_entries g image) b entry is.right there.1 in
+        let last = ap (λ (es : List Entry). last_entry g es b) (counted_entries-journal rule.key s g image clear) ∙ there.1 in
+        let cell : cells_of rule.key s g image b ≡ record { bytes = entry.bytes; tag = entry.tag } = cells_of-entry rule.key s g image b entry last in
+        let same : entry.tag ≡ block_tag rule.key rule.salt g (b * g.shape.spb) entry.bytes = tells.0.tag ∙ ap (λ n. block_tag rule.key rule.salt g n entry.bytes) tells.1 in
+        rw has (sym (ap (λ (x : Cell). bad_cell rule.key rule.salt g b x) cell ∙ bad_by-same b entry.tag (block_tag rule.key rule.salt g (b * g.shape.spb) entry.bytes) same))
+    | inr none ↦
+        let nothing = none_of (last_entry g (replayed_entries g image) b) (sym (is.index.each b) ∙ none) in
+        let last = ap (λ (es : List Entry). last_entry g es b) (counted_entries-journal rule.key s g image clear) ∙ nothing in
+        let cell : cells_of rule.key s g image b ≡ placed_cells_of g image b = cells_of-placed rule.key s g image b last (no_awaits s g image b accepted clear) in
+        rw none (sym (ap (λ (x : Cell). bad_cell rule.key rule.salt g b x) cell))
+  ]
+
+  -- So it is of what is judged.
+  kept_block : (sectors : ℕ) (journal : Option Places) → rule.salt ≡ salt_of s → IsJournalOf rule g image journal
+      → (let d : DiskFormat = record { key = rule.key; sectors = sectors; superblock = s; geometry = g } in bad_kept rule g journal image b ≡ bad_block (what_of journal) d image b)
+  kept_block sectors None salt is = ap (λ (x : Option (List ℕ)). bad_cell rule.key x g b (placed_cells_of g image b)) salt
+  kept_block sectors (Some places) salt is = kept_cell places is ∙ ap (λ (x : Option (List ℕ)). bad_cell rule.key x g b (cells_of rule.key s g image b)) salt
+
+-- ---- for callers
+
+module _ (image : Checked) (disk : DiskIdentity) (moments : List Content) (is : IsCheckOf image disk moments) (c : Content) (told : content_now moments ≡ Some c) where
+  -- The format of the disk is the one that is kept,
+  pub own_is : checked_format image disk.sectors (last_image c) ≡ disk_format image.rule.key disk.sectors image.format
+  own_is = is.own c told
+
+  pub blocks_are : (checked_format image disk.sectors (last_image c)).geometry.blocks ≡ image.format.geometry.blocks
+  blocks_are = ap (λ (d : DiskFormat). d.geometry.blocks) own_is
+
+  -- and a block is bad where it is by what is kept.
+  pub bad_is : (b : ℕ) → bad_kept image.rule image.format.geometry image.journal (last_image c) b
+      ≡ bad_block (what_of image.journal) (checked_format image disk.sectors (last_image c)) (last_image c) b
+  bad_is b =
+      kept_block image.rule image.format.fields image.format.geometry (last_image c) is.format.accepted.fields is.format.no_bitmap b disk.sectors image.journal is.salt (is.journal c told)
+      ∙ ap (λ (d : DiskFormat). bad_block (what_of image.journal) d (last_image c) b) (sym own_is)
+
+-- ---- in order
+
+module _ {X : Type 0} (f : ℕ → Option X) (end : ℕ) where
+  -- Where the next one is not kept,
+  pub kept-skip : (b : ℕ) → b < end → f b ≡ None → filter_map f (range_with_len b (end - b)) ≡ filter_map f (range_with_len (b + 1) (end - (b + 1)))
+  kept-skip b low none =
+      let split : end - b ≡ suc (end - (b + 1)) = omega arith in
+      ap (λ n. filter_map f (range_with_len b n)) split ∙ rw none refl
+
+  -- where it is,
+  pub kept-here : (b : ℕ) (x : X) → b < end → f b ≡ Some x → slice_get (filter_map f (range_with_len b (end - b))) 0 ≡ Some x
+  kept-here b x low some =
+      let split : end - b ≡ suc (end - (b + 1)) = omega arith in
+      ap (λ n. slice_get (filter_map f (range_with_len b n)) 0) split ∙ rw some refl
+
+  -- and where there is none.
+  pub kept-end : (b : ℕ) → end ≤ b → slice_get (filter_map f (range_with_len b (end - b))) 0 ≡ None
+  kept-end b high =
+      let nothing : end - b ≡ 0 = omega arith in
+      ap (λ n. slice_get (filter_map f (range_with_len b n)) 0) nothing
+
+  -- One more.
+  pub kept-more : (b : ℕ) → filter_map f (range_with_len 0 (b + 1)) ≡ filter_map f (range_with_len 0 b) ++ filter_map f (b ∷ [])
+  kept-more b =
+      let longer : range_with_len 0 (b + 1) ≡ range_with_len 0 b ++ b ∷ [] =
+      sym (map-id (range_with_len 0 (b + 1))) ∙ map-range_with_len_more (λ k. k) 0 b b (omega arith) ∙ ap (λ (xs : List ℕ). xs ++ b ∷ []) (map-id (range_with_len 0 b)) in
+      ap (filter_map f) longer ∙ filter_map-append f (range_with_len 0 b) (b ∷ [])
+
+-- ---- a judgement, and what it tells of all blocks
+
+-- What a block is judged to be.
+abbrev pub judged_in : Checked → (sectors : ℕ) → Image → ℕ → Option Bad
+judged_in i sectors image b = bad_block (what_of i.journal) (checked_format i sectors image) image b
+
+-- The first bad block from a block on.
+abbrev pub first_in : Checked → (sectors : ℕ) → Image → ℕ → Option Bad
+first_in i sectors image from = first_bad_from (what_of i.journal) (checked_format i sectors image) image from
+
+-- What is kept tells it.
+pub bad_told : {E : Type 0} (view image : Checked) (disk : DiskIdentity) (moments : List Content) (b : ℕ) (r : Result (Option Bad) E) → view ≡ image
+    → IsCheckOf image disk moments
+    → IfOk r (λ answer. HasNow (λ c. answer ≡ bad_kept view.rule view.format.geometry view.journal (last_image c) b) moments)
+    → IfOk r (λ answer. HasNow (λ c. answer ≡ judged_in image disk.sectors (last_image c) b) moments)
+bad_told view image disk moments b r same is told = IfOk-weaker r _ _ (λ answer h c now.
+    h c now ∙ ap (λ (i : Checked). bad_kept i.rule i.format.geometry i.journal (last_image c) b) same ∙ bad_is image disk moments is c now b) told
+
+-- It is the same of the same image.
+judged_same : (old new : Checked) (sectors : ℕ) (image : Image) (b : ℕ) → IsSameCheck old new → judged_in new sectors image b ≡ judged_in old sectors image b
+judged_same old new sectors image b same =
+    ap (λ (o : Option Places). bad_block (what_of o) (checked_format new sectors image) image b) same.journal
+    ∙ ap (λ (rule : TagRule). let i : Checked = record old { rule = rule } in bad_block (what_of old.journal) (checked_format i sectors image) image b) same.rule
+
+module _ (old new : Checked) (disk now : DiskIdentity) (before after : List Content) (is : IsCheckOf old disk before) (same : IsSameCheck old new) (e : now ≡ disk) (m : after ≡ before) where
+  judged_now : (answer : Option Bad) (b : ℕ) → HasNow (λ c. answer ≡ judged_in new now.sectors (last_image c) b) after → HasNow (λ c. answer ≡ judged_in old disk.sectors (last_image c) b) before
+  judged_now answer b h c told =
+      h c (ap content_now m ∙ told)
+      ∙ ap (λ (d : DiskIdentity). judged_in new d.sectors (last_image c) b) e
+      ∙ judged_same old new disk.sectors (last_image c) b same
+
+  module _ (from b : ℕ) where
+    -- Nothing is bad up to a block.
+    abbrev pub NoneBefore : ℕ → Type 0
+    NoneBefore k = HasNow (λ c. first_in old disk.sectors (last_image c) from ≡ first_in old disk.sectors (last_image c) k) before
+
+    -- The block is not bad either,
+    pub first-none : b < old.format.geometry.blocks → HasNow (λ c. None ≡ judged_in new now.sectors (last_image c) b) after → NoneBefore b → NoneBefore (b + 1)
+    first-none low h none c told =
+        let inside : b < (checked_format old disk.sectors (last_image c)).geometry.blocks = omega (arith, low, blocks_are old disk before is c told) in
+        none c told
+        ∙ ap (λ (xs : List Bad). slice_get xs 0) (kept-skip (judged_in old disk.sectors (last_image c)) (checked_format old disk.sectors (last_image c)).geometry.blocks b inside (sym (judged_now None b h c told)))
+
+    -- it is the first,
+    pub first-some : (bad : Bad) → b < old.format.geometry.blocks → HasNow (λ c. Some bad ≡ judged_in new now.sectors (last_image c) b) after → NoneBefore b
+        → HasNow (λ c. Some bad ≡ first_in old disk.sectors (last_image c) from) before
+    first-some bad low h none c told =
+        let inside : b < (checked_format old disk.sectors (last_image c)).geometry.blocks = omega (arith, low, blocks_are old disk before is c told) in
+        sym (none c told
+        ∙ kept-here (judged_in old disk.sectors (last_image c)) (checked_format old disk.sectors (last_image c)).geometry.blocks b bad inside (sym (judged_now (Some bad) b h c told)))
+
+    -- or there is none.
+    pub first-end : old.format.geometry.blocks ≤ b → NoneBefore b → HasNow (λ c. None ≡ first_in old disk.sectors (last_image c) from) before
+    first-end high none c told =
+        let outside : (checked_format old disk.sectors (last_image c)).geometry.blocks ≤ b = omega (arith, high, blocks_are old disk before is c told) in
+        sym (none c told ∙ kept-end (judged_in old disk.sectors (last_image c)) (checked_format old disk.sectors (last_image c)).geometry.blocks b outside)
+
+  -- The list has the bad blocks up to a block,
+  abbrev pub ListsBelow : ℕ → List Bad → Type 0
+  ListsBelow k xs = HasNow (λ c. xs ≡ filter_map (judged_in old disk.sectors (last_image c)) (range_with_len 0 k)) before
+
+  pub lists-next : (b : ℕ) (found : Option Bad) (xs : List Bad) → HasNow (λ c. found ≡ judged_in new now.sectors (last_image c) b) after → ListsBelow b xs → ListsBelow (b + 1) (with_found found xs)
+  lists-next b None xs h lists c told =
+      let f = judged_in old disk.sectors (last_image c) in
+      let nothing : f b ≡ None = sym (judged_now None b h c told) in
+      lists c told ∙ sym (kept-more f 0 b ∙ rw nothing (append-nil (filter_map f (range_with_len 0 b))))
+  lists-next b (Some bad) xs h lists c told =
+      let f = judged_in old disk.sectors (last_image c) in
+      let here : f b ≡ Some bad = sym (judged_now (Some bad) b h c told) in
+      ap (λ (ys : List Bad). ys ++ bad ∷ []) (lists c told) ∙ sym (kept-more f 0 b ∙ rw here refl)
+
+  -- and in the end all.
+  pub lists-all : (b : ℕ) (xs : List Bad) → b ≡ old.format.geometry.blocks → ListsBelow b xs
+      → HasNow (λ c. xs ≡ bad_blocks (what_of old.journal) (checked_format old disk.sectors (last_image c)) (last_image c)) before
+  lists-all b xs all lists c told =
+      let count : b ≡ (checked_format old disk.sectors (last_image c)).geometry.blocks - 0 = omega (arith, all, blocks_are old disk before is c told) in
+      lists c told ∙ ap (λ n. filter_map (judged_in old disk.sectors (last_image c)) (range_with_len 0 n)) count
+
+-- What stays the same stays so.
+pub IsSameCheck-refl : (i : Checked) → IsSameCheck i i
+IsSameCheck-refl i = record { format = refl; rule = refl; journal = refl }
+
+pub IsSameCheck-then : (a b c : Checked) → IsSameCheck a b → IsSameCheck b c → IsSameCheck a c
+IsSameCheck-then a b c x y = record { format = y.format ∙ x.format; rule = y.rule ∙ x.rule; journal = y.journal ∙ x.journal }
+
+-- ---- an opening
+
+-- A window that shows nothing shows what reads of any disk give.
+fresh_window : (sectors room : ℕ) (w : Window) (moments : List Content) → (let empty : Window = record { room = room; first = 0; bytes = [] } in w ≡ empty) → sectors ≤ room → HasRoom sectors w moments
+fresh_window sectors room w moments is fits = subst (λ (x : Window). HasRoom sectors x moments) (sym is) (record {
+  room = fits;
+  window = record { reads = λ c told. Reads-none 0 c };
+})
+
+-- What is opened is of the disk.
+pub opened_check : (image : Checked) (key : Option (List ℕ)) (disk now : DiskIdentity) (before after : List Content) → now ≡ disk → after ≡ before
+    → IsBound disk.name → IsDirectFormat disk.sectors image.format → HasNow (IsReadNow key disk.sectors image.format) before
+    → (let rule : TagRule = record { key = key; salt = salt_of image.format.fields; size = image.format.geometry.shape.tag_size } in image.rule ≡ rule)
+    → HasNow (λ c. IsJournalOf image.rule image.format.geometry (last_image c) image.journal) before
+    → (let tags : Window = record { room = 129; first = 0; bytes = [] } in image.tags ≡ tags)
+    → (let blocks : Window = record { room = 512; first = 0; bytes = [] } in image.blocks ≡ blocks)
+    → IsCheckOf image now after
+opened_check image key disk now before after e m bound format reads rule journal tags blocks =
+    let key_is : key ≡ image.rule.key = sym (ap (λ (r : TagRule). r.key) rule) in
+    let is : IsCheckOf image disk before = record {
+      bound = bound;
+      format = format;
+      salt = ap (λ (r : TagRule). r.salt) rule;
+      size = ap (λ (r : TagRule). r.size) rule;
+      own = λ c told. subst (λ (k : Option (List ℕ)). format_on k disk.sectors (last_image c) ≡ disk_format k disk.sectors image.format) key_is (reads c told).own;
+      journal = journal;
+      tags = fresh_window 2 129 image.tags before tags (omega arith);
+      blocks = fresh_window 8 512 image.blocks before blocks (omega arith);
+    } in
+    subst (λ (d : DiskIdentity). IsCheckOf image d after) (sym e) (subst (λ (ms : List Content). IsCheckOf image disk ms) (sym m) is)
+
+-- A refusal is the same of each kind of answer.
+pub refusal_in-err : (T U : Type 0) (fault : CheckFault) → refusal_in {T = T} (Err fault) ≡ refusal_in {T = U} (Err fault)
+refusal_in-err T U Memory = refl
+refusal_in-err T U Disk = refl
+refusal_in-err T U (Super fault) = refl
+refusal_in-err T U (Geom fault) = refl
+refusal_in-err T U (Mode flags) = refl
+refusal_in-err T U (Journal fault) = refl
+
+-- ---- a report
+
+none_await : (s : Superblock) (g : Geometry) (image : Image) → IsAccepted s → has_flag DIRTY_BITMAP s.flags ≡ false → (xs : List ℕ) → filter (awaits s g image) xs ≡ []
+none_await s g image accepted clear [] = refl
+none_await s g image accepted clear (b ∷ xs) = rw (no_awaits s g image b accepted clear) (none_await s g image accepted clear xs)
+
+pub report_is : (what : What) (key : Option (List ℕ)) (image : Checked) (disk : DiskIdentity) (moments : List Content) (report : Report) → IsCheckOf image disk moments
+    → what_of image.journal ≡ what → image.rule.key ≡ key → report.blocks ≡ image.format.geometry.blocks → report.awaiting ≡ 0
+    → HasNow (λ c. report.bad.items ≡ bad_blocks (what_of image.journal) (checked_format image disk.sectors (last_image c)) (last_image c)) moments
+    → HasNow (λ c. IsReportOf what (format_on key disk.sectors (last_image c)) (last_image c) report) moments
+report_is what key image disk moments report is what_is key_is blocks none bad c told =
+    let own = own_is image disk moments is c told in
+    let s = image.format.fields in
+    let g = image.format.geometry in
+    let here : IsReportOf (what_of image.journal) (disk_format image.rule.key disk.sectors image.format) (last_image c) report = record {
+      blocks = blocks;
+      awaiting = none ∙ sym (ap length (none_await s g (last_image c) is.format.accepted.fields is.format.no_bitmap (range_with_len 0 g.blocks)));
+      bad = bad c told ∙ ap (λ (d : DiskFormat). bad_blocks (what_of image.journal) d (last_image c)) own;
+    } in
+    let moved = subst (λ (d : DiskFormat). IsReportOf (what_of image.journal) d (last_image c) report) (sym own) here in
+    let keyed = subst (λ (k : Option (List ℕ)). IsReportOf (what_of image.journal) (format_on k disk.sectors (last_image c)) (last_image c) report) key_is moved in
+    subst (λ (w : What). IsReportOf w (format_on key disk.sectors (last_image c)) (last_image c) report) what_is keyed

@@ -1,0 +1,4 @@
+pub mod JudgingLemmas
+pub mod IndexLemmas
+pub mod ReadingLemmas
+pub mod CheckedLemmas

@@ -1,0 +1,40 @@
+use Rattle.std.proofs.Common.{ℕ, ◌+◌, ◌≤◌, ap, ◌∙◌, arith}
+use Rattle.disk_model.specs.Identity.{DiskIdentity}
+use Rattle.disk_model.specs.Moments.{content_now}
+use Rattle.image_model.specs.Geometry.{Shape, tag_at}
+use Rattle.image_model.proofs.GeometryLemmas.{data_at-inside}
+use Rattle.disk_model.specs.Disk.{last_image}
+use Rattle.image_check.proofs.JudgingLemmas.{bad_cell-read, tag_lies}
+use Rattle.image_check.proofs.judging.judge_placed.Goals as goal
+
+pub show-requires-clause-inside : goal.show-requires-clause-inside
+show-requires-clause-inside g c =
+    let lies = tag_lies c.args.geometry.now (g.D.Disk.identity c.args.disk.now).sectors c.args.block c.requires.geometry c.requires.block in
+    omega (arith, lies.inside, ap (λ (p : ℕ × ℕ). p.0) c.tag_at-tag_at.ensures)
+
+pub show-requires-2-clause-inside : goal.show-requires-2-clause-inside
+show-requires-2-clause-inside g c =
+    let inside = data_at-inside c.args.geometry.now (g.D.Disk.identity c.args.disk.now).sectors c.args.block c.requires.geometry c.requires.block in
+    omega (arith, inside.1, c.data_at-at.ensures, ap (λ (s : Shape). s.spb) c.shape-shape.ensures.shape, ap (λ (d : DiskIdentity). d.sectors) c.show.ensures.identity)
+
+pub overflow_add-stored : goal.overflow_add-stored
+overflow_add-stored g c =
+    let lies = tag_lies c.args.geometry.now (g.D.Disk.identity c.args.disk.now).sectors c.args.block c.requires.geometry c.requires.block in
+    omega (arith, lies.ends, ap (λ (p : ℕ × ℕ). p.1) c.tag_at-tag_at.ensures, ap (λ (s : Shape). s.tag_size) c.shape-shape.ensures.shape)
+
+pub slice_bounds-stored-end : goal.slice_bounds-stored-end
+slice_bounds-stored-end g c =
+    let lies = tag_lies c.args.geometry.now (g.D.Disk.identity c.args.disk.now).sectors c.args.block c.requires.geometry c.requires.block in
+    let end : c.tag_at-tag_at.result.1 + c.shape-shape.result.tag ≤ 1024 = omega (arith, lies.ends, ap (λ (p : ℕ × ℕ). p.1) c.tag_at-tag_at.ensures, ap (λ (s : Shape). s.tag_size) c.shape-shape.ensures.shape) in
+    let size = c.run.ensures.size in
+    omega (arith, end, size)
+
+pub returns-clause-bad : goal.returns-clause-bad
+returns-clause-bad g c x now =
+    let geometry = c.args.geometry.now in
+    c.judge.ensures
+    ∙ bad_cell-read c.args.maker.now.key c.args.maker.now.salt geometry (last_image x) c.args.block c.tag_at-tag_at.result c.data_at-at.result c.shape-shape.result.tag c.shape-shape.result.spb
+    c.run.result.now c.run-2.result.now c.tag_at-tag_at.ensures c.data_at-at.ensures
+    (ap (λ (s : Shape). s.tag_size) c.shape-shape.ensures.shape) (ap (λ (s : Shape). s.spb) c.shape-shape.ensures.shape)
+    (c.run.ensures.bytes (g.D.Disk.moments c.show.new.disk) c.show.ensures.window x (ap content_now c.show.ensures.kept ∙ now))
+    (c.run-2.ensures.bytes (g.D.Disk.moments c.show-2.new.disk) c.show-2.ensures.window x (ap content_now (c.show-2.ensures.kept ∙ c.show.ensures.kept) ∙ now))

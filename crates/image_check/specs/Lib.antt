@@ -1,0 +1,6 @@
+pub mod Bad
+pub mod Windows
+pub mod Faults
+pub mod Index
+pub mod Checked
+pub mod Report

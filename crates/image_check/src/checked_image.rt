@@ -1,0 +1,204 @@
+//! An image that is checked: it is opened once, and asked for its bad blocks in order.
+ghost use Rattle.std.specs.Prelude.{◌≡◌, ◌≢◌, ◌<◌, Err, IfOk};
+ghost use Rattle.disk_model.specs.Causes.{HasCause};
+ghost use Rattle.disk_model.specs.Disk.{last_image};
+ghost use Rattle.disk_model.specs.Identity.{IsBound};
+ghost use Rattle.disk_model.specs.Moments.{HasNow};
+ghost use Rattle.hmac_tag.specs.TagMaker.{key_of};
+ghost use Rattle.image_model.specs.Cells.{salt_of};
+ghost use Rattle.image_opening.specs.Format.{IsDirectFormat, IsReadNow};
+ghost use Rattle.image_check.specs.Bad.{bad_block, first_bad_from};
+ghost use Rattle.image_check.specs.Checked.{IsCheckOf, IsSameCheck, checked_format, what_of};
+ghost use Rattle.image_check.specs.Faults.{HasCheckCause, journal_refusal, refusal_in, refusal_of};
+
+use crate::judging::judge_block;
+use crate::opening::{read_journal, tag_maker};
+use crate::{Bad, CheckFault, What};
+use hmac_tag::{Hash, TagMaker};
+use image_opening::{ImageFormat, read_direct_format};
+use journal_overlay::Overlay;
+use sector_disk::{Disk, Failed};
+use sector_window::SectorWindow;
+use std::alloc::Global;
+use std::marker::Model;
+
+/// How many sectors are read for tags at once: 64 KiB, and one that the last tag may end in.
+///
+/// Own: behind 64 KiB a larger read is no faster.
+const TAG_WINDOW: u64 = 129;
+
+/// How many are read for blocks.
+///
+/// Own: 256 KiB.
+const BLOCK_WINDOW: u64 = 512;
+
+/// An image that is checked. It takes all its memory when it is opened.
+///
+/// All its calls are over one disk, which nobody else writes.
+#[derive(Drop)]
+pub struct CheckedImage {
+    format: ImageFormat,
+    maker: TagMaker,
+    /// Which blocks have an entry in the journal, where that is looked at.
+    journal: Option<Overlay>,
+    tags: SectorWindow,
+    blocks: SectorWindow,
+}
+
+impl Model for CheckedImage {
+    ghost use Rattle.image_check.specs.Checked.{Checked};
+
+    ghost Value = { Checked };
+
+    ghost view = { λ image. record {
+      format = image.format;
+      rule = image.maker;
+      journal = image.journal;
+      tags = image.tags;
+      blocks = image.blocks;
+    } };
+}
+
+impl CheckedImage {
+    /// Opens an image: its format is read and judged, and its journal where that is looked at. Nothing is written.
+    ///
+    /// # Errors
+    ///
+    /// The first that holds:
+    ///
+    /// - `Super`, `Geom`: the first sector is refused.
+    /// - `Mode`: there is a bitmap.
+    /// - `Journal`: the journal is refused, where it is looked at.
+    /// - `Disk`: the disk failed at a read.
+    /// - `Memory`: there is none for the journal, or for what is read.
+    pub fn open<D: Disk>(
+        alloc: Global,
+        disk: &mut D,
+        hash: Hash,
+        what: What,
+    ) -> Result<CheckedImage, CheckFault>
+        requires { IsBound (D.identity disk.old).name }
+
+        ensures image { IfOk result (λ image. IsCheckOf image (D.identity disk.new) (D.moments disk.new)) }
+        ensures what { IfOk result (λ image. what_of image.journal ≡ what) }
+        ensures key { IfOk result (λ image. image.rule.key ≡ key_of hash) }
+
+        ensures refused { result ≢ Err CheckFault.Memory → result ≢ Err CheckFault.Disk
+            → HasNow (λ c. refusal_in result ≡ refusal_of what (key_of hash)
+            (D.identity disk.old).sectors (last_image c)) (D.moments disk.old) }
+        ensures cause { HasCheckCause (D.faults disk.old) (D.faults disk.new) result }
+
+        ensures identity { D.identity disk.new ≡ D.identity disk.old }
+        ensures kept { D.moments disk.new ≡ D.moments disk.old }
+    {
+        let format = read_direct_format(disk)?;
+        CheckedImage::in_format(alloc, disk, format, hash, what)
+    }
+
+    /// Opens an image in this format, which is its own.
+    ///
+    /// # Errors
+    ///
+    /// - `Journal`, `Disk`, `Memory`: as `open` has them.
+    fn in_format<D: Disk>(
+        alloc: Global,
+        disk: &mut D,
+        format: ImageFormat,
+        hash: Hash,
+        what: What,
+    ) -> Result<CheckedImage, CheckFault>
+        requires bound { IsBound (D.identity disk.old).name }
+        requires format { IsDirectFormat (D.identity disk.old).sectors format }
+        requires reads { HasNow (IsReadNow (key_of hash) (D.identity disk.old).sectors format) (D.moments disk.old) }
+
+        ensures image { IfOk result (λ image. IsCheckOf image (D.identity disk.new) (D.moments disk.new)) }
+        ensures what { IfOk result (λ image. what_of image.journal ≡ what) }
+        ensures key { IfOk result (λ image. image.rule.key ≡ key_of hash) }
+
+        ensures refused { result ≢ Err CheckFault.Memory → result ≢ Err CheckFault.Disk
+            → HasNow (λ c. refusal_in result ≡ journal_refusal what (key_of hash) (salt_of format.fields)
+            format.geometry (last_image c)) (D.moments disk.old) }
+        ensures cause { HasCheckCause (D.faults disk.old) (D.faults disk.new) result }
+
+        ensures identity { D.identity disk.new ≡ D.identity disk.old }
+        ensures kept { D.moments disk.new ≡ D.moments disk.old }
+    {
+        let maker = tag_maker(&format, hash);
+        let journal = read_journal(alloc, disk, &format.geometry, &maker, what)?;
+        let tags = SectorWindow::new(alloc, TAG_WINDOW)?;
+        let blocks = SectorWindow::new(alloc, BLOCK_WINDOW)?;
+        Ok(CheckedImage {
+            format,
+            maker,
+            journal,
+            tags,
+            blocks,
+        })
+    }
+
+    /// How many blocks the device has.
+    pub fn blocks(&self) -> u64
+        ensures { result ≡ self.now.format.geometry.blocks }
+    {
+        self.format.geometry.blocks()
+    }
+
+    /// The first bad block that is not before `from`, if there is one. Blocks are read in runs, and in calls that go
+    /// on behind the block that was told last each block is hashed once.
+    ///
+    /// # Errors
+    ///
+    /// - `Failed`: the disk failed at a read. The call may be made again.
+    pub fn next_bad<D: Disk>(&mut self, disk: &mut D, from: u64) -> Result<Option<Bad>, Failed>
+        requires image { IsCheckOf self.old (D.identity disk.old) (D.moments disk.old) }
+
+        ensures bad { IfOk result (λ answer. HasNow (λ c. answer ≡ first_bad_from (what_of self.old.journal)
+            (checked_format self.old (D.identity disk.old).sectors (last_image c)) (last_image c) from)
+            (D.moments disk.old)) }
+
+        ensures cause { HasCause (D.faults disk.old) (D.faults disk.new) result }
+
+        ensures image { IsCheckOf self.new (D.identity disk.new) (D.moments disk.new) }
+        ensures same { IsSameCheck self.old self.new }
+        ensures identity { D.identity disk.new ≡ D.identity disk.old }
+        ensures kept { D.moments disk.new ≡ D.moments disk.old }
+    {
+        for block in from..self.blocks() {
+            if let Some(bad) = self.judge(disk, block)? {
+                return Ok(Some(bad));
+            }
+        }
+        Ok(None)
+    }
+
+    /// Judges a block.
+    ///
+    /// # Errors
+    ///
+    /// - `Failed`: the disk failed at a read.
+    pub(crate) fn judge<D: Disk>(&mut self, disk: &mut D, block: u64) -> Result<Option<Bad>, Failed>
+        requires image { IsCheckOf self.old (D.identity disk.old) (D.moments disk.old) }
+        requires block { block < self.old.format.geometry.blocks }
+
+        ensures bad { IfOk result (λ answer. HasNow (λ c. answer ≡ bad_block (what_of self.old.journal)
+            (checked_format self.old (D.identity disk.old).sectors (last_image c)) (last_image c) block)
+            (D.moments disk.old)) }
+
+        ensures cause { HasCause (D.faults disk.old) (D.faults disk.new) result }
+
+        ensures image { IsCheckOf self.new (D.identity disk.new) (D.moments disk.new) }
+        ensures same { IsSameCheck self.old self.new }
+        ensures identity { D.identity disk.new ≡ D.identity disk.old }
+        ensures kept { D.moments disk.new ≡ D.moments disk.old }
+    {
+        judge_block(
+            disk,
+            &self.format.geometry,
+            &self.maker,
+            &self.journal,
+            &mut self.tags,
+            &mut self.blocks,
+            block,
+        )
+    }
+}

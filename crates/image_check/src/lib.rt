@@ -1,0 +1,21 @@
+//! Checks an image: which blocks have a stored tag that is not the tag of their bytes.
+//!
+//! The image is opened and gone over in order, and nothing is written. A contract tells the bad blocks by the model of
+//! an image (`specs/Bad.antt`, the file to read first), and a `CheckedImage` by what it keeps of one
+//! (`specs/Checked.antt`).
+#![tactic(auto)]
+
+mod bad;
+mod check_fault;
+mod checked_image;
+mod index;
+mod judging;
+mod opening;
+mod report;
+#[cfg(test)]
+mod tests;
+
+pub use bad::{Bad, What};
+pub use check_fault::CheckFault;
+pub use checked_image::CheckedImage;
+pub use report::{Report, check};

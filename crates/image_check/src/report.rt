@@ -1,0 +1,113 @@
+//! What a check tells of an image.
+ghost use Rattle.std.specs.Prelude.{◌≡◌, ◌≢◌, Err, IfOk, None, OnOk};
+ghost use Rattle.disk_model.specs.Disk.{last_image};
+ghost use Rattle.disk_model.specs.Identity.{IsBound};
+ghost use Rattle.disk_model.specs.Moments.{HasNow};
+ghost use Rattle.hmac_tag.specs.TagMaker.{key_of};
+ghost use Rattle.place_model.specs.Format.{format_on};
+ghost use Rattle.image_check.specs.Bad.{bad_blocks};
+ghost use Rattle.image_check.specs.Checked.{IsCheckOf, checked_format, what_of};
+ghost use Rattle.image_check.specs.Faults.{HasCheckCause, refusal_in, refusal_of};
+ghost use Rattle.image_check.specs.Report.{IsReportOf, with_found};
+
+use crate::{Bad, CheckFault, CheckedImage, What};
+use hmac_tag::Hash;
+use sector_disk::{Disk, Memory};
+use std::alloc::Global;
+
+/// What a check tells of an image.
+#[derive(Debug, Drop)]
+pub struct Report {
+    /// How many blocks the device has.
+    pub blocks: u64,
+    /// How many of them await their tags. Without a bitmap none does.
+    pub awaiting: u64,
+    /// The bad ones, in order.
+    pub bad: Vec<Bad>,
+}
+
+/// Checks an image, and lists its bad blocks. Nothing is written. Memory is taken for the journal where it is looked
+/// at, for what is read, and for the list.
+///
+/// # Errors
+///
+/// - `Super`, `Geom`, `Mode`, `Journal`, `Disk`, `Memory`: as `CheckedImage::open` tells them.
+/// - `Disk`: the disk failed at a read of tags or blocks.
+/// - `Memory`: there is none for the list.
+pub fn check<D: Disk>(
+    alloc: Global,
+    disk: &mut D,
+    hash: Hash,
+    what: What,
+) -> Result<Report, CheckFault>
+    requires { IsBound (D.identity disk.old).name }
+
+    ensures report { IfOk result (λ report. HasNow (λ c. IsReportOf what
+        (format_on (key_of hash) (D.identity disk.old).sectors (last_image c)) (last_image c) report)
+        (D.moments disk.old)) }
+
+    ensures refused { result ≢ Err CheckFault.Memory → result ≢ Err CheckFault.Disk
+        → HasNow (λ c. refusal_in result ≡ refusal_of what (key_of hash)
+        (D.identity disk.old).sectors (last_image c)) (D.moments disk.old) }
+    ensures cause { HasCheckCause (D.faults disk.old) (D.faults disk.new) result }
+
+    ensures identity { D.identity disk.new ≡ D.identity disk.old }
+    ensures kept { D.moments disk.new ≡ D.moments disk.old }
+{
+    let mut image = CheckedImage::open(alloc, disk, hash, what)?;
+    let bad = list_bad(alloc, disk, &mut image)?;
+    Ok(Report {
+        blocks: image.blocks(),
+        awaiting: 0,
+        bad,
+    })
+}
+
+/// The bad blocks of an image, in order.
+///
+/// # Errors
+///
+/// - `Disk`: the disk failed at a read.
+/// - `Memory`: there is none for the list.
+fn list_bad<D: Disk>(
+    alloc: Global,
+    disk: &mut D,
+    image: &mut CheckedImage,
+) -> Result<Vec<Bad>, CheckFault>
+    requires image { IsCheckOf image.old (D.identity disk.old) (D.moments disk.old) }
+
+    ensures bad { IfOk result (λ bad. HasNow (λ c. bad.items ≡ bad_blocks (what_of image.old.journal)
+        (checked_format image.old (D.identity disk.old).sectors (last_image c)) (last_image c))
+        (D.moments disk.old)) }
+
+    ensures refused { refusal_in result ≡ None }
+    ensures cause { HasCheckCause (D.faults disk.old) (D.faults disk.new) result }
+
+    ensures blocks { image.new.format ≡ image.old.format }
+    ensures identity { D.identity disk.new ≡ D.identity disk.old }
+    ensures kept { D.moments disk.new ≡ D.moments disk.old }
+{
+    let mut list = Vec::new(alloc);
+    for block in 0..image.blocks() {
+        let found = image.judge(disk, block)?;
+        add_found(&mut list, found)?;
+    }
+    Ok(list)
+}
+
+/// Adds a block that was found, if it was.
+///
+/// # Errors
+///
+/// - `Memory`: there is none for it.
+fn add_found(list: &mut Vec<Bad>, found: Option<Bad>) -> Result<(), Memory>
+    ensures { OnOk result (list.new.items ≡ with_found found list.old.items) }
+{
+    let Some(bad) = found else {
+        return Ok(());
+    };
+    if list.push(bad).is_err() {
+        return Err(Memory);
+    }
+    Ok(())
+}
