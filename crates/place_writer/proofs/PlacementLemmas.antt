@@ -1,14 +1,18 @@
 -- The oldest committed entry that is not placed, and the sections of which each entry is.
-use Rattle.std.proofs.Common.{◌≡◌, ◌⊎◌, inl, inr, ⊎_elim, ℕ, zero, suc, ◌+◌, ◌-◌, ◌^◌, ◌<◌, ◌≤◌, Bool, if◌then◌else◌, refl, sym, ◌∙◌, ap, subst, arith, Some, None, List, [], ◌∷◌, ◌++◌, length, take, drop, get_or, slice_get, length-append, length-drop}
+use Rattle.std.proofs.Common.{◌≡◌, ◌⊎◌, inl, inr, ⊎_elim, ℕ, zero, suc, ◌+◌, ◌-◌, ◌^◌, ◌<◌, ◌≤◌, Bool, if◌then◌else◌, refl, sym, ◌∙◌, ap, subst, arith, Option, Some, None, List, [], ◌∷◌, ◌++◌, length, take, drop, get_or, slice_get, length-append, length-drop}
 use Rattle.std.specs.List.{AllByRecursion}
 use Rattle.std.proofs.lemmas.Bool.{cases_lt, cases_eq, eq-eqb, ne_eqb, lt-ltb, le-ltb, le-leb, lt-leb}
 use Rattle.std.proofs.lemmas.List.{get_or-drop, get_or_append_left, get_or_past, take_all, take_more}
 use Rattle.std.proofs.lemmas.List.Concat.{get_or-flat_map}
-use Rattle.std.proofs.lemmas.Option.{get_or_from_slice_get, none-some, same_Some, slice_get-get_or}
+use Rattle.std.proofs.lemmas.Option.{get_or_from_slice_get, none-some, same_Some, slice_get-get_or, slice_get_past}
 use Rattle.std.proofs.Math.Nat.{mul-le-mul_left}
+use Rattle.disk_model.specs.Disk.{Content, OnlyAdds}
+use Rattle.disk_model.specs.Moments.{EachSince}
 use Rattle.image_model.specs.Geometry.{Geometry, IsGeometry}
 use Rattle.image_model.proofs.Bounds.{has_entries}
 use Rattle.image_model.specs.Section.{Entry}
+use Rattle.device_laws.specs.Device.{block_of}
+use Rattle.direct_mode.specs.Cells.{IsOfBlockOrTags}
 use Rattle.place_model.proofs.EachLemmas.{all_drop, all_get}
 use Rattle.journal_model.specs.Ring.{JournalRing, entries_of, unplaced_from, with_settle}
 use Rattle.journal_model.proofs.JournalRingLemmas.{entries_of-append, entries_of-size}
@@ -18,7 +22,7 @@ use Rattle.journal_ring.specs.RoomLaws.{HasBounds}
 use Rattle.journal_ring.specs.Sections.{wrap}
 use Rattle.journal_ring.proofs.PlacesLemmas.{used_there}
 use Rattle.journal_ring.proofs.WrapLemmas.{wrap-above, wrap-below, wrap-inside}
-use Rattle.place_writer.specs.Moves.{FreesPlaced, PlacesOne}
+use Rattle.place_writer.specs.Moves.{FreesPlaced, PlacesOne, WritesEntry, WritesNext}
 use Rattle.place_writer.specs.Placement.{IsPlacementOf, IsWholeEntry, after_next, next_place, placed_in, without}
 use Rattle.place_writer.specs.declared.placement.Placement.{Placement}
 
@@ -251,3 +255,15 @@ next_found p ring place is bounds found =
       told = entry_told p ring is more entry.0 entry.1;
       whole = entry_whole p ring is more entry.0 entry.1;
     }
+
+-- ---- what is written
+
+-- What is written of the next entry is so of the one that is told,
+pub writes_next : (p : Placement) (ring : JournalRing) (entry : Entry) {a b : List Content} → slice_get (entries_of ring.committed) (placed_in p ring) ≡ Some entry
+    → EachSince (OnlyAdds (IsOfBlockOrTags ring.geometry (block_of ring.geometry entry) entry.bytes)) a b → WritesNext p ring a b
+writes_next p ring entry {a} {b} told m = subst (λ (next : Option Entry). WritesEntry ring.geometry next a b) (sym told) m
+
+-- and where all are placed nothing is.
+pub writes_none : (p : Placement) (ring : JournalRing) (a : List Content) → placed_in p ring ≡ length (entries_of ring.committed) → WritesNext p ring a a
+writes_none p ring a all =
+    subst (λ (next : Option Entry). WritesEntry ring.geometry next a a) (sym (slice_get_past (entries_of ring.committed) (placed_in p ring) (omega (arith, all)))) refl

@@ -1,9 +1,13 @@
 -- Values of the definitions, told from outside.
-use Rattle.std.proofs.Common.{◌≡◌, ℕ, false, [], ◌∷◌, Option, Some, None, refl}
+use Rattle.std.proofs.Common.{◌≡◌, ℕ, false, List, [], ◌∷◌, Option, Some, None, refl}
+use Rattle.disk_model.specs.Disk.{Content, OnlyAdds}
+use Rattle.disk_model.specs.Moments.{EachSince}
 use Rattle.image_model.specs.Geometry.{Geometry}
 use Rattle.image_model.specs.Section.{Entry}
+use Rattle.direct_mode.specs.Cells.{IsOfBlockOrTags}
 use Rattle.journal_model.specs.Ring.{JournalRing, with_settle}
 use Rattle.journal_overlay.specs.declared.place.Place.{Place}
+use Rattle.place_writer.specs.Moves.{WritesNext}
 use Rattle.place_writer.specs.Placement.{after_next, next_place, placed_in, without}
 use Rattle.place_writer.specs.declared.placement.Placement.{Placement}
 
@@ -60,6 +64,14 @@ next_place-behind_the_end = refl
 -- The opened section has none.
 next_place-all_placed : next_place (placed 3 0) round_the_end ≡ None
 next_place-all_placed = refl
+
+-- What is written of the one that is next: none where all are placed.
+WritesNext-all_placed : (before after : List Content) → WritesNext (placed 3 0) round_the_end before after ≡ (after ≡ before)
+WritesNext-all_placed before after = refl
+
+WritesNext-in_a_section : (before after : List Content) → WritesNext (placed 1 1) round_the_end before after
+    ≡ EachSince (OnlyAdds (IsOfBlockOrTags five_sections 31 [])) before after
+WritesNext-in_a_section before after = refl
 
 -- ---- after it is placed
 

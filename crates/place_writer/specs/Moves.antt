@@ -1,8 +1,9 @@
 -- What placing and settling do to the disk, the ring and what is placed of it.
-use Rattle.std.specs.Prelude.{◌≡◌, ◌≢◌, ℕ, ◌+◌, ◌-◌, ◌<◌, List, [], length, slice_get, Some}
+use Rattle.std.specs.Prelude.{◌≡◌, ◌≢◌, ℕ, ◌+◌, ◌-◌, ◌<◌, Option, Some, None, List, [], length, slice_get}
 use Rattle.disk_model.specs.Disk.{Content, EachImage, Image, OnlyAdds}
 use Rattle.disk_model.specs.Moments.{EachMoment, EachSince, HasNow}
 use Rattle.image_model.specs.Cells.{recalculated_cell}
+use Rattle.image_model.specs.Geometry.{Geometry}
 use Rattle.image_model.specs.Section.{Entry}
 use Rattle.device_laws.specs.Device.{IsJournalRing, block_of, placed_count}
 use Rattle.direct_mode.specs.Cells.{IsOfBlockOrTags}
@@ -55,13 +56,17 @@ abbrev pub HasPlaced : {A : Type 0} → Moved → (old new : Placement) → Jour
 HasPlaced Did old new ring before after first last = PlacesOne old new ring
 HasPlaced Idle old new ring before after first last = FindsAllPlaced old new ring before after first last
 
--- No sector is written but those of tags, and those of the block of the oldest committed entry that is not placed,
--- with its bytes.
-abbrev pub WritesNext : Placement → JournalRing → (before after : List Content) → Type 0
-WritesNext p ring before after = (entry : Entry)
-    → slice_get (entries_of ring.committed) (placed_in p ring) ≡ Some entry
-    → let g = ring.geometry in
+-- No sector is written but those of tags, and those of the entry's block, with its bytes. Where there is no entry the
+-- disk is left alone.
+abbrev pub WritesEntry : Geometry → Option Entry → (before after : List Content) → Type 0
+WritesEntry g (Some entry) before after =
     EachSince (OnlyAdds (IsOfBlockOrTags g (block_of g entry) entry.bytes)) before after
+WritesEntry g None before after = after ≡ before
+
+-- So for the oldest committed entry that is not placed.
+abbrev pub WritesNext : Placement → JournalRing → (before after : List Content) → Type 0
+WritesNext p ring before after =
+    WritesEntry ring.geometry (slice_get (entries_of ring.committed) (placed_in p ring)) before after
 
 -- ---- what is placed is settled
 

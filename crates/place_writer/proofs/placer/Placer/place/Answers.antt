@@ -1,4 +1,4 @@
-use Rattle.std.proofs.Common.{◌≡◌, length, sym, ◌∙◌, ap, subst, arith}
+use Rattle.std.proofs.Common.{length, sym, ◌∙◌, ap, subst, arith}
 use Rattle.std.proofs.lemmas.Option.{same_Some}
 use Rattle.disk_model.specs.Disk.{OnlyAdds}
 use Rattle.disk_model.specs.Moments.{EachSince}
@@ -9,7 +9,7 @@ use Rattle.direct_mode.specs.Cells.{IsOfBlockOrTags}
 use Rattle.place_writer.specs.Moves.{PlacesOne}
 use Rattle.place_writer.specs.Placement.{IsPlacementOf, IsWholeEntry, after_next, next_place}
 use Rattle.place_writer.specs.declared.placement.Placement.{Placement}
-use Rattle.place_writer.proofs.PlacementLemmas.{after_is, entry_low, next_found, places_one, sections_few}
+use Rattle.place_writer.proofs.PlacementLemmas.{after_is, entry_low, next_found, places_one, sections_few, writes_next}
 use Rattle.place_writer.proofs.PlacedOnLemmas.{cuts_placed, next_on, placed_on}
 use Rattle.place_writer.proofs.placer.Placer.place.Goals as goal
 
@@ -32,12 +32,11 @@ returns-in_err-place_entry-clause-cuts g c d on =
     cuts_placed d (c.place_entry.ensures.stands d found.entry found.is (next_on d c.args.self.now ring c.args.tags.now on found.entry found.told) on.cells)
 
 pub returns-in_err-place_entry-clause-moments : goal.returns-in_err-place_entry-clause-moments
-returns-in_err-place_entry-clause-moments g c entry told =
+returns-in_err-place_entry-clause-moments g c =
     let ring = c.args.ring.now in
     let found = next_found c.args.self.now ring c.in-Some.place c.requires.placement c.next.ensures.bounds
     (ap (λ (p : Placement). next_place p ring) (sym c.self.view_is) ∙ sym c.next.ensures.place ∙ c.in-Some.is) in
-    let same : found.entry ≡ entry = same_Some found.entry entry (sym found.told ∙ told) in
-    subst (λ (x : Entry). EachSince (OnlyAdds (IsOfBlockOrTags ring.geometry (block_of ring.geometry x) x.bytes)) (g.D.Disk.moments c.args.disk.now) (g.D.Disk.moments c.place_entry.new.disk)) same
+    writes_next c.args.self.now ring found.entry found.told
     (subst (λ (y : Geometry). EachSince (OnlyAdds (IsOfBlockOrTags y (block_of y found.entry) found.entry.bytes)) (g.D.Disk.moments c.args.disk.now) (g.D.Disk.moments c.place_entry.new.disk)) (sym c.requires.geometry)
     (c.place_entry.ensures.moments found.entry found.is))
 
@@ -92,11 +91,10 @@ returns-clause-cuts g c d on =
     cuts_placed d (c.place_entry.ensures.stands d found.entry found.is (next_on d c.args.self.now ring c.args.tags.now on found.entry found.told) on.cells)
 
 pub returns-clause-moments : goal.returns-clause-moments
-returns-clause-moments g c entry told =
+returns-clause-moments g c =
     let ring = c.args.ring.now in
     let found = next_found c.args.self.now ring c.in-Some.place c.requires.placement c.next.ensures.bounds
     (ap (λ (p : Placement). next_place p ring) (sym c.self.view_is) ∙ sym c.next.ensures.place ∙ c.in-Some.is) in
-    let same : found.entry ≡ entry = same_Some found.entry entry (sym found.told ∙ told) in
-    subst (λ (x : Entry). EachSince (OnlyAdds (IsOfBlockOrTags ring.geometry (block_of ring.geometry x) x.bytes)) (g.D.Disk.moments c.args.disk.now) (g.D.Disk.moments c.place_entry.new.disk)) same
+    writes_next c.args.self.now ring found.entry found.told
     (subst (λ (y : Geometry). EachSince (OnlyAdds (IsOfBlockOrTags y (block_of y found.entry) found.entry.bytes)) (g.D.Disk.moments c.args.disk.now) (g.D.Disk.moments c.place_entry.new.disk)) (sym c.requires.geometry)
     (c.place_entry.ensures.moments found.entry found.is))
