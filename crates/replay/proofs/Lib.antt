@@ -4,3 +4,5 @@ pub mod RecoveryLemmas
 pub mod ErasedLemmas
 pub mod FinishingLemmas
 pub mod WritesLemmas
+pub mod Worked
+pub mod CountedLemmas

@@ -1,5 +1,5 @@
 //! What follows once all entries are in their places: a journal at rest goes on, and any other is erased.
-ghost use Rattle.std.specs.Prelude.{◌≡◌, ◌↔◌, ◌⊎◌, false, ◌*◌, ◌<◌, ◌≤◌, [], length, slice_index_or, Ok, IfOk, OnOk};
+ghost use Rattle.std.specs.Prelude.{◌≡◌, ◌↔◌, ◌⊎◌, false, ◌*◌, ◌<◌, ◌≤◌, [], length, get_or, slice_index_or, Ok, IfOk, OnOk};
 ghost use Rattle.commit_id.specs.Grid.{as_grid};
 ghost use Rattle.disk_model.specs.Causes.{HasCause};
 ghost use Rattle.disk_model.specs.Disk.{EachImage, HasNothingPending, OnlyAdds};
@@ -7,6 +7,7 @@ ghost use Rattle.disk_model.specs.Moments.{EachMoment, EachSince, HasNow};
 ghost use Rattle.image_model.specs.Cells.{replayed_entries};
 ghost use Rattle.image_model.specs.Geometry.{journal_sectors};
 ghost use Rattle.image_model.specs.Grid.{IsGridOf, walk_of};
+ghost use Rattle.image_model.specs.Walk.{sections_of};
 ghost use Rattle.image_model.specs.declared.journal_plan.State.TheVariants.{Erasing, Mixed};
 ghost use Rattle.journal_erasure.specs.Erasing.{IsErasureFor, IsErasureOf};
 ghost use Rattle.journal_model.specs.JournaledDisk.{IsCutOf, JournaledDisk};
@@ -75,13 +76,14 @@ pub(crate) fn erase_journal<D: Disk>(
 }
 
 /// The section that is erased before all others: the first of those that count, so that no cut leaves another reader of
-/// the format old entries as the newest.
+/// the format old entries as the newest. Section 0 where none counts.
 fn first_counted(walk: &[(u64, u64); 2], sections: u64) -> u64
     requires first { (slice_index_or walk.now 0 (0, 0)).1 ≤ sections }
     requires second { (slice_index_or walk.now 1 (0, 0)).1 ≤ sections }
     requires some { 0 < sections }
 
-    ensures { result < sections }
+    ensures first { result ≡ get_or (sections_of walk.now) 0 0 }
+    ensures inside { result < sections }
 {
     let [(first, first_end), (second, second_end)] = *walk;
     if first < first_end {

@@ -48,7 +48,7 @@ pub(crate) fn write_view<D: Disk>(
         → slice_get d.entries d.placed ≡ Some (entry_with block.now view.now)
         → HasCells d tags.old (D.moments disk.old)
         → EachMoment (D.moments disk.old) (D.moments disk.new) (StandsFor (after_place d)) }
-    ensures moments { EachSince (OnlyAdds (IsOfPlacing geometry.now (λ entry. entry ≡ entry_with block.now view.now)))
+    ensures moments { EachSince (OnlyAdds (IsOfPlacing geometry.now (λ e. e ≡ entry_with block.now view.now)))
         (D.moments disk.old) (D.moments disk.new) }
 {
     let spb = geometry.shape().spb;

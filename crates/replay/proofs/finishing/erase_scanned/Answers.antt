@@ -31,7 +31,7 @@ erase_journal-requires-clause-erasure g c =
     let geometry = geometry_of c.args.geometry.now c.args.tags.now (g.D.Disk.identity c.args.disk.now) (g.D.Disk.moments c.args.disk.now) c.requires.geometry c.requires.store in
     let number = c.scanned-erasure.ensures.number in
     erasure_fits c.args.geometry.now (2 ^ 48) (journal_image c.args.scratch.now) plan (as_grid c.args.journal.now.grid) erasure geometry c.requires.plan c.requires.grid
-    (omega (arith, c.scanned-erasure.ensures.first, c.first_counted-first.ensures, c.sections.ensures))
+    (omega (arith, c.scanned-erasure.ensures.first, c.first_counted-first.ensures.inside, c.sections.ensures))
     (subst (λ (n : ℕ). (plan.state ≡ Mixed n) ⊎ (plan.state ≡ Erasing n)) (sym number) c.requires.newest)
     (subst (λ (n : ℕ). IsScanned erasure.newest (as_grid c.args.journal.now.grid).cells n) (sym number) c.scanned-erasure.ensures.newest)
 
@@ -43,7 +43,7 @@ returns-clause-left g c =
     let number = c.scanned-erasure.ensures.number in
     IfOk-weaker c.erase_journal.result _ _ (λ at left d replayed has.
     left d (erasure_there d c.args.geometry.now (2 ^ 48) c.args.scratch.now plan geometry replayed c.requires.plan (as_grid c.args.journal.now.grid) erasure c.requires.grid
-    (omega (arith, c.scanned-erasure.ensures.first, c.first_counted-first.ensures, c.sections.ensures))
+    (omega (arith, c.scanned-erasure.ensures.first, c.first_counted-first.ensures.inside, c.sections.ensures))
     (subst (λ (n : ℕ). (plan.state ≡ Mixed n) ⊎ (plan.state ≡ Erasing n)) (sym number) c.requires.newest)
     (subst (λ (n : ℕ). IsScanned erasure.newest (as_grid c.args.journal.now.grid).cells n) (sym number) c.scanned-erasure.ensures.newest)) replayed.placed has) c.erase_journal.ensures.left
 
@@ -54,6 +54,6 @@ returns-clause-cuts g c d replayed has =
     let geometry = geometry_of c.args.geometry.now c.args.tags.now (g.D.Disk.identity c.args.disk.now) (g.D.Disk.moments c.args.disk.now) c.requires.geometry c.requires.store in
     let number = c.scanned-erasure.ensures.number in
     c.erase_journal.ensures.cuts d (erasure_there d c.args.geometry.now (2 ^ 48) c.args.scratch.now plan geometry replayed c.requires.plan (as_grid c.args.journal.now.grid) erasure c.requires.grid
-    (omega (arith, c.scanned-erasure.ensures.first, c.first_counted-first.ensures, c.sections.ensures))
+    (omega (arith, c.scanned-erasure.ensures.first, c.first_counted-first.ensures.inside, c.sections.ensures))
     (subst (λ (n : ℕ). (plan.state ≡ Mixed n) ⊎ (plan.state ≡ Erasing n)) (sym number) c.requires.newest)
     (subst (λ (n : ℕ). IsScanned erasure.newest (as_grid c.args.journal.now.grid).cells n) (sym number) c.scanned-erasure.ensures.newest)) has
