@@ -117,7 +117,7 @@ journal_there store disk m g of same = record {
 
 module _ (ring : JournalRing) (bytes : List ℕ) (batch_is : IsNextBatch ring bytes) (bounds : HasBounds ring) (sectors : ℕ) (geometry : IsGeometry ring.geometry sectors) where
   -- The batch ends before the sectors of tags.
-  batch_end : section_at ring.geometry ring.next + length bytes / 512 ≤ initial ring.geometry
+  pub batch_end : section_at ring.geometry ring.next + length bytes / 512 ≤ initial ring.geometry
   batch_end =
       let inside = bounds.inside in
       let one : length bytes / 512 ≡ next_batch ring * section_sectors ring.geometry.shape = ap (λ (k : ℕ). k / 512) batch_is.size ∙ mul-div_cancel_left (next_batch ring * section_sectors ring.geometry.shape) (omega arith) in

@@ -10,3 +10,6 @@ pub mod MovesLemmas
 pub mod FreeingLemmas
 pub mod ClosingLemmas
 pub mod OpeningLemmas
+pub mod WritingLemmas
+pub mod Worked
+pub mod WorkedPlaces

@@ -1,5 +1,5 @@
 -- A place and a settle, as steps of the device.
-use Rattle.std.proofs.Common.{◌≡◌, ◌≢◌, inl, inr, ℕ, ◌+◌, ◌-◌, ◌≤◌, leb, min, Bool, true, false, ◌||◌, if◌then◌else◌, refl, sym, ◌∙◌, ap, subst, arith, Some, None, List, [], ◌∷◌, ◌++◌, length, map}
+use Rattle.std.proofs.Common.{◌≡◌, inl, inr, ℕ, ◌-◌, ◌≤◌, leb, min, Bool, true, false, ◌||◌, if◌then◌else◌, refl, sym, ◌∙◌, ap, subst, arith, Some, None, List, [], ◌∷◌, ◌++◌, length, map}
 use Rattle.std.specs.Prelude.{Result, Ok, Err, IfOk}
 use Rattle.std.specs.List.{AllByRecursion, list_any}
 use Rattle.std.proofs.lemmas.Bool.{cases_lt, false≢true, le-leb, lt-leb}
@@ -78,7 +78,7 @@ module _ (w : JournalStanding) (journal : PlacedRing) (store : Store) (moments :
 
 -- ---- a settle
 
-unplaced_few : (q : ℕ) (xs : List (List Entry)) → length (unplaced_from q xs) ≤ length xs
+pub unplaced_few : (q : ℕ) (xs : List (List Entry)) → length (unplaced_from q xs) ≤ length xs
 unplaced_few q [] = omega arith
 unplaced_few q (x ∷ xs) = by (leb (length x) q) (unplaced_few (q - length x) xs)
   where

@@ -1,15 +1,20 @@
 -- A close of a journal: all is committed, placed and settled.
-use Rattle.std.specs.Prelude.{◌≡◌, ℕ, ◌<◌, List, [], length}
-use Rattle.disk_model.specs.Disk.{Content, EachImage, Image}
-use Rattle.disk_model.specs.Moments.{HasNow}
+use Rattle.std.specs.Prelude.{◌≡◌, ℕ, ◌<◌, List, [], length, drop}
+use Rattle.std.specs.List.{Contains}
+use Rattle.disk_model.specs.Disk.{Content, EachImage, Image, OnlyAdds}
+use Rattle.disk_model.specs.Moments.{EachSince, HasNow}
 use Rattle.image_model.specs.Cells.{recalculated_cell}
+use Rattle.image_model.specs.Geometry.{Geometry}
+use Rattle.image_model.specs.Section.{Entry}
 use Rattle.device_model.specs.History.{Flushed, cells_now, with_change}
 use Rattle.device_model.specs.Journal.{JournalCounts}
 use Rattle.journal_model.specs.JournaledDisk.{JournaledDisk}
-use Rattle.journal_model.specs.Ring.{JournalRing}
+use Rattle.journal_model.specs.Ring.{JournalRing, entries_of}
+use Rattle.place_writer.specs.Placement.{placed_in}
+use Rattle.replay.specs.Writes.{IsOfPlacing}
 use Rattle.tag_store.specs.Store.{Store}
-use Rattle.journal_mode.specs.Commits.{with_disk}
-use Rattle.journal_mode.specs.Journal.{PlacedRing}
+use Rattle.journal_mode.specs.Commits.{WritesBatches, with_disk}
+use Rattle.journal_mode.specs.Journal.{PlacedRing, sections_of}
 use Rattle.journal_mode.specs.Standing.{JournalStanding, StandsAs}
 
 -- Every section of the ring is free.
@@ -41,3 +46,23 @@ pub record HasClosed (w : JournalStanding) (new : PlacedRing) (store : Store) (m
       new store moments
   pub settled : disk.settled ≡ length disk.entries
   pub images : HasNow (EachImage (HasContent w)) moments
+
+-- ---- what is written
+
+-- The committed entries that are not placed, in order,
+abbrev pub committed_to_place : PlacedRing → List Entry
+committed_to_place journal = drop (placed_in journal.placement journal.ring) (entries_of journal.ring.committed)
+
+-- and all entries that are not.
+abbrev pub entries_to_place : PlacedRing → List Entry
+entries_to_place journal = drop (placed_in journal.placement journal.ring) (entries_of (sections_of journal.ring))
+
+-- No sector is written but those of tags, and those of the blocks of these entries, with their bytes.
+abbrev pub WritesEntries : Geometry → List Entry → (before after : List Content) → Type 0
+WritesEntries g entries before after = EachSince (OnlyAdds (IsOfPlacing g (Contains entries))) before after
+
+-- Batches are written, as in a flush, and then such sectors of all entries that are not placed.
+pub record WritesAll (journal : PlacedRing) (before after : List Content) : Type 0 where
+  pub middle : List Content
+  pub batches : WritesBatches journal before middle
+  pub places : WritesEntries journal.ring.geometry (entries_to_place journal) middle after

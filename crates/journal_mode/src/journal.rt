@@ -55,7 +55,8 @@ impl<'p> Journal<'p> {
     ghost use Rattle.journal_mode.specs.Puts.{HasPut, TakesWrite, sections_with};
     ghost use Rattle.journal_mode.specs.Commits.{CommitsAs, HasCommitted, HasFlushed, WritesBatches};
     ghost use Rattle.journal_mode.specs.Commits.{after_flush, after_one};
-    ghost use Rattle.journal_mode.specs.Closing.{HasClosed, HasPlacedMore, IsAllFree};
+    ghost use Rattle.journal_mode.specs.Closing.{HasClosed, HasPlacedMore, IsAllFree, WritesAll, WritesEntries};
+    ghost use Rattle.journal_mode.specs.Closing.{committed_to_place};
     ghost use Rattle.journal_mode.specs.Moves.{PlacesAs, SettlesAs};
     ghost use Rattle.journal_mode.specs.Reads.{GivesBlock, HasRead, KeepsStanding, newest_in};
 
@@ -314,6 +315,8 @@ impl<'p> Journal<'p> {
 
         ensures left { (w : JournalStanding) → StandsAs w self.old tags.old (D.moments disk.old)
             → IsLeftThrough w (D.moments disk.old) (D.moments disk.new) }
+        ensures moments { WritesEntries self.old.ring.geometry (committed_to_place self.old)
+            (D.moments disk.old) (D.moments disk.new) }
     {
         'entries: loop {
             let moved = self.place(disk, tags)?;
@@ -348,6 +351,7 @@ impl<'p> Journal<'p> {
 
         ensures left { (w : JournalStanding) → StandsAs w self.old tags.old (D.moments disk.old)
             → IsLeftThrough w (D.moments disk.old) (D.moments disk.new) }
+        ensures moments { WritesAll self.old (D.moments disk.old) (D.moments disk.new) }
     {
         self.flush(disk, tags)?;
         self.place_all(disk, tags)?;

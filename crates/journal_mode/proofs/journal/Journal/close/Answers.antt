@@ -3,6 +3,7 @@ use Rattle.disk_model.proofs.MomentsLemmas.{EachMoment-then}
 use Rattle.journal_model.specs.Ring.{JournalRing}
 use Rattle.journal_mode.specs.Journal.{PlacedRing}
 use Rattle.journal_mode.proofs.ClosingLemmas.{batch_geometry, closed_is, flush_geometry, flushed_standing, frees_all, left_flushed, left_placed, placed_standing}
+use Rattle.journal_mode.proofs.WritingLemmas.{batches_only, flushed_adds, then_entries, then_tags}
 use Rattle.journal_mode.proofs.journal.Journal.close.Goals as goal
 
 pub place_all-requires-clause-geometry : goal.place_all-requires-clause-geometry
@@ -74,3 +75,31 @@ returns-clause-geometry g c = (
   c.settle.ensures.geometry.0 ∙ c.place_all.ensures.geometry,
   c.settle.ensures.geometry.1 ∙ ap (λ (r : JournalRing). r.geometry) c.place_all.ensures.ring ∙ ap (λ (j : PlacedRing). j.ring.geometry) c.in_ok-flush.ensures.committed ∙ flush_geometry c.args.self.now,
 )
+
+pub returns-in_err-flush-clause-moments : goal.returns-in_err-flush-clause-moments
+returns-in_err-flush-clause-moments g c = batches_only c.args.self.now c.flush.ensures.moments
+
+pub returns-in_err-place_all-clause-moments : goal.returns-in_err-place_all-clause-moments
+returns-in_err-place_all-clause-moments g c =
+    let journal = c.args.self.now in
+    let committed = c.in_ok-flush.ensures.committed in
+    let same = ap (λ (j : PlacedRing). j.ring.geometry) committed ∙ flush_geometry journal in
+    then_entries journal c.flush.ensures.moments (flushed_adds journal c.flush.new.self committed same c.place_all.ensures.moments)
+
+pub returns-in_err-moved-clause-moments : goal.returns-in_err-moved-clause-moments
+returns-in_err-moved-clause-moments g c =
+    let journal = c.args.self.now in
+    let committed = c.in_ok-flush.ensures.committed in
+    let same = ap (λ (j : PlacedRing). j.ring.geometry) committed ∙ flush_geometry journal in
+    then_tags journal c.place_all.new.tags (c.requires.geometry ∙ sym c.place_all.ensures.geometry)
+    (then_entries journal c.flush.ensures.moments (flushed_adds journal c.flush.new.self committed same c.place_all.ensures.moments))
+    c.settle.ensures.moments
+
+pub returns-clause-moments : goal.returns-clause-moments
+returns-clause-moments g c =
+    let journal = c.args.self.now in
+    let committed = c.in_ok-flush.ensures.committed in
+    let same = ap (λ (j : PlacedRing). j.ring.geometry) committed ∙ flush_geometry journal in
+    then_tags journal c.place_all.new.tags (c.requires.geometry ∙ sym c.place_all.ensures.geometry)
+    (then_entries journal c.flush.ensures.moments (flushed_adds journal c.flush.new.self committed same c.place_all.ensures.moments))
+    c.settle.ensures.moments

@@ -1,6 +1,7 @@
-use Rattle.std.proofs.Common.{refl, ◌∙◌}
-use Rattle.disk_model.proofs.MomentsLemmas.{EachMoment-then, no_moment}
+use Rattle.std.proofs.Common.{refl, ◌∙◌, arith}
+use Rattle.disk_model.proofs.MomentsLemmas.{EachMoment-then, adds_then, no_moment}
 use Rattle.journal_mode.proofs.ClosingLemmas.{fewer_left, left_placed, placed_one}
+use Rattle.journal_mode.proofs.WritingLemmas.{more_placed, next_adds}
 use Rattle.journal_mode.proofs.journal.Journal.place_all.Goals as goal
 
 pub entries-init : goal.entries-init
@@ -12,6 +13,8 @@ entries-init g c = record {
   geometry = refl;
   identity = refl;
   left = λ w stands. no_moment (g.D.Disk.moments c.args.disk.now) _;
+  more = omega arith;
+  moments = no_moment (g.D.Disk.moments c.args.disk.now) _;
 }
 
 pub entries-preserved : goal.entries-preserved
@@ -27,6 +30,10 @@ entries-preserved g c = record {
   left = λ w stands.
       EachMoment-then (c.entries.invariant.left w stands)
       (left_placed w c.entries.self c.entries.tags (c.entries.invariant.placed w stands) c.place.ensures.left);
+  more =
+      more_placed c.args.self.now c.entries.self c.place.new.self c.entries.tags c.place.new.tags c.in_ok-moved.moved c.entries.disk c.place.new.disk c.in_ok-moved.ensures.moved c.place.ensures.ring
+      c.entries.invariant.more;
+  moments = adds_then _ c.entries.invariant.moments (next_adds c.args.self.now c.entries.self c.entries.invariant.ring c.entries.invariant.more c.place.ensures.moments);
 }
 
 pub entries-smaller : goal.entries-smaller
@@ -45,3 +52,11 @@ returns-in-Idle-clause-placed g c w stands =
 pub returns-in-Idle-clause-left : goal.returns-in-Idle-clause-left
 returns-in-Idle-clause-left g c w stands =
     EachMoment-then (c.entries.invariant.left w stands) (left_placed w c.entries.self c.entries.tags (c.entries.invariant.placed w stands) c.place.ensures.left)
+
+pub returns-in_err-moved-clause-moments : goal.returns-in_err-moved-clause-moments
+returns-in_err-moved-clause-moments g c =
+    adds_then _ c.entries.invariant.moments (next_adds c.args.self.now c.entries.self c.entries.invariant.ring c.entries.invariant.more c.place.ensures.moments)
+
+pub returns-in-Idle-clause-moments : goal.returns-in-Idle-clause-moments
+returns-in-Idle-clause-moments g c =
+    adds_then _ c.entries.invariant.moments (next_adds c.args.self.now c.entries.self c.entries.invariant.ring c.entries.invariant.more c.place.ensures.moments)

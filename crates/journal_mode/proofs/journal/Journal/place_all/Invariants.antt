@@ -1,8 +1,8 @@
-use Rattle.std.proofs.Common.{◌≡◌, ◌-◌, length}
+use Rattle.std.proofs.Common.{◌≡◌, ◌-◌, ◌≤◌, length}
 use Rattle.journal_model.specs.Ring.{entries_of}
 use Rattle.place_writer.specs.Placement.{placed_in}
 use Rattle.tag_store.specs.Store.{IsStore}
-use Rattle.journal_mode.specs.Closing.{HasPlacedMore}
+use Rattle.journal_mode.specs.Closing.{HasPlacedMore, WritesEntries, committed_to_place}
 use Rattle.journal_mode.specs.Standing.{IsLeftThrough, JournalStanding, StandsAs}
 use Rattle.journal_mode.proofs.journal.Journal.place_all.Given as goal
 
@@ -15,6 +15,8 @@ invariant-entries g l = record {
   geometry : l.tags.geometry ≡ l.fn.tags.geometry;
   identity : g.D.Disk.identity l.disk ≡ g.D.Disk.identity l.fn.disk;
   left : (w : JournalStanding) → StandsAs w l.fn.self l.fn.tags (g.D.Disk.moments l.fn.disk) → IsLeftThrough w (g.D.Disk.moments l.fn.disk) (g.D.Disk.moments l.disk);
+  more : placed_in l.fn.self.placement l.fn.self.ring ≤ placed_in l.self.placement l.self.ring;
+  moments : WritesEntries l.fn.self.ring.geometry (committed_to_place l.fn.self) (g.D.Disk.moments l.fn.disk) (g.D.Disk.moments l.disk);
 }
 
 abbrev pub decreases-entries : goal.decreases-entries
