@@ -1,5 +1,5 @@
 -- What is kept of an image tells which of its blocks are bad.
-use Rattle.std.proofs.Common.{◌≡◌, inl, inr, ℕ, suc, ◌+◌, ◌-◌, ◌*◌, ◌<◌, ◌≤◌, true, false, Bool, refl, sym, ◌∙◌, ap, subst, arith, Option, Some, None, is_some, Result, Err, IfOk, List, [], ◌∷◌, ◌++◌, bytes_eq, filter_map, filter, length}
+use Rattle.std.proofs.Common.{◌≡◌, inl, inr, ℕ, suc, ◌+◌, ◌-◌, ◌*◌, ◌<◌, ◌≤◌, true, false, refl, sym, ◌∙◌, ap, subst, arith, Option, Some, None, is_some, Result, IfOk, List, [], ◌∷◌, ◌++◌, bytes_eq, filter_map, filter, length}
 use Rattle.std.specs.List.{range_with_len, slice_get}
 use Rattle.std.proofs.lemmas.Bool.{cases_Bool}
 use Rattle.std.proofs.lemmas.List.{append-nil, map-id}
@@ -30,12 +30,9 @@ use Rattle.image_check.specs.Bad.{bad_block, bad_blocks, bad_by, bad_cell, first
 use Rattle.image_check.specs.declared.bad.Bad.{Bad}
 use Rattle.image_check.specs.Checked.{Checked, IsCheckOf, IsJournalOf, IsSameCheck, bad_kept, checked_format, what_of}
 use Rattle.image_check.specs.declared.bad.What.{What}
-use Rattle.image_check.specs.declared.check_fault.CheckFault.{CheckFault}
-use Rattle.image_check.specs.declared.check_fault.CheckFault.TheVariants.{Memory, Disk, Super, Geom, Mode, Journal}
 use Rattle.image_check.specs.declared.report.Report.{Report}
-use Rattle.image_check.specs.Faults.{refusal_in}
 use Rattle.image_check.specs.Index.{IsIndexOn}
-use Rattle.image_check.specs.Report.{IsReportOf, with_found}
+use Rattle.image_check.specs.Report.{IsReportOf, awaiting_in, with_found}
 use Rattle.image_check.specs.Windows.{HasRoom}
 
 -- ---- one block
@@ -114,16 +111,24 @@ module _ {X : Type 0} (f : ℕ → Option X) (end : ℕ) where
       ap (λ n. filter_map f (range_with_len b n)) split ∙ rw none refl
 
   -- where it is,
+  pub kept-next : (b : ℕ) (x : X) → b < end → f b ≡ Some x → filter_map f (range_with_len b (end - b)) ≡ x ∷ filter_map f (range_with_len (b + 1) (end - (b + 1)))
+  kept-next b x low some =
+      let split : end - b ≡ suc (end - (b + 1)) = omega arith in
+      ap (λ n. filter_map f (range_with_len b n)) split ∙ rw some refl
+
   pub kept-here : (b : ℕ) (x : X) → b < end → f b ≡ Some x → slice_get (filter_map f (range_with_len b (end - b))) 0 ≡ Some x
   kept-here b x low some =
-      let split : end - b ≡ suc (end - (b + 1)) = omega arith in
-      ap (λ n. slice_get (filter_map f (range_with_len b n)) 0) split ∙ rw some refl
+      ap (λ (xs : List X). slice_get xs 0) (kept-next b x low some)
 
   -- and where there is none.
+  pub kept-nothing : (b : ℕ) → end ≤ b → filter_map f (range_with_len b (end - b)) ≡ []
+  kept-nothing b high =
+      let nothing : end - b ≡ 0 = omega arith in
+      ap (λ n. filter_map f (range_with_len b n)) nothing
+
   pub kept-end : (b : ℕ) → end ≤ b → slice_get (filter_map f (range_with_len b (end - b))) 0 ≡ None
   kept-end b high =
-      let nothing : end - b ≡ 0 = omega arith in
-      ap (λ n. slice_get (filter_map f (range_with_len b n)) 0) nothing
+      ap (λ (xs : List X). slice_get xs 0) (kept-nothing b high)
 
   -- One more.
   pub kept-more : (b : ℕ) → filter_map f (range_with_len 0 (b + 1)) ≡ filter_map f (range_with_len 0 b) ++ filter_map f (b ∷ [])
@@ -157,7 +162,8 @@ judged_same old new sectors image b same =
     ∙ ap (λ (rule : TagRule). let i : Checked = record old { rule = rule } in bad_block (what_of old.journal) (checked_format i sectors image) image b) same.rule
 
 module _ (old new : Checked) (disk now : DiskIdentity) (before after : List Content) (is : IsCheckOf old disk before) (same : IsSameCheck old new) (e : now ≡ disk) (m : after ≡ before) where
-  judged_now : (answer : Option Bad) (b : ℕ) → HasNow (λ c. answer ≡ judged_in new now.sectors (last_image c) b) after → HasNow (λ c. answer ≡ judged_in old disk.sectors (last_image c) b) before
+  -- A judgement of the image as it is now is one of it as it was.
+  pub judged_now : (answer : Option Bad) (b : ℕ) → HasNow (λ c. answer ≡ judged_in new now.sectors (last_image c) b) after → HasNow (λ c. answer ≡ judged_in old disk.sectors (last_image c) b) before
   judged_now answer b h c told =
       h c (ap content_now m ∙ told)
       ∙ ap (λ (d : DiskIdentity). judged_in new d.sectors (last_image c) b) e
@@ -248,20 +254,18 @@ opened_check image key disk now before after e m bound format reads rule journal
     } in
     subst (λ (d : DiskIdentity). IsCheckOf image d after) (sym e) (subst (λ (ms : List Content). IsCheckOf image disk ms) (sym m) is)
 
--- A refusal is the same of each kind of answer.
-pub refusal_in-err : (T U : Type 0) (fault : CheckFault) → refusal_in {T = T} (Err fault) ≡ refusal_in {T = U} (Err fault)
-refusal_in-err T U Memory = refl
-refusal_in-err T U Disk = refl
-refusal_in-err T U (Super fault) = refl
-refusal_in-err T U (Geom fault) = refl
-refusal_in-err T U (Mode flags) = refl
-refusal_in-err T U (Journal fault) = refl
-
 -- ---- a report
 
 none_await : (s : Superblock) (g : Geometry) (image : Image) → IsAccepted s → has_flag DIRTY_BITMAP s.flags ≡ false → (xs : List ℕ) → filter (awaits s g image) xs ≡ []
 none_await s g image accepted clear [] = refl
 none_await s g image accepted clear (b ∷ xs) = rw (no_awaits s g image b accepted clear) (none_await s g image accepted clear xs)
+
+-- None of the blocks of an image that is checked awaits its tag.
+pub awaiting_none : (image : Checked) (disk : DiskIdentity) (moments : List Content) (is : IsCheckOf image disk moments) (c : Content) (told : content_now moments ≡ Some c)
+    → awaiting_in (checked_format image disk.sectors (last_image c)) (last_image c) ≡ 0
+awaiting_none image disk moments is c told =
+    ap (λ (d : DiskFormat). awaiting_in d (last_image c)) (own_is image disk moments is c told)
+    ∙ ap length (none_await image.format.fields image.format.geometry (last_image c) is.format.accepted.fields is.format.no_bitmap (range_with_len 0 image.format.geometry.blocks))
 
 pub report_is : (what : What) (key : Option (List ℕ)) (image : Checked) (disk : DiskIdentity) (moments : List Content) (report : Report) → IsCheckOf image disk moments
     → what_of image.journal ≡ what → image.rule.key ≡ key → report.blocks ≡ image.format.geometry.blocks → report.awaiting ≡ 0

@@ -2,3 +2,4 @@ pub mod JudgingLemmas
 pub mod IndexLemmas
 pub mod ReadingLemmas
 pub mod CheckedLemmas
+mod Worked

@@ -1,5 +1,5 @@
 -- What a check tells of an image.
-use Rattle.std.specs.Prelude.{◌≡◌, List, [], ◌∷◌, ◌++◌, length, filter, Option, Some, None}
+use Rattle.std.specs.Prelude.{◌≡◌, ℕ, List, [], ◌∷◌, ◌++◌, length, filter, Option, Some, None}
 use Rattle.std.specs.List.{range_with_len}
 use Rattle.disk_model.specs.Disk.{Image}
 use Rattle.image_model.specs.Bitmap.{awaits}
@@ -9,11 +9,14 @@ use Rattle.image_check.specs.declared.bad.Bad.{Bad}
 use Rattle.image_check.specs.declared.bad.What.{What}
 use Rattle.image_check.specs.declared.report.Report.{Report}
 
+-- How many blocks of an image await their tags.
+abbrev pub awaiting_in : DiskFormat → Image → ℕ
+awaiting_in d image = length (filter (awaits d.superblock d.geometry image) (range_with_len 0 d.geometry.blocks))
+
 -- How many blocks there are, how many of them await their tags, and the bad ones in order.
 pub record IsReportOf (what : What) (d : DiskFormat) (image : Image) (report : Report) : Type 0 where
   pub blocks : report.blocks ≡ d.geometry.blocks
-  pub awaiting : report.awaiting
-      ≡ length (filter (awaits d.superblock d.geometry image) (range_with_len 0 d.geometry.blocks))
+  pub awaiting : report.awaiting ≡ awaiting_in d image
   pub bad : report.bad.items ≡ bad_blocks what d image
 
 -- Bad blocks, and one that was found, if it was.

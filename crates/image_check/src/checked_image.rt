@@ -1,5 +1,5 @@
 //! An image that is checked: it is opened once, and asked for its bad blocks in order.
-ghost use Rattle.std.specs.Prelude.{◌≡◌, ◌≢◌, ◌<◌, Err, IfOk};
+ghost use Rattle.std.specs.Prelude.{◌≡◌, ◌≢◌, ◌<◌, option_map, Err, IfOk};
 ghost use Rattle.disk_model.specs.Causes.{HasCause};
 ghost use Rattle.disk_model.specs.Disk.{last_image};
 ghost use Rattle.disk_model.specs.Identity.{IsBound};
@@ -7,16 +7,18 @@ ghost use Rattle.disk_model.specs.Moments.{HasNow};
 ghost use Rattle.hmac_tag.specs.TagMaker.{key_of};
 ghost use Rattle.image_model.specs.Cells.{salt_of};
 ghost use Rattle.image_opening.specs.Format.{IsDirectFormat, IsReadNow};
+ghost use Rattle.opening_fault.specs.Faults.{ByJournal, HasOpenCause, fault_in};
 ghost use Rattle.image_check.specs.Bad.{bad_block, first_bad_from};
 ghost use Rattle.image_check.specs.Checked.{IsCheckOf, IsSameCheck, checked_format, what_of};
-ghost use Rattle.image_check.specs.Faults.{HasCheckCause, journal_refusal, refusal_in, refusal_of};
+ghost use Rattle.image_check.specs.Faults.{fault_for, journal_fault_for};
 
 use crate::judging::judge_block;
 use crate::opening::{read_journal, tag_maker};
-use crate::{Bad, CheckFault, What};
+use crate::{Bad, What};
 use hmac_tag::{Hash, TagMaker};
 use image_opening::{ImageFormat, read_direct_format};
 use journal_overlay::Overlay;
+use opening_fault::OpeningFault;
 use sector_disk::{Disk, Failed};
 use sector_window::SectorWindow;
 use std::alloc::Global;
@@ -76,17 +78,17 @@ impl CheckedImage {
         disk: &mut D,
         hash: Hash,
         what: What,
-    ) -> Result<CheckedImage, CheckFault>
+    ) -> Result<CheckedImage, OpeningFault>
         requires { IsBound (D.identity disk.old).name }
 
         ensures image { IfOk result (λ image. IsCheckOf image (D.identity disk.new) (D.moments disk.new)) }
         ensures what { IfOk result (λ image. what_of image.journal ≡ what) }
         ensures key { IfOk result (λ image. image.rule.key ≡ key_of hash) }
 
-        ensures refused { result ≢ Err CheckFault.Memory → result ≢ Err CheckFault.Disk
-            → HasNow (λ c. refusal_in result ≡ refusal_of what (key_of hash)
+        ensures refused { result ≢ Err OpeningFault.Memory → result ≢ Err OpeningFault.Disk
+            → HasNow (λ c. fault_in result ≡ fault_for what (key_of hash)
             (D.identity disk.old).sectors (last_image c)) (D.moments disk.old) }
-        ensures cause { HasCheckCause (D.faults disk.old) (D.faults disk.new) result }
+        ensures cause { HasOpenCause (D.faults disk.old) (D.faults disk.new) result }
 
         ensures identity { D.identity disk.new ≡ D.identity disk.old }
         ensures kept { D.moments disk.new ≡ D.moments disk.old }
@@ -106,7 +108,7 @@ impl CheckedImage {
         format: ImageFormat,
         hash: Hash,
         what: What,
-    ) -> Result<CheckedImage, CheckFault>
+    ) -> Result<CheckedImage, OpeningFault>
         requires bound { IsBound (D.identity disk.old).name }
         requires format { IsDirectFormat (D.identity disk.old).sectors format }
         requires reads { HasNow (IsReadNow (key_of hash) (D.identity disk.old).sectors format) (D.moments disk.old) }
@@ -115,10 +117,10 @@ impl CheckedImage {
         ensures what { IfOk result (λ image. what_of image.journal ≡ what) }
         ensures key { IfOk result (λ image. image.rule.key ≡ key_of hash) }
 
-        ensures refused { result ≢ Err CheckFault.Memory → result ≢ Err CheckFault.Disk
-            → HasNow (λ c. refusal_in result ≡ journal_refusal what (key_of hash) (salt_of format.fields)
-            format.geometry (last_image c)) (D.moments disk.old) }
-        ensures cause { HasCheckCause (D.faults disk.old) (D.faults disk.new) result }
+        ensures refused { result ≢ Err OpeningFault.Memory → result ≢ Err OpeningFault.Disk
+            → HasNow (λ c. fault_in result ≡ option_map ByJournal (journal_fault_for what (key_of hash)
+            (salt_of format.fields) format.geometry (last_image c))) (D.moments disk.old) }
+        ensures cause { HasOpenCause (D.faults disk.old) (D.faults disk.new) result }
 
         ensures identity { D.identity disk.new ≡ D.identity disk.old }
         ensures kept { D.moments disk.new ≡ D.moments disk.old }
@@ -171,12 +173,13 @@ impl CheckedImage {
         Ok(None)
     }
 
-    /// Judges a block.
+    /// Judges a block: it is told where its stored tag is not that of its bytes. Blocks and tags are read in runs, so
+    /// that whoever judges the blocks in order reads each of them once.
     ///
     /// # Errors
     ///
-    /// - `Failed`: the disk failed at a read.
-    pub(crate) fn judge<D: Disk>(&mut self, disk: &mut D, block: u64) -> Result<Option<Bad>, Failed>
+    /// - `Failed`: the disk failed at a read. The call may be made again.
+    pub fn judge<D: Disk>(&mut self, disk: &mut D, block: u64) -> Result<Option<Bad>, Failed>
         requires image { IsCheckOf self.old (D.identity disk.old) (D.moments disk.old) }
         requires block { block < self.old.format.geometry.blocks }
 

@@ -9,16 +9,16 @@ ghost use Rattle.image_model.specs.Geometry.{IsGeometry, journal_sectors, sectio
 ghost use Rattle.image_model.specs.Grid.{walk_of};
 ghost use Rattle.image_model.specs.Openable.{journal_fault_of};
 ghost use Rattle.journal_reading.specs.Journal.{journal_image};
-ghost use Rattle.image_check.specs.Faults.{ByJournal, HasCheckCause, refusal_in};
+ghost use Rattle.opening_fault.specs.Faults.{ByJournal, HasOpenCause, fault_in};
 ghost use Rattle.image_check.specs.Index.{BeginsBlock, IsIndexOf, IsIndexOn, with_place};
 
-use crate::CheckFault;
 use commit_id::Plan;
 use hmac_tag::TagMaker;
 use image_model::SECTOR_SIZE;
 use journal_overlay::{Overlay, Place};
 use journal_reading::{entry_count, entry_place, read_entry, read_judged};
 use layout::Geometry;
+use opening_fault::OpeningFault;
 use sector_disk::{Disk, Memory};
 use std::alloc::Global;
 
@@ -113,7 +113,7 @@ pub(crate) fn read_index<D: Disk>(
     disk: &mut D,
     geometry: &Geometry,
     maker: &TagMaker,
-) -> Result<Overlay, CheckFault>
+) -> Result<Overlay, OpeningFault>
     requires bound { IsBound (D.identity disk.old).name }
     requires geometry { IsGeometry geometry.now (D.identity disk.old).sectors }
     requires maker { maker.now.size ≡ geometry.now.shape.tag_size }
@@ -121,10 +121,10 @@ pub(crate) fn read_index<D: Disk>(
     ensures index { IfOk result (λ overlay. HasNow (λ c. IsIndexOn maker.now.key maker.now.salt
         geometry.now (last_image c) overlay) (D.moments disk.old)) }
 
-    ensures refused { result ≢ Err CheckFault.Memory → result ≢ Err CheckFault.Disk
-        → HasNow (λ c. refusal_in result ≡ option_map ByJournal
+    ensures refused { result ≢ Err OpeningFault.Memory → result ≢ Err OpeningFault.Disk
+        → HasNow (λ c. fault_in result ≡ option_map ByJournal
         (journal_fault_of maker.now.key maker.now.salt geometry.now (last_image c))) (D.moments disk.old) }
-    ensures cause { HasCheckCause (D.faults disk.old) (D.faults disk.new) result }
+    ensures cause { HasOpenCause (D.faults disk.old) (D.faults disk.new) result }
 
     ensures identity { D.identity disk.new ≡ D.identity disk.old }
     ensures kept { D.moments disk.new ≡ D.moments disk.old }
@@ -144,7 +144,7 @@ fn read_index_into<D: Disk>(
     geometry: &Geometry,
     maker: &TagMaker,
     bytes: &mut [u8],
-) -> Result<Overlay, CheckFault>
+) -> Result<Overlay, OpeningFault>
     requires bound { IsBound (D.identity disk.old).name }
     requires geometry { IsGeometry geometry.now (D.identity disk.old).sectors }
     requires maker { maker.now.size ≡ geometry.now.shape.tag_size }
@@ -153,10 +153,10 @@ fn read_index_into<D: Disk>(
     ensures index { IfOk result (λ overlay. HasNow (λ c. IsIndexOn maker.now.key maker.now.salt
         geometry.now (last_image c) overlay) (D.moments disk.old)) }
 
-    ensures refused { result ≢ Err CheckFault.Memory → result ≢ Err CheckFault.Disk
-        → HasNow (λ c. refusal_in result ≡ option_map ByJournal
+    ensures refused { result ≢ Err OpeningFault.Memory → result ≢ Err OpeningFault.Disk
+        → HasNow (λ c. fault_in result ≡ option_map ByJournal
         (journal_fault_of maker.now.key maker.now.salt geometry.now (last_image c))) (D.moments disk.old) }
-    ensures cause { HasCheckCause (D.faults disk.old) (D.faults disk.new) result }
+    ensures cause { HasOpenCause (D.faults disk.old) (D.faults disk.new) result }
 
     ensures identity { D.identity disk.new ≡ D.identity disk.old }
     ensures kept { D.moments disk.new ≡ D.moments disk.old }

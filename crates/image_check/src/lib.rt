@@ -6,7 +6,6 @@
 #![tactic(auto)]
 
 mod bad;
-mod check_fault;
 mod checked_image;
 mod index;
 mod judging;
@@ -16,6 +15,5 @@ mod report;
 mod tests;
 
 pub use bad::{Bad, What};
-pub use check_fault::CheckFault;
 pub use checked_image::CheckedImage;
 pub use report::{Report, check};

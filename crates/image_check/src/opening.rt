@@ -1,5 +1,5 @@
 //! What an image is checked with: the maker of its tags, and its journal where that is looked at.
-ghost use Rattle.std.specs.Prelude.{◌≡◌, ◌≢◌, Err, IfOk};
+ghost use Rattle.std.specs.Prelude.{◌≡◌, ◌≢◌, option_map, Err, IfOk};
 ghost use Rattle.disk_model.specs.Disk.{last_image};
 ghost use Rattle.disk_model.specs.Identity.{IsBound};
 ghost use Rattle.disk_model.specs.Moments.{HasNow};
@@ -7,15 +7,17 @@ ghost use Rattle.image_model.specs.Cells.{salt_of};
 ghost use Rattle.image_model.specs.Geometry.{IsGeometry};
 ghost use Rattle.hmac_tag.specs.TagMaker.{key_of};
 ghost use Rattle.image_check.specs.Checked.{IsJournalOf, what_of};
-ghost use Rattle.image_check.specs.Faults.{HasCheckCause, journal_refusal, refusal_in};
+ghost use Rattle.opening_fault.specs.Faults.{ByJournal, HasOpenCause, fault_in};
+ghost use Rattle.image_check.specs.Faults.{journal_fault_for};
 
+use crate::What;
 use crate::index::read_index;
-use crate::{CheckFault, What};
 use hmac_tag::{Hash, TagMaker};
 use image_model::FIXED_HMAC;
 use image_opening::ImageFormat;
 use journal_overlay::Overlay;
 use layout::Geometry;
+use opening_fault::OpeningFault;
 use sector_disk::Disk;
 use std::alloc::Global;
 
@@ -48,7 +50,7 @@ pub(crate) fn read_journal<D: Disk>(
     geometry: &Geometry,
     maker: &TagMaker,
     what: What,
-) -> Result<Option<Overlay>, CheckFault>
+) -> Result<Option<Overlay>, OpeningFault>
     requires bound { IsBound (D.identity disk.old).name }
     requires geometry { IsGeometry geometry.now (D.identity disk.old).sectors }
     requires maker { maker.now.size ≡ geometry.now.shape.tag_size }
@@ -57,10 +59,10 @@ pub(crate) fn read_journal<D: Disk>(
         (D.moments disk.old)) }
     ensures what { IfOk result (λ journal. what_of journal ≡ what) }
 
-    ensures refused { result ≢ Err CheckFault.Memory → result ≢ Err CheckFault.Disk
-        → HasNow (λ c. refusal_in result ≡ journal_refusal what maker.now.key maker.now.salt
-        geometry.now (last_image c)) (D.moments disk.old) }
-    ensures cause { HasCheckCause (D.faults disk.old) (D.faults disk.new) result }
+    ensures refused { result ≢ Err OpeningFault.Memory → result ≢ Err OpeningFault.Disk
+        → HasNow (λ c. fault_in result ≡ option_map ByJournal (journal_fault_for what
+        maker.now.key maker.now.salt geometry.now (last_image c))) (D.moments disk.old) }
+    ensures cause { HasOpenCause (D.faults disk.old) (D.faults disk.new) result }
 
     ensures identity { D.identity disk.new ≡ D.identity disk.old }
     ensures kept { D.moments disk.new ≡ D.moments disk.old }

@@ -5,13 +5,15 @@ ghost use Rattle.disk_model.specs.Identity.{IsBound};
 ghost use Rattle.disk_model.specs.Moments.{HasNow};
 ghost use Rattle.hmac_tag.specs.TagMaker.{key_of};
 ghost use Rattle.place_model.specs.Format.{format_on};
+ghost use Rattle.opening_fault.specs.Faults.{HasOpenCause, fault_in};
 ghost use Rattle.image_check.specs.Bad.{bad_blocks};
 ghost use Rattle.image_check.specs.Checked.{IsCheckOf, checked_format, what_of};
-ghost use Rattle.image_check.specs.Faults.{HasCheckCause, refusal_in, refusal_of};
+ghost use Rattle.image_check.specs.Faults.{fault_for};
 ghost use Rattle.image_check.specs.Report.{IsReportOf, with_found};
 
-use crate::{Bad, CheckFault, CheckedImage, What};
+use crate::{Bad, CheckedImage, What};
 use hmac_tag::Hash;
+use opening_fault::OpeningFault;
 use sector_disk::{Disk, Memory};
 use std::alloc::Global;
 
@@ -39,17 +41,17 @@ pub fn check<D: Disk>(
     disk: &mut D,
     hash: Hash,
     what: What,
-) -> Result<Report, CheckFault>
+) -> Result<Report, OpeningFault>
     requires { IsBound (D.identity disk.old).name }
 
     ensures report { IfOk result (λ report. HasNow (λ c. IsReportOf what
         (format_on (key_of hash) (D.identity disk.old).sectors (last_image c)) (last_image c) report)
         (D.moments disk.old)) }
 
-    ensures refused { result ≢ Err CheckFault.Memory → result ≢ Err CheckFault.Disk
-        → HasNow (λ c. refusal_in result ≡ refusal_of what (key_of hash)
+    ensures refused { result ≢ Err OpeningFault.Memory → result ≢ Err OpeningFault.Disk
+        → HasNow (λ c. fault_in result ≡ fault_for what (key_of hash)
         (D.identity disk.old).sectors (last_image c)) (D.moments disk.old) }
-    ensures cause { HasCheckCause (D.faults disk.old) (D.faults disk.new) result }
+    ensures cause { HasOpenCause (D.faults disk.old) (D.faults disk.new) result }
 
     ensures identity { D.identity disk.new ≡ D.identity disk.old }
     ensures kept { D.moments disk.new ≡ D.moments disk.old }
@@ -73,15 +75,15 @@ fn list_bad<D: Disk>(
     alloc: Global,
     disk: &mut D,
     image: &mut CheckedImage,
-) -> Result<Vec<Bad>, CheckFault>
+) -> Result<Vec<Bad>, OpeningFault>
     requires image { IsCheckOf image.old (D.identity disk.old) (D.moments disk.old) }
 
     ensures bad { IfOk result (λ bad. HasNow (λ c. bad.items ≡ bad_blocks (what_of image.old.journal)
         (checked_format image.old (D.identity disk.old).sectors (last_image c)) (last_image c))
         (D.moments disk.old)) }
 
-    ensures refused { refusal_in result ≡ None }
-    ensures cause { HasCheckCause (D.faults disk.old) (D.faults disk.new) result }
+    ensures refused { fault_in result ≡ None }
+    ensures cause { HasOpenCause (D.faults disk.old) (D.faults disk.new) result }
 
     ensures blocks { image.new.format ≡ image.old.format }
     ensures identity { D.identity disk.new ≡ D.identity disk.old }

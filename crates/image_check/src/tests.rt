@@ -2,10 +2,11 @@
 ghost use Rattle.std.specs.Prelude.{◌≡◌};
 ghost use Rattle.disk_model.specs.Identity.{IsBound};
 
-use crate::{Bad, CheckFault, CheckedImage, Report, What, check};
+use crate::{Bad, CheckedImage, Report, What, check};
 use commit_id::id;
 use hmac_tag::Hash;
 use journal_reading::JournalFault;
+use opening_fault::OpeningFault;
 use sector_disk::{Disk, Failed, MemDisk};
 use sha2::{Digest, Sha256};
 use std::alloc::Global;
@@ -202,16 +203,16 @@ fn an_image_is_refused_by_its_bytes(rt: HostRuntime) -> Result<(), Fail> {
     // A sector of the journal without a commit id.
     let mut disk = disk_with(rt.alloc(), &[(16, 0)])?;
     let refused = check(rt.alloc(), &mut disk, Hash::Sha256, What::Cells);
-    assert!(rt; matches!(refused, Err(CheckFault::Journal(JournalFault::Scan(_)))));
+    assert!(rt; matches!(refused, Err(OpeningFault::Journal(JournalFault::Scan(_)))));
     assert!(rt; check(rt.alloc(), &mut disk, Hash::Sha256, What::Placed).is_ok());
     let mut disk = disk_with(rt.alloc(), &[(0, 0)])?;
     let refused = check(rt.alloc(), &mut disk, Hash::Sha256, What::Placed);
-    assert!(rt; matches!(refused, Err(CheckFault::Super(_))));
+    assert!(rt; matches!(refused, Err(OpeningFault::Super(_))));
     let mut bytes = small_sector(0);
     bytes[24] = 0xc;
     write(&mut disk, 0, &bytes)?;
     let refused = check(rt.alloc(), &mut disk, Hash::Sha256, What::Placed);
-    assert!(rt; matches!(refused, Err(CheckFault::Mode { flags: 0xc })));
+    assert!(rt; matches!(refused, Err(OpeningFault::Mode { flags: 0xc })));
     Ok(())
 }
 
@@ -222,7 +223,7 @@ fn a_disk_that_fails_gives_no_report(rt: HostRuntime) -> Result<(), Fail> {
         let mut disk = disk_with(rt.alloc(), &[])?;
         disk.fail_at(&[call]);
         let refused = check(rt.alloc(), &mut disk, Hash::Sha256, What::Cells);
-        assert!(rt; matches!(refused, Err(CheckFault::Disk)));
+        assert!(rt; matches!(refused, Err(OpeningFault::Disk)));
         assert!(rt; check(rt.alloc(), &mut disk, Hash::Sha256, What::Cells).is_ok());
     }
     Ok(())

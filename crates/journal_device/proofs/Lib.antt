@@ -4,4 +4,6 @@ pub mod NextLemmas
 pub mod WriteLemmas
 pub mod ServingLemmas
 pub mod EventLemmas
+pub mod StepsLemmas
+pub mod IdleLemmas
 pub mod OpeningLemmas

@@ -1,5 +1,5 @@
 -- A device that was opened is one of `device_model`.
-use Rattle.std.proofs.Common.{◌≡◌, ℕ, ◌*◌, ◌==◌, ◌&&◌, Bool, true, false, List, Option, None, Some, refl, sym, ◌∙◌, ap, subst}
+use Rattle.std.proofs.Common.{◌≡◌, ℕ, ◌*◌, false, List, Option, Some, refl, sym, ◌∙◌, ap, subst}
 use Rattle.std.proofs.lemmas.Bool.{false_from_ne_true, true≢false}
 use Rattle.std.proofs.lemmas.Option.{none-some}
 use Rattle.disk_model.specs.Disk.{Content, EachImage, Image, last_image}
@@ -8,32 +8,25 @@ use Rattle.disk_model.specs.Moments.{EachMoment, HasNow, content_now}
 use Rattle.image_model.specs.declared.flags.TheConstants.{DIRTY_BITMAP, RECALCULATING}
 use Rattle.image_model.specs.Bitmap.{is_to_recalculate, region_awaits}
 use Rattle.image_model.specs.Geometry.{Geometry}
-use Rattle.image_model.specs.Openable.{IsReadable}
 use Rattle.image_model.specs.Superblock.{Superblock, has_flag}
 use Rattle.image_model.proofs.BitmapLemmas.{awaits-journal, region_awaits_found}
 use Rattle.image_model.proofs.OpenableLemmas.{IsReadable-accepted}
 use Rattle.image_model.proofs.SuperblockLemmas.{flag_unset}
-use Rattle.device_model.specs.Mode.{DeviceFormat, Journal}
+use Rattle.device_model.specs.Mode.{Journal}
 use Rattle.device_model.proofs.ReachedLemmas.{IsReached-opened}
 use Rattle.place_model.specs.Format.{DiskFormat, IsReadAs, format_on}
 use Rattle.place_model.specs.Left.{IsLeftInJournal}
 use Rattle.place_model.specs.Opened.{awaiting_on, device_format, opened_on}
 use Rattle.place_model.proofs.FormatLemmas.{reads_on}
 use Rattle.direct_laws.specs.MomentLaws.{IsLeftNow}
-use Rattle.hmac_tag.specs.TagMaker.{TagRule}
 use Rattle.journal_mode.specs.Opening.{opened_standing}
-use Rattle.journal_mode.specs.Standing.{StandsAs}
 use Rattle.journal_opening.specs.declared.opened.OpenedJournal.{OpenedJournal}
 use Rattle.journal_opening.specs.Opening as Opening
 use Rattle.request_slots.specs.Flight.{Flight, no_requests}
-use Rattle.request_slots.specs.InFlight.{IsFlightOf}
 use Rattle.device_core.specs.declared.condition.Condition.TheVariants.{Working}
-use Rattle.device_core.specs.declared.parts.Parts.{Parts}
-use Rattle.device_core.specs.Device as Direct
 use Rattle.device_core.specs.Device.{rule_on}
-use Rattle.journal_device.specs.declared.opening.OpenedDevice.{OpenedDevice}
 use Rattle.journal_device.specs.Device.{IsDevice, IsReady, kind_on}
-use Rattle.journal_device.specs.Opening.{HasOpened, IsOpenOn, opened_on_image}
+use Rattle.journal_device.specs.Opening.{HasOpened, OpenedLaw, device_of, opened_on_image, parts_of}
 use Rattle.journal_device.proofs.DoneLemmas.{told_then}
 use Rattle.journal_device.proofs.KindLemmas.{left_now, standing_now}
 
@@ -47,18 +40,7 @@ none_awaits d image reads clear region = false_from_ne_true (region_awaits d.sup
     let still : is_to_recalculate d.superblock d.geometry found.0 ≡ false = rw flag refl in
     true≢false (sym found.3 ∙ awaits-journal d.superblock d.geometry image found.0 clear ∙ still))
 
--- What is kept of a journal that was opened.
-abbrev pub parts_of : OpenedJournal → Parts
-parts_of opened = record {
-  tags = opened.tags;
-  maker = opened.maker;
-  slots = opened.slots;
-  spb = opened.geometry.shape.spb;
-  buffer = opened.buffer;
-}
-
-module _ (key : Option (List ℕ)) (disk : DiskIdentity) (opened : OpenedJournal) (new : OpenedDevice) (parts : new.parts ≡ parts_of opened) (journal : new.journal ≡ opened.journal) (a b : List Content)
-    (is : Opening.HasOpened key disk opened a b) where
+module _ (key : Option (List ℕ)) (disk : DiskIdentity) (opened : OpenedJournal) (a b : List Content) (is : Opening.HasOpened key disk opened a b) where
   -- It is ready,
   ready_opened : IsReady Working (parts_of opened) opened.journal disk b
   ready_opened =
@@ -110,15 +92,19 @@ module _ (key : Option (List ℕ)) (disk : DiskIdentity) (opened : OpenedJournal
             (standing_now (opened_standing f image on.disk) opened.journal opened.tags b on.stands)));
       }
 
-  pub has_opened : {P : Content → Type 0} → EachMoment a b P → HasOpened key disk new a b
+  pub has_opened : {P : Content → Type 0} → EachMoment a b P → HasOpened key disk (device_of opened) a b
   has_opened moments = record {
     device = λ start told. let on = is.device start told in record {
       disk = on.disk;
       format = on.format;
-      device = subst (λ (p : Parts). IsDevice (opened_on_image key disk.sectors (last_image start) on.disk) Working p new.journal b) (sym parts)
-          (subst (λ j. IsDevice (opened_on_image key disk.sectors (last_image start) on.disk) Working (parts_of opened) j b) (sym journal) (device_opened moments start told on));
+      device = device_opened moments start told on;
     };
-    ready = subst (λ (p : Parts). IsReady Working p new.journal disk b) (sym parts) (subst (λ j. IsReady Working (parts_of opened) j disk b) (sym journal) ready_opened);
-    requests = subst (λ (p : Parts). p.slots ≡ no_requests p.tags.geometry.blocks (512 * p.tags.geometry.shape.spb)) (sym parts) is.ready.slots;
+    ready = ready_opened;
+    requests = is.ready.slots;
     can = is.can;
   }
+
+-- ---- for callers
+
+pub opened_law : OpenedLaw
+opened_law key disk opened a b is moments = has_opened key disk opened a b is moments

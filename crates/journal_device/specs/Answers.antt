@@ -1,5 +1,6 @@
 -- What the calls of a device in journal mode answer, as the events of `device_model` do.
-use Rattle.std.specs.Prelude.{◌≡◌, ◌⊎◌, ℕ, suc, true, false, List, Result, IfOk}
+use Rattle.std.specs.Prelude.{◌≡◌, ◌<◌, ◌⊎◌, ℕ, suc, ◌-◌, Bool, true, false, List, length, Result}
+use Rattle.std.specs.Prelude.{IfOk, OnErr, OnOk}
 use Rattle.disk_model.specs.Disk.{Content, EachImage, OnlyAdds}
 use Rattle.disk_model.specs.Identity.{DiskIdentity}
 use Rattle.disk_model.specs.Moments.{EachSince, HasNow}
@@ -12,12 +13,12 @@ use Rattle.request_slots.specs.declared.reply.Reply.{Reply}
 use Rattle.request_slots.specs.declared.request.Request.{Request}
 use Rattle.request_slots.specs.declared.turn.Turn.{Turn}
 use Rattle.request_slots.specs.declared.turn.Turn.TheVariants as Turns
-use Rattle.request_slots.specs.Flight.{is_in_flight, slot_of}
+use Rattle.request_slots.specs.Flight.{is_in_flight, slot_of, turn_of}
 use Rattle.request_slots.specs.InFlight.{as_reply, as_submission, returned_in, submit_answer}
 use Rattle.request_slots.specs.Submitting.{after_submit}
 use Rattle.request_slots.specs.Taking.{after_take, taken_by}
 use Rattle.tag_store.specs.Store.{IsMarkedTags, IsOutForTag}
-use Rattle.device_core.specs.Answers.{IsTaken, answer_by, event_by, moved_answer, submit_fault}
+use Rattle.device_core.specs.Answers.{IsTaken, answer_by, event_by, moved_answer, submit_fault, turns_left}
 use Rattle.device_core.specs.Device.{KeepsFlight}
 use Rattle.device_core.specs.declared.answers.Moved.{Moved}
 use Rattle.device_core.specs.declared.answers.StepFault.{StepFault}
@@ -29,14 +30,22 @@ use Rattle.device_core.specs.declared.answers.Actor.TheVariants as Actors
 use Rattle.device_core.specs.declared.answers.Moved.TheVariants as Moves
 use Rattle.journal_ring.specs.declared.ring.Moved as JournalMove
 use Rattle.journal_ring.specs.declared.ring.Moved.TheVariants as JournalMoves
+use Rattle.journal_model.specs.Ring.{entries_of}
 use Rattle.journal_ring.specs.Batch.{WritesBatch}
 use Rattle.place_writer.specs.Moves.{WritesNext}
+use Rattle.place_writer.specs.Placement.{placed_in}
 use Rattle.journal_mode.specs.Closing.{HasContent}
 use Rattle.journal_mode.specs.Commits.{WritesBatches}
 use Rattle.journal_mode.specs.Journal.{PlacedRing, after_put}
 use Rattle.journal_device.specs.declared.served.Served.{Served}
 use Rattle.journal_device.specs.declared.served.Served.TheVariants as Serves
 use Rattle.journal_device.specs.Device.{DeviceStanding, IsDevice, IsDone, IsReady, HasDone, kind_on, standing_of}
+
+-- Nothing is changed: neither what is kept, nor the disk, or what that tells.
+pub record KeepsAll {A : Type 0} (old new : Parts) (journal put : PlacedRing) (first last : A) : Type 0 where
+  pub parts : new ≡ old
+  pub journal_ : put ≡ journal
+  pub disk : last ≡ first
 
 -- ---- a serve
 
@@ -54,6 +63,13 @@ served_answer Serves.Did = Model.Did
 served_answer Serves.Done = Model.Done
 served_answer Serves.NoRoom = Model.NoRoom
 
+-- The request waits: for another one, or for room.
+abbrev pub waits : Served → Bool
+waits (Serves.Held by) = true
+waits Serves.Did = false
+waits Serves.Done = false
+waits Serves.NoRoom = true
+
 -- A serve is such an event, where the disk failed in it or not.
 abbrev pub HasServed : DeviceStanding → (ticket : ℕ) → Result Served StepFault → Condition → Parts → PlacedRing
     → (before after : List Content) → Type 0
@@ -62,12 +78,14 @@ HasServed w ticket result condition parts journal before after =
     (answer_by served_answer result) condition parts journal before after
 
 -- The request is served, and answers so.
-abbrev pub IsServedAs : DeviceStanding → (ticket : ℕ) → Served → Parts → PlacedRing → (before after : List Content) → Type 0
+abbrev pub IsServedAs : DeviceStanding → (ticket : ℕ) → Served → Parts → PlacedRing
+    → (before after : List Content) → Type 0
 IsServedAs w ticket served parts journal before after =
     IsDone w (Model.Serve ticket) (served_answer served) Working parts journal before after
 
 -- The disk failed in it.
-abbrev pub HasFailedIn : DeviceStanding → (ticket : ℕ) → Parts → PlacedRing → (before after : List Content) → Type 0
+abbrev pub HasFailedIn : DeviceStanding → (ticket : ℕ) → Parts → PlacedRing
+    → (before after : List Content) → Type 0
 HasFailedIn w ticket parts journal before after =
     HasDone w (Model.FailedServe ticket) Broken parts journal before after
 
@@ -83,8 +101,8 @@ pub record WritesWithBlock (journal : PlacedRing) (block : ℕ) (before after : 
   pub more : HasEntryMore journal block put
   pub batches : WritesBatches put before after
 
--- What is written in a serve, by what is done next: for a read sectors of tags that make room for the block's; for a flush
--- batches of the journal, and for a write with one the same with its entry, if it finds room; and else nothing.
+-- What is written in a serve, by what is done next: for a read sectors of tags that make room for the block's; for a
+-- flush batches of the journal, and for a write with one the same with its entry, if it finds room; and else nothing.
 abbrev pub WritesFor : Turn → Parts → PlacedRing → (before after : List Content) → Type 0
 WritesFor Turns.Finished parts journal before after = after ≡ before
 WritesFor (Turns.Held by) parts journal before after = after ≡ before
@@ -94,6 +112,26 @@ WritesFor (Turns.Write block true) parts journal before after =
     (after ≡ before) ⊎ WritesWithBlock journal block before after
 WritesFor (Turns.Write block false) parts journal before after = after ≡ before
 WritesFor Turns.Flush parts journal before after = WritesBatches journal before after
+
+-- A device that works does what is next for a request. Where its disk did not fail, the request is served, and answers
+-- so; it is ready then, `Did` leaves the request fewer turns, and where the request waits, nothing is changed. Where its
+-- disk failed, it is broken. Both ways the same requests are in flight on the same disk, and nothing is written but what
+-- is next.
+pub record ServesNext {E : Type 0} (ticket : ℕ) (old : Parts) (journal : PlacedRing) (new : Parts)
+    (put : PlacedRing) (disk now : DiskIdentity) (before after : List Content) (result : Result Served E)
+    : Type 0 where
+  pub served : IfOk result (λ served. (w : DeviceStanding) → IsDevice w Working old journal before
+      → IsServedAs w ticket served new put before after)
+  pub goes_on : IfOk result (λ served. served ≡ Serves.Did
+      → turns_left ticket new.slots < turns_left ticket old.slots)
+  pub waiting : IfOk result (λ served. waits served ≡ true → KeepsAll old new journal put before after)
+  pub err : OnErr result ((w : DeviceStanding) → IsDevice w Working old journal before
+      → HasFailedIn w ticket new put before after)
+  pub ready : OnOk result (IsReady Working new put now after)
+  pub geometry : put.ring.geometry ≡ new.tags.geometry
+  pub flight : KeepsFlight old.slots new.slots
+  pub identity : now ≡ disk
+  pub writes : WritesFor (turn_of old.slots ticket) old journal before after
 
 -- After a serve what is kept is ready for the same disk, with the same requests in flight.
 pub record KeepsParts (condition : Condition) (old new : Parts) (journal : PlacedRing) (disk now : DiskIdentity)
@@ -123,6 +161,16 @@ WritesAs Actors.Place parts journal before after = WritesNext journal.placement 
 WritesAs Actors.Settle parts journal before after = EachSince (OnlyAdds (IsMarkedTags parts.tags)) before after
 WritesAs Actors.Clean parts journal before after = after ≡ before
 WritesAs Actors.Recalc parts journal before after = after ≡ before
+
+-- How many steps of an actor still do something at most: a commit for each opened section, a place for each committed
+-- entry that is not placed, a settle for each committed section.
+abbrev pub steps_left : Actor → PlacedRing → ℕ
+steps_left Actors.Commit journal = length journal.ring.opened
+steps_left Actors.Place journal =
+    length (entries_of journal.ring.committed) - placed_in journal.placement journal.ring
+steps_left Actors.Settle journal = length journal.ring.committed
+steps_left Actors.Clean journal = 0
+steps_left Actors.Recalc journal = 0
 
 -- ---- a close
 

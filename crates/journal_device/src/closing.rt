@@ -4,7 +4,7 @@ ghost use Rattle.device_core.specs.Answers.{HasStepCause, answer_by, event_by};
 ghost use Rattle.device_model.specs.Progress.{Close, FailedClose, IsClosed};
 ghost use Rattle.journal_device.specs.Answers.{HasEnded, IsAllPlaced};
 ghost use Rattle.journal_device.specs.Device.{DeviceStanding, IsDevice, IsReady};
-ghost use Rattle.journal_mode.specs.Closing.{IsAllFree};
+ghost use Rattle.journal_mode.specs.Closing.{IsAllFree, WritesAll};
 
 use device_core::{Condition, Parts, StepFault};
 use journal_mode::Journal;
@@ -37,6 +37,8 @@ pub fn close<D: Disk>(
     ensures broken { (condition ≡ Condition.Broken) ↔ (result ≡ Err StepFault.Broken) }
 
     ensures identity { D.identity disk.new ≡ D.identity disk.old }
+    ensures writes { condition ≡ Condition.Working
+        → WritesAll journal.old (D.moments disk.old) (D.moments disk.new) }
     ensures kept { condition ≡ Condition.Broken → disk.new ≡ disk.old }
 {
     match condition {

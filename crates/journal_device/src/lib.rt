@@ -10,11 +10,13 @@ mod opening;
 mod served;
 mod serving;
 mod stepping;
+#[cfg(test)]
+mod tests;
 mod writing;
 
 pub use closing::close;
-pub use laws::{replies_are_taken, requests_are_submitted};
-pub use opening::{OpenedDevice, open};
+pub use laws::{opened_journals_are_devices, replies_are_taken, requests_are_submitted};
+pub use opening::{OpenedDevice, device_of};
 pub use served::Served;
 pub use serving::serve;
 pub use stepping::step;

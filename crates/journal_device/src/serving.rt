@@ -1,12 +1,12 @@
 //! Serving a request: one block is read, or put into the journal, or all is flushed.
-ghost use Rattle.std.specs.Prelude.{◌≡◌, ◌↔◌, Err, Ok, ◌<◌, true, IfOk, OnErr, OnOk};
+ghost use Rattle.std.specs.Prelude.{◌≡◌, ◌↔◌, Err, IfOk, Ok, ◌<◌, true};
 ghost use Rattle.disk_model.specs.Causes.{HasCause};
 ghost use Rattle.request_slots.specs.Flight.{FitsFlight, is_in_flight, turn_of};
 ghost use Rattle.request_slots.specs.declared.turn.Turn.TheVariants as Turns;
 ghost use Rattle.device_core.specs.Answers.{HasStepCause, condition_by, turns_left};
-ghost use Rattle.device_core.specs.Device.{KeepsFlight};
 ghost use Rattle.device_core.specs.declared.condition.Condition.TheVariants.{Working};
-ghost use Rattle.journal_device.specs.Answers.{HasFailedIn, HasServed, IsServedAs, KeepsParts, WritesFor, served_by};
+ghost use Rattle.journal_device.specs.Answers.{HasServed, KeepsAll, KeepsParts, ServesNext, WritesFor};
+ghost use Rattle.journal_device.specs.Answers.{served_by, waits};
 ghost use Rattle.journal_device.specs.Device.{DeviceStanding, IsDevice, IsReady};
 
 use crate::Served;
@@ -45,6 +45,8 @@ pub fn serve<D: Disk>(
         (D.moments disk.old) (D.moments disk.new) }
     ensures goes_on { result ≡ Ok Served.Did
         → turns_left ticket.now parts.new.slots < turns_left ticket.now parts.old.slots }
+    ensures waiting { IfOk result (λ served. waits served ≡ true
+        → KeepsAll parts.old parts.new journal.old journal.new (D.moments disk.old) (D.moments disk.new)) }
 
     ensures cause { HasStepCause (D.faults disk.old) (D.faults disk.new) result }
     ensures broken { (condition.old ≡ Condition.Broken) ↔ (result ≡ Err StepFault.Broken) }
@@ -82,24 +84,10 @@ fn serve_next<D: Disk>(
     requires ready { IsReady Working parts.old journal.old (D.identity disk.old) (D.moments disk.old) }
     requires there { is_in_flight ticket.now parts.old.slots ≡ true }
 
-    ensures served { IfOk result (λ served. (w : DeviceStanding)
-        → IsDevice w Working parts.old journal.old (D.moments disk.old)
-        → IsServedAs w ticket.now served parts.new journal.new (D.moments disk.old) (D.moments disk.new)) }
-    ensures goes_on { IfOk result (λ served. served ≡ Served.Did
-        → turns_left ticket.now parts.new.slots < turns_left ticket.now parts.old.slots) }
+    ensures next { ServesNext ticket.now parts.old journal.old parts.new journal.new
+        (D.identity disk.old) (D.identity disk.new) (D.moments disk.old) (D.moments disk.new) result }
 
     ensures cause { HasCause (D.faults disk.old) (D.faults disk.new) result }
-    ensures err { OnErr result ((w : DeviceStanding)
-        → IsDevice w Working parts.old journal.old (D.moments disk.old)
-        → HasFailedIn w ticket.now parts.new journal.new (D.moments disk.old) (D.moments disk.new)) }
-
-    ensures ready { OnOk result (IsReady Working parts.new journal.new
-        (D.identity disk.new) (D.moments disk.new)) }
-    ensures geometry { journal.new.ring.geometry ≡ parts.new.tags.geometry }
-    ensures flight { KeepsFlight parts.old.slots parts.new.slots }
-    ensures identity { D.identity disk.new ≡ D.identity disk.old }
-    ensures writes { WritesFor (turn_of parts.old.slots ticket.now)
-        parts.old journal.old (D.moments disk.old) (D.moments disk.new) }
 {
     match parts.slots.turn(ticket) {
         Turn::Finished => Ok(Served::Done),
@@ -126,24 +114,10 @@ fn serve_read<D: Disk>(
     requires within { block < parts.old.slots.blocks }
     requires fits { FitsFlight ticket.now parts.old.slots }
 
-    ensures served { IfOk result (λ served. (w : DeviceStanding)
-        → IsDevice w Working parts.old journal.now (D.moments disk.old)
-        → IsServedAs w ticket.now served parts.new journal.now (D.moments disk.old) (D.moments disk.new)) }
-    ensures goes_on { IfOk result (λ served. served ≡ Served.Did
-        → turns_left ticket.now parts.new.slots < turns_left ticket.now parts.old.slots) }
+    ensures next { ServesNext ticket.now parts.old journal.now parts.new journal.now
+        (D.identity disk.old) (D.identity disk.new) (D.moments disk.old) (D.moments disk.new) result }
 
     ensures cause { HasCause (D.faults disk.old) (D.faults disk.new) result }
-    ensures err { OnErr result ((w : DeviceStanding)
-        → IsDevice w Working parts.old journal.now (D.moments disk.old)
-        → HasFailedIn w ticket.now parts.new journal.now (D.moments disk.old) (D.moments disk.new)) }
-
-    ensures ready { OnOk result (IsReady Working parts.new journal.now
-        (D.identity disk.new) (D.moments disk.new)) }
-    ensures geometry { journal.now.ring.geometry ≡ parts.new.tags.geometry }
-    ensures flight { KeepsFlight parts.old.slots parts.new.slots }
-    ensures identity { D.identity disk.new ≡ D.identity disk.old }
-    ensures writes { WritesFor (turn_of parts.old.slots ticket.now)
-        parts.old journal.now (D.moments disk.old) (D.moments disk.new) }
 {
     let stored = journal.read_block(disk, &mut parts.tags, block, &mut parts.buffer)?;
     parts.put_read(ticket, block, stored);
@@ -165,24 +139,10 @@ fn serve_write<D: Disk>(
     requires within { block < parts.old.slots.blocks }
     requires fits { FitsFlight ticket.now parts.old.slots }
 
-    ensures served { IfOk result (λ served. (w : DeviceStanding)
-        → IsDevice w Working parts.old journal.old (D.moments disk.old)
-        → IsServedAs w ticket.now served parts.new journal.new (D.moments disk.old) (D.moments disk.new)) }
-    ensures goes_on { IfOk result (λ served. served ≡ Served.Did
-        → turns_left ticket.now parts.new.slots < turns_left ticket.now parts.old.slots) }
+    ensures next { ServesNext ticket.now parts.old journal.old parts.new journal.new
+        (D.identity disk.old) (D.identity disk.new) (D.moments disk.old) (D.moments disk.new) result }
 
     ensures cause { HasCause (D.faults disk.old) (D.faults disk.new) result }
-    ensures err { OnErr result ((w : DeviceStanding)
-        → IsDevice w Working parts.old journal.old (D.moments disk.old)
-        → HasFailedIn w ticket.now parts.new journal.new (D.moments disk.old) (D.moments disk.new)) }
-
-    ensures ready { OnOk result (IsReady Working parts.new journal.new
-        (D.identity disk.new) (D.moments disk.new)) }
-    ensures geometry { journal.new.ring.geometry ≡ parts.new.tags.geometry }
-    ensures flight { KeepsFlight parts.old.slots parts.new.slots }
-    ensures identity { D.identity disk.new ≡ D.identity disk.old }
-    ensures writes { WritesFor (turn_of parts.old.slots ticket.now)
-        parts.old journal.old (D.moments disk.old) (D.moments disk.new) }
 {
     let bytes = parts.slots.next_bytes(ticket);
     let tag = parts.maker.tag(block * parts.spb, bytes);
@@ -205,24 +165,10 @@ fn serve_flush<D: Disk>(
     requires there { is_in_flight ticket.now parts.old.slots ≡ true }
     requires turn { turn_of parts.old.slots ticket.now ≡ Turns.Flush }
 
-    ensures served { IfOk result (λ served. (w : DeviceStanding)
-        → IsDevice w Working parts.old journal.old (D.moments disk.old)
-        → IsServedAs w ticket.now served parts.new journal.new (D.moments disk.old) (D.moments disk.new)) }
-    ensures goes_on { IfOk result (λ served. served ≡ Served.Did
-        → turns_left ticket.now parts.new.slots < turns_left ticket.now parts.old.slots) }
+    ensures next { ServesNext ticket.now parts.old journal.old parts.new journal.new
+        (D.identity disk.old) (D.identity disk.new) (D.moments disk.old) (D.moments disk.new) result }
 
     ensures cause { HasCause (D.faults disk.old) (D.faults disk.new) result }
-    ensures err { OnErr result ((w : DeviceStanding)
-        → IsDevice w Working parts.old journal.old (D.moments disk.old)
-        → HasFailedIn w ticket.now parts.new journal.new (D.moments disk.old) (D.moments disk.new)) }
-
-    ensures ready { OnOk result (IsReady Working parts.new journal.new
-        (D.identity disk.new) (D.moments disk.new)) }
-    ensures geometry { journal.new.ring.geometry ≡ parts.new.tags.geometry }
-    ensures flight { KeepsFlight parts.old.slots parts.new.slots }
-    ensures identity { D.identity disk.new ≡ D.identity disk.old }
-    ensures writes { WritesFor (turn_of parts.old.slots ticket.now)
-        parts.old journal.old (D.moments disk.old) (D.moments disk.new) }
 {
     journal.flush(disk, &parts.tags)?;
     parts.slots.finish(ticket);

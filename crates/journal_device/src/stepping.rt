@@ -1,10 +1,10 @@
 //! What is done in the background: batches are committed, entries placed, and sections freed.
-ghost use Rattle.std.specs.Prelude.{◌≡◌, ◌↔◌, Err, IfOk, OnErr, OnOk};
+ghost use Rattle.std.specs.Prelude.{◌≡◌, ◌↔◌, ◌<◌, Err, IfOk, Ok, OnErr, OnOk};
 ghost use Rattle.disk_model.specs.Causes.{HasCause};
 ghost use Rattle.device_core.specs.Answers.{HasStepCause, actor_of, condition_by, moved_answer};
 ghost use Rattle.device_core.specs.declared.condition.Condition.TheVariants.{Broken, Working};
 ghost use Rattle.device_model.specs.Progress.{FailedStep, Step};
-ghost use Rattle.journal_device.specs.Answers.{HasStepped, KeepsParts, WritesAs, moved_as};
+ghost use Rattle.journal_device.specs.Answers.{HasStepped, KeepsAll, KeepsParts, WritesAs, moved_as, steps_left};
 ghost use Rattle.journal_device.specs.Device.{DeviceStanding, HasDone, IsDevice, IsDone, IsReady};
 
 use device_core::{Actor, Condition, Moved, Parts, StepFault};
@@ -33,12 +33,16 @@ pub fn step<D: Disk>(
         → IsDevice w condition.old parts.old journal.old (D.moments disk.old)
         → HasStepped w (actor_of actor) result condition.new parts.new journal.new
         (D.moments disk.old) (D.moments disk.new) }
+    ensures goes_on { result ≡ Ok Moved.Did → steps_left actor journal.new < steps_left actor journal.old }
+    ensures idle { result ≡ Ok Moved.Idle
+        → KeepsAll parts.old parts.new journal.old journal.new disk.old disk.new }
 
     ensures cause { HasStepCause (D.faults disk.old) (D.faults disk.new) result }
     ensures broken { (condition.old ≡ Condition.Broken) ↔ (result ≡ Err StepFault.Broken) }
 
     ensures keeps { KeepsParts condition.new parts.old parts.new journal.new
         (D.identity disk.old) (D.identity disk.new) (D.moments disk.new) }
+    ensures slots { parts.new.slots ≡ parts.old.slots }
     ensures writes { condition.old ≡ Condition.Working
         → WritesAs actor parts.old journal.old (D.moments disk.old) (D.moments disk.new) }
     ensures condition { condition.new ≡ condition_by result }
@@ -73,6 +77,10 @@ fn step_next<D: Disk>(
         → IsDevice w Working parts.old journal.old (D.moments disk.old)
         → IsDone w (Step (actor_of actor)) (moved_answer moved) Working parts.new journal.new
         (D.moments disk.old) (D.moments disk.new)) }
+    ensures goes_on { IfOk result (λ moved. moved ≡ Moved.Did
+        → steps_left actor journal.new < steps_left actor journal.old) }
+    ensures idle { IfOk result (λ moved. moved ≡ Moved.Idle
+        → KeepsAll parts.old parts.new journal.old journal.new disk.old disk.new) }
 
     ensures cause { HasCause (D.faults disk.old) (D.faults disk.new) result }
     ensures err { OnErr result ((w : DeviceStanding)

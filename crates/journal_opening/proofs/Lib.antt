@@ -1,4 +1,3 @@
-pub mod FaultsLemmas
 pub mod MomentsLemmas
 pub mod RecoveringLemmas
 pub mod OpeningLemmas

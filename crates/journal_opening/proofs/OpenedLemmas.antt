@@ -10,11 +10,11 @@ use Rattle.image_model.specs.Openable.{journal_fault_of}
 use Rattle.place_model.specs.Format.{DiskFormat}
 use Rattle.image_opening.specs.declared.reading.ImageFormat.{ImageFormat}
 use Rattle.image_opening.specs.Format.{IsOpenedNow, direct_format_of, disk_format}
+use Rattle.opening_fault.specs.FaultLaws.{OpensLaw}
+use Rattle.opening_fault.specs.Faults.{ByJournal, fault_of}
+use Rattle.opening_fault.proofs.FaultsLemmas.{fault_of-format}
 use Rattle.journal_opening.specs.declared.opened.OpenedJournal.{OpenedJournal}
-use Rattle.journal_opening.specs.Faults.{Journal, fault_of}
-use Rattle.journal_opening.specs.OpeningLaws.{OpensLaw}
 use Rattle.journal_opening.specs.Opening.{HasOpened, IsOpenOn, IsReady}
-use Rattle.journal_opening.proofs.FaultsLemmas.{fault_of-format}
 
 -- What is known of the disk behind a read is known of it before.
 pub shift : (P : DiskIdentity → List Content → Type 0) {mid old : DiskIdentity} {m a : List Content} → mid ≡ old → m ≡ a → P mid m → P old a
@@ -24,8 +24,8 @@ module _ (key : Option (List ℕ)) (disk : DiskIdentity) (format : ImageFormat) 
     (told : HasNow (λ c. Ok format ≡ direct_format_of disk.sectors (last_image c)) a) where
   -- The image has the fault that its journal has.
   pub fault_now : (fault : Option model.JournalFault) → HasNow (λ c. fault ≡ journal_fault_of key (salt_of format.fields) format.geometry (last_image c)) a
-      → HasNow (λ c. option_map Journal fault ≡ fault_of key disk.sectors (last_image c)) a
-  fault_now fault has c at = ap (option_map Journal) (has c at) ∙ sym (fault_of-format key disk.sectors format (last_image c) (told c at))
+      → HasNow (λ c. option_map ByJournal fault ≡ fault_of key disk.sectors (last_image c)) a
+  fault_now fault has c at = ap (option_map ByJournal) (has c at) ∙ sym (fault_of-format key disk.sectors format (last_image c) (told c at))
 
   pub has_opened : OpensLaw → (opened : OpenedJournal) → HasNow (λ start. IsOpenOn (disk_format key disk.sectors format) (last_image start) opened b) a → IsReady opened disk b
       → HasNow (λ c. None ≡ journal_fault_of key (salt_of format.fields) format.geometry (last_image c)) a → HasOpened key disk opened a b

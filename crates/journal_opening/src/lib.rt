@@ -5,8 +5,6 @@
 //! a disk is refused, and what a cut leaves meanwhile, stands in `specs/Opening.antt`, the file to read first.
 #![tactic(auto)]
 
-mod laws;
-mod open_fault;
 mod opened;
 mod opening;
 mod recovering;
@@ -14,8 +12,6 @@ mod room;
 #[cfg(test)]
 mod tests;
 
-pub use laws::images_that_open_are_not_refused;
-pub use open_fault::JournalOpenFault;
 pub use opened::OpenedJournal;
 pub use opening::{open_format, open_journal};
 pub use recovering::{RecoveredImage, recover_image};

@@ -10,17 +10,16 @@ ghost use Rattle.hmac_tag.specs.TagMaker.{key_of};
 ghost use Rattle.image_opening.specs.declared.open_fault.OpenFault.{OpenFault as FormatFault};
 ghost use Rattle.image_opening.specs.Format.{IsDirectFormat, IsReadNow, disk_format};
 ghost use Rattle.journal_reading.specs.Faults.{HasReplayCause, refusal_in};
-ghost use Rattle.journal_opening.specs.Faults.{Format, HasOpenCause, fault_in, fault_of};
+ghost use Rattle.opening_fault.specs.Faults.{ByFormat, HasOpenCause, fault_in, fault_of};
 ghost use Rattle.journal_opening.specs.Opening.{CanOpenRead, HasOpened, IsLeftOpening, IsOfOpening, IsOpenOn, IsReady, IsRoomFor, KeepsImage, OnlySyncs, WritesRecovery};
 
-use crate::laws::images_that_open_are_not_refused;
-use crate::open_fault::JournalOpenFault;
 use crate::opened::OpenedJournal;
 use crate::recovering::recover_image;
 use crate::room::OpeningRoom;
 use hmac_tag::Hash;
 use image_opening::{ImageFormat, read_direct_format};
 use journal_mode::Journal;
+use opening_fault::{OpeningFault, images_that_open_have_no_fault};
 use replay::ReplayFault;
 use sector_disk::Disk;
 use sector_pool::Region;
@@ -41,26 +40,26 @@ use std::alloc::Global;
 /// - `Memory`: there is none for what the journal needs, or for what its sectors bear. No sector was written.
 /// - `Disk`: the disk failed. Every image has the cells of the image at the entry, where that can be opened.
 /// - `Super`, `Geom`, `Mode`: as `read_direct_format` tells them. Nothing was done.
-/// - `Replay`: the journal is refused, by its scan or for the first entry in the order of the replay. No sector was
+/// - `Journal`: the journal is refused, by its scan or for the first entry in the order of the replay. No sector was
 ///   written.
 pub fn open_journal<'p, D: Disk>(
     alloc: Global,
     disk: &mut D,
     hash: Hash,
     pool: &'p mut Region,
-) -> Result<OpenedJournal<'p>, JournalOpenFault>
+) -> Result<OpenedJournal<'p>, OpeningFault>
     requires bound { IsBound (D.identity disk.old).name }
 
     ensures opened { IfOk result (λ opened. HasOpened (key_of hash) (D.identity disk.old) opened
         (D.moments disk.old) (D.moments disk.new)) }
 
-    ensures refused { result ≢ Err JournalOpenFault.Memory → result ≢ Err JournalOpenFault.Disk
+    ensures refused { result ≢ Err OpeningFault.Memory → result ≢ Err OpeningFault.Disk
         → HasNow (λ c. fault_in result ≡ fault_of (key_of hash) (D.identity disk.old).sectors (last_image c))
         (D.moments disk.old) }
     ensures cause { HasOpenCause (D.faults disk.old) (D.faults disk.new) result }
-    ensures kept { (fault : FormatFault) → fault_in result ≡ Some (Format fault)
+    ensures kept { (fault : FormatFault) → fault_in result ≡ Some (ByFormat fault)
         → D.moments disk.new ≡ D.moments disk.old }
-    ensures nothing { result ≢ Err JournalOpenFault.Disk → IsErr result
+    ensures nothing { result ≢ Err OpeningFault.Disk → IsErr result
         → OnlySyncs (D.moments disk.old) (D.moments disk.new) }
 
     ensures identity { D.identity disk.new ≡ D.identity disk.old }
@@ -74,7 +73,7 @@ pub fn open_journal<'p, D: Disk>(
     let room = OpeningRoom::new(alloc, format.geometry, pool)?;
     let opened = open_format(alloc, disk, &format, hash, room)?;
     // What was not refused can be opened.
-    images_that_open_are_not_refused();
+    images_that_open_have_no_fault();
     Ok(opened)
 }
 

@@ -2,9 +2,10 @@
 ghost use Rattle.disk_model.specs.Identity.{IsBound};
 ghost use Rattle.journal_opening.specs.Opening.{IsReady};
 
-use crate::{JournalOpenFault, OpenedJournal, open_journal};
+use crate::{OpenedJournal, open_journal};
 use hmac_tag::Hash;
 use image_formatting::{NewImage, Padding, Wipe, format};
+use opening_fault::OpeningFault;
 use replay::JournalFault;
 use sector_disk::{Disk, MemDisk};
 use sector_pool::Region;
@@ -106,7 +107,7 @@ fn read_block<D: Disk>(alloc: Global, disk: &mut D, block: u64) -> Option<u8>
 }
 
 /// The fault of an opening, if it is refused.
-fn fault_of<D: Disk>(alloc: Global, disk: &mut D) -> Option<JournalOpenFault>
+fn fault_of<D: Disk>(alloc: Global, disk: &mut D) -> Option<OpeningFault>
     requires { IsBound (D.identity disk.old).name }
 {
     let mut region = Region::new();
@@ -128,7 +129,7 @@ fn what_is_flushed_is_read_by_the_next_device(rt: HostRuntime) -> Result<(), Fai
 fn a_disk_of_zeros_has_no_magic(rt: HostRuntime) -> Result<(), Fail> {
     let mut disk = MemDisk::new(rt.alloc(), SECTORS, 20)?;
     let fault = fault_of(rt.alloc(), &mut disk);
-    assert!(rt; matches!(fault, Some(JournalOpenFault::Super(SuperFault::Magic))));
+    assert!(rt; matches!(fault, Some(OpeningFault::Super(SuperFault::Magic))));
     Ok(())
 }
 
@@ -140,7 +141,7 @@ fn a_journal_of_zeros_is_refused(rt: HostRuntime) -> Result<(), Fail> {
     }
     disk.write_run(8, &[0; 512])?;
     let fault = fault_of(rt.alloc(), &mut disk);
-    assert!(rt; matches!(fault, Some(JournalOpenFault::Replay(JournalFault::Scan(_)))));
+    assert!(rt; matches!(fault, Some(OpeningFault::Journal(JournalFault::Scan(_)))));
     Ok(())
 }
 
@@ -156,6 +157,6 @@ fn a_bitmap_is_refused(rt: HostRuntime) -> Result<(), Fail> {
     first[24] |= 4;
     disk.write_run(0, &first)?;
     let fault = fault_of(rt.alloc(), &mut disk);
-    assert!(rt; matches!(fault, Some(JournalOpenFault::Mode { .. })));
+    assert!(rt; matches!(fault, Some(OpeningFault::Mode { .. })));
     Ok(())
 }

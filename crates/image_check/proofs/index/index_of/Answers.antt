@@ -1,4 +1,4 @@
-use Rattle.std.proofs.Common.{sym, ap, subst, arith, List, filter_map}
+use Rattle.std.proofs.Common.{sym, subst, arith, List, filter_map}
 use Rattle.std.specs.List.{AllByRecursion}
 use Rattle.image_model.specs.Cells.{entry_of}
 use Rattle.image_model.specs.Section.{Entry}

@@ -1,7 +1,7 @@
 use Rattle.std.proofs.Common.{ℕ, ◌+◌, ◌≤◌, ap, ◌∙◌, arith}
 use Rattle.disk_model.specs.Identity.{DiskIdentity}
 use Rattle.disk_model.specs.Moments.{content_now}
-use Rattle.image_model.specs.Geometry.{Shape, tag_at}
+use Rattle.image_model.specs.Geometry.{Shape}
 use Rattle.image_model.proofs.GeometryLemmas.{data_at-inside}
 use Rattle.disk_model.specs.Disk.{last_image}
 use Rattle.image_check.proofs.JudgingLemmas.{bad_cell-read, tag_lies}

@@ -5,6 +5,8 @@ use Rattle.journal_mode.proofs.ClosingLemmas.{batch_geometry}
 use Rattle.journal_device.specs.Device.{standing_of}
 use Rattle.journal_device.proofs.DoneLemmas.{stands_now}
 use Rattle.journal_device.proofs.EventLemmas.{clean_step, commit_step, place_step, recalc_step, settle_step, step_failed}
+use Rattle.journal_device.proofs.StepsLemmas.{commit_fewer, not_did, place_fewer, settle_fewer}
+use Rattle.journal_device.proofs.IdleLemmas.{idle_commit, idle_place, idle_settle}
 use Rattle.journal_device.proofs.WriteLemmas.{ready_tags}
 use Rattle.journal_device.proofs.stepping.step_next.Goals as goal
 use Rattle.journal_device.proofs.stepping.step_next.Goals.{in-Commit+in_ok-moved-in-Commit, in-Place+in_ok-moved-in-Place, in-Settle+in_ok-moved-in-Settle, in-Clean, in-Recalc}
@@ -68,4 +70,34 @@ returns-clause-ready g c =
       })
       | in-Clean x ↦ rw (x.disk-is, x.parts-is, x.journal-is) c.requires
       | in-Recalc x ↦ rw (x.disk-is, x.parts-is, x.journal-is) c.requires
+    ]
+
+pub returns-clause-goes_on : goal.returns-clause-goes_on
+returns-clause-goes_on g c =
+    let journal = c.args.journal.now in
+    elim c.match-actor.branch [
+      | in-Commit+in_ok-moved-in-Commit x ↦ rw (c.moved_as.ensures, x.moved-is, x.journal-is, x.in-Commit.is)
+          (λ did. commit_fewer x.in_ok-moved-in-Commit.moved journal x.commit.new.self _ _ _ _ x.commit.ensures.bounds x.in_ok-moved-in-Commit.ensures.moved did)
+      | in-Place+in_ok-moved-in-Place x ↦ rw (c.moved_as.ensures, x.moved-is, x.journal-is, x.in-Place.is)
+          (λ did. place_fewer x.in_ok-moved-in-Place.moved journal x.place.new.self _ _ _ _ x.in_ok-moved-in-Place.ensures.moved x.place.ensures.ring did)
+      | in-Settle+in_ok-moved-in-Settle x ↦ rw (c.moved_as.ensures, x.moved-is, x.journal-is, x.in-Settle.is)
+          (λ did. settle_fewer x.in_ok-moved-in-Settle.moved journal x.settle.new.self _ _ _ _ x.in_ok-moved-in-Settle.ensures.moved did)
+      | in-Clean x ↦ rw (c.moved_as.ensures, x.moved-is) (λ did. absurd (not_did did))
+      | in-Recalc x ↦ rw (c.moved_as.ensures, x.moved-is) (λ did. absurd (not_did did))
+    ]
+
+pub returns-clause-idle : goal.returns-clause-idle
+returns-clause-idle g c =
+    let parts = c.args.parts.now in
+    let journal = c.args.journal.now in
+    let disk = c.args.disk.now in
+    elim c.match-actor.branch [
+      | in-Commit+in_ok-moved-in-Commit x ↦ rw (c.moved_as.ensures, x.moved-is, x.disk-is, x.parts-is, x.journal-is)
+          (idle_commit parts journal x.commit.new.self disk x.commit.new.disk _ _ _ x.in_ok-moved-in-Commit.ensures.moved)
+      | in-Place+in_ok-moved-in-Place x ↦ rw (c.moved_as.ensures, x.moved-is, x.disk-is, x.parts-is, x.journal-is)
+          (idle_place parts journal x.place.new.self disk x.place.new.disk _ x.place.new.tags x.in_ok-moved-in-Place.ensures.moved x.place.ensures.ring)
+      | in-Settle+in_ok-moved-in-Settle x ↦ rw (c.moved_as.ensures, x.moved-is, x.disk-is, x.parts-is, x.journal-is)
+          (idle_settle parts journal x.settle.new.self disk x.settle.new.disk _ x.settle.new.tags x.in_ok-moved-in-Settle.ensures.moved)
+      | in-Clean x ↦ rw (x.disk-is, x.parts-is, x.journal-is) (λ idle. record { parts = refl; journal_ = refl; disk = refl })
+      | in-Recalc x ↦ rw (x.disk-is, x.parts-is, x.journal-is) (λ idle. record { parts = refl; journal_ = refl; disk = refl })
     ]

@@ -7,7 +7,7 @@ use Rattle.image_opening.specs.Format.{disk_format}
 use Rattle.journal_mode.specs.Journal.{PlacedRing, empty_journal}
 use Rattle.request_slots.specs.Flight.{no_requests}
 use Rattle.journal_opening.specs.declared.opened.OpenedJournal.{OpenedJournal}
-use Rattle.journal_opening.proofs.FaultsLemmas.{same_fault}
+use Rattle.opening_fault.proofs.FaultsLemmas.{same_fault}
 use Rattle.journal_opening.proofs.OpeningLemmas.{now_told, open_on}
 use Rattle.journal_opening.proofs.opening.open_format.Goals as goal
 

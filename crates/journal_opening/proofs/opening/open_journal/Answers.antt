@@ -9,10 +9,10 @@ use Rattle.image_model.specs.Openable.{journal_fault_of}
 use Rattle.hmac_tag.specs.TagMaker.{key_of}
 use Rattle.image_opening.specs.Format.{IsReadNow, disk_format}
 use Rattle.journal_reading.specs.Faults.{refusal_in}
+use Rattle.opening_fault.specs.Faults.{fault_by, fault_in_format}
 use Rattle.journal_opening.specs.declared.opened.OpenedJournal.{OpenedJournal}
-use Rattle.journal_opening.specs.Faults.{fault_by}
 use Rattle.journal_opening.specs.Opening.{IsOfOpening, IsOpenOn, IsReady, KeepsImage, OnlySyncs, WritesRecovery}
-use Rattle.journal_opening.proofs.FaultsLemmas.{format_cause, no_format, opened_cause, replay_cause, room_cause, same_format, same_replay, told_format, told_journal}
+use Rattle.opening_fault.proofs.FaultsLemmas.{format_cause, no_format, opened_cause, replay_cause, room_cause, same_format, same_replay, told_format, told_journal}
 use Rattle.journal_opening.proofs.OpenedLemmas.{fault_now, has_opened, shift}
 use Rattle.journal_opening.proofs.OpeningLemmas.{opening_left, own_moments}
 use Rattle.journal_opening.proofs.opening.open_journal.Goals as goal
@@ -31,7 +31,7 @@ returns-in_err-format-clause-refused g c =
     let p = err_from_is_err_and c.from_residual.result c.from_residual.ensures.1 in
     rw (p.1, p.2) (λ not_memory not_disk content told.
     told_format _ not_memory not_disk
-    ∙ ap (fault_by (key_of c.args.hash) (last_image content)) (c.in_err-format.ensures.told (λ e. not_disk (same_format e)) content told))
+    ∙ ap (fault_by (fault_in_format (key_of c.args.hash) (last_image content))) (c.in_err-format.ensures.told (λ e. not_disk (same_format e)) content told))
 
 pub returns-in_err-format-clause-cause : goal.returns-in_err-format-clause-cause
 returns-in_err-format-clause-cause g c =
@@ -137,7 +137,7 @@ returns-clause-opened g c =
     let identity = c.read_direct_format.ensures.identity in
     let kept = c.read_direct_format.ensures.kept in
     let opened = c.in_ok-opened.opened in
-    has_opened key (g.D.Disk.identity old) format (g.D.Disk.moments old) new (c.in_ok-format.ensures.opens key) (c.in_ok-format.ensures.told (λ e. cc)) c.images_that_open_are_not_refused.ensures opened
+    has_opened key (g.D.Disk.identity old) format (g.D.Disk.moments old) new (c.in_ok-format.ensures.opens key) (c.in_ok-format.ensures.told (λ e. cc)) c.images_that_open_have_no_fault.ensures opened
     (shift (λ i x. HasNow (λ start. IsOpenOn (disk_format key i.sectors format) (last_image start) opened new) x) identity kept c.in_ok-opened.ensures.opened)
     (subst (λ (i : DiskIdentity). IsReady opened i new) (c.open_format.ensures.identity ∙ identity) c.in_ok-opened.ensures.ready)
     (subst (λ (x : List Content). HasNow (λ y. None ≡ journal_fault_of key (salt_of format.fields) format.geometry (last_image y)) x) kept (c.in_ok-opened.ensures.refused (λ e. cc) (λ e. cc)))

@@ -10,7 +10,7 @@ use Rattle.image_opening.specs.Format.{disk_format}
 use Rattle.buffer_cache.specs.declared.held.HeldSectors.{HeldSectors}
 use Rattle.tag_store.specs.Store.{Store}
 use Rattle.replay.specs.Writes.{IsOfRecovery}
-use Rattle.journal_opening.proofs.FaultsLemmas.{same_fault}
+use Rattle.opening_fault.proofs.FaultsLemmas.{same_fault}
 use Rattle.journal_opening.proofs.MomentsLemmas.{settles_then, sync_settles, told_synced}
 use Rattle.journal_opening.proofs.RecoveringLemmas.{enters, sync_cells}
 use Rattle.journal_opening.proofs.recovering.recover_image.Goals as goal

@@ -1,24 +1,27 @@
 use Rattle.std.proofs.Common.{◌≡◌, ap, ◌∙◌, Err, Option}
+use Rattle.std.specs.Option.{option_map}
 use Rattle.std.proofs.lemmas.Result.{err_from_is_err_and}
 use Rattle.disk_model.specs.Disk.{last_image}
 use Rattle.hmac_tag.specs.TagMaker.{TagRule, key_of}
 use Rattle.journal_overlay.specs.Kept.{Places}
 use Rattle.image_check.specs.Checked.{Checked}
-use Rattle.image_check.specs.declared.check_fault.CheckFault.{CheckFault}
-use Rattle.image_check.specs.declared.check_fault.CheckFault.TheVariants.{Memory, Disk}
-use Rattle.image_check.specs.Faults.{journal_refusal, refusal_in}
-use Rattle.image_check.proofs.CheckedLemmas.{opened_check, refusal_in-err}
+use Rattle.opening_fault.specs.declared.opening_fault.OpeningFault.{OpeningFault}
+use Rattle.opening_fault.specs.declared.opening_fault.OpeningFault.TheVariants.{Memory, Disk}
+use Rattle.opening_fault.specs.Faults.{ByJournal, fault_in}
+use Rattle.opening_fault.proofs.FaultsLemmas.{fault_in-err}
+use Rattle.image_check.specs.Faults.{journal_fault_for}
+use Rattle.image_check.proofs.CheckedLemmas.{opened_check}
 use Rattle.image_check.proofs.checked_image.CheckedImage.in_format.Goals as goal
 
 pub returns-in_err-journal-clause-refused : goal.returns-in_err-journal-clause-refused
 returns-in_err-journal-clause-refused g c some well x told =
     let fault = c.in_err-journal.field-0.0 in
     let p = err_from_is_err_and c.from_residual.result c.from_residual.ensures.1 in
-    let e : c.from_residual.result ≡ Err fault = p.1 ∙ ap (λ (f : CheckFault). Err f) p.2 in
-    ap (λ r. refusal_in r) e
-    ∙ refusal_in-err Checked (Option Places) fault
-    ∙ c.in_err-journal.ensures.refused (λ h. some (e ∙ ap (λ (f : CheckFault). Err f) (let same : fault ≡ Memory = cc in same))) (λ h. well (e ∙ ap (λ (f : CheckFault). Err f) (let same : fault ≡ Disk = cc in same))) x told
-    ∙ ap (λ (m : TagRule). journal_refusal c.args.what m.key m.salt c.args.format.geometry (last_image x)) c.tag_maker-maker.ensures
+    let e : c.from_residual.result ≡ Err fault = p.1 ∙ ap (λ (f : OpeningFault). Err f) p.2 in
+    ap (λ r. fault_in r) e
+    ∙ fault_in-err Checked (Option Places) fault
+    ∙ c.in_err-journal.ensures.refused (λ h. some (e ∙ ap (λ (f : OpeningFault). Err f) (let same : fault ≡ Memory = cc in same))) (λ h. well (e ∙ ap (λ (f : OpeningFault). Err f) (let same : fault ≡ Disk = cc in same))) x told
+    ∙ ap (λ (m : TagRule). option_map ByJournal (journal_fault_for c.args.what m.key m.salt c.args.format.geometry (last_image x))) c.tag_maker-maker.ensures
 
 pub returns-clause-image : goal.returns-clause-image
 returns-clause-image g c =
@@ -28,4 +31,4 @@ returns-clause-image g c =
 pub returns-clause-refused : goal.returns-clause-refused
 returns-clause-refused g c some well x told =
     c.in_ok-journal.ensures.refused (λ h. cc) (λ h. cc) x told
-    ∙ ap (λ (m : TagRule). journal_refusal c.args.what m.key m.salt c.args.format.geometry (last_image x)) c.tag_maker-maker.ensures
+    ∙ ap (λ (m : TagRule). option_map ByJournal (journal_fault_for c.args.what m.key m.salt c.args.format.geometry (last_image x))) c.tag_maker-maker.ensures

@@ -1,9 +1,9 @@
--- Which images are refused.
+-- Which images have a fault.
 use Rattle.std.specs.Prelude.{◌≡◌, ◌↔◌, ℕ, None, Option, List}
 use Rattle.disk_model.specs.Disk.{Image}
 use Rattle.device_model.specs.Mode.{Journal}
 use Rattle.place_model.specs.Kind.{CanOpenIn}
-use Rattle.journal_opening.specs.Faults.{fault_of}
+use Rattle.opening_fault.specs.Faults.{fault_of}
 
 -- An image has no fault exactly where journal mode can open it.
 abbrev pub OpensLaw : Type 0

@@ -1,0 +1,2 @@
+pub mod FaultsLemmas
+pub mod FaultLawsLemmas
