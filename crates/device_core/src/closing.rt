@@ -17,7 +17,7 @@ use sector_disk::Disk;
 ///
 /// - `Disk`: the disk failed.
 /// - `Broken`: the device is broken.
-pub(crate) fn close<D: Disk>(
+pub fn close<D: Disk>(
     disk: &mut D,
     parts: &mut Parts,
     condition: Condition,

@@ -18,6 +18,11 @@ mod submitting;
 mod tests;
 
 pub use answers::{Actor, Moved, Served, StepFault};
+pub use closing::close;
 pub use condition::Condition;
 pub use device::{Device, Refused};
+pub use opening::open;
 pub use parts::Parts;
+pub use serving::serve;
+pub use stepping::step;
+pub use submitting::{submit, take};

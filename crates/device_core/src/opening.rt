@@ -43,7 +43,7 @@ struct Room {
 /// - `Disk`, `Super`, `Geom`, `Mode`: as `read_direct_format` tells them.
 /// - `Memory`: there is none for what the device keeps.
 /// - `Disk`: the disk failed at the sync.
-pub(crate) fn open<D: Disk>(alloc: Global, disk: &mut D, hash: Hash) -> Result<Parts, OpenFault>
+pub fn open<D: Disk>(alloc: Global, disk: &mut D, hash: Hash) -> Result<Parts, OpenFault>
     requires { IsBound (D.identity disk.old).name }
 
     ensures opened { IfOk result (λ parts. HasOpened (key_of hash) (D.identity disk.old) parts

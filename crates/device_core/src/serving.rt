@@ -18,7 +18,7 @@ use sector_disk::{Disk, Failed};
 ///
 /// - `Disk`: the disk failed. The device is broken from then on.
 /// - `Broken`: the device is.
-pub(crate) fn serve<D: Disk>(
+pub fn serve<D: Disk>(
     disk: &mut D,
     parts: &mut Parts,
     condition: &mut Condition,

@@ -13,7 +13,7 @@ use crate::{Actor, Condition, Moved, StepFault};
 /// # Errors
 ///
 /// - `Broken`: the device is.
-pub(crate) fn step(condition: Condition, actor: Actor) -> Result<Moved, StepFault>
+pub fn step(condition: Condition, actor: Actor) -> Result<Moved, StepFault>
     ensures answer { result ≡ step_answer condition }
     ensures done { (w : Standing) (parts : Parts) (moments : List Content)
         → IsDevice w condition parts moments

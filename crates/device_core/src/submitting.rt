@@ -16,7 +16,7 @@ use request_slots::{Reply, Request, SubmitFault, Ticket};
 /// # Errors
 ///
 /// The request comes back with `Broken` where the device is, and else as `Slots::submit` tells.
-pub(crate) fn submit(
+pub fn submit(
     parts: &mut Parts,
     condition: Condition,
     request: Request,
@@ -43,7 +43,7 @@ pub(crate) fn submit(
 /// # Errors
 ///
 /// The ticket comes back where the request is not done.
-pub(crate) fn take(parts: &mut Parts, ticket: Ticket) -> Result<Reply, Ticket>
+pub fn take(parts: &mut Parts, ticket: Ticket) -> Result<Reply, Ticket>
     requires there { is_in_flight ticket parts.old.slots ≡ true }
 
     ensures reply { result ≡ taken_by ticket (slot_of ticket parts.old.slots) }

@@ -1,0 +1,4 @@
+pub mod ModeLemmas
+pub mod RequestLemmas
+pub mod ServedLemmas
+pub mod OpeningLemmas

@@ -1,0 +1,48 @@
+//! The end of a device, in its mode.
+ghost use Rattle.std.specs.Prelude.{◌≡◌, ◌↔◌, Err, OnOk};
+ghost use Rattle.device_core.specs.Answers.{HasStepCause, answer_by, event_by};
+ghost use Rattle.device_model.specs.Progress.{Close, FailedClose, IsClosed};
+ghost use Rattle.integrity_device.specs.Answers.{HasEnded, IsAllPlaced, WritesInClose};
+ghost use Rattle.integrity_device.specs.Device.{IsDevice, IsReady, Standing};
+
+use crate::{DeviceParts, Mode};
+use device_core::{Condition, StepFault};
+use sector_disk::Disk;
+
+/// Flushes all that was written; in journal mode all is committed, placed and settled. A broken device makes no call of
+/// its disk.
+///
+/// # Errors
+///
+/// - `Disk`: the disk failed.
+/// - `Broken`: the device is broken.
+pub(crate) fn close<D: Disk>(
+    disk: &mut D,
+    parts: DeviceParts<'_>,
+    condition: Condition,
+) -> Result<(), StepFault>
+    requires { IsReady condition parts (D.identity disk.old) (D.moments disk.old) }
+
+    ensures closed { (w : Standing) → IsDevice w condition parts.entry (D.moments disk.old)
+        → HasEnded w (event_by Close FailedClose result) (answer_by (λ done. IsClosed) result)
+        (D.moments disk.old) (D.moments disk.new) }
+    ensures placed { OnOk result ((w : Standing) → IsDevice w condition parts.entry (D.moments disk.old)
+        → IsAllPlaced parts.entry.mode w (D.moments disk.new)) }
+
+    ensures cause { HasStepCause (D.faults disk.old) (D.faults disk.new) result }
+    ensures broken { (condition ≡ Condition.Broken) ↔ (result ≡ Err StepFault.Broken) }
+
+    ensures identity { D.identity disk.new ≡ D.identity disk.old }
+    ensures kept { condition ≡ Condition.Broken → disk.new ≡ disk.old }
+
+    ensures writes { condition ≡ Condition.Working → WritesInClose parts.entry.mode parts.entry.common
+        (D.moments disk.old) (D.moments disk.new) }
+{
+    let DeviceParts { mut common, mode } = parts;
+    match mode {
+        Mode::Direct => device_core::close(disk, &mut common, condition),
+        Mode::Journal(mut journal) => {
+            journal_device::close(disk, &mut common, &mut journal, condition)
+        }
+    }
+}

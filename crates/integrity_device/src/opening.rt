@@ -1,0 +1,118 @@
+//! Opening a device in the mode that is asked for.
+ghost use Rattle.std.specs.Prelude.{◌≡◌, IfErr, IfOk};
+ghost use Rattle.disk_model.specs.Identity.{IsBound};
+ghost use Rattle.hmac_tag.specs.TagMaker.{key_of};
+ghost use Rattle.opening_fault.specs.Faults.{HasOpenCause};
+ghost use Rattle.integrity_device.specs.Opening.{HasOpened, IsRefused, LeavesOpening};
+
+use crate::{DeviceParts, Mode};
+use hmac_tag::Hash;
+use journal_device::{OpenedDevice, device_of, opened_journals_are_devices};
+use journal_opening::open_journal;
+use opening_fault::OpeningFault;
+use sector_disk::Disk;
+use sector_pool::Region;
+use std::alloc::Global;
+
+/// The mode that a device is opened in.
+#[derive(Clone, Copy, Debug, PartialEq, Eq)]
+pub enum OpenMode {
+    /// Writes go to their places. As long as nothing recovers a journal in it, its entries are left alone.
+    Direct,
+    /// Writes go to the journal first.
+    Journal,
+}
+
+/// Opens a device on a disk. All memory that it ever takes is taken before the first write; in journal mode the
+/// region gets the journal's sectors, and in direct mode it is left alone.
+///
+/// # Errors
+///
+/// `Memory` and `Disk` come whenever they hold, and of the others the first that holds:
+///
+/// - `Memory`: there is none for what the device keeps, or for what the journal's sectors bear. No sector was written.
+/// - `Disk`: the disk failed.
+/// - `Super`: the superblock is refused. A disk without a sector has no magic.
+/// - `Geom`: the disk has no room for what the superblock tells.
+/// - `Mode`: there is a bitmap.
+/// - `Journal`: in journal mode, the journal is refused. No sector was written.
+pub(crate) fn open<'p, D: Disk>(
+    alloc: Global,
+    disk: &mut D,
+    pool: &'p mut Region,
+    hash: Hash,
+    mode: OpenMode,
+) -> Result<DeviceParts<'p>, OpeningFault>
+    requires { IsBound (D.identity disk.old).name }
+
+    ensures opened { IfOk result (λ parts. HasOpened mode (key_of hash) (D.identity disk.old) parts
+        (D.moments disk.old) (D.moments disk.new)) }
+    ensures refused { IfErr result (λ fault. IsRefused mode (key_of hash) (D.identity disk.old) fault
+        (D.moments disk.old) (D.moments disk.new)) }
+    ensures cause { HasOpenCause (D.faults disk.old) (D.faults disk.new) result }
+    ensures leaves { LeavesOpening mode (key_of hash) (D.identity disk.old) (D.identity disk.new)
+        (D.moments disk.old) (D.moments disk.new) }
+{
+    match mode {
+        OpenMode::Direct => open_direct(alloc, disk, hash),
+        OpenMode::Journal => open_in_journal(alloc, disk, pool, hash),
+    }
+}
+
+/// Opens a device in direct mode.
+///
+/// # Errors
+///
+/// As `open` in that mode.
+fn open_direct<'p, D: Disk>(
+    alloc: Global,
+    disk: &mut D,
+    hash: Hash,
+) -> Result<DeviceParts<'p>, OpeningFault>
+    requires { IsBound (D.identity disk.old).name }
+
+    ensures opened { IfOk result (λ parts. HasOpened OpenMode.Direct (key_of hash) (D.identity disk.old) parts
+        (D.moments disk.old) (D.moments disk.new)) }
+    ensures refused { IfErr result (λ fault. IsRefused OpenMode.Direct (key_of hash) (D.identity disk.old) fault
+        (D.moments disk.old) (D.moments disk.new)) }
+    ensures cause { HasOpenCause (D.faults disk.old) (D.faults disk.new) result }
+    ensures leaves { LeavesOpening OpenMode.Direct (key_of hash) (D.identity disk.old) (D.identity disk.new)
+        (D.moments disk.old) (D.moments disk.new) }
+{
+    let common = device_core::open(alloc, disk, hash)?;
+    Ok(DeviceParts {
+        common,
+        mode: Mode::Direct,
+    })
+}
+
+/// Opens a device in journal mode.
+///
+/// # Errors
+///
+/// As `open` in that mode.
+fn open_in_journal<'p, D: Disk>(
+    alloc: Global,
+    disk: &mut D,
+    pool: &'p mut Region,
+    hash: Hash,
+) -> Result<DeviceParts<'p>, OpeningFault>
+    requires { IsBound (D.identity disk.old).name }
+
+    ensures opened { IfOk result (λ parts. HasOpened OpenMode.Journal (key_of hash) (D.identity disk.old) parts
+        (D.moments disk.old) (D.moments disk.new)) }
+    ensures refused { IfErr result (λ fault. IsRefused OpenMode.Journal (key_of hash) (D.identity disk.old) fault
+        (D.moments disk.old) (D.moments disk.new)) }
+    ensures cause { HasOpenCause (D.faults disk.old) (D.faults disk.new) result }
+    ensures leaves { LeavesOpening OpenMode.Journal (key_of hash) (D.identity disk.old) (D.identity disk.new)
+        (D.moments disk.old) (D.moments disk.new) }
+{
+    let opened = open_journal(alloc, disk, hash, pool)?;
+    // What was opened is a device.
+    opened_journals_are_devices();
+    let OpenedDevice { parts, journal } = device_of(opened);
+    Ok(DeviceParts {
+        common: parts,
+        mode: Mode::Journal(journal),
+    })
+}
