@@ -1,0 +1,6 @@
+pub mod WritesLemmas
+pub mod RunLemmas
+pub mod EventWritesLemmas
+pub mod CallLemmas
+pub mod FinishLemmas
+pub mod ServeLemmas
