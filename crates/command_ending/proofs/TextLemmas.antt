@@ -1,5 +1,5 @@
 -- Lines by their pieces.
-use Rattle.std.proofs.Common.{◌≡◌, ℕ, List, [], ◌++◌, refl, sym, ap, ◌∙◌, subst, append_assoc, codes, false, Result, OnOk, OnErr, Option}
+use Rattle.std.proofs.Common.{◌≡◌, ℕ, List, [], ◌∷◌, ◌++◌, refl, sym, ap, ◌∙◌, subst, append_assoc, append-nil, codes, false, Result, OnOk, OnErr, Option}
 use Rattle.std.specs.Option.{option_map}
 use Rattle.std.proofs.lemmas.Result.{on_ok_weaker, on_err_weaker}
 use Rattle.device_model.specs.Ending.{ImageFault, LineFault, RefusedImage, RefusedLine, fault_text, hexadecimal}
@@ -23,6 +23,21 @@ same_put {r = r} {a = a} {b = b} {old = old} {new = new} is put = record {
   written = as_written r a b old new is put.written;
   err = as_prefix r a b old new is put.err;
 }
+
+-- ---- pieces, put together from the left and from the right
+
+abbrev pub from_left : List ℕ → List (List ℕ) → List ℕ
+from_left text [] = text
+from_left text (piece ∷ pieces) = from_left (text ++ piece) pieces
+
+abbrev pub from_right : List (List ℕ) → List ℕ
+from_right [] = []
+from_right (piece ∷ pieces) = piece ++ from_right pieces
+
+-- They make the same text.
+pub same_pieces : (text : List ℕ) (pieces : List (List ℕ)) → text ++ from_right pieces ≡ from_left text pieces
+same_pieces text [] = append-nil text
+same_pieces text (piece ∷ pieces) = sym (append_assoc text piece (from_right pieces)) ∙ same_pieces (text ++ piece) pieces
 
 three_parts : (a b c d : List ℕ) → ((a ++ b) ++ c) ++ d ≡ a ++ (b ++ (c ++ d))
 three_parts a b c d = append_assoc (a ++ b) c d ∙ append_assoc a b (c ++ d)
@@ -57,6 +72,35 @@ flags_line name d flags is =
     ap (λ (x : List ℕ). codes "fault image " ++ (name ++ (codes "0x" ++ (x ++ codes "\n")))) is
     ∙ ap (λ (x : List ℕ). codes "fault image " ++ x) (sym (append_assoc name (hexadecimal flags) (codes "\n")))
     ∙ text_line (name ++ hexadecimal flags)
+
+pub block_line : (section entry sector s e x : List ℕ) → s ≡ section → e ≡ entry → x ≡ sector
+    → codes "fault image journal block " ++ (s ++ (codes " " ++ (e ++ (codes " " ++ (x ++ (codes "\n" ++ []))))))
+    ≡ image_line (codes "journal block " ++ section ++ codes " " ++ entry ++ codes " " ++ sector)
+block_line section entry sector s e x is_s is_e is_x =
+    let space = codes " " in
+    let after : List ℕ → List ℕ = λ y. codes "fault image journal block " ++ y in
+    ap (λ (y : List ℕ). after (y ++ (space ++ (e ++ (space ++ (x ++ codes "\n")))))) is_s
+    ∙ ap (λ (y : List ℕ). after (section ++ (space ++ (y ++ (space ++ (x ++ codes "\n")))))) is_e
+    ∙ ap (λ (y : List ℕ). after (section ++ (space ++ (entry ++ (space ++ (y ++ codes "\n")))))) is_x
+    ∙ ap (λ (y : List ℕ). codes "fault image " ++ y)
+    (same_pieces (codes "journal block ") (section ∷ space ∷ entry ∷ space ∷ sector ∷ codes "\n" ∷ []))
+    ∙ text_line (codes "journal block " ++ section ++ space ++ entry ++ space ++ sector)
+
+pub tag_line : (section entry stored computed s e p q : List ℕ) → s ≡ section → e ≡ entry → p ≡ stored → q ≡ computed
+    → codes "fault image journal tag " ++ (s ++ (codes " " ++ (e ++ (codes " stored " ++ (p ++ (codes " computed " ++ (q ++ (codes "\n" ++ []))))))))
+    ≡ image_line (codes "journal tag " ++ section ++ codes " " ++ entry ++ codes " stored " ++ stored ++ codes " computed " ++ computed)
+tag_line section entry stored computed s e p q is_s is_e is_p is_q =
+    let space = codes " " in
+    let behind : List ℕ → List ℕ → List ℕ → List ℕ → List ℕ =
+    λ a b c d. codes "fault image journal tag " ++ (a ++ (space ++ (b ++ (codes " stored " ++ (c ++ (codes " computed " ++ (d ++ codes "\n"))))))) in
+    ap (λ (y : List ℕ). behind y e p q) is_s
+    ∙ ap (λ (y : List ℕ). behind section y p q) is_e
+    ∙ ap (λ (y : List ℕ). behind section entry y q) is_p
+    ∙ ap (λ (y : List ℕ). behind section entry stored y) is_q
+    ∙ ap (λ (y : List ℕ). codes "fault image " ++ y)
+    (same_pieces (codes "journal tag ")
+    (section ∷ space ∷ entry ∷ codes " stored " ∷ stored ∷ codes " computed " ∷ computed ∷ codes "\n" ∷ []))
+    ∙ text_line (codes "journal tag " ++ section ++ space ++ entry ++ codes " stored " ++ stored ++ codes " computed " ++ computed)
 
 -- ---- lines of a script
 

@@ -3,7 +3,7 @@ use Rattle.std.specs.Borrow.{Bor}
 use Rattle.std.specs.Prelude.{◌≡◌, ℕ, List, ◌++◌, flat_map, codes, Option, Result, OnOk, OnErr}
 use Rattle.std.specs.Fmt.{decimal}
 use Rattle.std.specs.Option.{option_map}
-use Rattle.image_model.specs.Openable.{Scan as JournalScan}
+use Rattle.journal_reading.specs.Faults.{as_fault}
 use Rattle.stream_io.specs.Stream.{with_bytes, AddsPrefix}
 use Rattle.device_model.specs.Ending as Endings
 use Rattle.device_model.specs.Ending.{Ending, image_fault_text, line_fault_text}
@@ -15,7 +15,7 @@ use Rattle.command_ending.specs.declared.ended.Ended.TheVariants.{Words, Key, Li
 use Rattle.command_ending.specs.declared.form_fault.FormFault.{FormFault}
 use Rattle.command_ending.specs.declared.form_fault.FormFault.TheVariants.{TooLong, NotText, WrongWord, WrongNumber, WrongByte, WrongRuns, MissingWord, ExtraWord}
 use Rattle.command_ending.specs.declared.image_fault.ImageFault.{ImageFault}
-use Rattle.command_ending.specs.declared.image_fault.ImageFault.TheVariants.{Super, Geom, Mode, Scan}
+use Rattle.command_ending.specs.declared.image_fault.ImageFault.TheVariants.{Super, Geom, Mode, Journal}
 use Rattle.command_ending.specs.declared.key_refusal.KeyRefusal.{KeyRefusal}
 use Rattle.command_ending.specs.declared.key_refusal.KeyRefusal.TheVariants.{Empty, Long}
 use Rattle.command_ending.specs.declared.line_refusal.LineRefusal.{LineRefusal}
@@ -40,7 +40,7 @@ abbrev pub image_fault_of : ImageFault → Endings.ImageFault
 image_fault_of (Super fault) = Endings.BySuperblock fault
 image_fault_of (Geom fault) = Endings.ByGeometry fault
 image_fault_of (Mode flags) = Endings.ByMode flags
-image_fault_of (Scan fault) = Endings.ByJournal (JournalScan fault)
+image_fault_of (Journal fault) = Endings.ByJournal (as_fault fault)
 
 abbrev pub key_refusal_of : KeyRefusal → Endings.KeyRefusal
 key_refusal_of Empty = Endings.EmptyKey

@@ -1,10 +1,11 @@
 //! Why an image is refused.
 ghost use Rattle.std.specs.Prelude.{◌≡◌};
 
-use image_model::{GeomFault, ScanFault, SuperFault};
+use image_model::{GeomFault, SuperFault};
+use journal_reading::JournalFault;
 
 /// Why an image is refused. The first that holds is told.
-#[derive(Clone, Copy, Debug, PartialEq, Eq)]
+#[derive(Clone, Copy, Debug)]
 pub enum ImageFault {
     /// Its first sector tells no superblock that is accepted.
     Super(SuperFault),
@@ -12,6 +13,6 @@ pub enum ImageFault {
     Geom(GeomFault),
     /// The superblock has other flags than the mode wants.
     Mode { flags: u32 },
-    /// The commit numbers of its journal make no plan.
-    Scan(ScanFault),
+    /// Its journal is refused: the commit numbers make no plan, or an entry may not be replayed.
+    Journal(JournalFault),
 }

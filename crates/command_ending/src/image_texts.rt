@@ -3,14 +3,18 @@ ghost use Rattle.std.specs.Prelude.{◌≡◌, ◌++◌, codes};
 ghost use Rattle.std.specs.Fmt.{decimal};
 ghost use Rattle.disk_model.specs.Causes.{HasCause};
 ghost use Rattle.device_model.specs.Ending.{ByGeometry, ByJournal, BySuperblock, hexadecimal};
-ghost use Rattle.image_model.specs.Openable.{Scan};
+ghost use Rattle.image_model.specs.Openable.{JournalBlock, JournalTag, Scan};
+ghost use Rattle.journal_reading.specs.Faults.{as_fault};
 ghost use Rattle.command_ending.specs.Ended.{Puts, image_fault_of, image_line, image_line_of};
 
 use crate::ImageFault;
 use crate::hexadecimal::hexadecimal;
 use crate::pieces::put_pieces;
+use crate::tag_text::{MOST_DIGITS, tag_digits};
+use hmac_tag::Tag;
 use image_model::{GeomFault, ScanFault, SuperFault};
 use itoa::Buffer;
+use journal_reading::JournalFault;
 use sector_disk::Failed;
 use stream_io::Sink;
 
@@ -27,7 +31,7 @@ pub(crate) fn put_image_fault<O: Sink>(out: &mut O, fault: ImageFault) -> Result
         ImageFault::Super(fault) => put_super_fault(out, fault),
         ImageFault::Geom(fault) => put_geom_fault(out, fault),
         ImageFault::Mode { flags } => put_flags(out, b"mode ", flags),
-        ImageFault::Scan(fault) => put_scan_fault(out, fault),
+        ImageFault::Journal(fault) => put_journal_fault(out, fault),
     }
 }
 
@@ -66,6 +70,94 @@ fn put_geom_fault<O: Sink>(out: &mut O, fault: GeomFault) -> Result<(), Failed>
             have,
         ),
     }
+}
+
+/// Writes the line of a journal that is refused.
+fn put_journal_fault<O: Sink>(out: &mut O, fault: JournalFault) -> Result<(), Failed>
+    ensures line { Puts (image_line_of (ByJournal (as_fault fault))) (O.held out.old) (O.held out.new) result }
+    ensures cause { HasCause (O.faults out.old) (O.faults out.new) result }
+{
+    match fault {
+        JournalFault::Scan(fault) => put_scan_fault(out, fault),
+        JournalFault::JournalBlock {
+            section,
+            entry,
+            sector,
+        } => put_entry_block(out, section, entry, sector),
+        JournalFault::JournalTag {
+            section,
+            entry,
+            stored,
+            computed,
+        } => put_entry_tag(out, section, entry, &stored, &computed),
+    }
+}
+
+/// Writes the line of an entry that is of no block of the device.
+fn put_entry_block<O: Sink>(
+    out: &mut O,
+    section: u64,
+    entry: u64,
+    sector: u64,
+) -> Result<(), Failed>
+    ensures line { Puts (image_line_of (ByJournal (JournalBlock section entry sector)))
+        (O.held out.old) (O.held out.new) result }
+    ensures cause { HasCause (O.faults out.old) (O.faults out.new) result }
+{
+    let mut sections = Buffer::new();
+    let mut entries = Buffer::new();
+    let mut sectors = Buffer::new();
+    let section = sections.format(section).as_bytes();
+    let entry = entries.format(entry).as_bytes();
+    let sector = sectors.format(sector).as_bytes();
+    put_pieces(
+        out,
+        &[
+            b"fault image journal block ",
+            section,
+            b" ",
+            entry,
+            b" ",
+            sector,
+            b"\n",
+        ],
+    )
+}
+
+/// Writes the line of an entry whose tag is not that of its block.
+fn put_entry_tag<O: Sink>(
+    out: &mut O,
+    section: u64,
+    entry: u64,
+    stored: &Tag,
+    computed: &Tag,
+) -> Result<(), Failed>
+    ensures line { Puts (image_line_of (ByJournal (JournalTag section entry stored.now computed.now)))
+        (O.held out.old) (O.held out.new) result }
+    ensures cause { HasCause (O.faults out.old) (O.faults out.new) result }
+{
+    let mut sections = Buffer::new();
+    let mut entries = Buffer::new();
+    let mut stored_digits = [0; MOST_DIGITS];
+    let mut computed_digits = [0; MOST_DIGITS];
+    let section = sections.format(section).as_bytes();
+    let entry = entries.format(entry).as_bytes();
+    let stored = tag_digits(stored, &mut stored_digits);
+    let computed = tag_digits(computed, &mut computed_digits);
+    put_pieces(
+        out,
+        &[
+            b"fault image journal tag ",
+            section,
+            b" ",
+            entry,
+            b" stored ",
+            stored,
+            b" computed ",
+            computed,
+            b"\n",
+        ],
+    )
 }
 
 /// Writes the line of a journal whose commit numbers make no plan. Of four numbers it tells no place.

@@ -12,6 +12,7 @@ mod key_refusal;
 mod line_refusal;
 mod line_texts;
 mod pieces;
+mod tag_text;
 #[cfg(test)]
 mod tests;
 
@@ -21,3 +22,4 @@ pub use image_fault::ImageFault;
 pub use key_refusal::KeyRefusal;
 pub use line_refusal::LineRefusal;
 pub use pieces::put_pieces;
+pub use tag_text::{MOST_DIGITS, tag_digits};

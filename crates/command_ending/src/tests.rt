@@ -1,6 +1,8 @@
 //! Each ending by its status and its last line.
 use crate::{Ended, FormFault, ImageFault, KeyRefusal, LineRefusal, end_without_memory};
+use hmac_tag::Tag;
 use image_model::{GeomFault, ScanFault, SuperFault};
+use journal_reading::JournalFault;
 use script_session::MeaningFault;
 use script_text::LineFault;
 use sector_disk::Failed;
@@ -137,8 +139,57 @@ fn each_other_image_fault_has_its_line(rt: HostRuntime) -> Result<(), Fail> {
         ),
         (ScanFault::FourNumbers { places }, "four numbers"),
     ] {
-        judge_image(&rt, rt.alloc(), ImageFault::Scan(fault), text)?;
+        let fault = ImageFault::Journal(JournalFault::Scan(fault));
+        judge_image(&rt, rt.alloc(), fault, text)?;
     }
+    Ok(())
+}
+
+#[test]
+fn each_fault_of_an_entry_has_its_line(rt: HostRuntime) -> Result<(), Fail> {
+    for (fault, text) in [
+        (
+            JournalFault::JournalBlock {
+                section: 0,
+                entry: 0,
+                sector: 80,
+            },
+            "journal block 0 0 80",
+        ),
+        (
+            JournalFault::JournalTag {
+                section: 3,
+                entry: 12,
+                stored: Tag::from_bytes(&[0xab, 0xcd, 0x01]),
+                computed: Tag::from_bytes(&[0x0f, 0xf0, 0x99]),
+            },
+            "journal tag 3 12 stored abcd01 computed 0ff099",
+        ),
+    ] {
+        judge_image(&rt, rt.alloc(), ImageFault::Journal(fault), text)?;
+    }
+    Ok(())
+}
+
+// A tag has 32 bytes at most, and so 64 digits.
+#[test]
+fn the_longest_tag_is_told_whole(rt: HostRuntime) -> Result<(), Fail> {
+    let fault = JournalFault::JournalTag {
+        section: 0,
+        entry: 0,
+        stored: Tag::from_bytes(&[0x5a; 32]),
+        computed: Tag::from_bytes(&[0; 32]),
+    };
+    let ended = Ended::Image(ImageFault::Journal(fault));
+    let mut out = MemSink::new(rt.alloc(), 200)?;
+    ended.put_last_line(&mut out)?;
+    assert_eq!(rt;
+        out.bytes(),
+        b"fault image journal tag 0 0 stored \
+        5a5a5a5a5a5a5a5a5a5a5a5a5a5a5a5a5a5a5a5a5a5a5a5a5a5a5a5a5a5a5a5a computed \
+        0000000000000000000000000000000000000000000000000000000000000000\n"
+            .as_slice()
+    );
     Ok(())
 }
 

@@ -1,11 +1,11 @@
 -- The run of a command: what it starts on, what its run is, how far that came, and what it leaves.
 -- Own: a command that is refused prints one line; a run ends at the first thing that ends it.
-use Rattle.std.specs.Prelude.{◌≡◌, ◌⊎◌, ℕ, ◌<◌, Bool, false, List, [], ◌++◌, length, take}
+use Rattle.std.specs.Prelude.{◌≡◌, ◌≢◌, ◌⊎◌, ℕ, ◌<◌, Bool, false, List, [], ◌∷◌, ◌++◌, length, map, take}
 use Rattle.disk_model.specs.Disk.{Content, EachImage, Image, newest_only}
 use Rattle.device_model.specs.Device.{DeviceKind}
 use Rattle.device_model.specs.Ending.{Ending, Complete, RefusedWords, RefusedKey, RefusedLine, RefusedLength, RefusedImage, DiskFailed, KeyFailed, ScriptFailed, SinkFailed, NoMemory, status_of, fault_text}
 use Rattle.device_model.specs.History.{Change, with_changes}
-use Rattle.device_model.specs.ScriptRun.{ScriptRun, IsCameTo, IsRunOf, IsWhole, changes_in, only_ends, texts_of, with_step}
+use Rattle.device_model.specs.ScriptRun.{ScriptRun, ScriptStep, IsCameTo, IsRunOf, IsWhole, changes_in, only_ends, texts_of}
 
 -- A way to make an image: what is printed once it is made; what stands while it is made; and what it is then.
 pub record Making : Type 1 where
@@ -14,23 +14,27 @@ pub record Making : Type 1 where
   pub IsMade : (start later : Content) → Type 0
 
 -- What a command starts on: it is refused before any line; its script runs on a device that opens an image; it prints what
--- the image tells; or it makes an image.
+-- the image tells, text by text, and whether a block's stored tag differs; or it makes an image.
 pub data Outset : Type 1 where
   RefusedBy : (ending : Ending) → Outset
   RunsOn : (kind : DeviceKind) → (image : Image) → Outset
-  Prints : (text : List ℕ) → Outset
+  Prints : (texts : List (List ℕ)) → (found_fault : Bool) → Outset
   Makes : (making : Making) → Outset
 
--- The run of a command that has no script: this text, which names no block.
-abbrev pub only_prints : List ℕ → ScriptRun
-only_prints text = with_step (record { text = text; changes = [] }) (only_ends (Complete false))
+-- The step of a run that prints a text, and does nothing else.
+abbrev pub printing_step : List ℕ → ScriptStep
+printing_step text = record { text = text; changes = [] }
+
+-- The run of a command that has no script: these texts, one after the other.
+abbrev pub only_prints : List (List ℕ) → (found_fault : Bool) → ScriptRun
+only_prints texts found_fault = record { steps = map printing_step texts; ending = Complete found_fault }
 
 -- Its run, where nothing outside fails. One that is refused runs no line.
 abbrev pub IsRunAt : Outset → (script : List ℕ) → ScriptRun → Type 0
 IsRunAt (RefusedBy ending) script run = run ≡ only_ends ending
 IsRunAt (RunsOn kind image) script run = IsRunOf (kind.format image) (kind.opened image) script run
-IsRunAt (Prints text) script run = run ≡ only_prints text
-IsRunAt (Makes making) script run = run ≡ only_prints making.text
+IsRunAt (Prints texts found_fault) script run = run ≡ only_prints texts found_fault
+IsRunAt (Makes making) script run = run ≡ only_prints (making.text ∷ []) false
 
 -- ---- how far it came
 
@@ -52,9 +56,15 @@ IsFromOutside ScriptFailed = Unit {0}
 IsFromOutside SinkFailed = Unit {0}
 IsFromOutside NoMemory = Unit {0}
 
--- Something outside ended the run, which came so far: not all of one that comes to its own end.
+-- The text is that of some of the first steps, each of them whole.
+abbrev pub IsOfSteps : ScriptRun → List ℕ → Type 0
+IsOfSteps run text = (count : ℕ) × (text ≡ texts_of (take count run.steps))
+
+-- Something outside ended the run, which came so far: not all of one that comes to its own end. Only a sink that failed has a
+-- part of a step's text.
 pub record IsEndedShort (run : ScriptRun) (text : List ℕ) (changes : List Change) (ending : Ending) : Type 0 where
   pub came : IsCameTo run text changes
+  pub whole_steps : ending ≢ SinkFailed → IsOfSteps run text
   pub short : IsComplete run → length text < length (texts_of run.steps)
   pub outside : IsFromOutside ending
 
@@ -83,7 +93,7 @@ abbrev pub IsLeftAt : Outset → (start : Content) → List Change → (later : 
 IsLeftAt (RefusedBy ending) start changes later = IsUntouched start later
 IsLeftAt (RunsOn kind image) start changes later =
     ((changes ≡ []) × IsUntouched start later) ⊎ IsLeftBy kind image changes later
-IsLeftAt (Prints text) start changes later = later ≡ start
+IsLeftAt (Prints texts found_fault) start changes later = later ≡ start
 IsLeftAt (Makes making) start changes later = making.MayBeLeft start later
 
 -- What is left where the making of an image ended so: the image, where it came to its end or only could not be told; all as it
@@ -105,7 +115,8 @@ IsLeftOfMaking making start NoMemory later = later ≡ start
 abbrev pub IsLeftAfter : Outset → (start : Content) → List Change → Ending → (later : Content) → Type 0
 IsLeftAfter (RefusedBy refused) start changes ending later = IsLeftAt (RefusedBy refused) start changes later
 IsLeftAfter (RunsOn kind image) start changes ending later = IsLeftAt (RunsOn kind image) start changes later
-IsLeftAfter (Prints text) start changes ending later = IsLeftAt (Prints text) start changes later
+IsLeftAfter (Prints texts found_fault) start changes ending later =
+    IsLeftAt (Prints texts found_fault) start changes later
 IsLeftAfter (Makes making) start changes ending later = IsLeftOfMaking making start ending later
 
 -- What stands at a moment of the command: what some of the first changes of its run leave.

@@ -15,5 +15,5 @@ abbrev pub has_come : Command → Bool
 has_come (command.Format format) = true
 has_come (command.Run run) = run_has_come run.mode
 has_come (command.Dump dump) = true
-has_come (command.Check check) = false
+has_come (command.Check check) = true
 has_come (command.Exercise exercise) = false

@@ -5,7 +5,7 @@ ghost use Rattle.command_words.specs.Come.{has_come};
 use crate::command::{Command, Run};
 use crate::values::Mode;
 
-/// Whether the program has the command: it has `format`, `dump`, and `run` in direct mode.
+/// Whether the program has the command: it has `format`, `dump`, `check`, and `run` in direct mode.
 pub fn has_come(command: &Command) -> bool
     ensures { result ≡ has_come command.now }
 {
@@ -13,6 +13,7 @@ pub fn has_come(command: &Command) -> bool
         command,
         Command::Format(_)
             | Command::Dump(_)
+            | Command::Check(_)
             | Command::Run(Run {
                 mode: Mode::Direct,
                 ..

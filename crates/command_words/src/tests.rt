@@ -39,12 +39,12 @@ static TAKEN: [(&str, &str); 30] = [
     ("dump|I|--", "name: \"I\""),
     (
         "check|I",
-        "Check(Check { image: FileName { name: \"I\" }, hash: Sha256, checked: Cells })",
+        "Check(Check { image: FileName { name: \"I\" }, hash: Sha256, checked: Cells }), come: true",
     ),
     ("check|--placed|I", "checked: Placed"),
     (
         "exercise|I|0|0",
-        "Exercise(Exercise { image: FileName { name: \"I\" }, seed: 0, count: Within { number: 0 } })",
+        "Exercise(Exercise { image: FileName { name: \"I\" }, seed: 0, count: Within { number: 0 } }), come: false",
     ),
     (
         "exercise|I|18446744073709551615|1000000",

@@ -129,6 +129,7 @@ module _ (w : Standing) (found : TagsFound) (disk : DirectDisk) (a b : List Cont
     changes = closing.changes;
     ended = inr (record {
       came = (came_into closing (only_ends (Complete (finds_fault found)))).text told.count told.short;
+      whole_steps = λ other. absurd (other refl);
       short = λ complete.
           let less : told.count < length closed_text = told.short in
           let all : length (texts_of (only_close w found).steps)
@@ -151,6 +152,7 @@ module _ (w : Standing) (found : TagsFound) (disk : DirectDisk) (a b : List Cont
     changes = [];
     ended = inr (record {
       came = (came_into closing (only_ends (Complete (finds_fault found)))).changes 0 (λ none. absurd (cc));
+      whole_steps = λ other. (0, refl);
       short = λ complete.
           let all : length (texts_of (only_close w found).steps)
           ≡ length closed_text = ap length texts_closed in

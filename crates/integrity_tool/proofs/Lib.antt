@@ -5,6 +5,8 @@ pub mod RunningLemmas
 pub mod StartLemmas
 pub mod TakenLemmas
 pub mod TopLemmas
+pub mod TextsLemmas
+pub mod CheckingLemmas
 pub mod MakingLemmas
 pub mod PrintingLemmas
 pub mod TaskLemmas

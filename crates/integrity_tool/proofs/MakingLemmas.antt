@@ -1,5 +1,5 @@
 -- The making of a new image: what it prints, and what it leaves.
-use Rattle.std.proofs.Common.{◌≡◌, ◌≢◌, ◌↔◌, ◌∙◌, inl, inr, ℕ, false, List, [], ◌++◌, codes, refl, sym, ap, subst, Option, Some, Result, Ok, Err}
+use Rattle.std.proofs.Common.{◌≡◌, ◌≢◌, ◌↔◌, ◌∙◌, inl, inr, ℕ, false, List, [], ◌∷◌, ◌++◌, codes, refl, sym, ap, subst, Option, Some, Result, Ok, Err}
 use Rattle.std.specs.Fmt.{decimal}
 use Rattle.std.specs.Option.{IsSomeAnd, option_map}
 use Rattle.disk_model.specs.Disk.{Content}
@@ -19,8 +19,9 @@ use Rattle.command_model.specs.CommandRun.{Outset, Makes, only_prints}
 use Rattle.integrity_tool.specs.Making.{ended_by_format, format_outset, formatted_text, making_of, outset_by_format}
 use Rattle.integrity_tool.specs.Opening.{HasRunOn, IsMomentOf}
 use Rattle.integrity_tool.proofs.RunningLemmas.{told_nothing}
-use Rattle.integrity_tool.proofs.StartLemmas.{before_kept, fine_format, made_prints, nothing_run, refused_run, text_short, untouched_kept}
-use Rattle.integrity_tool.proofs.PrintingLemmas.{all_printed, part_printed}
+use Rattle.integrity_tool.proofs.StartLemmas.{before_kept, fine_format, made_prints, nothing_run, refused_run, untouched_kept}
+use Rattle.integrity_tool.proofs.TextsLemmas.{none_short}
+use Rattle.integrity_tool.proofs.PrintingLemmas.{one_cut, one_printed}
 
 -- A formatting leaves what it began with, or what it may.
 left_since : (key : Option (List ℕ)) (sectors : ℕ) (new : NewImage) (start : Content) {a b : List Content} → content_now a ≡ Some start
@@ -45,7 +46,7 @@ module _ (key : Option (List ℕ)) (sectors : ℕ) (new : NewImage) (start : Con
       → HasRunOn (format_outset key sectors new) start script (Complete false) b held_before held
   made provided held_before held all put =
       subst (λ (o : Outset). HasRunOn o start script (Complete false) b held_before held) (sym (makes key sectors new provided all.is_provided))
-      (all_printed (Makes (making_of key sectors new provided)) (formatted_text provided) start script b held_before held (λ s. refl) put
+      (one_printed (Makes (making_of key sectors new provided)) (formatted_text provided) start script b held_before held (λ s. refl) put
       (all.is_written start told))
 
   -- or the sink failed at that.
@@ -54,7 +55,7 @@ module _ (key : Option (List ℕ)) (sectors : ℕ) (new : NewImage) (start : Con
       → HasRunOn (format_outset key sectors new) start script SinkFailed b held_before held
   made_untold provided held_before held all put =
       subst (λ (o : Outset). HasRunOn o start script SinkFailed b held_before held) (sym (makes key sectors new provided all.is_provided))
-      (part_printed (Makes (making_of key sectors new provided)) (formatted_text provided) start script b held_before held (λ s. refl) put
+      (one_cut (Makes (making_of key sectors new provided)) (formatted_text provided) start script b held_before held (λ s. refl) put
       (all.is_written start told))
 
   module _ (g : Geometry) (since : EachSince (IsLeftByFormat key sectors new) a b) where
@@ -62,8 +63,8 @@ module _ (key : Option (List ℕ)) (sectors : ℕ) (new : NewImage) (start : Con
     amid provided is =
         subst (λ (o : Outset). EachMoment a b (IsMomentOf o g start script)) (sym (makes key sectors new provided is))
         (EachMoment-weaker (λ c left. record {
-          left = record { run = only_prints (formatted_text provided); is_run = refl; made = 0; left = left };
-          only = record { run = only_prints (formatted_text provided); is_run = refl; only = left };
+          left = record { run = only_prints (formatted_text provided ∷ []) false; is_run = refl; made = 0; left = left };
+          only = record { run = only_prints (formatted_text provided ∷ []) false; is_run = refl; only = left };
         }) (left_since key sectors new start told since))
 
     pub made_through : (provided : ℕ) → HasMade key sectors new provided a b → EachMoment a b (IsMomentOf (format_outset key sectors new) g start script)
@@ -74,11 +75,11 @@ module _ (key : Option (List ℕ)) (sectors : ℕ) (new : NewImage) (start : Con
         → HasRunOn (format_outset key sectors new) start script DiskFailed b held held
     cut held provided is =
         subst (λ (o : Outset). HasRunOn o start script DiskFailed b held held) (sym (makes key sectors new provided is)) (record {
-          run = only_prints (formatted_text provided);
+          run = only_prints (formatted_text provided ∷ []) false;
           is_run = refl;
           text = [];
           changes = [];
-          ended = inr (text_short (formatted_text provided) 0 DiskFailed (made_prints provided) tt);
+          ended = inr (none_short (formatted_text provided ∷ []) false DiskFailed (made_prints provided) tt);
           told = told_nothing held;
           left = content_at_end (left_since key sectors new start told since)
               (λ c here. subst (λ (o : Option Content). IsSomeAnd o (λ s. IsLeftByFormat key sectors new start s)) (sym told ∙ here)

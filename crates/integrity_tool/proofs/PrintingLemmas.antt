@@ -1,11 +1,10 @@
 -- What has no script: what it prints, and what it leaves.
-use Rattle.std.proofs.Common.{◌≡◌, ◌≢◌, ◌⊎◌, inl, inr, ℕ, false, List, [], ◌++◌, take, append-nil, refl, sym, ◌∙◌, ap, subst, Option, Some, unwrap_or, Ok, Err}
+use Rattle.std.proofs.Common.{◌≡◌, ◌≢◌, ◌⊎◌, inl, inr, ℕ, Bool, false, List, [], ◌∷◌, map, take, append-nil, refl, sym, ◌∙◌, ap, subst, Option, Some, unwrap_or, Ok, Err}
 use Rattle.std.specs.Option.{option_map}
 use Rattle.disk_model.specs.Disk.{Content, last_image}
 use Rattle.disk_model.specs.Moments.{content_now, HasNow}
 use Rattle.device_model.specs.Ending.{Ending, Complete, DiskFailed, NoMemory, SinkFailed}
-use Rattle.device_model.specs.ScriptRun.{ScriptStep, only_ends}
-use Rattle.script_text.proofs.ScriptRunLemmas.{run_is_whole}
+use Rattle.device_model.specs.ScriptRun.{texts_of}
 use Rattle.stream_io.specs.Stream.{with_bytes, AddsPrefix}
 use Rattle.script_session.specs.LineRun.{held_with}
 use Rattle.image_dump.specs.declared.dump_fault.DumpFault.{DumpFault}
@@ -14,56 +13,69 @@ use Rattle.image_dump.specs.declared.shown.Dump.{Dump}
 use Rattle.image_dump.specs.Dump.{dump_of}
 use Rattle.image_dump.specs.Lines.{dump_lines, joined_lines}
 use Rattle.command_ending.specs.Ended.{ending_of}
-use Rattle.command_model.specs.CommandRun.{Outset, Prints, IsLeftAfter, IsRunAt, only_prints}
+use Rattle.command_model.specs.CommandRun.{Outset, Prints, IsEndedShort, IsLeftAfter, IsRunAt, only_prints, printing_step}
 use Rattle.integrity_tool.specs.Dumping.{dump_outset, ended_by_dump, ending_by_dump, outset_by_dump}
 use Rattle.integrity_tool.specs.Opening.{HasRunOn}
-use Rattle.integrity_tool.proofs.StartLemmas.{before_kept, fine_dump, nothing_run, refused_run, text_short, untouched_kept}
+use Rattle.integrity_tool.proofs.StartLemmas.{before_kept, fine_dump, nothing_run, refused_run, untouched_kept}
+use Rattle.integrity_tool.proofs.TextsLemmas.{text_short, texts_change_nothing}
 
 -- The content now is that at the start, where the moments are as before.
 pub same_now : {a b : List Content} (start : Content) → content_now a ≡ Some start → b ≡ a → HasNow (λ c. c ≡ start) b
 same_now start told same c here = ap (λ (o : Option Content). unwrap_or o start) (sym here ∙ ap content_now same ∙ told)
 
--- ---- a text that is printed, by what it stands for
+-- ---- texts that are printed, by what they stand for
 
--- What is run prints this text, whatever the script is.
-abbrev pub IsTold : Outset → List ℕ → Type 0
-IsTold outset text = (script : List ℕ) → IsRunAt outset script (only_prints text)
+-- What is run prints these texts, whatever the script is.
+abbrev pub IsTold : Outset → List (List ℕ) → (found : Bool) → Type 0
+IsTold outset texts found = (script : List ℕ) → IsRunAt outset script (only_prints texts found)
 
--- All of it is printed, and this is left.
-pub all_printed : (outset : Outset) (text : List ℕ) (start : Content) (script : List ℕ) (after : List Content) (held_before held : Option (List ℕ))
-    → IsTold outset text → held ≡ option_map (with_bytes text) held_before → HasNow (IsLeftAfter outset start [] (Complete false)) after
+module _ (outset : Outset) (texts : List (List ℕ)) (found : Bool) (start : Content) (script : List ℕ) (after : List Content)
+    (held_before : Option (List ℕ)) (is : IsTold outset texts found) where
+  -- All of them are printed, and this is left.
+  pub all_printed : (text : List ℕ) (held : Option (List ℕ)) → text ≡ texts_of (map printing_step texts) → held ≡ held_with text held_before
+      → HasNow (IsLeftAfter outset start [] (Complete found)) after → HasRunOn outset start script (Complete found) after held_before held
+  all_printed text held all told left = record {
+    run = only_prints texts found;
+    is_run = is script;
+    text = text;
+    changes = [];
+    ended = inl (record { whole = record { is_text = all; is_changes = sym (texts_change_nothing texts) }; is = refl });
+    told = told;
+    left = left;
+  }
+
+  -- Something outside ended that.
+  pub part_printed : (text : List ℕ) (ending : Ending) (held : Option (List ℕ)) → IsEndedShort (only_prints texts found) text [] ending
+      → held ≡ held_with text held_before → HasNow (IsLeftAfter outset start [] ending) after → HasRunOn outset start script ending after held_before held
+  part_printed text ending held short told left = record {
+    run = only_prints texts found;
+    is_run = is script;
+    text = text;
+    changes = [];
+    ended = inr short;
+    told = told;
+    left = left;
+  }
+
+-- The same of one text: all of it is printed,
+pub one_printed : (outset : Outset) (text : List ℕ) (start : Content) (script : List ℕ) (after : List Content) (held_before held : Option (List ℕ))
+    → IsTold outset (text ∷ []) false → held ≡ held_with text held_before → HasNow (IsLeftAfter outset start [] (Complete false)) after
     → HasRunOn outset start script (Complete false) after held_before held
-all_printed outset text start script after held_before held is told left =
-    let step : ScriptStep = record { text = text; changes = [] } in
-    let whole = run_is_whole step (only_ends (Complete false)) in
-    record {
-      run = only_prints text;
-      is_run = is script;
-      text = text ++ [];
-      changes = [];
-      ended = inl (record { whole = record { is_text = sym whole.0; is_changes = sym whole.1 }; is = refl });
-      told = told ∙ ap (λ (x : List ℕ). held_with x held_before) (sym (append-nil text));
-      left = left;
-    }
+one_printed outset text start script after held_before held is told left =
+    all_printed outset (text ∷ []) false start script after held_before is text held (sym (append-nil text)) told left
 
--- The sink failed before its end.
-pub part_printed : (outset : Outset) (text : List ℕ) (start : Content) (script : List ℕ) (after : List Content) (held_before held : Option (List ℕ))
-    → IsTold outset text → AddsPrefix text held_before held → HasNow (IsLeftAfter outset start [] SinkFailed) after
+-- or the sink failed before its end.
+pub one_cut : (outset : Outset) (text : List ℕ) (start : Content) (script : List ℕ) (after : List Content) (held_before held : Option (List ℕ))
+    → IsTold outset (text ∷ []) false → AddsPrefix text held_before held → HasNow (IsLeftAfter outset start [] SinkFailed) after
     → HasRunOn outset start script SinkFailed after held_before held
-part_printed outset text start script after held_before held is prefix left = record {
-  run = only_prints text;
-  is_run = is script;
-  text = take prefix.count text;
-  changes = [];
-  ended = inr (text_short text prefix.count SinkFailed prefix.short tt);
-  told = prefix.held;
-  left = left;
-}
+one_cut outset text start script after held_before held is prefix left =
+    part_printed outset (text ∷ []) false start script after held_before is (take prefix.count text) SinkFailed held
+    (text_short text [] false prefix.count SinkFailed prefix.short (λ other. absurd (other refl)) tt) prefix.held left
 
 -- ---- an image that is shown
 
 module _ (sectors : ℕ) (start : Content) (script : List ℕ) {a b : List Content} (told : content_now a ≡ Some start) (kept : b ≡ a) where
-  shown_as : (dump : Dump) → dump_of sectors (last_image start) ≡ Ok dump → dump_outset sectors (last_image start) ≡ Prints (joined_lines (dump_lines dump))
+  shown_as : (dump : Dump) → dump_of sectors (last_image start) ≡ Ok dump → dump_outset sectors (last_image start) ≡ Prints (joined_lines (dump_lines dump) ∷ []) false
   shown_as dump shown = ap outset_by_dump shown
 
   pub printed : (dump : Dump) (held_before held : Option (List ℕ)) → dump_of sectors (last_image start) ≡ Ok dump
@@ -72,7 +84,7 @@ module _ (sectors : ℕ) (start : Content) (script : List ℕ) {a b : List Conte
   printed dump held_before held shown put =
       let text = joined_lines (dump_lines dump) in
       subst (λ (o : Outset). HasRunOn o start script (Complete false) b held_before held) (sym (shown_as dump shown))
-      (all_printed (Prints text) text start script b held_before held (λ s. refl) put (same_now start told kept))
+      (one_printed (Prints (text ∷ []) false) text start script b held_before held (λ s. refl) put (same_now start told kept))
 
   pub printed_part : (dump : Dump) (held_before held : Option (List ℕ)) → dump_of sectors (last_image start) ≡ Ok dump
       → AddsPrefix (joined_lines (dump_lines dump)) held_before held
@@ -80,7 +92,7 @@ module _ (sectors : ℕ) (start : Content) (script : List ℕ) {a b : List Conte
   printed_part dump held_before held shown put =
       let text = joined_lines (dump_lines dump) in
       subst (λ (o : Outset). HasRunOn o start script SinkFailed b held_before held) (sym (shown_as dump shown))
-      (part_printed (Prints text) text start script b held_before held (λ s. refl) put (same_now start told kept))
+      (one_cut (Prints (text ∷ []) false) text start script b held_before held (λ s. refl) put (same_now start told kept))
 
   -- There was no memory, or the disk failed: nothing is printed.
   pub unshown : (ending : Ending) (held : Option (List ℕ)) → (ending ≡ NoMemory) ⊎ (ending ≡ DiskFailed)

@@ -4,6 +4,7 @@ use Rattle.std.proofs.Common.{List, [], ◌∷◌, ◌++◌, length, take, refl,
 use Rattle.std.proofs.Common.{append-nil, length-append, length-take, Option, Some, None}
 use Rattle.std.specs.Prelude.{◌||◌}
 use Rattle.std.specs.Option.{IsSomeAnd}
+use Rattle.std.proofs.lemmas.List.Concat.{flat_map-cons}
 use Rattle.std.proofs.lemmas.List.Sums.{fold-append}
 use Rattle.std.proofs.lemmas.Option.{same_Some}
 use Rattle.disk_model.specs.Disk.{Content}
@@ -41,7 +42,7 @@ use Rattle.script_session.specs.LineRun.{WritesOnly, held_with, standing_behind}
 use Rattle.script_session.proofs.LineLemmas.{line_cut_begun, line_cut_failed}
 use Rattle.script_session.proofs.RunLemmas.{left-behind, left-wider}
 use Rattle.script_session.proofs.WritesLemmas.{WritesOnly-left, WritesOnly-then}
-use Rattle.command_model.specs.CommandRun.{IsComplete, IsEndedBy, IsFromOutside}
+use Rattle.command_model.specs.CommandRun.{IsComplete, IsEndedBy, IsEndedShort, IsFromOutside}
 use Rattle.integrity_tool.specs.Lines.{ended_by}
 use Rattle.integrity_tool.specs.Running.{IsStopped}
 
@@ -79,7 +80,29 @@ told_further one more (Some bytes) = ap (λ (l : List ℕ). Some l) (append_asso
 
 -- ---- behind a step
 
--- What ended a run ended it behind a step too.
+-- What ended a run short ended it behind a step too,
+pub short_further : (step : ScriptStep) (rest : ScriptRun) (text : List ℕ) (changes : List Change) (ending : Ending)
+    → IsEndedShort rest text changes ending
+    → IsEndedShort (with_step step rest) (step.text ++ text) (step.changes ++ changes) ending
+short_further step rest text changes ending cut = record {
+  came = came_further step rest text changes cut.came;
+  whole_steps = λ other.
+      let some = cut.whole_steps other in (
+        suc some.0,
+        ap (λ (l : List ℕ). step.text ++ l) some.1
+            ∙ sym (flat_map-cons (λ (s : ScriptStep). s.text) step (take some.0 rest.steps)),
+      );
+  short = λ complete.
+      let less : length text < length (texts_of rest.steps) = cut.short complete in
+      let one : length (step.text ++ text) ≡ length step.text + length text = length-append step.text text in
+      let all : length (texts_of (with_step step rest).steps)
+      ≡ length step.text + length (texts_of rest.steps) =
+      ap length (run_is_whole step rest).0 ∙ length-append step.text (texts_of rest.steps) in
+      omega arith;
+  outside = cut.outside;
+}
+
+-- and so did whatever ended it.
 ended_further : (step : ScriptStep) (rest : ScriptRun) (text : List ℕ) (changes : List Change) (ending : Ending)
     → IsEndedBy rest text changes ending
     → IsEndedBy (with_step step rest) (step.text ++ text) (step.changes ++ changes) ending
@@ -91,17 +114,7 @@ ended_further step rest text changes ending (inl done) = inl (record {
   };
   is = done.is;
 })
-ended_further step rest text changes ending (inr cut) = inr (record {
-  came = came_further step rest text changes cut.came;
-  short = λ complete.
-      let less : length text < length (texts_of rest.steps) = cut.short complete in
-      let one : length (step.text ++ text) ≡ length step.text + length text = length-append step.text text in
-      let all : length (texts_of (with_step step rest).steps)
-      ≡ length step.text + length (texts_of rest.steps) =
-      ap length (run_is_whole step rest).0 ∙ length-append step.text (texts_of rest.steps) in
-      omega arith;
-  outside = cut.outside;
-})
+ended_further step rest text changes ending (inr cut) = inr (short_further step rest text changes ending cut)
 
 -- ---- behind a line
 
@@ -202,7 +215,7 @@ pub stopped_before : (w : Standing) (condition : Condition) (parts : Parts) (a :
 stopped_before w condition parts a is rest ending held came prints outside = record {
   text = [];
   changes = [];
-  ended = inr (record { came = came; short = prints; outside = outside });
+  ended = inr (record { came = came; whole_steps = λ other. (0, refl); short = prints; outside = outside });
   since = no_moment a _;
   writes = no_moment a _;
   now = is.left;
@@ -281,6 +294,7 @@ module _ (w : Standing) (condition : Condition) (parts : Parts) (a : List Conten
         changes = take left.made step.changes;
         ended = inr (record {
           came = came_into_line w.format too_long number w.state found line lines left.made cut.runnable;
+          whole_steps = λ other. (0, refl);
           short = complete_prints w.format too_long number w.state found (Means line ∷ lines);
           outside = outside;
         });
@@ -291,14 +305,15 @@ module _ (w : Standing) (condition : Condition) (parts : Parts) (a : List Conten
       }
 
   -- So does one that is half told.
-  pub stopped_in_text : (ending : Ending) → IsFromOutside ending → IsHalfTold w line parts_b a b held_a held_b
-      → IsStopped w run ending a b held_a held_b
-  stopped_in_text ending outside half = record {
+  pub stopped_in_text : IsHalfTold w line parts_b a b held_a held_b
+      → IsStopped w run SinkFailed a b held_a held_b
+  stopped_in_text half = record {
     text = take half.told.count step.text;
     changes = step.changes;
     ended = inr (record {
       came = subst (λ (r : ScriptRun). IsCameTo r (take half.told.count step.text) step.changes)
           (sym (split half.runnable)) ((came_into step behind).text half.told.count half.told.short);
+      whole_steps = λ other. absurd (other refl);
       short = λ complete.
           let less : half.told.count < length step.text = half.told.short in
           let all : length (texts_of run.steps) ≡ length step.text + length (texts_of behind.steps) =
@@ -306,7 +321,7 @@ module _ (w : Standing) (condition : Condition) (parts : Parts) (a : List Conten
           ∙ ap length (run_is_whole step behind).0 ∙ length-append step.text (texts_of behind.steps) in
           let some = length-take half.told.count step.text in
           omega arith;
-      outside = outside;
+      outside = tt;
     });
     since = since_line half.runnable half.run.since;
     writes = writes_line half.runnable half.run.writes;
@@ -333,7 +348,7 @@ module _ (w : Standing) (condition : Condition) (parts : Parts) (a : List Conten
       ((run_is_split w.format number w.state found).by_meaning too_long line (meaning_of fault) lines refused)))
   stopped_by_end Ends.Disk failed kept =
       stopped_in_line DiskFailed tt (line_cut_failed w line parts_b a b held_a held_b failed)
-  stopped_by_end Ends.Sink half kept = stopped_in_text SinkFailed tt half
+  stopped_by_end Ends.Sink half kept = stopped_in_text half
   stopped_by_end Ends.Memory begun kept =
       stopped_in_line NoMemory tt (line_cut_begun w line parts_b a b held_a held_b begun)
 

@@ -1,8 +1,7 @@
 -- A command that runs no line: what it starts on, what it leaves, and what its run is.
-use Rattle.std.proofs.Common.{◌≡◌, ◌⊎◌, inl, inr, ℕ, ◌+◌, ◌<◌, ◌≤◌, Bool, false, List, [], ◌∷◌, ◌++◌, length, take, drop, append_assoc, length-append, codes, arith, refl, sym, ◌∙◌, ap, subst, if◌then◌else◌, Option, Some, None, unwrap_or, Result, Ok, Err}
+use Rattle.std.proofs.Common.{◌≡◌, ◌⊎◌, inl, inr, ℕ, ◌+◌, ◌<◌, ◌≤◌, Bool, false, List, [], ◌∷◌, ◌++◌, length, map, take, drop, append_assoc, length-append, codes, arith, refl, sym, ◌∙◌, ap, subst, if◌then◌else◌, Option, Some, None, unwrap_or, Result, Ok, Err}
 use Rattle.std.specs.Option.{IsSomeAnd}
 use Rattle.std.specs.Fmt.{decimal}
-use Rattle.std.proofs.lemmas.List.{length-take}
 use Rattle.std.proofs.lemmas.List.Concat.{flat_map-cons}
 use Rattle.disk_model.specs.Disk.{Content, Image, IsImage, OnlyAdds, last_image, newest_only}
 use Rattle.disk_model.specs.Moments.{content_now, EachMoment, EachSince, HasNow}
@@ -14,12 +13,12 @@ use Rattle.device_model.specs.Mode.{DeviceFormat}
 use Rattle.device_model.specs.Progress.{DeviceState}
 use Rattle.device_model.specs.ScriptBytes.{is_too_long}
 use Rattle.device_model.specs.History.{IsWrittenIn}
-use Rattle.device_model.specs.ScriptRun.{ScriptRun, ScriptStep, IsCameTo, IsRunOf, changes_in, only_ends, texts_of}
+use Rattle.device_model.specs.ScriptRun.{ScriptRun, IsCameTo, IsRunOf, changes_in, only_ends, texts_of}
 use Rattle.place_model.specs.Kind.{CanOpenPlaced, placed_kind}
 use Rattle.direct_mode.specs.Places.{IsOfPlaces}
 use Rattle.device_core.specs.Opening.{IsRefused, opened_standing}
 use Rattle.script_session.proofs.RunLemmas.{EachMoment-both}
-use Rattle.script_text.proofs.ScriptRunLemmas.{came_into, came_to_end, came_to_nothing, run_is_whole}
+use Rattle.script_text.proofs.ScriptRunLemmas.{came_to_end, came_to_nothing}
 use Rattle.script_text.proofs.TotalLemmas.{has_run}
 use Rattle.place_model.proofs.FormatLemmas.{reads_on}
 use Rattle.image_model.specs.declared.flags.TheConstants.{DIRTY_BITMAP}
@@ -35,6 +34,13 @@ use Rattle.image_opening.specs.Format.{direct_format_of, format_by, format_with,
 use Rattle.command_ending.specs.Ended.{ending_of, key_refusal_of}
 use Rattle.command_ending.specs.declared.ended.Ended.{Ended}
 use Rattle.command_ending.specs.declared.ended.Ended.TheVariants as Endings
+use Rattle.image_check.specs.Bad.{bad_blocks}
+use Rattle.image_check.specs.declared.bad.Bad.{Bad}
+use Rattle.image_check.specs.declared.bad.What.{What}
+use Rattle.opening_fault.specs.Faults as faults
+use Rattle.image_check.specs.Faults.{fault_for}
+use Rattle.opening_fault.specs.Faults.{ImageFault}
+use Rattle.place_model.specs.Format.{DiskFormat, format_on}
 use Rattle.image_dump.specs.declared.dump_fault.DumpFault.{DumpFault}
 use Rattle.image_dump.specs.declared.dump_fault.DumpFault.TheVariants as DumpFaults
 use Rattle.image_dump.specs.declared.shown.Dump.{Dump}
@@ -45,6 +51,7 @@ use Rattle.image_formatting.specs.NewImage.{provided_of}
 use Rattle.integrity_tool.specs.declared.asked.Asked.{Asked}
 use Rattle.integrity_tool.specs.declared.asked.Task.{Task}
 use Rattle.integrity_tool.specs.declared.asked.Task.TheVariants as Tasks
+use Rattle.integrity_tool.specs.Checking.{check_outset, counts_line, bad_line, ending_by_refusal, outset_by_check}
 use Rattle.integrity_tool.specs.Dumping.{dump_outset, outset_by_dump}
 use Rattle.integrity_tool.specs.Making.{format_outset, formatted_text, outset_by_format}
 use Rattle.integrity_tool.specs.Words.{asked_of, key_file_of, key_file_of_asked}
@@ -56,8 +63,10 @@ use Rattle.integrity_tool.specs.Opening.{HasReadIn, HasRunOn, IsMomentOf, IsMome
 use Rattle.integrity_tool.specs.Order.{HasMomentsAt, IsInOrderAt, IsInOrderFor, IsInOrderUnder}
 use Rattle.integrity_tool.specs.Running.{HasReadTo, HoldsText, IsStopped}
 use Rattle.integrity_tool.proofs.RunningLemmas.{complete_prints, told_further, told_nothing}
+use Rattle.integrity_tool.proofs.TextsLemmas.{BeginsText, none_short}
 use Rattle.script_session.specs.LineRun.{held_with}
-use Rattle.integrity_tool.specs.Outset.{ending_by_open, geometry_on, key_by, outset_at, outset_by, outset_on, outset_under, outset_for}
+use Rattle.integrity_tool.specs.Refusing.{ending_by_open}
+use Rattle.integrity_tool.specs.Outset.{geometry_on, key_by, outset_at, outset_by, outset_on, outset_under, outset_for}
 
 -- ---- what a command starts on
 
@@ -65,7 +74,7 @@ use Rattle.integrity_tool.specs.Outset.{ending_by_open, geometry_on, key_by, out
 abbrev pub IsFine : Outset → Type 0
 IsFine (RefusedBy ending) = (found : Bool) → ending ≡ Complete found → ⊥
 IsFine (RunsOn kind image) = Unit {0}
-IsFine (Prints text) = 0 < length text
+IsFine (Prints texts found) = BeginsText texts
 IsFine (Makes making) = (0 < length making.text) × ((start : Content) → making.MayBeLeft start start)
 
 abbrev is_complete_type : Ending → Type 0
@@ -116,6 +125,26 @@ fine_shown (Err (DumpFaults.Scan fault)) = no_complete _ (λ (x : ⊥). x)
 pub fine_dump : (sectors : ℕ) (image : Image) → IsFine (dump_outset sectors image)
 fine_dump sectors image = fine_shown (dump_of sectors image)
 
+-- Its lines begin with one that says something.
+pub lines_begin : (bad : List Bad) (last : List ℕ) → 0 < length last → BeginsText (map bad_line bad ++ last ∷ [])
+lines_begin [] last some = some
+lines_begin (bad ∷ more) last some = omega (arith, length-append (codes "bad ") (drop 4 (bad_line bad)))
+
+pub counts_begin : (blocks bad awaiting : ℕ) → 0 < length (counts_line blocks bad awaiting)
+counts_begin blocks bad awaiting =
+    omega (arith, length-append (codes "blocks ") (drop 7 (counts_line blocks bad awaiting)))
+
+fine_refused : (refusal : ImageFault) → IsFine (RefusedBy (ending_by_refusal refusal))
+fine_refused (faults.ByFormat fault) = fine_open fault
+fine_refused (faults.ByJournal fault) = no_complete _ (λ (x : ⊥). x)
+
+fine_checked : (what : What) (d : DiskFormat) (image : Image) (refusal : Option ImageFault) → IsFine (outset_by_check what d image refusal)
+fine_checked what d image None = lines_begin (bad_blocks what d image) _ (counts_begin _ _ _)
+fine_checked what d image (Some refusal) = fine_refused refusal
+
+pub fine_check : (what : What) (key : Option (List ℕ)) (sectors : ℕ) (image : Image) → IsFine (check_outset what key sectors image)
+fine_check what key sectors image = fine_checked what (format_on key sectors image) image (fault_for what key sectors image)
+
 fine_made : (key : Option (List ℕ)) (sectors : ℕ) (new : NewImage) (told : Result ℕ GeomFault) → IsFine (outset_by_format key sectors new told)
 fine_made key sectors new (Ok provided) = (made_prints provided, λ start image is. inl is)
 fine_made key sectors new (Err fault) = no_complete _ (λ (x : ⊥). x)
@@ -126,6 +155,7 @@ fine_format key sectors new = fine_made key sectors new (provided_of new sectors
 fine_at : (task : Task) (key : Option (List ℕ)) (sectors : ℕ) (image : Image) → IsFine (outset_at task key sectors image)
 fine_at Tasks.Run key sectors image = fine_on key sectors image
 fine_at Tasks.Dump key sectors image = fine_dump sectors image
+fine_at (Tasks.Check what) key sectors image = fine_check what key sectors image
 fine_at (Tasks.Format new) key sectors image = fine_format key sectors new
 
 fine_under : (task : Task) (told : Result (Option (List ℕ)) KeyRefusal) (sectors : ℕ) (image : Image) → IsFine (outset_under task told sectors image)
@@ -140,7 +170,7 @@ fine_for (Some asked) key_bytes sectors image = fine_under asked.task _ sectors 
 abbrev pub IsOfRun : Outset → Type 0
 IsOfRun (RefusedBy ending) = Unit {0}
 IsOfRun (RunsOn kind image) = Unit {0}
-IsOfRun (Prints text) = ⊥
+IsOfRun (Prints texts found) = ⊥
 IsOfRun (Makes making) = ⊥
 
 of_run_by : (key : Option (List ℕ)) (sectors : ℕ) (image : Image) (told : Result ImageFormat OpenFault) → IsOfRun (outset_by key sectors image told)
@@ -175,19 +205,19 @@ untouched_kept start told same c here =
 abbrev pub IsAsBefore : Outset → (start later : Content) → Type 0
 IsAsBefore (RefusedBy ending) start later = IsUntouched start later
 IsAsBefore (RunsOn kind image) start later = IsUntouched start later
-IsAsBefore (Prints text) start later = later ≡ start
+IsAsBefore (Prints texts found) start later = later ≡ start
 IsAsBefore (Makes making) start later = later ≡ start
 
 as_synced : (outset : Outset) → IsOfRun outset → (start later : Content) → IsUntouched start later → IsAsBefore outset start later
 as_synced (RefusedBy ending) of start later untouched = untouched
 as_synced (RunsOn kind image) of start later untouched = untouched
-as_synced (Prints text) of start later untouched = absurd of
+as_synced (Prints texts found) of start later untouched = absurd of
 as_synced (Makes making) of start later untouched = absurd of
 
 as_same : (outset : Outset) (start later : Content) → later ≡ start → IsAsBefore outset start later
 as_same (RefusedBy ending) start later same = inl same
 as_same (RunsOn kind image) start later same = inl same
-as_same (Prints text) start later same = same
+as_same (Prints texts found) start later same = same
 as_same (Makes making) start later same = same
 
 -- A run has synced the disk at most,
@@ -209,21 +239,21 @@ run_on kind image script = has_run (kind.format image) (kind.opened image) scrip
 some_run : (outset : Outset) (script : List ℕ) → (run : ScriptRun) × IsRunAt outset script run
 some_run (RefusedBy ending) script = (only_ends ending, refl)
 some_run (RunsOn kind image) script = run_on kind image script
-some_run (Prints text) script = (only_prints text, refl)
-some_run (Makes making) script = (only_prints making.text, refl)
+some_run (Prints texts found) script = (only_prints texts found, refl)
+some_run (Makes making) script = (only_prints (making.text ∷ []) false, refl)
 
 pub untouched_may_be_left : (outset : Outset) → IsOfRun outset → (start : Content) (script : List ℕ) (later : Content) → IsUntouched start later → MayBeLeftAt outset start script later
 untouched_may_be_left (RefusedBy ending) of start script later untouched = record { run = only_ends ending; is_run = refl; made = 0; left = untouched }
 untouched_may_be_left (RunsOn kind image) of start script later untouched =
     let r = run_on kind image script in record { run = r.0; is_run = r.1; made = 0; left = inl (refl, untouched) }
-untouched_may_be_left (Prints text) of start script later untouched = absurd of
+untouched_may_be_left (Prints texts found) of start script later untouched = absurd of
 untouched_may_be_left (Makes making) of start script later untouched = absurd of
 
 -- What a run writes is what it may.
 writes_by : (outset : Outset) → IsOfRun outset → (g : Geometry) (run : ScriptRun) (start later : Content) → WritesPlacesOnly g run start later → WritesOnlyBy outset g run start later
 writes_by (RefusedBy ending) of g run start later writes = writes
 writes_by (RunsOn kind image) of g run start later writes = writes
-writes_by (Prints text) of g run start later writes = absurd of
+writes_by (Prints texts found) of g run start later writes = absurd of
 writes_by (Makes making) of g run start later writes = absurd of
 
 -- What a read gives of a disk that tells its content is an image of that.
@@ -255,6 +285,7 @@ synced_moments outset of g start script told reads synced =
 short_of : (f : DeviceFormat) (s : DeviceState) (script : List ℕ) (run : ScriptRun) (ending : Ending) → IsRunOf f s script run → IsFromOutside ending → IsEndedShort run [] [] ending
 short_of f s script run ending is outside = record {
   came = subst (λ (r : ScriptRun). IsCameTo r [] []) (sym is.is) (came_to_nothing f (is_too_long script) 1 s false is.lines);
+  whole_steps = λ other. (0, refl);
   short = subst (λ (r : ScriptRun). IsComplete r → 0 < length (texts_of r.steps)) (sym is.is) (complete_prints f (is_too_long script) 1 s false is.lines);
   outside = outside;
 }
@@ -300,18 +331,6 @@ left_unmade making fine start later ScriptFailed early same = absurd early
 left_unmade making fine start later SinkFailed early same = absurd early
 left_unmade making fine start later NoMemory early same = same
 
--- A text is printed so far, and not to its end.
-pub text_short : (text : List ℕ) (count : ℕ) (ending : Ending) → count < length text → IsFromOutside ending → IsEndedShort (only_prints text) (take count text) [] ending
-text_short text count ending less outside =
-    let step : ScriptStep = record { text = text; changes = [] } in
-    let all : length (texts_of (only_prints text).steps) ≡ length text + 0 =
-    ap length (run_is_whole step (only_ends (Complete false))).0 ∙ length-append text [] in
-    record {
-      came = (came_into step (only_ends (Complete false))).text count less;
-      short = λ complete. omega (arith, less, length-take count text, all);
-      outside = outside;
-    }
-
 -- Something outside ended a command before its first line.
 pub nothing_run : (outset : Outset) → IsFine outset → (start : Content) (script : List ℕ) (ending : Ending) → IsEarly ending
     → (after : List Content) → HasNow (IsAsBefore outset start) after → (held_before held : Option (List ℕ)) → held ≡ held_before → HasRunOn outset start script ending after held_before held
@@ -320,7 +339,12 @@ nothing_run (RefusedBy refused) fine start script ending outside after untouched
   is_run = refl;
   text = [];
   changes = [];
-  ended = inr (record { came = came_to_end refused; short = λ complete. absurd (fine complete.0 complete.1); outside = early_outside ending outside });
+  ended = inr (record {
+    came = came_to_end refused;
+    whole_steps = λ other. (0, refl);
+    short = λ complete. absurd (fine complete.0 complete.1);
+    outside = early_outside ending outside;
+  });
   told = same ∙ told_nothing held_before;
   left = untouched;
 }
@@ -334,21 +358,21 @@ nothing_run (RunsOn kind image) fine start script ending outside after untouched
       told = same ∙ told_nothing held_before;
       left = λ c told. inl (refl, untouched c told);
     }
-nothing_run (Prints text) fine start script ending outside after untouched held_before held same = record {
-  run = only_prints text;
+nothing_run (Prints texts found) fine start script ending outside after untouched held_before held same = record {
+  run = only_prints texts found;
   is_run = refl;
   text = [];
   changes = [];
-  ended = inr (text_short text 0 ending fine (early_outside ending outside));
+  ended = inr (none_short texts found ending fine (early_outside ending outside));
   told = same ∙ told_nothing held_before;
   left = untouched;
 }
 nothing_run (Makes making) fine start script ending outside after untouched held_before held same = record {
-  run = only_prints making.text;
+  run = only_prints (making.text ∷ []) false;
   is_run = refl;
   text = [];
   changes = [];
-  ended = inr (text_short making.text 0 ending fine.0 (early_outside ending outside));
+  ended = inr (none_short (making.text ∷ []) false ending fine.0 (early_outside ending outside));
   told = same ∙ told_nothing held_before;
   left = λ c told. left_unmade making fine start c ending outside (untouched c told);
 }
@@ -592,9 +616,19 @@ no_key_made : (key : Option (List ℕ)) (sectors : ℕ) (new : NewImage) (told :
 no_key_made key sectors new (Ok provided) is = is
 no_key_made key sectors new (Err fault) is = is
 
+no_key_checked : (what : What) (d : DiskFormat) (image : Image) (refusal : Option ImageFault) → IsRefusedByKey (outset_by_check what d image refusal) → ⊥
+no_key_checked what d image None is = is
+no_key_checked what d image (Some (faults.ByFormat OpenFaults.Memory)) is = is
+no_key_checked what d image (Some (faults.ByFormat OpenFaults.Disk)) is = is
+no_key_checked what d image (Some (faults.ByFormat (OpenFaults.Super fault))) is = is
+no_key_checked what d image (Some (faults.ByFormat (OpenFaults.Geom fault))) is = is
+no_key_checked what d image (Some (faults.ByFormat (OpenFaults.Mode flags))) is = is
+no_key_checked what d image (Some (faults.ByJournal fault)) is = is
+
 no_key_at : (task : Task) (key : Option (List ℕ)) (sectors : ℕ) (image : Image) → IsRefusedByKey (outset_at task key sectors image) → ⊥
 no_key_at Tasks.Run key sectors image is = no_key_by key sectors image (direct_format_of sectors image) is
 no_key_at Tasks.Dump key sectors image is = no_key_shown (dump_of sectors image) is
+no_key_at (Tasks.Check what) key sectors image is = no_key_checked what (format_on key sectors image) image (fault_for what key sectors image) is
 no_key_at (Tasks.Format new) key sectors image is = no_key_made key sectors new (provided_of new sectors) is
 
 -- ---- the order
@@ -603,6 +637,7 @@ no_key_at (Tasks.Format new) key sectors image is = no_key_made key sectors new 
 kept_at : (task : Task) (key : Option (List ℕ)) (sectors : ℕ) {a b : List Content} → b ≡ a → IsInOrderAt task key sectors a b
 kept_at Tasks.Run key sectors same = tt
 kept_at Tasks.Dump key sectors same = tt
+kept_at (Tasks.Check what) key sectors same = tt
 kept_at (Tasks.Format new) key sectors same = inl (EachMoment-kept _ same)
 
 kept_under : (task : Task) (told : Result (Option (List ℕ)) KeyRefusal) (sectors : ℕ) {a b : List Content} → b ≡ a → IsInOrderUnder task told sectors a b

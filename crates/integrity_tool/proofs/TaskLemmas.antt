@@ -27,6 +27,10 @@ ends_image Endings.Script ends = tt
 ends_image Endings.Sink ends = tt
 ends_image Endings.Memory ends = tt
 
+pub ends_wider : {T : Type 0} (r : Result T Ended) → IfErr r EndsTask → IfErr r EndsImage
+ends_wider (Ok done) ends = tt
+ends_wider (Err ended) ends = ends_image ended ends
+
 pub ends_found : (r : Result (Unit {0}) Ended) → IfErr r EndsTask → IfErr (found_by r) EndsImage
 ends_found (Ok done) ends = tt
 ends_found (Err ended) ends = ends_image ended ends
@@ -42,6 +46,10 @@ cause_wider disk script sink Endings.KeySource cause = tt
 cause_wider disk script sink Endings.Script cause = absurd cause
 cause_wider disk script sink Endings.Sink cause = cause
 cause_wider disk script sink Endings.Memory cause = tt
+
+pub causes_wider : {T : Type 0} (disk script sink : Type 0) (r : Result T Ended) → IfErr r (HasEndCause disk ⊥ sink) → IfErr r (HasEndCause disk script sink)
+causes_wider disk script sink (Ok done) cause = tt
+causes_wider disk script sink (Err ended) cause = cause_wider disk script sink ended cause
 
 pub cause_found : (disk script sink : Type 0) (r : Result (Unit {0}) Ended) → IfErr r (HasEndCause disk ⊥ sink) → IfErr (found_by r) (HasEndCause disk script sink)
 cause_found disk script sink (Ok done) cause = tt

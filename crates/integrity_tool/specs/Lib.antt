@@ -7,6 +7,8 @@ pub mod Order
 pub mod Outset
 pub mod Running
 pub mod Top
+pub mod Refusing
+pub mod Checking
 pub mod Dumping
 pub mod Making
 pub mod Tasks

@@ -34,7 +34,7 @@ WritesPlacesOnly g run start later = OnlyAdds (IsOfPlaces g (IsWrittenIn (change
 abbrev pub WritesOnlyBy : Outset → Geometry → ScriptRun → (start later : Content) → Type 0
 WritesOnlyBy (RefusedBy ending) g run start later = WritesPlacesOnly g run start later
 WritesOnlyBy (RunsOn kind image) g run start later = WritesPlacesOnly g run start later
-WritesOnlyBy (Prints text) g run start later = later ≡ start
+WritesOnlyBy (Prints texts found) g run start later = later ≡ start
 WritesOnlyBy (Makes making) g run start later = making.MayBeLeft start later
 
 -- No other sector was written.

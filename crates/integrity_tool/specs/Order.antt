@@ -15,6 +15,7 @@ use Rattle.integrity_tool.specs.Words.{key_file_of}
 abbrev pub IsInOrderAt : Task → (key : Option (List ℕ)) → (sectors : ℕ) → (before after : List Content) → Type 0
 IsInOrderAt Tasks.Run key sectors before after = Unit {0}
 IsInOrderAt Tasks.Dump key sectors before after = Unit {0}
+IsInOrderAt (Tasks.Check what) key sectors before after = Unit {0}
 IsInOrderAt (Tasks.Format new) key sectors before after = IsLeftInOrder key sectors new before after
 
 -- The same, under the key that is told, where one is.

@@ -2,19 +2,20 @@
 -- Own: the words are judged first, then the key, then the image.
 use Rattle.std.specs.Prelude.{ℕ, ◌==◌, ltb, if◌then◌else◌, List, length, Option, Some, None, Result, Ok, Err}
 use Rattle.disk_model.specs.Disk.{Image}
-use Rattle.device_model.specs.Ending.{Ending, RefusedWords, RefusedKey, RefusedImage, DiskFailed, NoMemory, BySuperblock, ByGeometry, ByMode, KeyRefusal, EmptyKey, LongKey}
+use Rattle.device_model.specs.Ending.{RefusedWords, RefusedKey, KeyRefusal, EmptyKey, LongKey}
 use Rattle.image_model.specs.Geometry.{Geometry}
 use Rattle.image_opening.specs.Format.{direct_format_of}
 use Rattle.image_opening.specs.declared.open_fault.OpenFault.{OpenFault}
-use Rattle.image_opening.specs.declared.open_fault.OpenFault.TheVariants as OpenFaults
 use Rattle.image_opening.specs.declared.reading.ImageFormat.{ImageFormat}
 use Rattle.place_model.specs.Format.{format_on}
 use Rattle.place_model.specs.Kind.{placed_kind}
 use Rattle.integrity_tool.specs.declared.asked.Asked.{Asked}
 use Rattle.integrity_tool.specs.declared.asked.Task.{Task}
 use Rattle.integrity_tool.specs.declared.asked.Task.TheVariants as Tasks
+use Rattle.integrity_tool.specs.Checking.{check_outset}
 use Rattle.integrity_tool.specs.Dumping.{dump_outset}
 use Rattle.integrity_tool.specs.Making.{format_outset}
+use Rattle.integrity_tool.specs.Refusing.{ending_by_open}
 use Rattle.integrity_tool.specs.Words.{asked_of, key_file_of}
 use Rattle.command_model.specs.CommandRun.{Outset, RefusedBy, RunsOn}
 
@@ -35,14 +36,6 @@ abbrev pub key_by : Option (List ℕ) → (bytes : List ℕ) → Result (Option 
 key_by None bytes = Ok None
 key_by (Some file) bytes = keyed (key_in bytes)
 
--- Why a disk is not opened.
-abbrev pub ending_by_open : OpenFault → Ending
-ending_by_open OpenFaults.Memory = NoMemory
-ending_by_open OpenFaults.Disk = DiskFailed
-ending_by_open (OpenFaults.Super fault) = RefusedImage (BySuperblock fault)
-ending_by_open (OpenFaults.Geom fault) = RefusedImage (ByGeometry fault)
-ending_by_open (OpenFaults.Mode flags) = RefusedImage (ByMode flags)
-
 -- By what the image tells: a device in direct mode opens it, or it is refused.
 abbrev pub outset_by : (key : Option (List ℕ)) → (sectors : ℕ) → Image → Result ImageFormat OpenFault → Outset
 outset_by key sectors image (Ok format) = RunsOn (placed_kind key sectors) image
@@ -55,6 +48,7 @@ outset_on key sectors image = outset_by key sectors image (direct_format_of sect
 abbrev pub outset_at : Task → (key : Option (List ℕ)) → (sectors : ℕ) → Image → Outset
 outset_at Tasks.Run key sectors image = outset_on key sectors image
 outset_at Tasks.Dump key sectors image = dump_outset sectors image
+outset_at (Tasks.Check what) key sectors image = check_outset what key sectors image
 outset_at (Tasks.Format new) key sectors image = format_outset key sectors new
 
 abbrev pub outset_under : Task → Result (Option (List ℕ)) KeyRefusal → (sectors : ℕ) → Image → Outset

@@ -104,5 +104,5 @@ IsKeyRefusal NoMemory = ⊥
 abbrev pub IsRefusedByKey : Outset → Type 0
 IsRefusedByKey (RefusedBy ending) = IsKeyRefusal ending
 IsRefusedByKey (RunsOn kind image) = ⊥
-IsRefusedByKey (Prints text) = ⊥
+IsRefusedByKey (Prints texts found) = ⊥
 IsRefusedByKey (Makes making) = ⊥

@@ -1,5 +1,5 @@
 -- What the words ask for.
--- Own: of the commands that words can be, the program has `format`, `dump`, and the runs in direct mode.
+-- Own: of the commands that words can be, the program has `format`, `dump`, `check`, and the runs in direct mode.
 use Rattle.std.specs.Prelude.{ℕ, if◌then◌else◌, List, [], Option, Some, None}
 use Rattle.command_words.specs.Commands.{command_of}
 use Rattle.command_words.specs.Come.{has_come}
@@ -7,15 +7,20 @@ use Rattle.command_words.specs.Numbers.{log2_of}
 use Rattle.command_words.specs.Sizes.{log2_sectors}
 use Rattle.command_words.specs.declared.command.Command.{Command}
 use Rattle.command_words.specs.declared.command.Command.TheVariants as Commands
+use Rattle.command_words.specs.declared.command.Check.{Check}
 use Rattle.command_words.specs.declared.command.Dump.{Dump}
 use Rattle.command_words.specs.declared.command.Format.{Format}
 use Rattle.command_words.specs.declared.command.Run.{Run}
+use Rattle.command_words.specs.declared.values.Checked.{Checked}
+use Rattle.command_words.specs.declared.values.Checked.TheVariants as checks
 use Rattle.command_words.specs.declared.values.HashChoice.{HashChoice}
 use Rattle.command_words.specs.declared.values.HashChoice.TheVariants.{Sha256, HmacSha256}
 use Rattle.command_words.specs.declared.values.Padding as words
 use Rattle.command_words.specs.declared.values.Padding.TheVariants as paddings
 use Rattle.command_words.specs.declared.values.Wipe as words_wipe
 use Rattle.command_words.specs.declared.values.Wipe.TheVariants as wipes
+use Rattle.image_check.specs.declared.bad.What.{What}
+use Rattle.image_check.specs.declared.bad.What.TheVariants.{Cells, Placed}
 use Rattle.image_formatting.specs.declared.new_image.NewImage.{NewImage}
 use Rattle.image_formatting.specs.declared.new_image.Padding.{Padding}
 use Rattle.image_formatting.specs.declared.new_image.Padding.TheVariants.{Fixed, Legacy}
@@ -52,6 +57,7 @@ new_image_of format = record {
 abbrev pub IsTask : Task → Type 0
 IsTask Tasks.Run = Unit {0}
 IsTask Tasks.Dump = Unit {0}
+IsTask (Tasks.Check what) = Unit {0}
 IsTask (Tasks.Format new) = IsNewImage new
 
 -- ---- by the words
@@ -66,12 +72,20 @@ run_asked run = record { image = run.image; hash = run.hash; task = Tasks.Run }
 abbrev pub dump_asked : Dump → Asked
 dump_asked dump = record { image = dump.image; hash = Sha256; task = Tasks.Dump }
 
+-- What is judged of each block.
+abbrev pub what_as : Checked → What
+what_as checks.Cells = Cells
+what_as checks.Placed = Placed
+
+abbrev pub check_asked : Check → Asked
+check_asked check = record { image = check.image; hash = check.hash; task = Tasks.Check (what_as check.checked) }
+
 -- What a command asks for.
 abbrev pub asked_in : Command → Option Asked
 asked_in (Commands.Format format) = Some (format_asked format)
 asked_in (Commands.Run run) = Some (run_asked run)
 asked_in (Commands.Dump dump) = Some (dump_asked dump)
-asked_in (Commands.Check check) = None
+asked_in (Commands.Check check) = Some (check_asked check)
 asked_in (Commands.Exercise exercise) = None
 
 -- The same, if the program has it.
@@ -109,6 +123,7 @@ key_file_of_asked (Some asked) = key_file_of asked.hash
 abbrev pub IsScriptless : Task → Type 0
 IsScriptless Tasks.Run = ⊥
 IsScriptless Tasks.Dump = Unit {0}
+IsScriptless (Tasks.Check what) = Unit {0}
 IsScriptless (Tasks.Format new) = Unit {0}
 
 -- The words ask for nothing that reads a script.

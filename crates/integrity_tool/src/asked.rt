@@ -2,13 +2,15 @@
 ghost use Rattle.std.specs.Prelude.{◌≡◌, ◌⊎◌, Err, IfErr, IfOk, IfSome, None, Some, map};
 ghost use Rattle.std.specs.String.{string_bytes};
 ghost use Rattle.command_ending.specs.declared.ended.Ended.TheVariants as Endings;
-ghost use Rattle.integrity_tool.specs.Words.{IsTask, asked_by, asked_in, asked_of, dump_asked, format_asked, new_image_of, padding_as, run_asked, wipe_as};
+ghost use Rattle.integrity_tool.specs.Words.{IsTask, asked_by, asked_in, asked_of, check_asked, dump_asked, format_asked, new_image_of, padding_as, run_asked, what_as, wipe_as};
 ghost use Rattle.image_formatting.specs.NewImage.{IsNewImage};
 
 use command_ending::Ended;
 use command_words::{
-    Command, Dump, FileName, Format, HashChoice, Padding, Run, Wipe, WordsFault, has_come, parse,
+    Check, Checked, Command, Dump, FileName, Format, HashChoice, Padding, Run, Wipe, WordsFault,
+    has_come, parse,
 };
+use image_check::What;
 use image_formatting::NewImage;
 use std::alloc::Global;
 
@@ -30,6 +32,8 @@ pub(crate) enum Task {
     Run,
     /// What the image shows is printed.
     Dump,
+    /// Its bad blocks are printed.
+    Check(What),
     /// A new image is made.
     Format(NewImage),
 }
@@ -75,7 +79,8 @@ fn asked_in(command: Command) -> Option<Asked>
         Command::Format(format) => Some(format_asked(format)),
         Command::Run(run) => Some(run_asked(run)),
         Command::Dump(dump) => Some(dump_asked(dump)),
-        Command::Check(_) | Command::Exercise(_) => None,
+        Command::Check(check) => Some(check_asked(check)),
+        Command::Exercise(_) => None,
     }
 }
 
@@ -111,6 +116,27 @@ fn dump_asked(dump: Dump) -> Asked
         image: dump.image,
         hash: HashChoice::Sha256,
         task: Task::Dump,
+    }
+}
+
+/// What `check` asks for.
+fn check_asked(check: Check) -> Asked
+    ensures { result ≡ check_asked check }
+{
+    Asked {
+        image: check.image,
+        hash: check.hash,
+        task: Task::Check(what(check.checked)),
+    }
+}
+
+/// The same, as what is judged of each block.
+fn what(checked: Checked) -> What
+    ensures { result ≡ what_as checked }
+{
+    match checked {
+        Checked::Cells => What::Cells,
+        Checked::Placed => What::Placed,
     }
 }
 

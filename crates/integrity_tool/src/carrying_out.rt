@@ -14,6 +14,7 @@ ghost use Rattle.integrity_tool.specs.Top.{IsBeforeScript};
 ghost use Rattle.integrity_tool.specs.Words.{IsScriptless, IsTask};
 
 use crate::asked::Task;
+use crate::checking::print_check;
 use crate::dumping::print_image;
 use crate::making::make_image;
 use crate::opening::run_image;
@@ -68,6 +69,7 @@ pub(crate) fn carry_out<D: Disk, S: Source, O: Sink>(
     match task {
         Task::Run => run_image(alloc, disk, hash, script, out),
         Task::Dump => done(print_image(alloc, disk, out)),
+        Task::Check(what) => print_check(alloc, disk, hash, what, out),
         Task::Format(new) => done(make_image(alloc, disk, hash, new, out)),
     }
 }

@@ -11,6 +11,7 @@ ghost use Rattle.integrity_tool.specs.Tasks.{EndsTask, ending_done};
 
 use command_ending::{Ended, ImageFault};
 use image_dump::{DumpFault, dump, dump_text};
+use journal_reading::JournalFault;
 use sector_disk::Disk;
 use std::alloc::Global;
 use stream_io::{Sink, put_all};
@@ -64,6 +65,6 @@ fn ended_by(fault: DumpFault) -> Ended
         DumpFault::Disk => Ended::Disk,
         DumpFault::Super(fault) => Ended::Image(ImageFault::Super(fault)),
         DumpFault::Geom(fault) => Ended::Image(ImageFault::Geom(fault)),
-        DumpFault::Scan(fault) => Ended::Image(ImageFault::Scan(fault)),
+        DumpFault::Scan(fault) => Ended::Image(ImageFault::Journal(JournalFault::Scan(fault))),
     }
 }

@@ -6,6 +6,7 @@
 
 mod asked;
 mod carrying_out;
+mod checking;
 mod closing;
 mod dumping;
 mod keyed;

@@ -8,7 +8,8 @@ ghost use Rattle.hmac_tag.specs.TagMaker.{key_of};
 ghost use Rattle.command_ending.specs.Ended.{ending_of};
 ghost use Rattle.integrity_tool.specs.Closing.{ended_close};
 ghost use Rattle.integrity_tool.specs.Opening.{EndsImage, HasReadIn, HasRunOn, IsMomentOn};
-ghost use Rattle.integrity_tool.specs.Outset.{ending_by_open, outset_on};
+ghost use Rattle.integrity_tool.specs.Outset.{outset_on};
+ghost use Rattle.integrity_tool.specs.Refusing.{ending_by_open};
 ghost use Rattle.integrity_tool.specs.Running.{HasEndCause, HasTaken, IsCounted, ending_by};
 ghost use Rattle.integrity_tool.specs.Top.{IsBeforeScript};
 

@@ -25,14 +25,14 @@ use stream_io::{NamedSource, Sink, Source};
 
 /// Does what the words say, and answers the status. The words are the program's name and then those of a command.
 ///
-/// The commands are `format IMAGE`, `dump IMAGE`, and `run IMAGE --mode D`. The key is bound and read, at most 4097
+/// The commands are `format IMAGE`, `dump IMAGE`, `check IMAGE`, and `run IMAGE --mode D`. The key is bound and read, at most 4097
 /// bytes of it, before the image is bound, and the script of a run only once the device is open.
 ///
 /// # Statuses
 ///
 /// - 0: the command came to its end: the image is made, its lines are printed, or the script was run to its end and
 ///   the device closed.
-/// - 1: the script was, and a reply that was taken names a block whose stored tag differs.
+/// - 1: it came to its end, and a reply that was taken, or a line of a check, names a block whose stored tag differs.
 /// - 2: the words are no command, the bytes of the key file no key, or the script is refused.
 /// - 3: the image is refused.
 /// - 4, 5, 6: the disk, the source of the key or of the script, or the sink failed.

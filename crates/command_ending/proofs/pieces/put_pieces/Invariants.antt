@@ -1,4 +1,4 @@
-use Rattle.std.proofs.Common.{◌≡◌, ◌≤◌, take}
+use Rattle.std.proofs.Common.{◌≡◌, take}
 use Rattle.std.specs.Option.{option_map}
 use Rattle.stream_io.specs.Stream.{with_bytes}
 use Rattle.command_ending.specs.Ended.{bytes_of}

@@ -16,7 +16,7 @@ use Rattle.integrity_tool.specs.Running.{HasEndCause, IsCounted, ending_by}
 use Rattle.integrity_tool.specs.Top.{IsBeforeScript}
 use Rattle.integrity_tool.specs.Words.{IsScriptless}
 use Rattle.integrity_tool.proofs.TakenLemmas.{none_taken}
-use Rattle.integrity_tool.proofs.TaskLemmas.{cause_found, counted_found, ending_found, ends_found, read_no_script, uncounted, whatever_ended}
+use Rattle.integrity_tool.proofs.TaskLemmas.{cause_found, causes_wider, counted_found, ending_found, ends_found, ends_wider, read_no_script, uncounted, whatever_ended}
 use Rattle.integrity_tool.proofs.carrying_out.carry_out.Goals as goal
 
 pub returns-in-Run-clause-runs : goal.returns-in-Run-clause-runs
@@ -82,6 +82,44 @@ returns-in-Dump-clause-ahead g c left told start told_start =
     subst (λ (t : Task). HasReadIn (outset_at t key sectors (last_image start)) left (g.S.Source.left c.args.script.now) (g.O.Sink.held c.args.out.now) (g.O.Sink.held c.print_image.new.out))
     (sym c.in-Dump.is)
     (read_no_script (outset_at Tasks.Dump key sectors (last_image start)) start left _ _ _ _ _ told (c.print_image.ensures.runs left start told_start))
+
+pub returns-in-Check-clause-runs : goal.returns-in-Check-clause-runs
+returns-in-Check-clause-runs g c left told start told_start =
+    let key = key_of c.args.hash in
+    let sectors = (g.D.Disk.identity c.args.disk.now).sectors in
+    let before = g.D.Disk.moments c.args.disk.now in
+    let after = g.D.Disk.moments c.print_check.new.disk in
+    let what = c.in-Check.what in
+    subst (λ (t : Task). HasRunOn (outset_at t key sectors (last_image start)) start left (ending_by c.print_check.result) after (g.O.Sink.held c.args.out.now) (g.O.Sink.held c.print_check.new.out)
+    × HasMomentsAt t key sectors start left before after) (sym c.in-Check.is) (
+      c.print_check.ensures.runs left start told_start,
+      record { each = EachMoment-kept (IsMomentAt (Tasks.Check what) key sectors start left) c.print_check.ensures.kept; order = tt },
+    )
+
+pub returns-in-Check-clause-ends : goal.returns-in-Check-clause-ends
+returns-in-Check-clause-ends g c = ends_wider c.print_check.result c.print_check.ensures.ends
+
+pub returns-in-Check-clause-cause : goal.returns-in-Check-clause-cause
+returns-in-Check-clause-cause g c = causes_wider _ _ _ c.print_check.result c.print_check.ensures.cause
+
+pub returns-in-Check-clause-counted : goal.returns-in-Check-clause-counted
+returns-in-Check-clause-counted g c =
+    (c.print_check.ensures.counted.0, uncounted Endings.Script _ c.print_check.result, c.print_check.ensures.counted.1)
+
+pub returns-in-Check-clause-unread : goal.returns-in-Check-clause-unread
+returns-in-Check-clause-unread g c =
+    (whatever_ended (λ ended. IsBeforeScript ended → c.args.script.now ≡ c.args.script.now) (λ ended before. refl) c.print_check.result, λ none. refl)
+
+pub returns-in-Check-clause-taken : goal.returns-in-Check-clause-taken
+returns-in-Check-clause-taken g c = none_taken _ _ refl
+
+pub returns-in-Check-clause-ahead : goal.returns-in-Check-clause-ahead
+returns-in-Check-clause-ahead g c left told start told_start =
+    let key = key_of c.args.hash in
+    let sectors = (g.D.Disk.identity c.args.disk.now).sectors in
+    subst (λ (t : Task). HasReadIn (outset_at t key sectors (last_image start)) left (g.S.Source.left c.args.script.now) (g.O.Sink.held c.args.out.now) (g.O.Sink.held c.print_check.new.out))
+    (sym c.in-Check.is)
+    (read_no_script (outset_at (Tasks.Check c.in-Check.what) key sectors (last_image start)) start left _ _ _ _ _ told (c.print_check.ensures.runs left start told_start))
 
 pub returns-in-Format-clause-runs : goal.returns-in-Format-clause-runs
 returns-in-Format-clause-runs g c left told start told_start =

@@ -1,0 +1,65 @@
+use Rattle.std.proofs.Common.{◌≡◌, ap, sym, subst, ◌∙◌}
+use Rattle.disk_model.specs.Disk.{last_image}
+use Rattle.disk_model.specs.Identity.{DiskIdentity}
+use Rattle.disk_model.specs.Moments.{content_now}
+use Rattle.hmac_tag.specs.TagMaker.{key_of}
+use Rattle.image_check.specs.Checked.{Checked, IsCheckOf}
+use Rattle.opening_fault.specs.declared.opening_fault.OpeningFault.TheVariants.{Memory, Disk}
+use Rattle.opening_fault.proofs.FaultsLemmas.{fault_in-err}
+use Rattle.image_opening.specs.declared.reading.ImageFormat.{ImageFormat}
+use Rattle.command_ending.specs.Ended.{ending_of}
+use Rattle.command_ending.specs.declared.ended.Ended.{Ended}
+use Rattle.integrity_tool.specs.Checking.{IsListed, IsPrintedShort, bad_in, check_outset, lines_in}
+use Rattle.integrity_tool.specs.Opening.{HasRunOn}
+use Rattle.integrity_tool.proofs.CheckingLemmas.{check_cut, check_untold, check_whole, counts_told, not_checked}
+use Rattle.integrity_tool.proofs.checking.print_check.Goals as goal
+
+pub returns-in-Err-clause-runs : goal.returns-in-Err-clause-runs
+returns-in-Err-clause-runs g c script start told =
+    let key = key_of c.args.hash in
+    let sectors = (g.D.Disk.identity c.args.disk.now).sectors in
+    let held = g.O.Sink.held c.args.out.now in
+    let fault = c.in-Err.fault in
+    subst (λ (e : Ended). HasRunOn (check_outset c.args.what key sectors (last_image start)) start script (ending_of e) (g.D.Disk.moments c.open.new.disk) held held)
+    (sym c.ended_by.ensures)
+    (not_checked c.args.what key sectors start script told c.open.ensures.kept fault held
+    (λ memory disk.
+    fault_in-err (Unit {0}) Checked fault
+    ∙ c.in-Err.ensures.refused (λ h. memory (let same : fault ≡ Memory = cc in same)) (λ h. disk (let same : fault ≡ Disk = cc in same)) start told))
+
+pub returns-in-Err-print_bad-clause-runs : goal.returns-in-Err-print_bad-clause-runs
+returns-in-Err-print_bad-clause-runs g c script start told =
+    let sectors = (g.D.Disk.identity c.args.disk.now).sectors in
+    check_cut c.args.what (key_of c.args.hash) sectors start script told (c.print_bad.ensures.kept ∙ c.open.ensures.kept)
+    c.in-Ok.image c.in-Ok.ensures.what c.in-Ok.ensures.key (c.in-Ok.ensures.refused (λ h. cc) (λ h. cc) start told)
+    (ending_of c.in-Err-print_bad.ended) (g.O.Sink.held c.args.out.now) (g.O.Sink.held c.print_bad.new.out)
+    (subst (λ (d : DiskIdentity). IsPrintedShort (lines_in c.in-Ok.image d.sectors (last_image start)) (ending_of c.in-Err-print_bad.ended) (g.O.Sink.held c.args.out.now) (g.O.Sink.held c.print_bad.new.out))
+    c.open.ensures.identity (c.in-Err-print_bad.ensures.cut start (ap content_now c.open.ensures.kept ∙ told)))
+
+pub returns-in-Ok-put_counts-clause-runs : goal.returns-in-Ok-put_counts-clause-runs
+returns-in-Ok-put_counts-clause-runs g c script start told =
+    let disk = g.D.Disk.identity c.args.disk.now in
+    let told_later = ap content_now c.open.ensures.kept ∙ told in
+    let is = subst (λ (d : DiskIdentity). IsCheckOf c.in-Ok.image d (g.D.Disk.moments c.open.new.disk)) c.open.ensures.identity c.in-Ok.ensures.image in
+    let listed = subst (λ (d : DiskIdentity). IsListed (bad_in c.in-Ok.image d.sectors (last_image start)) c.in-Ok-print_bad.bad (g.O.Sink.held c.args.out.now) (g.O.Sink.held c.print_bad.new.out))
+    c.open.ensures.identity (c.in-Ok-print_bad.ensures.listed start told_later) in
+    let blocks = c.blocks-2.ensures ∙ ap (λ (f : ImageFormat). f.geometry.blocks) c.print_bad.ensures.format in
+    check_whole c.args.what (key_of c.args.hash) disk.sectors start script told (c.print_bad.ensures.kept ∙ c.open.ensures.kept)
+    c.in-Ok.image c.in-Ok.ensures.what c.in-Ok.ensures.key (c.in-Ok.ensures.refused (λ h. cc) (λ h. cc) start told)
+    c.in-Ok-print_bad.bad c.blocks-2.result (g.O.Sink.held c.args.out.now) (g.O.Sink.held c.print_bad.new.out) (g.O.Sink.held c.put_counts.new.out) listed
+    (counts_told c.in-Ok.image disk (g.D.Disk.moments c.open.new.disk) is start told_later c.blocks-2.result c.in-Ok-print_bad.bad blocks listed.counted)
+    _ c.tags_found.ensures c.in-Ok-put_counts.ensures.line.written
+
+pub returns-clause-runs : goal.returns-clause-runs
+returns-clause-runs g c script start told =
+    let disk = g.D.Disk.identity c.args.disk.now in
+    let told_later = ap content_now c.open.ensures.kept ∙ told in
+    let is = subst (λ (d : DiskIdentity). IsCheckOf c.in-Ok.image d (g.D.Disk.moments c.open.new.disk)) c.open.ensures.identity c.in-Ok.ensures.image in
+    let listed = subst (λ (d : DiskIdentity). IsListed (bad_in c.in-Ok.image d.sectors (last_image start)) c.in-Ok-print_bad.bad (g.O.Sink.held c.args.out.now) (g.O.Sink.held c.print_bad.new.out))
+    c.open.ensures.identity (c.in-Ok-print_bad.ensures.listed start told_later) in
+    let blocks = c.blocks-2.ensures ∙ ap (λ (f : ImageFormat). f.geometry.blocks) c.print_bad.ensures.format in
+    check_untold c.args.what (key_of c.args.hash) disk.sectors start script told (c.print_bad.ensures.kept ∙ c.open.ensures.kept)
+    c.in-Ok.image c.in-Ok.ensures.what c.in-Ok.ensures.key (c.in-Ok.ensures.refused (λ h. cc) (λ h. cc) start told)
+    c.in-Ok-print_bad.bad c.blocks-2.result (g.O.Sink.held c.args.out.now) (g.O.Sink.held c.print_bad.new.out) (g.O.Sink.held c.put_counts.new.out) listed
+    (counts_told c.in-Ok.image disk (g.D.Disk.moments c.open.new.disk) is start told_later c.blocks-2.result c.in-Ok-print_bad.bad blocks listed.counted)
+    c.in-Err-put_counts.ensures.line.err

@@ -1,0 +1,221 @@
+//! Prints the bad blocks of an image, as they are found, and then how many there are.
+//!
+//! A line is printed before the next block is judged, so that memory does not grow with the number of bad blocks.
+ghost use Rattle.std.specs.Prelude.{◌≡◌, ◌≤◌, ltb, [], IfErr, IfOk, List, ℕ};
+ghost use Rattle.std.specs.Option.{IsSomeAnd};
+ghost use Rattle.disk_model.specs.Causes.{HasCause, Rose};
+ghost use Rattle.disk_model.specs.Disk.{last_image};
+ghost use Rattle.disk_model.specs.Identity.{IsBound};
+ghost use Rattle.disk_model.specs.Moments.{HasNow};
+ghost use Rattle.hmac_tag.specs.TagMaker.{key_of};
+ghost use Rattle.stream_io.specs.Stream.{AddsPrefix};
+ghost use Rattle.image_check.specs.Checked.{IsCheckOf};
+ghost use Rattle.image_check.specs.Report.{with_found};
+ghost use Rattle.script_session.specs.Told.{finds_fault};
+ghost use Rattle.command_ending.specs.Ended.{Puts, ending_of};
+ghost use Rattle.integrity_tool.specs.Checking.{IsListed, IsPrintedShort, bad_in, bad_line, check_outset, counts_line, ended_by_check, lines_in};
+ghost use Rattle.integrity_tool.specs.Opening.{HasRunOn};
+ghost use Rattle.integrity_tool.specs.Running.{HasEndCause, IsCounted, ending_by};
+ghost use Rattle.integrity_tool.specs.Tasks.{EndsTask};
+
+use command_ending::{Ended, ImageFault, MOST_DIGITS, put_pieces, tag_digits};
+use hmac_tag::Hash;
+use image_check::{Bad, CheckedImage, What};
+use itoa::Buffer;
+use opening_fault::OpeningFault;
+use script_session::TagsFound;
+use sector_disk::{Disk, Failed};
+use std::alloc::Global;
+use stream_io::Sink;
+
+/// Prints the bad blocks of the image that the disk is bound to, and how many there are. It tells whether there is
+/// one. Nothing is written to the disk.
+///
+/// # Errors
+///
+/// - `Image`: the image is refused.
+/// - `Memory`: there is none for its journal, or for what is read.
+/// - `Disk`, `Sink`: that failed. Where it was the disk, whole lines are printed.
+pub(crate) fn print_check<D: Disk, O: Sink>(
+    alloc: Global,
+    disk: &mut D,
+    hash: Hash,
+    what: What,
+    out: &mut O,
+) -> Result<TagsFound, Ended>
+    requires { IsBound (D.identity disk.old).name }
+
+    ensures runs { (script : List ℕ) → HasNow (λ c.
+        HasRunOn (check_outset what (key_of hash) (D.identity disk.old).sectors (last_image c)) c script
+        (ending_by result) (D.moments disk.new) (O.held out.old) (O.held out.new)) (D.moments disk.old) }
+
+    ensures ends { IfErr result EndsTask }
+    ensures cause { IfErr result (HasEndCause (Rose (D.faults disk.old) (D.faults disk.new)) ⊥
+        (Rose (O.faults out.old) (O.faults out.new))) }
+    ensures counted { IsCounted Ended.Disk (D.faults disk.old) (D.faults disk.new) result
+        × IsCounted Ended.Sink (O.faults out.old) (O.faults out.new) result }
+
+    ensures identity { D.identity disk.new ≡ D.identity disk.old }
+    ensures kept { D.moments disk.new ≡ D.moments disk.old }
+{
+    let mut image = match CheckedImage::open(alloc, disk, hash, what) {
+        Ok(image) => image,
+        Err(fault) => return Err(ended_by(fault)),
+    };
+    let bad = match print_bad(disk, &mut image, out) {
+        Ok(bad) => bad,
+        Err(ended) => return Err(ended),
+    };
+    // No block awaits its tag, since an image with a bitmap is refused.
+    match put_counts(out, image.blocks(), bad, 0) {
+        Ok(()) => Ok(tags_found(bad)),
+        Err(_) => Err(Ended::Sink),
+    }
+}
+
+/// Prints the line of each bad block of an image, and tells how many there are.
+///
+/// # Errors
+///
+/// - `Disk`, `Sink`: that failed. Where it was the disk, whole lines are printed.
+fn print_bad<D: Disk, O: Sink>(
+    disk: &mut D,
+    image: &mut CheckedImage,
+    out: &mut O,
+) -> Result<u64, Ended>
+    requires { IsCheckOf image.old (D.identity disk.old) (D.moments disk.old) }
+
+    ensures listed { IfOk result (λ count. HasNow (λ c.
+        IsListed (bad_in image.old (D.identity disk.old).sectors (last_image c)) count
+        (O.held out.old) (O.held out.new)) (D.moments disk.old)) }
+
+    ensures cut { IfErr result (λ ended. HasNow (λ c.
+        IsPrintedShort (lines_in image.old (D.identity disk.old).sectors (last_image c)) (ending_of ended)
+        (O.held out.old) (O.held out.new)) (D.moments disk.old)) }
+    ensures ends { IfErr result EndsTask }
+    ensures cause { IfErr result (HasEndCause (Rose (D.faults disk.old) (D.faults disk.new)) ⊥
+        (Rose (O.faults out.old) (O.faults out.new))) }
+    ensures counted { IsCounted Ended.Disk (D.faults disk.old) (D.faults disk.new) result
+        × IsCounted Ended.Sink (O.faults out.old) (O.faults out.new) result }
+
+    ensures format { image.new.format ≡ image.old.format }
+    ensures identity { D.identity disk.new ≡ D.identity disk.old }
+    ensures kept { D.moments disk.new ≡ D.moments disk.old }
+{
+    let mut bad = 0;
+    for block in 0..image.blocks() {
+        let Ok(found) = image.judge(disk, block) else {
+            return Err(Ended::Disk);
+        };
+        let Ok(more) = put_found(out, &found) else {
+            return Err(Ended::Sink);
+        };
+        bad += more;
+    }
+    Ok(bad)
+}
+
+/// Writes the line of a block that was found, if it was, and tells how many lines that are.
+///
+/// # Errors
+///
+/// - `Failed`: the sink failed. It has taken some of the line from the front, or none, and not all.
+fn put_found<O: Sink>(out: &mut O, found: &Option<Bad>) -> Result<u64, Failed>
+    ensures listed { IfOk result (λ count.
+        IsListed (with_found found.now []) count (O.held out.old) (O.held out.new)) }
+
+    ensures cause { HasCause (O.faults out.old) (O.faults out.new) result }
+    ensures err { IfErr result (λ failed.
+        IsSomeAnd found.now (λ bad. AddsPrefix (bad_line bad) (O.held out.old) (O.held out.new))) }
+{
+    let Some(bad) = found else {
+        return Ok(0);
+    };
+    match put_bad(out, bad) {
+        Ok(()) => Ok(1),
+        Err(failed) => Err(failed),
+    }
+}
+
+/// Writes the line of a bad block.
+///
+/// # Errors
+///
+/// - `Failed`: the sink failed. It has taken some of the line from the front, or none, and not all.
+fn put_bad<O: Sink>(out: &mut O, bad: &Bad) -> Result<(), Failed>
+    ensures line { Puts (bad_line bad.now) (O.held out.old) (O.held out.new) result }
+    ensures cause { HasCause (O.faults out.old) (O.faults out.new) result }
+{
+    let mut blocks = Buffer::new();
+    let mut stored = [0; MOST_DIGITS];
+    let mut computed = [0; MOST_DIGITS];
+    let block = blocks.format(bad.block).as_bytes();
+    let stored = tag_digits(&bad.stored, &mut stored);
+    let computed = tag_digits(&bad.computed, &mut computed);
+    put_pieces(
+        out,
+        &[
+            b"bad ",
+            block,
+            b" stored ",
+            stored,
+            b" computed ",
+            computed,
+            b"\n",
+        ],
+    )
+}
+
+/// Writes the last line: how many blocks there are, how many are bad, and how many await their tags.
+///
+/// # Errors
+///
+/// - `Failed`: the sink failed. It has taken some of the line from the front, or none, and not all.
+fn put_counts<O: Sink>(out: &mut O, blocks: u64, bad: u64, awaiting: u64) -> Result<(), Failed>
+    ensures line { Puts (counts_line blocks bad awaiting) (O.held out.old) (O.held out.new) result }
+    ensures cause { HasCause (O.faults out.old) (O.faults out.new) result }
+{
+    let mut block_digits = Buffer::new();
+    let mut bad_digits = Buffer::new();
+    let mut awaiting_digits = Buffer::new();
+    let blocks = block_digits.format(blocks).as_bytes();
+    let bad = bad_digits.format(bad).as_bytes();
+    let awaiting = awaiting_digits.format(awaiting).as_bytes();
+    put_pieces(
+        out,
+        &[
+            b"blocks ",
+            blocks,
+            b" bad ",
+            bad,
+            b" awaiting ",
+            awaiting,
+            b"\n",
+        ],
+    )
+}
+
+/// Whether there is a bad block, where there are so many.
+fn tags_found(bad: u64) -> TagsFound
+    ensures { finds_fault result ≡ ltb 0 bad }
+{
+    if bad > 0 {
+        TagsFound::Differing
+    } else {
+        TagsFound::Matching
+    }
+}
+
+/// What ends a check whose image is not opened.
+fn ended_by(fault: OpeningFault) -> Ended
+    ensures { result ≡ ended_by_check fault }
+{
+    match fault {
+        OpeningFault::Memory => Ended::Memory,
+        OpeningFault::Disk => Ended::Disk,
+        OpeningFault::Super(fault) => Ended::Image(ImageFault::Super(fault)),
+        OpeningFault::Geom(fault) => Ended::Image(ImageFault::Geom(fault)),
+        OpeningFault::Mode { flags } => Ended::Image(ImageFault::Mode { flags }),
+        OpeningFault::Journal(fault) => Ended::Image(ImageFault::Journal(fault)),
+    }
+}
