@@ -159,9 +159,9 @@ module _ (d : JournaledDisk) (journal : PlacedRing) (store : Store) (changes : L
   step_only parts same Actors.Place whole {a} {b} writes =
       let next = slice_get (entries_of journal.ring.committed) (placed_in journal.placement journal.ring) in
       entry_only next whole (subst (λ (y : Geometry). WritesEntry y next a b) ring_is writes)
-  step_only parts same Actors.Settle whole {a} {b} tags =
+  step_only parts same Actors.Settle whole {a} {b} writes =
       of_tags (IsMarkedTags store) (λ sector x of. of.tags)
-      (subst (λ (y : Store). EachSince (OnlyAdds (IsMarkedTags y)) a b) same tags)
+      (subst (λ (y : Store). EachSince (OnlyAdds (IsMarkedTags y)) a b) same writes.tags)
   step_only parts same Actors.Clean whole kept = WritesOnly-kept Model.Journal d.geometry changes kept
   step_only parts same Actors.Recalc whole kept = WritesOnly-kept Model.Journal d.geometry changes kept
 

@@ -17,7 +17,7 @@ use Rattle.request_slots.specs.Flight.{is_in_flight, slot_of, turn_of}
 use Rattle.request_slots.specs.InFlight.{as_reply, as_submission, returned_in, submit_answer}
 use Rattle.request_slots.specs.Submitting.{after_submit}
 use Rattle.request_slots.specs.Taking.{after_take, taken_by}
-use Rattle.tag_store.specs.Store.{IsMarkedTags, IsOutForTag}
+use Rattle.tag_store.specs.Store.{IsOutForTag}
 use Rattle.device_core.specs.Answers.{IsTaken, answer_by, event_by, moved_answer, submit_fault, turns_left}
 use Rattle.device_core.specs.Device.{KeepsFlight}
 use Rattle.device_core.specs.declared.answers.Moved.{Moved}
@@ -32,7 +32,7 @@ use Rattle.journal_ring.specs.declared.ring.Moved as JournalMove
 use Rattle.journal_ring.specs.declared.ring.Moved.TheVariants as JournalMoves
 use Rattle.journal_model.specs.Ring.{entries_of}
 use Rattle.journal_ring.specs.Batch.{WritesBatch}
-use Rattle.place_writer.specs.Moves.{WritesNext}
+use Rattle.place_writer.specs.Moves.{WritesNext, WritesTags}
 use Rattle.place_writer.specs.Placement.{placed_in}
 use Rattle.journal_mode.specs.Closing.{HasContent}
 use Rattle.journal_mode.specs.Commits.{WritesBatches}
@@ -158,7 +158,8 @@ HasStepped w actor result condition parts journal before after =
 abbrev pub WritesAs : Actor → Parts → PlacedRing → (before after : List Content) → Type 0
 WritesAs Actors.Commit parts journal before after = WritesBatch journal.ring before after
 WritesAs Actors.Place parts journal before after = WritesNext journal.placement journal.ring before after
-WritesAs Actors.Settle parts journal before after = EachSince (OnlyAdds (IsMarkedTags parts.tags)) before after
+WritesAs Actors.Settle parts journal before after =
+    WritesTags journal.placement journal.ring parts.tags before after
 WritesAs Actors.Clean parts journal before after = after ≡ before
 WritesAs Actors.Recalc parts journal before after = after ≡ before
 

@@ -12,9 +12,9 @@ ghost use Rattle.journal_model.specs.Ring.{entries_of, has_room};
 ghost use Rattle.journal_ring.specs.Batch.{WritesBatch};
 ghost use Rattle.journal_ring.specs.Places.{entry_of};
 ghost use Rattle.journal_ring.specs.RoomLaws.{HasBounds};
-ghost use Rattle.place_writer.specs.Moves.{HasPlaced, HasSettled, WritesNext};
+ghost use Rattle.place_writer.specs.Moves.{HasPlaced, HasSettled, WritesNext, WritesTags};
 ghost use Rattle.place_writer.specs.Placement.{placed_in};
-ghost use Rattle.tag_store.specs.Store.{IsMarkedTags, IsOutForTag, IsStore, Store};
+ghost use Rattle.tag_store.specs.Store.{IsOutForTag, IsStore, Store};
 
 use crate::freeing::drop_freed;
 use crate::reading::{read_entry, read_placed};
@@ -282,7 +282,7 @@ impl<'p> Journal<'p> {
 
         ensures left { (w : JournalStanding) → StandsAs w self.old tags.old (D.moments disk.old)
             → IsLeftThrough w (D.moments disk.old) (D.moments disk.new) }
-        ensures moments { EachSince (OnlyAdds (IsMarkedTags tags.old))
+        ensures moments { WritesTags self.old.placement self.old.ring tags.old
             (D.moments disk.old) (D.moments disk.new) }
     {
         let oldest = self.ring.oldest();

@@ -12,7 +12,7 @@ use Rattle.journal_model.specs.Ring.{JournalRing, entries_of, with_settle}
 use Rattle.journal_model.specs.Steps.{after_place, after_settle}
 use Rattle.journal_ring.specs.declared.ring.Moved.{Moved}
 use Rattle.journal_ring.specs.declared.ring.Moved.TheVariants.{Did, Idle}
-use Rattle.tag_store.specs.Store.{Store}
+use Rattle.tag_store.specs.Store.{IsMarkedTags, Store}
 use Rattle.place_writer.specs.Cells.{HasCells}
 use Rattle.place_writer.specs.Placement.{placed_in}
 use Rattle.place_writer.specs.declared.placement.Placement.{Placement}
@@ -93,6 +93,12 @@ pub record FreesPlaced (old new : Placement) (ring left : JournalRing) : Type 0 
   pub left_is : left ≡ with_settle (placed_in old ring) ring
   pub rest : placed_in old ring
       ≡ placed_in new left + (length (entries_of ring.committed) - length (entries_of left.committed))
+
+-- No sector is written but those of tags that are marked. Where no committed section is wholly placed the disk is left
+-- alone.
+pub record WritesTags (p : Placement) (ring : JournalRing) (store : Store) (before after : List Content) : Type 0 where
+  pub tags : EachSince (OnlyAdds (IsMarkedTags store)) before after
+  pub none : with_settle (placed_in p ring) ring ≡ ring → after ≡ before
 
 -- No committed section is wholly placed, and nothing has changed: the disk was not called.
 pub record FindsNoneToFree {A : Type 0} (old new : Placement) (ring left : JournalRing)

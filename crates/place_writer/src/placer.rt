@@ -1,13 +1,11 @@
 //! Which entries are placed, and which sections are free then.
 ghost use Rattle.std.specs.Prelude.{◌≡◌, IfOk, OnErr};
 ghost use Rattle.disk_model.specs.Causes.{HasCause};
-ghost use Rattle.disk_model.specs.Disk.{OnlyAdds};
-ghost use Rattle.disk_model.specs.Moments.{EachSince};
 ghost use Rattle.journal_model.specs.JournaledDisk.{JournaledDisk};
 ghost use Rattle.journal_model.specs.Steps.{after_place};
-ghost use Rattle.place_writer.specs.Moves.{HasPlaced, HasSettled, IsLeftOn, IsPlacedOn, StandsThrough, WritesNext, after_placing};
+ghost use Rattle.place_writer.specs.Moves.{HasPlaced, HasSettled, IsLeftOn, IsPlacedOn, StandsThrough, WritesNext, WritesTags, after_placing};
 ghost use Rattle.place_writer.specs.Placement.{IsPlacementOf};
-ghost use Rattle.tag_store.specs.Store.{IsMarkedTags, IsStore};
+ghost use Rattle.tag_store.specs.Store.{IsStore};
 
 use crate::entry::place_entry;
 use crate::flushing::flush;
@@ -125,8 +123,7 @@ impl Placer {
 
         ensures cuts { (d : JournaledDisk) → IsPlacedOn d self.old ring.old tags.old (D.moments disk.old)
             → StandsThrough d d (D.moments disk.old) (D.moments disk.new) }
-        ensures moments { EachSince (OnlyAdds (IsMarkedTags tags.old))
-            (D.moments disk.old) (D.moments disk.new) }
+        ensures moments { WritesTags self.old ring.old tags.old (D.moments disk.old) (D.moments disk.new) }
     {
         if self.placement.sections == 0 {
             return Ok(Moved::Idle);

@@ -93,7 +93,7 @@ returns-in_err-moved-clause-moments g c =
     let same = ap (λ (j : PlacedRing). j.ring.geometry) committed ∙ flush_geometry journal in
     then_tags journal c.place_all.new.tags (c.requires.geometry ∙ sym c.place_all.ensures.geometry)
     (then_entries journal c.flush.ensures.moments (flushed_adds journal c.flush.new.self committed same c.place_all.ensures.moments))
-    c.settle.ensures.moments
+    c.settle.ensures.moments.tags
 
 pub returns-clause-moments : goal.returns-clause-moments
 returns-clause-moments g c =
@@ -102,4 +102,4 @@ returns-clause-moments g c =
     let same = ap (λ (j : PlacedRing). j.ring.geometry) committed ∙ flush_geometry journal in
     then_tags journal c.place_all.new.tags (c.requires.geometry ∙ sym c.place_all.ensures.geometry)
     (then_entries journal c.flush.ensures.moments (flushed_adds journal c.flush.new.self committed same c.place_all.ensures.moments))
-    c.settle.ensures.moments
+    c.settle.ensures.moments.tags

@@ -1,13 +1,41 @@
-use Rattle.std.proofs.Common.{◌≤◌, ℕ, refl, sym, ◌∙◌, ap, subst, arith}
-use Rattle.journal_model.specs.Ring.{JournalRing}
+use Rattle.std.proofs.Common.{◌≡◌, ◌≢◌, ◌≤◌, ℕ, refl, sym, ◌∙◌, ap, subst, arith}
+use Rattle.disk_model.proofs.MomentsLemmas.{no_moment}
+use Rattle.journal_model.specs.Ring.{JournalRing, with_settle}
 use Rattle.journal_model.specs.Steps.{after_settle}
 use Rattle.place_writer.specs.Moves.{FreesPlaced, IsPlacedOn}
-use Rattle.place_writer.specs.Placement.{IsPlacementOf, without}
+use Rattle.place_writer.specs.Placement.{IsPlacementOf, placed_in, without}
 use Rattle.place_writer.specs.declared.placement.Placement.{Placement}
 use Rattle.place_writer.proofs.PlacementLemmas.{frees, none_to_free, without_is}
 use Rattle.place_writer.proofs.PlacedOnLemmas.{cuts_kept, settled_on}
 use Rattle.place_writer.proofs.PlacingLawsLemmas.{settled_cells_law}
 use Rattle.place_writer.proofs.placer.Placer.settle.Goals as goal
+
+-- Where a section is wholly placed there is one to free.
+some_to_free : (p : Placement) (ring : JournalRing) → IsPlacementOf p ring → 1 ≤ p.sections
+    → with_settle (placed_in p ring) ring ≢ ring
+some_to_free p ring is some = (frees p ring is some).some
+
+pub returns-then-self-eq0-clause-moments : goal.returns-then-self-eq0-clause-moments
+returns-then-self-eq0-clause-moments g c = record {
+  tags = no_moment (g.D.Disk.moments c.args.disk.now) _;
+  none = λ none. refl;
+}
+
+pub returns-in_err-flush-clause-moments : goal.returns-in_err-flush-clause-moments
+returns-in_err-flush-clause-moments g c =
+    let some : 1 ≤ c.args.self.now.sections = omega (arith, c.if-self-eq0.false, ap (λ (q : Placement). q.sections) c.self.view_is) in
+    record {
+      tags = c.flush.ensures.moments;
+      none = λ none. absurd (some_to_free c.args.self.now c.args.ring.now c.requires.placement some none);
+    }
+
+pub returns-clause-moments : goal.returns-clause-moments
+returns-clause-moments g c =
+    let some : 1 ≤ c.args.self.now.sections = omega (arith, c.if-self-eq0.false, ap (λ (q : Placement). q.sections) c.self.view_is) in
+    record {
+      tags = c.flush.ensures.moments;
+      none = λ none. absurd (some_to_free c.args.self.now c.args.ring.now c.requires.placement some none);
+    }
 
 pub returns-then-self-eq0-clause-moved : goal.returns-then-self-eq0-clause-moved
 returns-then-self-eq0-clause-moved g c = record {
