@@ -6,6 +6,11 @@ use Rattle.disk_model.specs.Disk.{Content, Image, OnlyAdds, last_image, newest_o
 use Rattle.disk_model.specs.Moments.{EachMoment, EachSince, IsChangedBy, content_now}
 use Rattle.disk_model.proofs.DiskLemmas.{OnlyAdds-none}
 use Rattle.disk_model.proofs.MomentsLemmas.{EachMoment-join, EachMoment-weaker, FromStart-weaker}
+use Rattle.std.specs.List.{Contains}
+use Rattle.image_model.specs.Cells.{replayed_entries}
+use Rattle.image_model.specs.Geometry.{Geometry}
+use Rattle.replay.specs.Emptied.{KeepsResting}
+use Rattle.replay.specs.Writes.{IsOfPlacing}
 
 -- What is told at the start is known of it.
 from_told : (o : Option Content) (P : Content → Type 0) (start : Content) → o ≡ Some start → IsSomeAnd o P → P start
@@ -37,3 +42,24 @@ module _ (W : Image → ℕ → List ℕ → Type 0) where
       (λ start middle later told told_middle so_far adds.
       let is : middle ≡ newest_only start = same_Some middle (newest_only start) (sym told_middle ∙ told_synced (content_now a) (content_now b) start synced told) in
       subst (λ (x : Content). OnlyAdds (W (last_image x)) x later) is adds)
+
+-- ---- a journal at rest
+
+module _ (g : Geometry) where
+  abbrev Rests : Content → Content → Type 0
+  Rests start = KeepsResting g start (newest_only start)
+
+  -- The sync alone leaves it,
+  pub sync_rests : {a b : List Content} → EachSince (λ start c. c ≡ newest_only start) a b → EachSince Rests a b
+  sync_rests {a} m =
+      EachMoment-weaker (FromStart-weaker a (λ start c. c ≡ newest_only start) Rests (λ start c told is rests.
+      subst (λ (x : Content). OnlyAdds (IsOfPlacing g (Contains (replayed_entries g (last_image start)))) (newest_only start) x) (sym is)
+      (OnlyAdds-none (IsOfPlacing g (Contains (replayed_entries g (last_image start)))) (newest_only start)))) m
+
+  -- and so does what comes behind it.
+  pub rests_then : {a b c : List Content} → EachSince (λ start c. c ≡ newest_only start) a b → IsChangedBy newest_only a b → EachSince (λ start. KeepsResting g start start) b c → EachSince Rests a c
+  rests_then {a} {b} first synced second =
+      EachMoment-join Rests (λ start. KeepsResting g start start) (sync_rests first) second
+      (λ start middle later told told_middle so_far keeps.
+      let is : middle ≡ newest_only start = same_Some middle (newest_only start) (sym told_middle ∙ told_synced (content_now a) (content_now b) start synced told) in
+      subst (λ (x : Content). KeepsResting g x x later) is keeps)

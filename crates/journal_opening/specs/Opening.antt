@@ -1,5 +1,5 @@
 -- What an opening in journal mode leaves: the device that is open then, and each moment until it is.
-use Rattle.std.specs.Prelude.{◌≡◌, ℕ, ◌*◌, Option, List, length}
+use Rattle.std.specs.Prelude.{◌≡◌, ℕ, ◌*◌, Option, Some, List, length}
 use Rattle.disk_model.specs.Disk.{Content, EachImage, Image, OnlyAdds, last_image, newest_only}
 use Rattle.disk_model.specs.Identity.{DiskIdentity}
 use Rattle.disk_model.specs.Moments.{EachMoment, EachSince, HasNow}
@@ -84,6 +84,11 @@ pub record HasRecovered (f : DiskFormat) (image : RecoveredImage) (before after 
 -- Each content since the start is the one there with nothing pending: the disk was synced at most.
 abbrev pub OnlySyncs : (before after : List Content) → Type 0
 OnlySyncs before after = EachSince (λ start c. c ≡ newest_only start) before after
+
+-- An image that is refused for such a fault is synced at most, also where the disk fails.
+abbrev pub KeepsRefused : {F : Type 0} → (fault_of : Image → Option F) → (before after : List Content) → Type 0
+KeepsRefused {F} fault_of before after =
+    HasNow (λ start. (fault : F) → fault_of (last_image start) ≡ Some fault → OnlySyncs before after) before
 
 -- Where the image that reads gave can be opened, each image at each moment since has its cells.
 abbrev pub KeepsImage : DiskFormat → (before after : List Content) → Type 0

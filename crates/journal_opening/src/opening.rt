@@ -11,7 +11,7 @@ ghost use Rattle.image_opening.specs.declared.open_fault.OpenFault.{OpenFault as
 ghost use Rattle.image_opening.specs.Format.{IsDirectFormat, IsReadNow, disk_format};
 ghost use Rattle.journal_reading.specs.Faults.{HasReplayCause, refusal_in};
 ghost use Rattle.opening_fault.specs.Faults.{ByFormat, HasOpenCause, fault_in, fault_of};
-ghost use Rattle.journal_opening.specs.Opening.{CanOpenRead, HasOpened, IsLeftOpening, IsOfOpening, IsOpenOn, IsReady, IsRoomFor, KeepsImage, OnlySyncs, WritesRecovery};
+ghost use Rattle.journal_opening.specs.Opening.{CanOpenRead, HasOpened, IsLeftOpening, IsOfOpening, IsOpenOn, IsReady, IsRoomFor, KeepsImage, KeepsRefused, OnlySyncs, WritesRecovery};
 
 use crate::opened::OpenedJournal;
 use crate::recovering::recover_image;
@@ -61,6 +61,8 @@ pub fn open_journal<'p, D: Disk>(
         → D.moments disk.new ≡ D.moments disk.old }
     ensures nothing { result ≢ Err OpeningFault.Disk → IsErr result
         → OnlySyncs (D.moments disk.old) (D.moments disk.new) }
+    ensures judged { KeepsRefused (fault_of (key_of hash) (D.identity disk.old).sectors)
+        (D.moments disk.old) (D.moments disk.new) }
 
     ensures identity { D.identity disk.new ≡ D.identity disk.old }
 
@@ -107,6 +109,8 @@ pub fn open_format<'p, D: Disk>(
     ensures cause { HasReplayCause (D.faults disk.old) (D.faults disk.new) result }
     ensures nothing { result ≢ Err ReplayFault.Disk → IsErr result
         → OnlySyncs (D.moments disk.old) (D.moments disk.new) }
+    ensures judged { KeepsRefused (λ image. journal_fault_of (key_of hash) (salt_of format.now.fields)
+        format.now.geometry image) (D.moments disk.old) (D.moments disk.new) }
 
     ensures identity { D.identity disk.new ≡ D.identity disk.old }
 

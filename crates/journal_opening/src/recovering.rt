@@ -1,8 +1,8 @@
 //! The first sync of an opening, and the recovery behind it.
 ghost use Rattle.std.specs.Prelude.{◌≡◌, ◌≢◌, ◌*◌, ℕ, Err, IfOk, IsErr, length};
-ghost use Rattle.disk_model.specs.Disk.{last_image};
+ghost use Rattle.disk_model.specs.Disk.{last_image, newest_only};
 ghost use Rattle.disk_model.specs.Identity.{IsBound};
-ghost use Rattle.disk_model.specs.Moments.{HasNow};
+ghost use Rattle.disk_model.specs.Moments.{EachSince, HasNow};
 ghost use Rattle.image_model.specs.Cells.{salt_of};
 ghost use Rattle.image_model.specs.Geometry.{journal_sectors};
 ghost use Rattle.image_model.specs.Openable.{journal_fault_of};
@@ -12,8 +12,9 @@ ghost use Rattle.journal_reading.specs.Faults.{HasReplayCause, refusal_in};
 ghost use Rattle.buffer_cache.specs.Cache.{sectors_of};
 ghost use Rattle.buffer_cache.specs.HeldSectors.{no_sectors};
 ghost use Rattle.tag_store.specs.Store.{IsStore};
+ghost use Rattle.replay.specs.Emptied.{KeepsResting};
 ghost use Rattle.replay.specs.Recovery.{GoesOnIn};
-ghost use Rattle.journal_opening.specs.Opening.{HasRecovered, KeepsImage, OnlySyncs, WritesRecovery, rule_of};
+ghost use Rattle.journal_opening.specs.Opening.{HasRecovered, KeepsImage, KeepsRefused, OnlySyncs, WritesRecovery, rule_of};
 
 use buffer_cache::Cache;
 use direct_mode::settle;
@@ -71,6 +72,8 @@ pub fn recover_image<D: Disk>(
     ensures cause { HasReplayCause (D.faults disk.old) (D.faults disk.new) result }
     ensures nothing { result ≢ Err ReplayFault.Disk → IsErr result
         → OnlySyncs (D.moments disk.old) (D.moments disk.new) }
+    ensures judged { KeepsRefused (λ image. journal_fault_of (key_of hash) (salt_of format.now.fields)
+        format.now.geometry image) (D.moments disk.old) (D.moments disk.new) }
 
     ensures store { IfOk result (λ image. IsStore image.tags (D.identity disk.new) (D.moments disk.new)) }
     ensures geometry { IfOk result (λ image. image.tags.geometry ≡ format.now.geometry) }
@@ -80,6 +83,9 @@ pub fn recover_image<D: Disk>(
     ensures cuts { KeepsImage (disk_format (key_of hash) (D.identity disk.old).sectors format.now)
         (D.moments disk.old) (D.moments disk.new) }
     ensures moments { WritesRecovery format.now.geometry (D.moments disk.old) (D.moments disk.new) }
+    // Nothing of a journal at rest.
+    ensures rest { EachSince (λ start. KeepsResting format.now.geometry start (newest_only start))
+        (D.moments disk.old) (D.moments disk.new) }
 {
     let maker = maker_of(hash, format);
     let mut tags = settle(disk, format.geometry, cache)?;

@@ -6,3 +6,4 @@ pub mod FinishingLemmas
 pub mod WritesLemmas
 pub mod Worked
 pub mod CountedLemmas
+pub mod RestingLemmas

@@ -1,3 +1,4 @@
+pub mod Emptied
 pub mod Replaying
 pub mod Recovery
 pub mod Writes

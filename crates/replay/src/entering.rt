@@ -1,11 +1,11 @@
 //! Recovery up to the erasure: the journal is read and judged, and its entries come to their places.
-ghost use Rattle.std.specs.Prelude.{◌≡◌, ◌≢◌, ◌*◌, length, Err, IfOk, IsErr};
+ghost use Rattle.std.specs.Prelude.{◌≡◌, ◌≢◌, ◌*◌, length, Err, IfOk, IsErr, Some};
 ghost use Rattle.std.specs.List.{Contains};
 ghost use Rattle.disk_model.specs.Disk.{EachImage, OnlyAdds, last_image};
 ghost use Rattle.disk_model.specs.Moments.{EachMoment, EachSince, HasNow};
 ghost use Rattle.image_model.specs.Cells.{replayed_entries};
 ghost use Rattle.image_model.specs.Geometry.{journal_sectors};
-ghost use Rattle.image_model.specs.Openable.{journal_fault_of};
+ghost use Rattle.image_model.specs.Openable.{JournalFault, journal_fault_of};
 ghost use Rattle.journal_model.specs.Opening.{opened_disk};
 ghost use Rattle.journal_model.specs.Steps.{after_settle};
 ghost use Rattle.journal_reading.specs.Faults.{HasReplayCause, refusal_in};
@@ -67,6 +67,10 @@ pub(crate) fn replay_journal<D: Disk>(
         → HasNow (λ c. refusal_in result ≡ journal_fault_of maker.now.key maker.now.salt
         geometry.now (last_image c)) (D.moments disk.old) }
     ensures nothing { result ≢ Err ReplayFault.Disk → IsErr result → D.moments disk.new ≡ D.moments disk.old }
+    // Where the journal is refused nothing is written, also where the disk fails.
+    ensures judged { HasNow (λ start. (fault : JournalFault)
+        → journal_fault_of maker.now.key maker.now.salt geometry.now (last_image start) ≡ Some fault
+        → D.moments disk.new ≡ D.moments disk.old) (D.moments disk.old) }
     ensures cause { HasReplayCause (D.faults disk.old) (D.faults disk.new) result }
 
     ensures store { IsStore tags.new (D.identity disk.new) (D.moments disk.new) }

@@ -1,5 +1,5 @@
 //! What follows once all entries are in their places: a journal at rest goes on, and any other is erased.
-ghost use Rattle.std.specs.Prelude.{◌≡◌, ◌↔◌, ◌⊎◌, false, ◌*◌, ◌<◌, ◌≤◌, [], length, get_or, slice_index_or, Ok, IfOk, OnOk};
+ghost use Rattle.std.specs.Prelude.{◌≡◌, ◌↔◌, ◌⊎◌, false, ℕ, ◌*◌, ◌<◌, ◌≤◌, [], length, get_or, slice_index_or, Ok, IfOk, OnOk};
 ghost use Rattle.commit_id.specs.Grid.{as_grid};
 ghost use Rattle.disk_model.specs.Causes.{HasCause};
 ghost use Rattle.disk_model.specs.Disk.{EachImage, HasNothingPending, OnlyAdds};
@@ -8,7 +8,7 @@ ghost use Rattle.image_model.specs.Cells.{replayed_entries};
 ghost use Rattle.image_model.specs.Geometry.{journal_sectors};
 ghost use Rattle.image_model.specs.Grid.{IsGridOf, walk_of};
 ghost use Rattle.image_model.specs.Walk.{sections_of};
-ghost use Rattle.image_model.specs.declared.journal_plan.State.TheVariants.{Erasing, Mixed};
+ghost use Rattle.image_model.specs.declared.journal_plan.State.TheVariants.{Erasing, Mixed, Rest};
 ghost use Rattle.journal_erasure.specs.Erasing.{IsErasureFor, IsErasureOf};
 ghost use Rattle.journal_model.specs.JournaledDisk.{IsCutOf, JournaledDisk};
 ghost use Rattle.journal_reading.specs.Journal.{journal_image};
@@ -169,6 +169,8 @@ pub(crate) fn finish<D: Disk>(
         → HasNow (λ c. LeavesRecovered d at (given_tags tags.now c) c) (D.moments disk.new)) }
 
     ensures next { IfOk result (λ at. at.next ≡ next_by replayed.now.journal.plan.state) }
+    ensures rest { (next number : ℕ) → replayed.now.journal.plan.state ≡ Rest next number
+        → D.moments disk.new ≡ D.moments disk.old }
     ensures place { IfOk result (GoesOnIn geometry.now) }
 
     ensures cause { HasCause (D.faults disk.old) (D.faults disk.new) result }

@@ -1,16 +1,17 @@
 //! Recovery, as it is asked for.
-ghost use Rattle.std.specs.Prelude.{◌≡◌, ◌≢◌, ◌*◌, length, Err, IfOk, IsErr, OnOk};
+ghost use Rattle.std.specs.Prelude.{◌≡◌, ◌≢◌, ◌*◌, length, Err, IfOk, IsErr, OnOk, Some};
 ghost use Rattle.disk_model.specs.Disk.{EachImage, OnlyAdds, last_image};
 ghost use Rattle.disk_model.specs.Moments.{EachMoment, EachSince, HasNow};
 ghost use Rattle.image_model.specs.Cells.{replayed_entries};
 ghost use Rattle.image_model.specs.Geometry.{journal_sectors};
 ghost use Rattle.image_model.specs.Grid.{walk_of};
-ghost use Rattle.image_model.specs.Openable.{journal_fault_of};
+ghost use Rattle.image_model.specs.Openable.{JournalFault, journal_fault_of};
 ghost use Rattle.journal_model.specs.Opening.{opened_disk};
 ghost use Rattle.journal_reading.specs.Faults.{HasReplayCause, refusal_in};
 ghost use Rattle.place_model.specs.Format.{DiskFormat, HasCells as HasImageCells, cells_on};
 ghost use Rattle.place_model.specs.Opened.{next_after_walk};
 ghost use Rattle.tag_store.specs.Store.{IsStore, given_tags};
+ghost use Rattle.replay.specs.Emptied.{KeepsResting};
 ghost use Rattle.replay.specs.Recovery.{EntersRecovery, GoesOnIn, LeavesRecovered};
 ghost use Rattle.replay.specs.Writes.{IsOfRecovery};
 
@@ -65,6 +66,10 @@ pub fn recover<D: Disk>(
         → HasNow (λ c. refusal_in result ≡ journal_fault_of maker.now.key maker.now.salt
         geometry.now (last_image c)) (D.moments disk.old) }
     ensures nothing { result ≢ Err ReplayFault.Disk → IsErr result → D.moments disk.new ≡ D.moments disk.old }
+    // Where the journal is refused nothing is written, also where the disk fails.
+    ensures judged { HasNow (λ start. (fault : JournalFault)
+        → journal_fault_of maker.now.key maker.now.salt geometry.now (last_image start) ≡ Some fault
+        → D.moments disk.new ≡ D.moments disk.old) (D.moments disk.old) }
     ensures cause { HasReplayCause (D.faults disk.old) (D.faults disk.new) result }
 
     ensures store { OnOk result (IsStore tags.new (D.identity disk.new) (D.moments disk.new)) }
@@ -79,6 +84,8 @@ pub fn recover<D: Disk>(
     // Nothing is written but entries in their places, sectors of tags, and empty sections of the journal.
     ensures moments { EachSince (λ start. OnlyAdds (IsOfRecovery geometry.now
         (replayed_entries geometry.now (last_image start))) start) (D.moments disk.old) (D.moments disk.new) }
+    // Nothing of a journal at rest.
+    ensures rest { EachSince (λ start. KeepsResting geometry.now start start) (D.moments disk.old) (D.moments disk.new) }
 {
     let bytes = pool.bytes_mut();
     let replayed = replay_journal(alloc, disk, geometry, tags, maker, bytes)?;

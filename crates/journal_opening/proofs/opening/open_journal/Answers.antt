@@ -11,9 +11,9 @@ use Rattle.image_opening.specs.Format.{IsReadNow, disk_format}
 use Rattle.journal_reading.specs.Faults.{refusal_in}
 use Rattle.opening_fault.specs.Faults.{fault_by, fault_in_format}
 use Rattle.journal_opening.specs.declared.opened.OpenedJournal.{OpenedJournal}
-use Rattle.journal_opening.specs.Opening.{IsOfOpening, IsOpenOn, IsReady, KeepsImage, OnlySyncs, WritesRecovery}
+use Rattle.journal_opening.specs.Opening.{IsOfOpening, IsOpenOn, IsReady, KeepsImage, KeepsRefused, OnlySyncs, WritesRecovery}
 use Rattle.opening_fault.proofs.FaultsLemmas.{format_cause, no_format, opened_cause, replay_cause, room_cause, same_format, same_replay, told_format, told_journal}
-use Rattle.journal_opening.proofs.OpenedLemmas.{fault_now, has_opened, shift}
+use Rattle.journal_opening.proofs.OpenedLemmas.{fault_now, has_opened, refused_now, shift}
 use Rattle.journal_opening.proofs.OpeningLemmas.{opening_left, own_moments}
 use Rattle.journal_opening.proofs.opening.open_journal.Goals as goal
 
@@ -50,6 +50,9 @@ returns-in_err-format-clause-left g c can = record { opens = EachMoment-kept _ c
 pub returns-in_err-format-clause-moments : goal.returns-in_err-format-clause-moments
 returns-in_err-format-clause-moments g c = EachMoment-kept _ c.read_direct_format.ensures.kept
 
+pub returns-in_err-format-clause-judged : goal.returns-in_err-format-clause-judged
+returns-in_err-format-clause-judged g c start told fault is = EachMoment-kept _ c.read_direct_format.ensures.kept
+
 -- ---- there is no memory
 
 pub returns-in_err-room-clause-refused : goal.returns-in_err-room-clause-refused
@@ -73,6 +76,9 @@ returns-in_err-room-clause-left g c can = record { opens = EachMoment-kept _ c.r
 
 pub returns-in_err-room-clause-moments : goal.returns-in_err-room-clause-moments
 returns-in_err-room-clause-moments g c = EachMoment-kept _ c.read_direct_format.ensures.kept
+
+pub returns-in_err-room-clause-judged : goal.returns-in_err-room-clause-judged
+returns-in_err-room-clause-judged g c start told fault is = EachMoment-kept _ c.read_direct_format.ensures.kept
 
 -- ---- the image is not recovered
 
@@ -125,6 +131,14 @@ returns-in_err-opened-clause-moments g c =
     own_moments key (g.D.Disk.identity old).sectors format (g.D.Disk.moments old) new (λ content told. (c.in_ok-format.ensures.opens key content told).read)
     (subst (λ (x : List Content). WritesRecovery format.geometry x new) c.read_direct_format.ensures.kept c.open_format.ensures.moments)
 
+pub returns-in_err-opened-clause-judged : goal.returns-in_err-opened-clause-judged
+returns-in_err-opened-clause-judged g c =
+    let key = key_of c.args.hash in
+    let format = c.in_ok-format.format in
+    let new = g.D.Disk.moments c.open_format.new.disk in
+    refused_now key (g.D.Disk.identity c.args.disk.now) format (g.D.Disk.moments c.args.disk.now) new (c.in_ok-format.ensures.opens key) (c.in_ok-format.ensures.told (λ e. cc))
+    (subst (λ (x : List Content). KeepsRefused (λ image. journal_fault_of key (salt_of format.fields) format.geometry image) x new) c.read_direct_format.ensures.kept c.open_format.ensures.judged)
+
 -- ---- it is open
 
 pub returns-clause-opened : goal.returns-clause-opened
@@ -172,3 +186,11 @@ returns-clause-moments g c =
     let format = c.in_ok-format.format in
     own_moments key (g.D.Disk.identity old).sectors format (g.D.Disk.moments old) new (λ content told. (c.in_ok-format.ensures.opens key content told).read)
     (subst (λ (x : List Content). WritesRecovery format.geometry x new) c.read_direct_format.ensures.kept c.open_format.ensures.moments)
+
+pub returns-clause-judged : goal.returns-clause-judged
+returns-clause-judged g c =
+    let key = key_of c.args.hash in
+    let format = c.in_ok-format.format in
+    let new = g.D.Disk.moments c.open_format.new.disk in
+    refused_now key (g.D.Disk.identity c.args.disk.now) format (g.D.Disk.moments c.args.disk.now) new (c.in_ok-format.ensures.opens key) (c.in_ok-format.ensures.told (λ e. cc))
+    (subst (λ (x : List Content). KeepsRefused (λ image. journal_fault_of key (salt_of format.fields) format.geometry image) x new) c.read_direct_format.ensures.kept c.open_format.ensures.judged)

@@ -1,4 +1,4 @@
-use Rattle.std.proofs.Common.{◌∙◌, ap}
+use Rattle.std.proofs.Common.{◌∙◌, ap, subst, sym}
 use Rattle.std.proofs.lemmas.Result.{err_from_is_err_and}
 use Rattle.disk_model.specs.Disk.{last_image, newest_only}
 use Rattle.disk_model.specs.Moments.{content_now}
@@ -11,7 +11,8 @@ use Rattle.buffer_cache.specs.declared.held.HeldSectors.{HeldSectors}
 use Rattle.tag_store.specs.Store.{Store}
 use Rattle.replay.specs.Writes.{IsOfRecovery}
 use Rattle.opening_fault.proofs.FaultsLemmas.{same_fault}
-use Rattle.journal_opening.proofs.MomentsLemmas.{settles_then, sync_settles, told_synced}
+use Rattle.journal_opening.specs.Opening.{OnlySyncs}
+use Rattle.journal_opening.proofs.MomentsLemmas.{rests_then, settles_then, sync_rests, sync_settles, told_synced}
 use Rattle.journal_opening.proofs.RecoveringLemmas.{enters, sync_cells}
 use Rattle.journal_opening.proofs.recovering.recover_image.Goals as goal
 
@@ -89,3 +90,29 @@ returns-in_err-at-clause-refused g c =
     rw (p.1, p.2) (λ not_memory not_disk content told.
     c.in_err-at.ensures.refused (λ e. not_memory (same_fault e)) (λ e. not_disk (same_fault e)) (newest_only content) (told_synced (content_now old) (content_now mid) content c.in_ok-tags.ensures.synced told)
     ∙ ap (λ (r : TagRule). journal_fault_of r.key r.salt c.args.format.now.geometry (last_image content)) c.maker_of-maker.ensures)
+
+pub returns-in_err-tags-clause-judged : goal.returns-in_err-tags-clause-judged
+returns-in_err-tags-clause-judged g c start told fault is = c.settle.ensures.newest
+
+pub returns-in_err-at-clause-judged : goal.returns-in_err-at-clause-judged
+returns-in_err-at-clause-judged g c start told fault is =
+    let old = g.D.Disk.moments c.args.disk.now in
+    let mid = g.D.Disk.moments c.settle.new.disk in
+    subst (OnlySyncs old) (sym (c.recover.ensures.judged (newest_only start) (told_synced (content_now old) (content_now mid) start c.in_ok-tags.ensures.synced told) fault
+    (ap (λ (r : TagRule). journal_fault_of r.key r.salt c.args.format.now.geometry (last_image start)) c.maker_of-maker.ensures ∙ is))) c.settle.ensures.newest
+
+pub returns-clause-judged : goal.returns-clause-judged
+returns-clause-judged g c start told fault is =
+    let old = g.D.Disk.moments c.args.disk.now in
+    let mid = g.D.Disk.moments c.settle.new.disk in
+    subst (OnlySyncs old) (sym (c.recover.ensures.judged (newest_only start) (told_synced (content_now old) (content_now mid) start c.in_ok-tags.ensures.synced told) fault
+    (ap (λ (r : TagRule). journal_fault_of r.key r.salt c.args.format.now.geometry (last_image start)) c.maker_of-maker.ensures ∙ is))) c.settle.ensures.newest
+
+pub returns-clause-rest : goal.returns-clause-rest
+returns-clause-rest g c = rests_then c.args.format.now.geometry c.settle.ensures.newest c.in_ok-tags.ensures.synced c.recover.ensures.rest
+
+pub returns-in_err-tags-clause-rest : goal.returns-in_err-tags-clause-rest
+returns-in_err-tags-clause-rest g c = sync_rests c.args.format.now.geometry c.settle.ensures.newest
+
+pub returns-in_err-at-clause-rest : goal.returns-in_err-at-clause-rest
+returns-in_err-at-clause-rest g c = rests_then c.args.format.now.geometry c.settle.ensures.newest c.in_ok-tags.ensures.synced c.recover.ensures.rest

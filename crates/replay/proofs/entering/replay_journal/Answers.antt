@@ -1,5 +1,6 @@
 use Rattle.std.proofs.Common.{◌^◌, List, sym, ap, ◌∙◌, subst}
 use Rattle.std.specs.List.{Contains}
+use Rattle.std.proofs.lemmas.Option.{none-some}
 use Rattle.std.specs.Result.{is_ok}
 use Rattle.disk_model.specs.Disk.{Content, OnlyAdds, last_image}
 use Rattle.disk_model.specs.Identity.{DiskIdentity}
@@ -114,3 +115,12 @@ returns-clause-moments g c =
     (ap is_ok c.in_ok-journal.ensures.journal.plan) c.in_ok-journal.ensures.read
     (subst (λ (m : List Content). EachSince (OnlyAdds (IsOfPlacing c.args.geometry.now (Contains (replayed_entries c.args.geometry.now (journal_image c.read_judged.new.bytes))))) m (g.D.Disk.moments c.replay.new.disk))
     c.read_judged.ensures.kept c.replay.ensures.moments)
+
+pub returns-in_err-journal-clause-judged : goal.returns-in_err-journal-clause-judged
+returns-in_err-journal-clause-judged g c start told fault is = c.read_judged.ensures.kept
+
+pub returns-in_err-count-clause-judged : goal.returns-in_err-count-clause-judged
+returns-in_err-count-clause-judged g c start told fault is = absurd (none-some fault (c.in_ok-journal.ensures.refused (λ e. cc) (λ e. cc) start told ∙ is))
+
+pub returns-clause-judged : goal.returns-clause-judged
+returns-clause-judged g c start told fault is = absurd (none-some fault (c.in_ok-journal.ensures.refused (λ e. cc) (λ e. cc) start told ∙ is))

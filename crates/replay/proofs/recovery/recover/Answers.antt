@@ -1,5 +1,6 @@
 use Rattle.std.proofs.Common.{◌^◌, length, refl, sym, ap, ◌∙◌}
 use Rattle.std.specs.Result.{is_ok}
+use Rattle.std.proofs.lemmas.Option.{none-some}
 use Rattle.disk_model.specs.Disk.{last_image}
 use Rattle.disk_model.proofs.MomentsLemmas.{EachMoment-then}
 use Rattle.direct_mode.proofs.StoreCalls.{reads_whole}
@@ -10,6 +11,7 @@ use Rattle.journal_model.specs.Steps.{after_settle}
 use Rattle.replay.specs.Replaying.{all_placed}
 use Rattle.replay.proofs.ReplayingLemmas.{geometry_of}
 use Rattle.replay.proofs.RecoveryLemmas.{cells_stay_erased, leaves_same, replayed_after}
+use Rattle.replay.proofs.RestingLemmas.{placing_rests, recovery_rests}
 use Rattle.replay.proofs.WritesLemmas.{recovery_adds, replay_only}
 use Rattle.replay.proofs.recovery.recover.Goals as goal
 
@@ -78,3 +80,26 @@ returns-clause-next g c start told =
     let journal = c.in_ok-replayed.ensures.replayed.read start told in
     c.in_ok-recovered.ensures.next
     ∙ sym (ap next_after_walk (walk_of-journal c.args.geometry.now (2 ^ 48) c.replay_journal.new.bytes (last_image start) geometry journal ∙ c.in_ok-replayed.ensures.replayed.judged.plan))
+
+pub returns-in_err-recovered-clause-judged : goal.returns-in_err-recovered-clause-judged
+returns-in_err-recovered-clause-judged g c start told fault is = absurd (none-some fault (c.in_ok-replayed.ensures.refused (λ e. cc) (λ e. cc) start told ∙ is))
+
+pub returns-clause-judged : goal.returns-clause-judged
+returns-clause-judged g c start told fault is = absurd (none-some fault (c.in_ok-replayed.ensures.refused (λ e. cc) (λ e. cc) start told ∙ is))
+
+pub returns-in_err-recovered-clause-rest : goal.returns-in_err-recovered-clause-rest
+returns-in_err-recovered-clause-rest g c =
+    let geometry = geometry_of c.args.geometry.now c.args.tags.now (g.D.Disk.identity c.args.disk.now) (g.D.Disk.moments c.args.disk.now) c.requires.geometry c.requires.store in
+    let replayed = c.in_ok-replayed.ensures.replayed in
+    recovery_rests c.args.geometry.now c.replay_journal.ensures.moments (2 ^ 48) c.replay_journal.new.bytes c.in_ok-replayed.replayed.journal.plan geometry replayed.judged.plan replayed.read
+    c.finish.ensures.rest c.finish.ensures.moments
+
+pub returns-clause-rest : goal.returns-clause-rest
+returns-clause-rest g c =
+    let geometry = geometry_of c.args.geometry.now c.args.tags.now (g.D.Disk.identity c.args.disk.now) (g.D.Disk.moments c.args.disk.now) c.requires.geometry c.requires.store in
+    let replayed = c.in_ok-replayed.ensures.replayed in
+    recovery_rests c.args.geometry.now c.replay_journal.ensures.moments (2 ^ 48) c.replay_journal.new.bytes c.in_ok-replayed.replayed.journal.plan geometry replayed.judged.plan replayed.read
+    c.finish.ensures.rest c.finish.ensures.moments
+
+pub returns-in_err-replayed-clause-rest : goal.returns-in_err-replayed-clause-rest
+returns-in_err-replayed-clause-rest g c = placing_rests c.args.geometry.now c.replay_journal.ensures.moments

@@ -1,0 +1,36 @@
+-- An image whose journal is at rest, so that a recovery leaves it as it is; and one whose journal is empty, so that an
+-- emptying does.
+-- Own: a journal is empty where it has one commit number and no used entry.
+use Rattle.std.specs.Prelude.{◌≡◌, ℕ, ◌<◌, []}
+use Rattle.std.specs.List.{Contains}
+use Rattle.disk_model.specs.Disk.{Content, Image, OnlyAdds, last_image}
+use Rattle.image_model.specs.Cells.{replayed_entries}
+use Rattle.image_model.specs.Geometry.{Geometry, section_sectors}
+use Rattle.image_model.specs.Tables.{IsAtRest, IsWholly}
+use Rattle.place_model.specs.Format.{DiskFormat, IsReadAs}
+use Rattle.place_model.specs.Journal.{numbers_on}
+use Rattle.replay.specs.Writes.{IsOfPlacing}
+
+-- The journal is at rest: writing goes on in one of its sections.
+pub record IsRestingJournal (g : Geometry) (image : Image) : Type 0 where
+  pub next : ℕ
+  pub number : ℕ
+  pub rests : IsAtRest g.sections (section_sectors g.shape) next number (numbers_on g image)
+
+-- Where the journal of the image at the start is at rest, nothing is written from this content on but its entries in their
+-- places and sectors of tags.
+abbrev pub KeepsResting : Geometry → (start from c : Content) → Type 0
+KeepsResting g start from c = IsRestingJournal g (last_image start)
+    → OnlyAdds (IsOfPlacing g (Contains (replayed_entries g (last_image start)))) from c
+
+-- Every sector of the journal bears one commit number, so that all its sections count, and no entry of them is used.
+pub record IsEmptyJournal (g : Geometry) (image : Image) : Type 0 where
+  pub number : ℕ
+  pub low : number < 4
+  pub one : (section : ℕ) → section < g.sections → IsWholly (section_sectors g.shape) (numbers_on g image) number section
+  pub unused : replayed_entries g image ≡ []
+
+-- The image can be read, in this format, and its journal is empty.
+pub record HasEmptyJournal (d : DiskFormat) (image : Image) : Type 0 where
+  pub reads : IsReadAs d image
+  pub empty : IsEmptyJournal d.geometry image
