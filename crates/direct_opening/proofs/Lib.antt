@@ -1,0 +1,4 @@
+pub mod EmptiedLemmas
+pub mod SettledLemmas
+pub mod OpenedLemmas
+pub mod EmptyingLemmas

@@ -1,0 +1,67 @@
+//! The memory of an opening.
+ghost use Rattle.std.specs.Prelude.{IfOk};
+ghost use Rattle.direct_opening.specs.Opening.{IsRoomFor};
+
+use buffer_cache::Cache;
+use layout::Geometry;
+use request_slots::Slots;
+use sector_disk::Memory;
+use sector_pool::{Region, Run};
+use std::alloc::Global;
+
+/// How many sectors of tags are held in memory.
+///
+/// Own: half a mebibyte of them.
+const HELD_SECTORS: u64 = 1024;
+
+/// Where the journal begins, in sectors.
+///
+/// Source: Linux, `drivers/md/dm-integrity.c`, `SB_SECTORS`.
+const JOURNAL_AT: u64 = 8;
+
+/// What is allocated before the disk is synced.
+#[derive(Drop)]
+pub struct DirectRoom<'p> {
+    /// What holds sectors of tags, none yet.
+    pub cache: Cache,
+    /// As many sectors as the journal has, in which it is read and emptied.
+    pub pool: Run<'p>,
+    /// The requests in flight, none yet.
+    pub slots: Slots,
+    /// One block, as it is read.
+    pub buffer: Vec<u8>,
+}
+
+impl<'p> DirectRoom<'p> {
+    /// Takes the memory for a device with these places. The region gets the sectors of the journal, in place of those
+    /// that it had.
+    ///
+    /// # Errors
+    ///
+    /// - `Memory`: there is none.
+    pub fn new(
+        alloc: Global,
+        geometry: Geometry,
+        pool: &'p mut Region,
+    ) -> Result<DirectRoom<'p>, Memory>
+        ensures { IfOk result (IsRoomFor geometry) }
+    {
+        let size = 512 * geometry.shape().spb as usize;
+        let Ok(slots) = Slots::new(alloc, geometry.blocks(), size) else {
+            return Err(Memory);
+        };
+        let Ok(buffer) = vec![in alloc; 0; size] else {
+            return Err(Memory);
+        };
+        let cache = Cache::new(alloc, HELD_SECTORS)?;
+        let Ok(()) = pool.reserve(alloc, geometry.initial() - JOURNAL_AT) else {
+            return Err(Memory);
+        };
+        Ok(DirectRoom {
+            cache,
+            pool: pool.whole(),
+            slots,
+            buffer,
+        })
+    }
+}
