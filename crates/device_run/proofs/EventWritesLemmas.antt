@@ -1,27 +1,28 @@
 -- What one call of a device writes, as what its event may.
-use Rattle.std.proofs.Common.{◌≡◌, inl, inr, ⊎_elim, ℕ, suc, ◌+◌, ◌*◌, ◌/◌, ◌<◌, ◌≤◌, Bool, true, false, if◌then◌else◌, List, [], ◌∷◌, length, slice_get, Option, Some, None, refl, sym, ◌∙◌, ap, subst, arith}
+use Rattle.std.proofs.Common.{◌≡◌, inl, inr, ⊎_elim, ℕ, zero, suc, ◌+◌, ◌*◌, ◌/◌, ◌<◌, ◌≤◌, Bool, true, false, if◌then◌else◌, List, [], ◌∷◌, length, slice_get, slice_index_or, Option, Some, None, refl, sym, ◌∙◌, ap, subst, arith}
 use Rattle.std.specs.List.{AllByRecursion, Contains}
 use Rattle.std.proofs.lemmas.List.Elements.{Contains-append_left, Contains-push}
 use Rattle.std.proofs.lemmas.Bool.{cases_eq, eq-eqb, ne_eqb}
+use Rattle.std.proofs.lemmas.Grind.{flat_map-append}
 use Rattle.std.proofs.Math.Nat.{div-lt_iff_lt-mul, mul-div_cancel_left, mul-le-mul_right}
 use Rattle.disk_model.specs.Disk.{Content, IsOfRun as IsOfBytes, OnlyAdds}
 use Rattle.disk_model.specs.Moments.{EachSince}
 use Rattle.disk_model.proofs.MomentsLemmas.{adds_then, adds_wider}
 use Rattle.image_model.specs.Cells.{salt_of}
-use Rattle.image_model.specs.Geometry.{Geometry, section_at, section_sectors}
+use Rattle.image_model.specs.Geometry.{Geometry, data_at, section_at, section_sectors}
 use Rattle.image_model.specs.Section.{Entry}
 use Rattle.device_model.specs.History.{Begun, BlockWrite, Change, Flushed, IsWrittenIn, Written}
 use Rattle.device_model.specs.Mode as Model
 use Rattle.device_model.specs.Progress.{Event, EventResult, Serve, Step, block_changes, event_result, is_flushed_by, serve_with}
 use Rattle.device_model.specs.Request.{Asked, Write}
 use Rattle.place_model.specs.Format.{DiskFormat}
-use Rattle.place_model.proofs.EachLemmas.{all_drop, all_get}
+use Rattle.place_model.proofs.EachLemmas.{all_append, all_drop, all_flat, all_get}
 use Rattle.device_laws.specs.Device.{block_of, freed_count}
 use Rattle.device_laws.specs.EventLaws.{next_write}
 use Rattle.device_laws.proofs.RingLemmas.{held_at}
 use Rattle.direct_laws.proofs.EventLemmas.{served_law}
 use Rattle.direct_mode.specs.Cells.{IsOfBlockOrTags}
-use Rattle.direct_mode.specs.Places.{IsOfPlaces, WritesPlaces}
+use Rattle.direct_mode.specs.Places.{IsNoBlock, IsOfPlaces, IsOfWritten, WritesPlaces}
 use Rattle.direct_mode.proofs.PlacesLemmas.{IsOfPlaces-wider}
 use Rattle.journal_model.specs.Entries.{IsBlockEntry}
 use Rattle.journal_model.specs.JournaledDisk.{JournaledDisk}
@@ -31,8 +32,9 @@ use Rattle.journal_ring.specs.Places.{entry_of}
 use Rattle.tag_store.specs.Store.{HoldsTag, IsMarkedTags, IsOutForTag, Store}
 use Rattle.place_writer.specs.Moves.{WritesEntry}
 use Rattle.place_writer.specs.Placement.{placed_in}
+use Rattle.journal_mode.specs.Closing.{WritesAll, WritesEntries, entries_to_place}
 use Rattle.journal_mode.specs.Commits.{WritesBatches, after_batch_of}
-use Rattle.journal_mode.specs.Journal.{PlacedRing, after_put}
+use Rattle.journal_mode.specs.Journal.{PlacedRing, after_put, sections_of}
 use Rattle.request_slots.specs.Flight.{is_in_flight, turn_of}
 use Rattle.request_slots.specs.declared.turn.Turn.{Turn}
 use Rattle.request_slots.specs.declared.turn.Turn.TheVariants as Turns
@@ -49,11 +51,24 @@ use Rattle.journal_device.proofs.DoneLemmas.{stands_now}
 use Rattle.journal_mode.specs.Standing.{StandsAs}
 use Rattle.integrity_device.specs.declared.mode.Mode.{Mode}
 use Rattle.integrity_device.specs.declared.mode.Mode.TheVariants.{Direct, Journal}
-use Rattle.integrity_device.specs.Answers.{WritesInServe, WritesInStep}
+use Rattle.integrity_device.specs.Answers.{WritesInClose, WritesInServe, WritesInStep}
 use Rattle.integrity_device.specs.Device.{IsDeviceIn, IsJournaled, Standing, direct_standing, journal_standing}
 use Rattle.integrity_device.proofs.ModeLemmas.{own_direct, own_journaled}
-use Rattle.device_run.specs.Writes.{IsInJournal, IsOfRun, WritesOnly, WritesOnlyOf}
+use Rattle.replay.specs.Writes.{IsOfPlacing}
+use Rattle.device_run.specs.Writes.{IsAnyBlock, IsInJournal, IsOfRun, WritesOnly, WritesOnlyOf}
 use Rattle.device_run.proofs.WritesLemmas.{WritesOnly-kept, WritesOnly-left}
+
+-- ---- elements
+
+all_at : {A : Type 0} (P : A → Type 0) (xs : List A) (k : ℕ) (d x : A) → k < length xs → slice_index_or xs k d ≡ x
+    → AllByRecursion P xs → P x
+all_at P [] k d x low at all = absurd (omega (arith, low))
+all_at P (y ∷ ys) zero d x low at all = subst P at all.0
+all_at P (y ∷ ys) (suc k) d x low at all = all_at P ys k d x (omega (arith, low)) at all.1
+
+-- What holds of each element holds of one.
+all_contains : {A : Type 0} (P : A → Type 0) (xs : List A) (x : A) → AllByRecursion P xs → Contains xs x → P x
+all_contains P xs x all has = all_at P xs has.0 x x has.1 has.2 all
 
 -- ---- batches
 
@@ -128,27 +143,46 @@ module _ (d : JournaledDisk) (journal : PlacedRing) (store : Store) (changes : L
   serve_only parts same (Turns.Write block false) kept = WritesOnly-kept Model.Journal d.geometry changes kept
   serve_only parts same Turns.Flush batches = of_journal (in_batches d.geometry journal ring_is inside batches)
 
+  abbrev IsWhole : Entry → Type 0
+  IsWhole = IsBlockEntry d.key (salt_of d.superblock) d.geometry
+
   -- An entry of a whole block comes to its place in the data.
-  entry_only : (next : Option Entry) → ((entry : Entry) → next ≡ Some entry → IsBlockEntry d.key (salt_of d.superblock) d.geometry entry)
-      → {a b : List Content} → WritesEntry d.geometry next a b → Only a b
-  entry_only None whole kept = WritesOnly-kept Model.Journal d.geometry changes kept
-  entry_only (Some entry) whole writes =
-      let block = block_of d.geometry entry in
-      let is = whole entry refl in
+  in_data : (entry : Entry) → IsWhole entry → (sector : ℕ) (x : List ℕ)
+      → IsOfBytes (data_at d.geometry (block_of d.geometry entry)) entry.bytes sector x → IsOfWritten d.geometry IsAnyBlock sector
+  in_data entry is sector x own =
       let spb = d.geometry.shape.spb in
       let sectors : length entry.bytes / 512 ≡ spb = ap (λ (k : ℕ). k / 512) is.bytes ∙ mul-div_cancel_left spb (omega arith) in
-      adds_wider (IsOfBlockOrTags d.geometry block entry.bytes) (IsOfRun Model.Journal d.geometry changes)
-      (λ sector x of. ⊎_elim
-      (λ own. inr (inr (record {
-        block = block;
+      record {
+        block = block_of d.geometry entry;
         written = tt;
         data_ = record {
           low = (div-lt_iff_lt-mul some).1 is.replayable.inside;
           begins = own.begins;
           ends = omega (arith, own.ends, sectors);
         };
-      })))
+      }
+
+  entry_only : (next : Option Entry) → ((entry : Entry) → next ≡ Some entry → IsBlockEntry d.key (salt_of d.superblock) d.geometry entry)
+      → {a b : List Content} → WritesEntry d.geometry next a b → Only a b
+  entry_only None whole kept = WritesOnly-kept Model.Journal d.geometry changes kept
+  entry_only (Some entry) whole writes =
+      adds_wider (IsOfBlockOrTags d.geometry (block_of d.geometry entry) entry.bytes) (IsOfRun Model.Journal d.geometry changes)
+      (λ sector x of. ⊎_elim (λ own. inr (inr (in_data entry (whole entry refl) sector x own))) (λ tags. inr (inl tags)) of) writes
+
+  -- So do several,
+  entries_only : (entries : List Entry) → AllByRecursion IsWhole entries → {a b : List Content} → WritesEntries d.geometry entries a b → Only a b
+  entries_only entries whole writes =
+      adds_wider (IsOfPlacing d.geometry (Contains entries)) (IsOfRun Model.Journal d.geometry changes)
+      (λ sector x of. ⊎_elim
+      (λ own. inr (inr (in_data own.entry (all_contains IsWhole entries own.entry whole own.among) sector x own.in_place)))
       (λ tags. inr (inl tags)) of) writes
+
+  -- as in a close, which writes batches before.
+  close_only : AllByRecursion IsWhole (entries_to_place journal) → {a b : List Content} → WritesAll journal a b → Only a b
+  close_only whole {a} {b} writes =
+      adds_then (IsOfRun Model.Journal d.geometry changes) (of_journal (in_batches d.geometry journal ring_is inside writes.batches))
+      (entries_only (entries_to_place journal) whole
+      (subst (λ (y : Geometry). WritesEntries y (entries_to_place journal) writes.middle b) ring_is writes.places))
 
   -- A step writes a batch, an entry in its place, or sectors of tags.
   step_only : (parts : Parts) → parts.tags ≡ store → (actor : Actor)
@@ -241,15 +275,28 @@ module _ (w : Standing) (common : Parts) (a : List Content) where
         alone (Serve ticket) (at_mode Model.Journal is.disk.format changes (own_journaled w Conditions.Working common journal a is) is.format
         (serve_only is.disk journal common.tags changes ring_same stands.placed.cells.geometry next_inside block_some common refl (turn_of common.slots ticket) writes))
 
-    -- The next entry that comes to its place is one of the disk.
+    -- The entries of the committed sections are those of the disk.
+    committed_whole : AllByRecursion (IsBlockEntry is.disk.key (salt_of is.disk.superblock) is.disk.geometry) (entries_of journal.ring.committed)
+    committed_whole =
+        let P = IsBlockEntry is.disk.key (salt_of is.disk.superblock) is.disk.geometry in
+        let sound = stands.device.sound in
+        subst (AllByRecursion P) (held_at is.disk journal.ring sound stands.device.is_ring) (all_drop P (freed_count is.disk journal.ring) is.disk.entries sound.formed.each)
+
+    -- The next entry that comes to its place is one of them,
     next_whole : (entry : Entry) → slice_get (entries_of journal.ring.committed) (placed_in journal.placement journal.ring) ≡ Some entry
         → IsBlockEntry is.disk.key (salt_of is.disk.superblock) is.disk.geometry entry
     next_whole entry told =
+        all_get (IsBlockEntry is.disk.key (salt_of is.disk.superblock) is.disk.geometry) (entries_of journal.ring.committed)
+        (placed_in journal.placement journal.ring) entry committed_whole told
+
+    -- and all that come there in a close are of them, or of the opened sections.
+    all_whole : AllByRecursion (IsBlockEntry is.disk.key (salt_of is.disk.superblock) is.disk.geometry) (entries_to_place journal)
+    all_whole =
         let P = IsBlockEntry is.disk.key (salt_of is.disk.superblock) is.disk.geometry in
-        let sound = stands.device.sound in
-        let all : AllByRecursion P (entries_of journal.ring.committed) =
-        subst (AllByRecursion P) (held_at is.disk journal.ring sound stands.device.is_ring) (all_drop P (freed_count is.disk journal.ring) is.disk.entries sound.formed.each) in
-        all_get P (entries_of journal.ring.committed) (placed_in journal.placement journal.ring) entry all told
+        let ring = journal.ring in
+        all_drop P (placed_in journal.placement ring) (entries_of (sections_of ring))
+        (subst (AllByRecursion P) (sym (flat_map-append (λ (entries : List Entry). entries) ring.committed ring.opened))
+        (all_append P (entries_of ring.committed) (entries_of ring.opened) committed_whole (all_flat P ring.opened stands.device.is_ring.each)))
 
     journal_step_only : (actor : Actor) {b : List Content} → WritesAs actor common journal a b
         → WritesOnlyOf w (Step (actor_of actor) ∷ []) a b
@@ -257,6 +304,11 @@ module _ (w : Standing) (common : Parts) (a : List Content) where
         let changes = (event_result w.format w.state (Step (actor_of actor))).changes in
         alone (Step (actor_of actor)) (at_mode Model.Journal is.disk.format changes (own_journaled w Conditions.Working common journal a is) is.format
         (step_only is.disk journal common.tags changes ring_same stands.placed.cells.geometry next_inside block_some common refl actor next_whole writes))
+
+    journal_close_only : (changes : List Change) {b : List Content} → WritesAll journal a b → WritesOnly w.format.mode w.on.geometry changes a b
+    journal_close_only changes writes =
+        at_mode Model.Journal is.disk.format changes (own_journaled w Conditions.Working common journal a is) is.format
+        (close_only is.disk journal common.tags changes ring_same stands.placed.cells.geometry next_inside block_some all_whole writes)
 
   -- A serve writes what its event may,
   pub serve_writes : (mode : Mode) → IsDeviceIn mode w Conditions.Working common a → (ticket : ℕ) → is_in_flight ticket common.slots ≡ true
@@ -267,9 +319,20 @@ module _ (w : Standing) (common : Parts) (a : List Content) where
       (direct_serve_only (direct_standing w is.disk) ticket common a is.device there new.tags.geometry writes))
   serve_writes (Journal journal) is ticket there new writes = journal_serve_only journal is ticket writes
 
-  -- and so does a step.
+  -- so does a step,
   pub step_writes : (mode : Mode) → IsDeviceIn mode w Conditions.Working common a → (actor : Actor) {b : List Content}
       → WritesInStep mode actor common a b → WritesOnlyOf w (Step (actor_of actor) ∷ []) a b
   step_writes Direct is actor kept =
       alone (Step (actor_of actor)) (WritesOnly-kept w.format.mode w.on.geometry (event_result w.format w.state (Step (actor_of actor))).changes kept)
   step_writes (Journal journal) is actor writes = journal_step_only journal is actor writes
+
+  -- and a close writes what may be written whatever changes.
+  pub close_writes : (mode : Mode) → IsDeviceIn mode w Conditions.Working common a → (changes : List Change) {b : List Content}
+      → WritesInClose mode common a b → WritesOnly w.format.mode w.on.geometry changes a b
+  close_writes Direct is changes {b} writes =
+      let g = is.disk.format.geometry in
+      at_mode Model.Direct is.disk.format changes (own_direct w Conditions.Working common a is) is.format
+      (adds_wider (IsOfPlaces g IsNoBlock) (IsOfPlaces g (IsWrittenIn changes))
+      (IsOfPlaces-wider IsNoBlock (IsWrittenIn changes) g (λ block none. absurd none))
+      (subst (λ (x : Geometry). EachSince (OnlyAdds (IsOfPlaces x IsNoBlock)) a b) (sym (is.device.cells refl).geometry) writes))
+  close_writes (Journal journal) is changes writes = journal_close_only journal is changes writes

@@ -3,7 +3,7 @@ use Rattle.std.proofs.Common.{◌≡◌, ◌≢◌, ℕ, suc, true, false, List,
 use Rattle.std.proofs.lemmas.Bool.{false≢true}
 use Rattle.std.proofs.lemmas.Option.{same_Some}
 use Rattle.device_model.specs.Mode.{DeviceFormat}
-use Rattle.device_model.specs.Progress.{Answer, Done, DeviceState, Event, EventResult, NoRoom, Serve, Working, after_event, after_events, answers, event_result, serve_asked, serve_by}
+use Rattle.device_model.specs.Progress.{Answer, Done, DeviceState, Event, EventResult, NoRoom, Serve, Working, after_event, after_events, answers, event_result, only_answers, serve_asked, serve_by}
 use Rattle.device_model.specs.Request.{Asked, RequestState, Unfinished, Finished, Taken, Dropped, is_over, is_unfinished}
 use Rattle.device_model.specs.RequestLaws.{IsReached}
 use Rattle.device_model.specs.Script.{finish_events, is_did, last_answer, room_events, turn_events, turns_left, whole_finish}
@@ -89,12 +89,14 @@ module _ (f : DeviceFormat) (s : DeviceState) (k : ℕ) (a : Asked) (there : sli
   pub begins : Begins
   begins = record { rest = _; is = ap (λ (o : Option Asked). finish_events f (suc k) (turns_left o) s) there }
 
-  -- A turn of a request that is done answers that.
+  -- A serve of a request that is done changes nothing,
+  pub serve-finished : s.condition ≡ Working → a.state ≡ Finished → event_result f s (Serve (suc k)) ≡ only_answers s.progress Done
+  serve-finished works done = result-working f s (Serve (suc k)) works ∙ ap (serve_asked f s k) there ∙ ap (serve_by f s k a) done
+
+  -- a turn of it answers that,
   turn-done : s.condition ≡ Working → a.state ≡ Finished → last_answer (answers f s turn) ≡ Some Done
   turn-done works done =
-      let served : (event_result f s (Serve (suc k))).answer ≡ Done =
-      ap (λ (x : EventResult). x.answer) (result-working f s (Serve (suc k)) works ∙ ap (serve_asked f s k) there ∙ ap (serve_by f s k a) done) in
-      answer-alone f s (suc k) Serves.Done (λ e. cc) served
+      answer-alone f s (suc k) Serves.Done (λ e. cc) (ap (λ (x : EventResult). x.answer) (serve-finished works done))
 
   finished_by : (n : ℕ) (served : Served) → last_answer (answers f s turn) ≡ Some Done
       → last_answer (answers f s turn) ≡ Some (served_answer served)
@@ -107,6 +109,13 @@ module _ (f : DeviceFormat) (s : DeviceState) (k : ℕ) (a : Asked) (there : sli
       ends Serves.Did same = absurd (cc)
       ends Serves.Done same = refl
       ends Serves.NoRoom same = absurd (cc)
+
+  -- and to finish it is that serve.
+  pub whole_finish-finished : s.condition ≡ Working → a.state ≡ Finished → whole_finish f (suc k) s ≡ Serve (suc k) ∷ []
+  whole_finish-finished works done =
+      let answered = turn-done works done in
+      ap (λ (o : Option Asked). finish_events f (suc k) (turns_left o) s) there ∙ finished_by _ Serves.Done answered answered
+      ∙ ap (λ (l : List Event). l ++ []) (turn-alone f s (suc k) Serves.Done (λ e. cc) (ap (λ (x : EventResult). x.answer) (serve-finished works done)))
 
   by_state : (state : RequestState) → a.state ≡ state → IsReached f s → s.condition ≡ Working → is_over a.state ≡ false → (served : Served)
       → last_answer (answers f s turn) ≡ Some (served_answer served)

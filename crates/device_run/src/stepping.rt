@@ -5,8 +5,8 @@ ghost use Rattle.device_core.specs.declared.condition.Condition.TheVariants.{Wor
 ghost use Rattle.device_core.specs.Answers.{actor_of, moved_answer};
 ghost use Rattle.device_model.specs.Progress.{Step};
 ghost use Rattle.device_model.specs.Script.{IsOfJournal, idle_events, room_events};
-ghost use Rattle.integrity_device.specs.Answers.{Answers, steps_left};
-ghost use Rattle.integrity_device.specs.Device.{IsDevice, IsReady, Standing};
+ghost use Rattle.integrity_device.specs.Answers.{Answers, HasNoWork, steps_left};
+ghost use Rattle.integrity_device.specs.Device.{IsDevice, IsReady, Standing, mode_of};
 ghost use Rattle.device_run.specs.Calls.{Runs};
 
 use device_core::{Actor, Moved};
@@ -32,6 +32,8 @@ pub fn step<'d, 'p, D: Disk>(device: &mut Device<'d, 'p, D>, actor: Actor) -> Re
         → Answers w (Step (actor_of actor)) (moved_answer moved)) }
     ensures goes_on { IfOk result (λ moved. moved ≡ Moved.Did
         → steps_left actor device.new.parts.mode < steps_left actor device.old.parts.mode) }
+    ensures quiet { HasNoWork (mode_of device.old.parts.mode) (actor_of actor)
+        → device.new.disk.now ≡ device.old.disk.now }
 
     ensures cause { HasCause (D.faults device.old.disk.now) (D.faults device.new.disk.now) result }
     ensures same_disk { device.new.disk.ghost_name ≡ device.old.disk.ghost_name }

@@ -1,3 +1,4 @@
+pub mod EmptiedLemmas
 pub mod ModeLemmas
 pub mod RequestLemmas
 pub mod ServedLemmas

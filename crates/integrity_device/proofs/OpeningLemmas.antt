@@ -1,23 +1,20 @@
 -- What an opening in one mode tells, as one of any.
-use Rattle.std.proofs.Common.{◌≡◌, ◌≢◌, ℕ, ◌≤◌, List, Option, None, Some, IsErr, Result, Ok, Err, refl, sym, ◌∙◌, ap}
+use Rattle.std.proofs.Common.{◌≡◌, ◌≢◌, ℕ, Option, Some, Result, Ok, Err, refl, sym, ◌∙◌, ap, List, [], ◌∷◌, ◌++◌}
+use Rattle.std.specs.List.{AllByRecursion}
 use Rattle.std.proofs.lemmas.Option.{none-some}
-use Rattle.disk_model.specs.Disk.{Content, last_image}
+use Rattle.disk_model.specs.Disk.{Content, HasNothingPending, last_image}
 use Rattle.disk_model.specs.Identity.{DiskIdentity}
-use Rattle.disk_model.specs.Moments.{HasNow}
+use Rattle.disk_model.specs.Moments.{EachSince, FromStart, HasNow, content_now}
 use Rattle.image_opening.specs.declared.open_fault.OpenFault.{OpenFault}
-use Rattle.image_opening.specs.declared.open_fault.OpenFault.TheVariants as FormatFaults
-use Rattle.image_opening.specs.declared.reading.ImageFormat.{ImageFormat}
-use Rattle.image_opening.specs.Format.{direct_format_of}
 use Rattle.place_model.specs.Format.{format_on}
-use Rattle.direct_model.specs.Opening.{placed_disk}
 use Rattle.opening_fault.specs.declared.opening_fault.OpeningFault.{OpeningFault}
 use Rattle.opening_fault.specs.declared.opening_fault.OpeningFault.TheVariants as Faults
-use Rattle.opening_fault.specs.Faults.{ByFormat, ImageFault, fault_by, fault_in, fault_of, of_format}
-use Rattle.opening_fault.proofs.FaultsLemmas.{fault_in-err, told_format}
-use Rattle.journal_opening.specs.declared.opened.OpenedJournal.{OpenedJournal}
-use Rattle.journal_opening.specs.Opening.{OnlySyncs}
+use Rattle.opening_fault.specs.Faults.{ByFormat, fault_in, fault_of}
+use Rattle.opening_fault.proofs.FaultsLemmas.{fault_in-err}
+use Rattle.journal_opening.specs.Opening.{IsOfOpening, OnlySyncs}
 use Rattle.device_core.specs.declared.parts.Parts.{Parts}
-use Rattle.device_core.specs.Opening as InDirect
+use Rattle.direct_opening.specs.Opening as InDirect
+use Rattle.direct_opening.specs.Opening.{WritesEmptying}
 use Rattle.journal_device.specs.declared.opening.OpenedDevice.{OpenedDevice}
 use Rattle.journal_device.specs.Opening as InJournal
 use Rattle.integrity_device.specs.declared.mode.DeviceParts.{DeviceParts}
@@ -33,7 +30,33 @@ fault_or fault (Err told) = told
 same_told : {A E : Type 0} {x y : E} → ◌≡◌ {A = Result A E} (Err x) (Err y) → x ≡ y
 same_told {A} {E} {x} e = ap (fault_or {A = A} {E = E} x) e
 
--- ---- journal mode
+-- ---- an image that is refused
+
+pub refused : (T : Type 0) (key : Option (List ℕ)) (disk : DiskIdentity) (a b : List Content) (fault : OpeningFault)
+    → (◌≢◌ {A = Result T OpeningFault} (Err fault) (Err Faults.Memory)
+    → ◌≢◌ {A = Result T OpeningFault} (Err fault) (Err Faults.Disk)
+    → HasNow (λ c. fault_in {T = T} (Err fault) ≡ fault_of key disk.sectors (last_image c)) a)
+    → ((format : OpenFault) → fault_in {T = T} (Err fault) ≡ Some (ByFormat format) → b ≡ a)
+    → (◌≢◌ {A = Result T OpeningFault} (Err fault) (Err Faults.Disk) → OnlySyncs a b)
+    → IsRefused key disk fault a b
+refused T key disk a b fault told kept nothing = record {
+  told = λ not_disk not_memory c now.
+      fault_in-err DeviceParts T fault
+      ∙ told (λ e. not_memory (same_told e)) (λ e. not_disk (same_told e)) c now;
+  kept = λ format is. kept format (fault_in-err T DeviceParts fault ∙ is);
+  nothing = λ not_disk. nothing (λ e. not_disk (same_told e));
+}
+
+-- ---- the device that is open
+
+-- What holds now where the start is told holds now.
+settled_by : (a : List Content) {b : List Content} (Q : Content → Content → Type 0) (P : Content → Type 0) → EachSince Q a b → ((start : Content) → content_now a ≡ Some start → HasNow P b) → HasNow P b
+settled_by (start ∷ h) Q P m f c told = f start refl c told
+settled_by [] Q P m f c told = absurd (none m.since m.each (sym (ap content_now m.grows) ∙ told))
+  where
+    none : (since : List Content) → AllByRecursion (FromStart [] Q) since → content_now (since ++ []) ≡ Some c → ⊥
+    none [] each at = none-some c at
+    none (x ∷ since) each at = absurd each.0
 
 module _ (key : Option (List ℕ)) (disk : DiskIdentity) (a b : List Content) where
   pub opened_journal : (opened : OpenedDevice) → InJournal.HasOpened key disk opened a b
@@ -46,52 +69,18 @@ module _ (key : Option (List ℕ)) (disk : DiskIdentity) (a b : List Content) wh
     mode_ = refl;
     requests = has.requests;
     can = has.can;
+    settled = tt;
   }
 
-  pub refused_journal : (fault : OpeningFault)
-      → (◌≢◌ {A = Result OpenedJournal OpeningFault} (Err fault) (Err Faults.Memory)
-      → ◌≢◌ {A = Result OpenedJournal OpeningFault} (Err fault) (Err Faults.Disk)
-      → HasNow (λ c. fault_in {T = OpenedJournal} (Err fault) ≡ fault_of key disk.sectors (last_image c)) a)
-      → ((format : OpenFault) → fault_in {T = OpenedJournal} (Err fault) ≡ Some (ByFormat format) → b ≡ a)
-      → (◌≢◌ {A = Result OpenedJournal OpeningFault} (Err fault) (Err Faults.Disk) → OnlySyncs a b)
-      → IsRefused Journal key disk fault a b
-  refused_journal fault told kept nothing = record {
-    told = λ not_disk not_memory c now.
-        fault_in-err DeviceParts OpenedJournal fault
-        ∙ told (λ e. not_memory (same_told e)) (λ e. not_disk (same_told e)) c now;
-    kept = λ format is. kept format (fault_in-err OpenedJournal DeviceParts fault ∙ is);
-    nothing = λ not_disk. nothing (λ e. not_disk (same_told e));
-  }
-
-  -- ---- direct mode
-
-  pub opened_direct : (common : Parts) → InDirect.HasOpened key disk common a b
+  pub opened_direct : WritesEmptying key disk.sectors a b → (common : Parts) → InDirect.HasOpened key disk common a b
       → HasOpened Direct key disk (record { common = common; mode = Modes.Direct }) a b
-  opened_direct common has = record {
-    device = λ start told. record {
-      disk = placed_disk (format_on key disk.sectors (last_image start)) (last_image start);
-      format = refl;
-      device = has.device start told;
-    };
+  opened_direct writes common has = record {
+    device = λ start told.
+        let own = has.device start told in
+        record { disk = own.disk; format = own.format; device = own.device; emptied = own.emptied };
     ready = has.ready;
     mode_ = refl;
     requests = has.requests;
     can = has.can;
-  }
-
-  -- A fault of a format that says something of the image is not the disk's.
-  not_of_disk : (fault format : OpenFault) → fault_in {T = DeviceParts} (Err (of_format fault)) ≡ Some (ByFormat format)
-      → fault ≢ FormatFaults.Disk
-  not_of_disk fault format is same =
-      none-some (ByFormat format) (sym (ap (λ (x : OpenFault). fault_in {T = DeviceParts} (Err (of_format x))) same) ∙ is)
-
-  pub refused_direct : (fault : OpenFault) → InDirect.IsRefused key disk fault a b → OnlySyncs a b
-      → IsRefused Direct key disk (of_format fault) a b
-  refused_direct fault refused syncs = record {
-    told = λ not_disk not_memory c now.
-        told_format {T = DeviceParts} fault (λ e. not_memory (same_told e)) (λ e. not_disk (same_told e))
-        ∙ sym (ap (λ (r : Result ImageFormat OpenFault). fault_by (λ format. None) r)
-        (refused.told (λ e. not_disk (ap of_format e)) (λ e. not_memory (ap of_format e)) c now));
-    kept = λ format is. refused.kept (not_of_disk fault format is);
-    nothing = λ _. syncs;
+    settled = settled_by a (λ start. IsOfOpening (format_on key disk.sectors (last_image start)).geometry start) HasNothingPending writes.recovers (λ start told. (has.device start told).settled);
   }

@@ -1,5 +1,5 @@
 -- Requests come and go in each mode alike.
-use Rattle.std.proofs.Common.{◌≡◌, ℕ, suc, List, IfOk, Result, Ok, Err, sym, subst, true}
+use Rattle.std.proofs.Common.{◌≡◌, ℕ, suc, List, IfOk, Result, Ok, Err, refl, sym, subst, true}
 use Rattle.disk_model.specs.Disk.{Content}
 use Rattle.device_model.specs.Progress as Progress
 use Rattle.request_slots.specs.Flight.{is_in_flight, slot_of}
@@ -21,6 +21,7 @@ use Rattle.integrity_device.specs.declared.mode.Mode.{Mode}
 use Rattle.integrity_device.specs.declared.mode.Mode.TheVariants.{Direct, Journal}
 use Rattle.integrity_device.specs.Answers.{HasSubmitted, HasTaken, IsSerial}
 use Rattle.integrity_device.specs.Device.{IsDeviceIn, Standing, direct_standing, journal_standing}
+use Rattle.integrity_device.proofs.EmptiedLemmas.{stays_still}
 use Rattle.integrity_device.proofs.ModeLemmas.{done_direct, done_journaled, is_done_direct, is_done_journaled}
 
 -- ---- a submission
@@ -35,7 +36,7 @@ module _ (condition : Condition) (common later : Parts) (request : Request)
   pub is_submitted : (w : Standing) (moments : List Content) (mode : Mode) → IsDeviceIn mode w condition common moments
       → HasSubmitted w request condition (record { common = common; mode = mode }) (record { common = later; mode = mode }) moments
   is_submitted w moments Direct is =
-      is_done_direct w condition common moments is (Progress.Submit (as_submission request)) answer condition later moments moments
+      is_done_direct w condition common moments is (Progress.Submit (as_submission request)) answer condition later moments moments (stays_still w.on refl is.emptied)
       (done (direct_standing w is.disk) moments is.device)
   is_submitted w moments (Journal journal) is =
       is_done_journaled w condition common journal moments is (Progress.Submit (as_submission request)) answer condition later journal moments moments
@@ -57,7 +58,7 @@ module _ (common later : Parts) (ticket : ℕ) (result : Result Reply ℕ)
       let told = done (direct_standing w is.disk) condition moments is.device in
       record {
         taken = told.taken;
-        done = done_direct w condition common moments is (Progress.Take ticket) condition later moments moments told.done;
+        done = done_direct w condition common moments is (Progress.Take ticket) condition later moments moments (stays_still w.on refl is.emptied) told.done;
       }
   is_taken w condition moments (Journal journal) is =
       let told = (take_law (journal_standing w is.disk) condition common journal moments ticket is.device there).0 in

@@ -1,8 +1,9 @@
 -- What the calls of a device answer, as the events of `device_model` do.
-use Rattle.std.specs.Prelude.{◌≡◌, ℕ, suc, List, Result, Ok, Err}
+use Rattle.std.specs.Prelude.{◌≡◌, ℕ, suc, List, Result}
 use Rattle.disk_model.specs.Disk.{Content, OnlyAdds}
 use Rattle.disk_model.specs.Identity.{DiskIdentity}
 use Rattle.disk_model.specs.Moments.{EachSince}
+use Rattle.device_model.specs.Mode as Modes
 use Rattle.device_model.specs.Progress as Model
 use Rattle.device_model.specs.Request as Asks
 use Rattle.device_model.specs.RequestLaws.{IsSerialReply}
@@ -100,6 +101,12 @@ steps_left actor (Journal journal) = InJournal.steps_left actor journal
 abbrev pub WritesInStep : Mode → Actor → Parts → (before after : List Content) → Type 0
 WritesInStep Direct actor common before after = after ≡ before
 WritesInStep (Journal journal) actor common before after = WritesAs actor common journal before after
+
+-- The actor has nothing to do in the mode: in direct mode none has.
+abbrev pub HasNoWork : Modes.Mode → Model.Actor → Type 0
+HasNoWork Modes.Direct actor = Unit {0}
+HasNoWork Modes.Journal actor = InJournal.HasNoWork actor
+HasNoWork mode actor = ⊥
 
 -- ---- a close
 

@@ -1,18 +1,20 @@
 -- Which device of `device_model` a device of either mode is, by what it keeps beside its disk and what the disk tells.
-use Rattle.std.specs.Prelude.{◌≡◌, ℕ, List, Option}
-use Rattle.disk_model.specs.Disk.{Content, Image}
+use Rattle.std.specs.Prelude.{◌≡◌, List}
+use Rattle.disk_model.specs.Disk.{Content, EachImage, Image}
 use Rattle.disk_model.specs.Identity.{DiskIdentity}
+use Rattle.disk_model.specs.Moments.{HasNow}
 use Rattle.device_model.specs.Device.{DeviceKind}
 use Rattle.device_model.specs.Mode as Model
 use Rattle.device_model.specs.Progress as Progress
 use Rattle.place_model.specs.Format.{DiskFormat}
-use Rattle.place_model.specs.Kind.{kind_in, placed_kind}
+use Rattle.place_model.specs.Kind.{kind_in}
 use Rattle.direct_model.specs.DirectDisk.{DirectDisk}
 use Rattle.journal_model.specs.JournaledDisk.{JournaledDisk}
 use Rattle.request_slots.specs.Flight.{Flight}
 use Rattle.device_core.specs.declared.condition.Condition.{Condition}
 use Rattle.device_core.specs.declared.parts.Parts.{Parts}
 use Rattle.device_core.specs.Device as InDirect
+use Rattle.replay.specs.Emptied.{HasEmptyJournal}
 use Rattle.journal_mode.specs.Journal.{PlacedRing}
 use Rattle.journal_device.specs.Device as InJournal
 use Rattle.integrity_device.specs.declared.mode.DeviceParts.{DeviceParts}
@@ -51,16 +53,11 @@ pub record Standing : Type 0 where
 abbrev pub standing_after : Standing → Progress.Event → Standing
 standing_after w event = record w { state = Progress.after_event w.format w.state event }
 
--- The kind of device that opens disks of so many sectors in a mode, under a key.
--- Own: as long as direct mode recovers nothing it looks at no journal.
-abbrev pub kind_by : Model.Mode → (key : Option (List ℕ)) → (sectors : ℕ) → DeviceKind
-kind_by Model.Direct key sectors = placed_kind key sectors
-kind_by mode key sectors = kind_in mode key sectors
-
+-- The kind of device that opens such disks in its mode.
 abbrev pub kind_of : Standing → DeviceKind
-kind_of w = kind_by w.format.mode w.on.key w.on.sectors
+kind_of w = kind_in w.format.mode w.on.key w.on.sectors
 
--- It is one in direct mode, over this disk,
+-- It is one in direct mode, over this disk, of which each image has an empty journal,
 abbrev pub direct_standing : Standing → DirectDisk → InDirect.Standing
 direct_standing w disk = record { format = w.format; state = w.state; disk = disk; entry = w.entry }
 
@@ -68,6 +65,7 @@ pub record IsDirect (w : Standing) (condition : Condition) (common : Parts) (mom
   pub disk : DirectDisk
   pub format : disk.format ≡ w.on
   pub device : InDirect.IsDevice (direct_standing w disk) condition common moments
+  pub emptied : HasNow (EachImage (HasEmptyJournal w.on)) moments
 
 -- or one in journal mode over this one.
 abbrev pub journal_standing : Standing → JournaledDisk → InJournal.DeviceStanding

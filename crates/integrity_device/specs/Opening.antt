@@ -1,23 +1,24 @@
 -- What an opening leaves, in the mode that is asked for.
-use Rattle.std.specs.Prelude.{◌≡◌, ◌≢◌, ℕ, ◌*◌, ◌≤◌, Option, None, Some, List, Result, Err}
+use Rattle.std.specs.Prelude.{◌≡◌, ◌≢◌, ℕ, ◌*◌, ◌≤◌, Option, Some, List, Err}
 use Rattle.disk_model.specs.Causes.{Rose}
-use Rattle.disk_model.specs.Disk.{Content, EachImage, Image, last_image, newest_only}
+use Rattle.disk_model.specs.Disk.{Content, EachImage, HasNothingPending, Image, last_image}
 use Rattle.disk_model.specs.Identity.{DiskIdentity}
 use Rattle.disk_model.specs.Moments.{EachSince, HasNow}
 use Rattle.device_model.specs.Mode as Model
 use Rattle.place_model.specs.Format.{format_on}
+use Rattle.place_model.specs.Kind.{kind_in}
 use Rattle.image_opening.specs.declared.open_fault.OpenFault.{OpenFault as FormatFault}
-use Rattle.image_opening.specs.Format.{direct_format_of}
 use Rattle.opening_fault.specs.declared.opening_fault.OpeningFault.{OpeningFault}
 use Rattle.opening_fault.specs.declared.opening_fault.OpeningFault.TheVariants as Faults
-use Rattle.opening_fault.specs.Faults.{ByFormat, ImageFault, fault_by, fault_in, fault_of}
-use Rattle.journal_opening.specs.Opening.{IsOfOpening, OnlySyncs}
+use Rattle.opening_fault.specs.Faults.{ByFormat, fault_in, fault_of}
+use Rattle.journal_opening.specs.Opening.{IsOfOpening, KeepsRefused, OnlySyncs}
+use Rattle.direct_opening.specs.Opening.{WritesEmptying}
 use Rattle.request_slots.specs.Flight.{no_requests}
 use Rattle.device_core.specs.declared.condition.Condition.TheVariants.{Working}
 use Rattle.integrity_device.specs.declared.mode.DeviceParts.{DeviceParts}
 use Rattle.integrity_device.specs.declared.opening.OpenMode.{OpenMode}
 use Rattle.integrity_device.specs.declared.opening.OpenMode.TheVariants.{Direct, Journal}
-use Rattle.integrity_device.specs.Device.{IsDevice, IsReady, Standing, kind_by, mode_of}
+use Rattle.integrity_device.specs.Device.{IsDevice, IsReady, Standing, mode_of}
 
 -- The mode that is asked for.
 abbrev pub asked_mode : OpenMode → Model.Mode
@@ -27,15 +28,20 @@ asked_mode Journal = Model.Journal
 -- The device that has just been opened on an image in a mode.
 abbrev pub opened_standing : Model.Mode → (key : Option (List ℕ)) → (sectors : ℕ) → Image → Standing
 opened_standing mode key sectors image = record {
-  format = (kind_by mode key sectors).format image;
-  state = (kind_by mode key sectors).opened image;
+  format = (kind_in mode key sectors).format image;
+  state = (kind_in mode key sectors).opened image;
   on = format_on key sectors image;
   entry = image;
 }
 
 -- The image that reads gave can be opened in the mode.
 abbrev pub CanOpenRead : Model.Mode → Option (List ℕ) → (sectors : ℕ) → List Content → Type 0
-CanOpenRead mode key sectors moments = HasNow (λ c. (kind_by mode key sectors).CanOpen (last_image c)) moments
+CanOpenRead mode key sectors moments = HasNow (λ c. (kind_in mode key sectors).CanOpen (last_image c)) moments
+
+-- In direct mode nothing is pending then.
+abbrev pub IsSettledIn : OpenMode → List Content → Type 0
+IsSettledIn Direct moments = HasNow HasNothingPending moments
+IsSettledIn Journal moments = Unit {0}
 
 -- The device is open on the image that reads gave, which is one that can be opened. No request is in flight.
 pub record HasOpened (mode : OpenMode) (key : Option (List ℕ)) (disk : DiskIdentity) (parts : DeviceParts)
@@ -47,40 +53,39 @@ pub record HasOpened (mode : OpenMode) (key : Option (List ℕ)) (disk : DiskIde
   pub requests : parts.common.slots ≡ no_requests parts.common.tags.geometry.blocks
       (512 * parts.common.tags.geometry.shape.spb)
   pub can : CanOpenRead (asked_mode mode) key disk.sectors before
+  pub settled : IsSettledIn mode after
 
--- The fault of an image that is opened in a mode: in direct mode no journal is looked at.
-abbrev pub fault_in_mode : OpenMode → (key : Option (List ℕ)) → (sectors : ℕ) → Image → Option ImageFault
-fault_in_mode Direct key sectors image = fault_by (λ format. None) (direct_format_of sectors image)
-fault_in_mode Journal key sectors image = fault_of key sectors image
-
--- The disk is not opened. The image tells why, where the disk did not fail and there was memory: behind a fault of the first
--- sector nothing was done, and behind any other the disk was synced at most.
-pub record IsRefused (mode : OpenMode) (key : Option (List ℕ)) (disk : DiskIdentity) (fault : OpeningFault)
+-- The disk is not opened, in either mode. The image tells why, where the disk did not fail and there was memory: behind a
+-- fault of the first sector nothing was done, and behind any other the disk was synced at most.
+pub record IsRefused (key : Option (List ℕ)) (disk : DiskIdentity) (fault : OpeningFault)
     (before after : List Content) : Type 0 where
   pub told : fault ≢ Faults.Disk → fault ≢ Faults.Memory
-      → HasNow (λ c. fault_in {T = DeviceParts} (Err fault) ≡ fault_in_mode mode key disk.sectors (last_image c)) before
+      → HasNow (λ c. fault_in {T = DeviceParts} (Err fault) ≡ fault_of key disk.sectors (last_image c)) before
   pub kept : (format : FormatFault) → fault_in {T = DeviceParts} (Err fault) ≡ Some (ByFormat format) → after ≡ before
   pub nothing : fault ≢ Faults.Disk → OnlySyncs before after
 
 -- At each moment each image can be opened, and may be left of the device before its first request.
 pub record IsLeftOpening (mode : Model.Mode) (key : Option (List ℕ)) (sectors : ℕ) (before after : List Content)
     : Type 0 where
-  pub opens : EachSince (λ start. EachImage (kind_by mode key sectors).CanOpen) before after
-  pub left : EachSince (λ start. let image = last_image start in let kind = kind_by mode key sectors in
+  pub opens : EachSince (λ start. EachImage (kind_in mode key sectors).CanOpen) before after
+  pub left : EachSince (λ start. let image = last_image start in let kind = kind_in mode key sectors in
       EachImage (kind.MayBeLeft image (kind.opened image).history)) before after
 
--- What an opening may write: in direct mode nothing, in journal mode what a recovery does.
+-- What an opening may write: what a recovery does. In direct mode the empty sections are those of the emptying, too, and
+-- where the journal was empty nothing of it is written.
 abbrev pub WritesInOpening : OpenMode → (key : Option (List ℕ)) → (sectors : ℕ) → (before after : List Content) → Type 0
-WritesInOpening Direct key sectors before after = OnlySyncs before after
+WritesInOpening Direct key sectors before after = WritesEmptying key sectors before after
 WritesInOpening Journal key sectors before after =
     EachSince (λ start. IsOfOpening (format_on key sectors (last_image start)).geometry start) before after
 
 -- The disk is the one that it was. Where the image could be opened it still can at each moment, and nothing of it is lost.
+-- One that is refused is synced at most.
 pub record LeavesOpening (mode : OpenMode) (key : Option (List ℕ)) (disk now : DiskIdentity)
     (before after : List Content) : Type 0 where
   pub identity : now ≡ disk
   pub left : CanOpenRead (asked_mode mode) key disk.sectors before
       → IsLeftOpening (asked_mode mode) key disk.sectors before after
+  pub refused : KeepsRefused (fault_of key disk.sectors) before after
   pub writes : WritesInOpening mode key disk.sectors before after
 
 -- The count of faults never falls; `Disk` comes only where it rose, and else it is as it was.

@@ -7,11 +7,11 @@ ghost use Rattle.request_slots.specs.Taking.{after_take, taken_by};
 ghost use Rattle.device_model.specs.Progress.{Close, FailedClose, IsClosed};
 ghost use Rattle.device_core.specs.Answers.{HasStepCause, actor_of, answer_by, condition_by, event_by, submit_fault, turns_left};
 ghost use Rattle.journal_device.specs.declared.served.Served.TheVariants.{Did, NoRoom};
-ghost use Rattle.integrity_device.specs.Answers.{HasEnded, HasServed, HasStepped, HasSubmitted, HasTaken, IsAllPlaced, IsSerial, KeepsParts, WritesInClose, WritesInServe, WritesInStep, steps_left};
+ghost use Rattle.integrity_device.specs.Answers.{HasEnded, HasNoWork, HasServed, HasStepped, HasSubmitted, HasTaken, IsAllPlaced, IsSerial, KeepsParts, WritesInClose, WritesInServe, WritesInStep, steps_left};
 ghost use Rattle.disk_model.specs.Identity.{IsBound};
 ghost use Rattle.hmac_tag.specs.TagMaker.{key_of};
 ghost use Rattle.integrity_device.specs.Opening.{HasOpened, HasRefusalCause, IsRefused, LeavesOpening};
-ghost use Rattle.integrity_device.specs.Device.{IsDevice, IsReady, Standing, with_slots};
+ghost use Rattle.integrity_device.specs.Device.{IsDevice, IsReady, Standing, mode_of, with_slots};
 
 use crate::{DeviceParts, OpenMode, Refused, closing, opening, serving, stepping, submitting};
 use device_core::{Actor, Condition, Moved, StepFault};
@@ -32,8 +32,9 @@ pub struct Device<'d, 'p, D: Disk> {
 
 impl<'d, 'p, D: Disk> Device<'d, 'p, D> {
     /// Opens a device on a disk in the mode that is asked for, whose tags are made by this hash. All memory that it
-    /// ever takes is taken before the first write; in journal mode the region gets the journal's sectors, and all that
-    /// the journal holds comes to its place.
+    /// ever takes is taken before the first write, and the region gets the journal's sectors. In either mode the disk
+    /// is synced, and all that its journal holds comes to its place. In direct mode the journal is then emptied, unless
+    /// every entry of it is unused and it has one commit number: no image of the disk has an entry that counts then.
     ///
     /// # Errors
     ///
@@ -45,7 +46,7 @@ impl<'d, 'p, D: Disk> Device<'d, 'p, D> {
     /// - `Super`: the superblock is refused. A disk without a sector has no magic.
     /// - `Geom`: the disk has no room for what the superblock tells.
     /// - `Mode`: there is a bitmap.
-    /// - `Journal`: in journal mode, the journal is refused. No sector was written.
+    /// - `Journal`: the journal is refused. No sector was written.
     pub fn open(
         alloc: Global,
         disk: &'d mut D,
@@ -65,7 +66,7 @@ impl<'d, 'p, D: Disk> Device<'d, 'p, D> {
 
         ensures cause { IfErr result (λ r.
             HasRefusalCause (D.faults disk.old) (D.faults r.disk.now) r.fault) }
-        ensures refused { IfErr result (λ r. IsRefused mode (key_of hash) (D.identity disk.old) r.fault
+        ensures refused { IfErr result (λ r. IsRefused (key_of hash) (D.identity disk.old) r.fault
             (D.moments disk.old) (D.moments r.disk.now)) }
         ensures leaves_back { IfErr result (λ r. LeavesOpening mode (key_of hash) (D.identity disk.old)
             (D.identity r.disk.now) (D.moments disk.old) (D.moments r.disk.now)) }
@@ -240,6 +241,8 @@ impl<'d, 'p, D: Disk> Device<'d, 'p, D> {
         ensures writes { self.old.condition ≡ Condition.Working
             → WritesInStep self.old.parts.mode actor self.old.parts.common
             (D.moments self.old.disk.now) (D.moments self.new.disk.now) }
+        ensures quiet { HasNoWork (mode_of self.old.parts.mode) (actor_of actor)
+            → self.new.disk.now ≡ self.old.disk.now }
         ensures condition { self.new.condition ≡ condition_by result }
         ensures kept { self.old.condition ≡ Condition.Broken → self.new.disk.now ≡ self.old.disk.now }
         ensures same_disk { self.new.disk.ghost_name ≡ self.old.disk.ghost_name }

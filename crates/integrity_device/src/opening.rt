@@ -6,6 +6,7 @@ ghost use Rattle.opening_fault.specs.Faults.{HasOpenCause};
 ghost use Rattle.integrity_device.specs.Opening.{HasOpened, IsRefused, LeavesOpening};
 
 use crate::{DeviceParts, Mode};
+use direct_opening::open_direct;
 use hmac_tag::Hash;
 use journal_device::{OpenedDevice, device_of, opened_journals_are_devices};
 use journal_opening::open_journal;
@@ -17,14 +18,16 @@ use std::alloc::Global;
 /// The mode that a device is opened in.
 #[derive(Clone, Copy, Debug, PartialEq, Eq)]
 pub enum OpenMode {
-    /// Writes go to their places. As long as nothing recovers a journal in it, its entries are left alone.
+    /// Writes go to their places. What the journal holds comes to its place at the opening, which then empties it.
     Direct,
     /// Writes go to the journal first.
     Journal,
 }
 
-/// Opens a device on a disk. All memory that it ever takes is taken before the first write; in journal mode the
-/// region gets the journal's sectors, and in direct mode it is left alone.
+/// Opens a device on a disk. All memory that it ever takes is taken before the first write, and the region gets the
+/// journal's sectors. In either mode the disk is synced and its image recovered, so that all that the journal holds
+/// comes to its place; in direct mode the journal is then emptied, unless every entry of it is unused and it has one
+/// commit number.
 ///
 /// # Errors
 ///
@@ -35,7 +38,7 @@ pub enum OpenMode {
 /// - `Super`: the superblock is refused. A disk without a sector has no magic.
 /// - `Geom`: the disk has no room for what the superblock tells.
 /// - `Mode`: there is a bitmap.
-/// - `Journal`: in journal mode, the journal is refused. No sector was written.
+/// - `Journal`: the journal is refused. No sector was written.
 pub(crate) fn open<'p, D: Disk>(
     alloc: Global,
     disk: &mut D,
@@ -47,14 +50,14 @@ pub(crate) fn open<'p, D: Disk>(
 
     ensures opened { IfOk result (λ parts. HasOpened mode (key_of hash) (D.identity disk.old) parts
         (D.moments disk.old) (D.moments disk.new)) }
-    ensures refused { IfErr result (λ fault. IsRefused mode (key_of hash) (D.identity disk.old) fault
+    ensures refused { IfErr result (λ fault. IsRefused (key_of hash) (D.identity disk.old) fault
         (D.moments disk.old) (D.moments disk.new)) }
     ensures cause { HasOpenCause (D.faults disk.old) (D.faults disk.new) result }
     ensures leaves { LeavesOpening mode (key_of hash) (D.identity disk.old) (D.identity disk.new)
         (D.moments disk.old) (D.moments disk.new) }
 {
     match mode {
-        OpenMode::Direct => open_direct(alloc, disk, hash),
+        OpenMode::Direct => open_in_direct(alloc, disk, pool, hash),
         OpenMode::Journal => open_in_journal(alloc, disk, pool, hash),
     }
 }
@@ -64,22 +67,23 @@ pub(crate) fn open<'p, D: Disk>(
 /// # Errors
 ///
 /// As `open` in that mode.
-fn open_direct<'p, D: Disk>(
+fn open_in_direct<'p, D: Disk>(
     alloc: Global,
     disk: &mut D,
+    pool: &mut Region,
     hash: Hash,
 ) -> Result<DeviceParts<'p>, OpeningFault>
     requires { IsBound (D.identity disk.old).name }
 
     ensures opened { IfOk result (λ parts. HasOpened OpenMode.Direct (key_of hash) (D.identity disk.old) parts
         (D.moments disk.old) (D.moments disk.new)) }
-    ensures refused { IfErr result (λ fault. IsRefused OpenMode.Direct (key_of hash) (D.identity disk.old) fault
+    ensures refused { IfErr result (λ fault. IsRefused (key_of hash) (D.identity disk.old) fault
         (D.moments disk.old) (D.moments disk.new)) }
     ensures cause { HasOpenCause (D.faults disk.old) (D.faults disk.new) result }
     ensures leaves { LeavesOpening OpenMode.Direct (key_of hash) (D.identity disk.old) (D.identity disk.new)
         (D.moments disk.old) (D.moments disk.new) }
 {
-    let common = device_core::open(alloc, disk, hash)?;
+    let common = open_direct(alloc, disk, hash, pool)?;
     Ok(DeviceParts {
         common,
         mode: Mode::Direct,
@@ -101,7 +105,7 @@ fn open_in_journal<'p, D: Disk>(
 
     ensures opened { IfOk result (λ parts. HasOpened OpenMode.Journal (key_of hash) (D.identity disk.old) parts
         (D.moments disk.old) (D.moments disk.new)) }
-    ensures refused { IfErr result (λ fault. IsRefused OpenMode.Journal (key_of hash) (D.identity disk.old) fault
+    ensures refused { IfErr result (λ fault. IsRefused (key_of hash) (D.identity disk.old) fault
         (D.moments disk.old) (D.moments disk.new)) }
     ensures cause { HasOpenCause (D.faults disk.old) (D.faults disk.new) result }
     ensures leaves { LeavesOpening OpenMode.Journal (key_of hash) (D.identity disk.old) (D.identity disk.new)

@@ -1,8 +1,8 @@
 //! What is done in the background, in the device's mode.
 ghost use Rattle.std.specs.Prelude.{◌≡◌, ◌↔◌, ◌<◌, Err, Ok};
 ghost use Rattle.device_core.specs.Answers.{HasStepCause, actor_of, condition_by};
-ghost use Rattle.integrity_device.specs.Answers.{HasStepped, KeepsParts, WritesInStep, steps_left};
-ghost use Rattle.integrity_device.specs.Device.{IsDevice, IsReady, Standing};
+ghost use Rattle.integrity_device.specs.Answers.{HasNoWork, HasStepped, KeepsParts, WritesInStep, steps_left};
+ghost use Rattle.integrity_device.specs.Device.{IsDevice, IsReady, Standing, mode_of};
 
 use crate::{DeviceParts, Mode};
 use device_core::{Actor, Condition, Moved, StepFault};
@@ -36,6 +36,7 @@ pub(crate) fn step<D: Disk>(
     ensures idle { result ≡ Ok Moved.Idle → (parts.new ≡ parts.old) × (disk.new ≡ disk.old) }
     ensures writes { condition.old ≡ Condition.Working → WritesInStep parts.old.mode actor parts.old.common
         (D.moments disk.old) (D.moments disk.new) }
+    ensures quiet { HasNoWork (mode_of parts.old.mode) (actor_of actor) → disk.new ≡ disk.old }
     ensures condition { condition.new ≡ condition_by result }
     ensures kept { condition.old ≡ Condition.Broken → disk.new ≡ disk.old }
 {

@@ -26,6 +26,11 @@ const SMALL: NewImage = NewImage {
     wipe: Wipe::Kept,
 };
 
+/// How an empty journal begins: with an entry that is not used.
+///
+/// Source: Linux, `drivers/md/dm-integrity.c`, `journal_entry_set_unused`.
+const UNUSED: [u8; 8] = [0, 0, 0, 0, 0xff, 0xff, 0xff, 0xff];
+
 /// A disk with a new image.
 fn new_disk(alloc: Global) -> Result<MemDisk, Fail> {
     let mut disk = MemDisk::new(alloc, 512, 2000)?;
@@ -162,6 +167,30 @@ fn read_alone<D: Disk>(
     Ok(byte)
 }
 
+/// Writes a block and flushes it in journal mode, where its device is not closed: an entry of the journal stands for it.
+fn write_to_journal<D: Disk>(alloc: Global, disk: &mut D) -> Result<bool, AllocError>
+    requires { IsBound (D.identity disk.old).name }
+{
+    let write = write_of(alloc, 0xaa)?;
+    let mut region = Region::new();
+    let Some(mut device) = open_device(alloc, disk, &mut region, OpenMode::Journal) else {
+        return Ok(false);
+    };
+    let written = reply_to(&mut device, write);
+    let _ = device.give_back();
+    Ok(matches!(written, Some(Reply::Written { .. })))
+}
+
+/// Whether the journal begins with an entry that is not used.
+fn begins_unused(disk: &mut MemDisk) -> Result<bool, Fail> {
+    let mut first = [0; 512];
+    if disk.sectors() < 9 {
+        return Err(Fail::from("sectors"));
+    }
+    disk.read_run(8, &mut first)?;
+    Ok(first.starts_with(&UNUSED))
+}
+
 #[test]
 fn in_journal_mode_a_write_is_placed_by_a_step(rt: HostRuntime) -> Result<(), Fail> {
     let byte = Some(0xaa);
@@ -186,5 +215,21 @@ fn in_direct_mode_a_write_goes_to_its_place_at_once(rt: HostRuntime) -> Result<(
     assert_eq!(rt; written, Some(Written { byte, placed }));
     let in_direct_mode = read_alone(rt.alloc(), &mut disk, OpenMode::Direct)?;
     assert_eq!(rt; in_direct_mode, byte);
+    Ok(())
+}
+
+#[test]
+fn in_direct_mode_the_journal_is_read_and_emptied(rt: HostRuntime) -> Result<(), Fail> {
+    let mut disk = new_disk(rt.alloc())?;
+    assert!(rt; begins_unused(&mut disk)?);
+    assert!(rt; write_to_journal(rt.alloc(), &mut disk)?);
+    assert!(rt; !begins_unused(&mut disk)?);
+    let byte = read_alone(rt.alloc(), &mut disk, OpenMode::Direct)?;
+    assert_eq!(rt; byte, Some(0xaa));
+    assert!(rt; begins_unused(&mut disk)?);
+    // The next one finds an empty journal, and the block in its place.
+    let again = read_alone(rt.alloc(), &mut disk, OpenMode::Direct)?;
+    assert_eq!(rt; again, Some(0xaa));
+    assert!(rt; begins_unused(&mut disk)?);
     Ok(())
 }

@@ -173,6 +173,14 @@ steps_left Actors.Settle journal = length journal.ring.committed
 steps_left Actors.Clean journal = 0
 steps_left Actors.Recalc journal = 0
 
+-- The actor has nothing to do in journal mode.
+abbrev pub HasNoWork : Model.Actor → Type 0
+HasNoWork Model.Commit = ⊥
+HasNoWork Model.Place = ⊥
+HasNoWork Model.Settle = ⊥
+HasNoWork Model.Clean = Unit {0}
+HasNoWork Model.Recalc = Unit {0}
+
 -- ---- a close
 
 -- The device ends with an event that answers so. At each moment of the call each image can be opened, and may be left

@@ -4,7 +4,7 @@ ghost use Rattle.disk_model.specs.Causes.{HasCause};
 ghost use Rattle.device_core.specs.Answers.{HasStepCause, actor_of, condition_by, moved_answer};
 ghost use Rattle.device_core.specs.declared.condition.Condition.TheVariants.{Broken, Working};
 ghost use Rattle.device_model.specs.Progress.{FailedStep, Step};
-ghost use Rattle.journal_device.specs.Answers.{HasStepped, KeepsAll, KeepsParts, WritesAs, moved_as, steps_left};
+ghost use Rattle.journal_device.specs.Answers.{HasNoWork, HasStepped, KeepsAll, KeepsParts, WritesAs, moved_as, steps_left};
 ghost use Rattle.journal_device.specs.Device.{DeviceStanding, HasDone, IsDevice, IsDone, IsReady};
 
 use device_core::{Actor, Condition, Moved, Parts, StepFault};
@@ -45,6 +45,7 @@ pub fn step<D: Disk>(
     ensures slots { parts.new.slots ≡ parts.old.slots }
     ensures writes { condition.old ≡ Condition.Working
         → WritesAs actor parts.old journal.old (D.moments disk.old) (D.moments disk.new) }
+    ensures quiet { HasNoWork (actor_of actor) → disk.new ≡ disk.old }
     ensures condition { condition.new ≡ condition_by result }
     ensures kept { condition.old ≡ Condition.Broken → disk.new ≡ disk.old }
 {
@@ -94,6 +95,7 @@ fn step_next<D: Disk>(
     ensures slots { parts.new.slots ≡ parts.old.slots }
     ensures identity { D.identity disk.new ≡ D.identity disk.old }
     ensures writes { WritesAs actor parts.old journal.old (D.moments disk.old) (D.moments disk.new) }
+    ensures quiet { HasNoWork (actor_of actor) → disk.new ≡ disk.old }
 {
     let moved = match actor {
         Actor::Commit => journal.commit(disk, &parts.tags)?,

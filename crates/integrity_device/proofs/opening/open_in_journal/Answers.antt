@@ -1,14 +1,15 @@
 use Rattle.std.proofs.Common.{refl}
 use Rattle.std.proofs.lemmas.Result.{err_from_is_err_and}
 use Rattle.hmac_tag.specs.TagMaker.{key_of}
-use Rattle.integrity_device.proofs.OpeningLemmas.{opened_journal, refused_journal}
+use Rattle.journal_opening.specs.declared.opened.OpenedJournal.{OpenedJournal}
+use Rattle.integrity_device.proofs.OpeningLemmas.{opened_journal, refused}
 use Rattle.integrity_device.proofs.opening.open_in_journal.Goals as goal
 
 pub returns-in_err-opened-clause-refused : goal.returns-in_err-opened-clause-refused
 returns-in_err-opened-clause-refused g c =
     let p = err_from_is_err_and c.from_residual.result c.from_residual.ensures.1 in
     let old = c.args.disk.now in
-    rw (p.1, p.2) (refused_journal (key_of c.args.hash) (g.D.Disk.identity old) (g.D.Disk.moments old)
+    rw (p.1, p.2) (refused OpenedJournal (key_of c.args.hash) (g.D.Disk.identity old) (g.D.Disk.moments old)
     (g.D.Disk.moments c.open_journal.new.disk) c.in_err-opened.field-0.0 c.in_err-opened.ensures.refused
     c.in_err-opened.ensures.kept (λ not_disk. c.in_err-opened.ensures.nothing not_disk refl))
 
@@ -32,5 +33,6 @@ pub returns-clause-leaves : goal.returns-clause-leaves
 returns-clause-leaves g c = record {
   identity = c.open_journal.ensures.identity;
   left = λ can. let left = c.open_journal.ensures.left can in record { opens = left.opens; left = left.left };
+  refused = c.open_journal.ensures.judged;
   writes = c.open_journal.ensures.moments;
 }

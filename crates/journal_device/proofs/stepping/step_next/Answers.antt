@@ -1,7 +1,10 @@
-use Rattle.std.proofs.Common.{inr, refl, ◌∙◌, sym, ap}
+use Rattle.std.proofs.Common.{inr, refl, ◌∙◌, sym, ap, subst}
+use Rattle.device_core.specs.declared.answers.Actor.{Actor}
+use Rattle.device_core.specs.Answers.{actor_of}
 use Rattle.direct_mode.proofs.ServingLemmas.{on_err_always}
 use Rattle.journal_mode.proofs.FlushLemmas.{one_is}
 use Rattle.journal_mode.proofs.ClosingLemmas.{batch_geometry}
+use Rattle.journal_device.specs.Answers.{HasNoWork}
 use Rattle.journal_device.specs.Device.{standing_of}
 use Rattle.journal_device.proofs.DoneLemmas.{stands_now}
 use Rattle.journal_device.proofs.EventLemmas.{clean_step, commit_step, place_step, recalc_step, settle_step, step_failed}
@@ -100,4 +103,23 @@ returns-clause-idle g c =
           (idle_settle parts journal x.settle.new.self disk x.settle.new.disk _ x.settle.new.tags x.in_ok-moved-in-Settle.ensures.moved)
       | in-Clean x ↦ rw (x.disk-is, x.parts-is, x.journal-is) (λ idle. record { parts = refl; journal_ = refl; disk = refl })
       | in-Recalc x ↦ rw (x.disk-is, x.parts-is, x.journal-is) (λ idle. record { parts = refl; journal_ = refl; disk = refl })
+    ]
+
+pub returns-in_err-moved-in-Commit-clause-quiet : goal.returns-in_err-moved-in-Commit-clause-quiet
+returns-in_err-moved-in-Commit-clause-quiet g c rests = absurd (subst (λ (a : Actor). HasNoWork (actor_of a)) c.in-Commit.is rests)
+
+pub returns-in_err-moved-in-Place-clause-quiet : goal.returns-in_err-moved-in-Place-clause-quiet
+returns-in_err-moved-in-Place-clause-quiet g c rests = absurd (subst (λ (a : Actor). HasNoWork (actor_of a)) c.in-Place.is rests)
+
+pub returns-in_err-moved-in-Settle-clause-quiet : goal.returns-in_err-moved-in-Settle-clause-quiet
+returns-in_err-moved-in-Settle-clause-quiet g c rests = absurd (subst (λ (a : Actor). HasNoWork (actor_of a)) c.in-Settle.is rests)
+
+pub returns-clause-quiet : goal.returns-clause-quiet
+returns-clause-quiet g c =
+    elim c.match-actor.branch [
+      | in-Commit+in_ok-moved-in-Commit x ↦ λ rests. absurd (subst (λ (a : Actor). HasNoWork (actor_of a)) x.in-Commit.is rests)
+      | in-Place+in_ok-moved-in-Place x ↦ λ rests. absurd (subst (λ (a : Actor). HasNoWork (actor_of a)) x.in-Place.is rests)
+      | in-Settle+in_ok-moved-in-Settle x ↦ λ rests. absurd (subst (λ (a : Actor). HasNoWork (actor_of a)) x.in-Settle.is rests)
+      | in-Clean x ↦ λ rests. x.disk-is
+      | in-Recalc x ↦ λ rests. x.disk-is
     ]
