@@ -1,1 +1,3 @@
 pub mod CommandRun
+pub mod Workload
+pub mod Exercise

@@ -5,7 +5,6 @@ pub mod RunLemmas
 pub mod RunsLemmas
 pub mod ReadLemmas
 pub mod TextLemmas
-pub mod WorkloadLemmas
 pub mod DecideLemmas
 pub mod FitLemmas
 pub mod TotalLemmas

@@ -2,7 +2,6 @@ pub mod Runs
 pub mod Line
 pub mod Verb
 pub mod Told
-pub mod Workload
 pub mod Plain
 pub mod Laws
 pub mod RunLaws

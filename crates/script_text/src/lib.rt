@@ -5,7 +5,6 @@
 //! any bytes are read by it, and that every script has a run, are laws (`specs/Laws.antt`, `specs/RunLaws.antt`).
 #![tactic(auto)]
 
-mod generator;
 mod grammar;
 mod line;
 mod pieces;
@@ -22,7 +21,6 @@ mod values;
 mod verb;
 mod words;
 
-pub use generator::workload;
 pub use grammar::{MOST_LINE, read_line};
 pub use line::{Actor, Ask, Line, LineFault};
 pub use reading_laws::{bytes_have_a_reading, scripts_have_a_run};

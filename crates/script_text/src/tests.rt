@@ -1,4 +1,4 @@
-use crate::{Actor, Ask, Line, LineFault, MOST_LINE, Told, read_line, reply_text, workload};
+use crate::{Actor, Ask, Line, LineFault, MOST_LINE, Told, read_line, reply_text};
 use std::alloc::{AllocError, Global};
 use std::test::Fail;
 
@@ -242,24 +242,5 @@ fn each_reply_has_its_text(rt: HostRuntime) -> Result<(), Fail> {
         let text = reply_text(rt.alloc(), &told)?;
         assert_eq!(rt; text.as_slice(), wanted.as_bytes(), "{wanted}");
     }
-    Ok(())
-}
-
-// Own: the workload. Its values were computed by a program that knows the rule alone.
-#[test]
-fn a_seed_tells_the_lines(rt: HostRuntime) -> Result<(), Fail> {
-    let lines = workload(rt.alloc(), 0, 3, 328)?;
-    let wanted = [
-        ask(false, fill(198, 4, 129, false)),
-        ask(false, fill(241, 3, 109, false)),
-        ask(
-            false,
-            Ask::Read {
-                first: 82,
-                count: 2,
-            },
-        ),
-    ];
-    assert_eq!(rt; lines.as_slice(), wanted.as_slice());
     Ok(())
 }

@@ -1,7 +1,7 @@
--- The lines of a workload, told by numbers that follow a seed.
+-- The requests of a workload, told by numbers that follow a seed.
 -- Source: the constants of Knuth's MMIX generator (The Art of Computer Programming, volume 2, 3.3.4). Own: what a number tells.
 use Rattle.std.specs.Prelude.{ℕ, zero, suc, ◌+◌, ◌-◌, ◌*◌, ◌/◌, ◌%◌, ◌^◌, false, if◌then◌else◌, ltb, min, List, [], ◌∷◌}
-use Rattle.device_model.specs.Script.{Ask, Fill, Read, Flush, ScriptLine, AskLine}
+use Rattle.device_model.specs.Script.{Ask, Fill, Read, Flush}
 
 -- The number behind this one.
 abbrev pub next_number : ℕ → ℕ
@@ -21,7 +21,7 @@ workload_ask x blocks =
     else if ltb (x / 2 ^ 60) 14 then Read (workload_first x blocks) (workload_count x blocks)
     else Flush
 
--- The first n lines behind a number. Each is told by the next number.
-abbrev pub workload_lines : ℕ → ℕ → ℕ → List ScriptLine
-workload_lines zero x blocks = []
-workload_lines (suc n) x blocks = AskLine false (workload_ask (next_number x) blocks) ∷ workload_lines n (next_number x) blocks
+-- The first n requests behind a number. Each is told by the next number.
+abbrev pub workload_asks : ℕ → ℕ → ℕ → List Ask
+workload_asks zero x blocks = []
+workload_asks (suc n) x blocks = workload_ask (next_number x) blocks ∷ workload_asks n (next_number x) blocks

@@ -1,0 +1,2 @@
+pub mod ExerciseLemmas
+mod Worked

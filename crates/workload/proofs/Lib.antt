@@ -1,0 +1,3 @@
+pub mod WorkloadLemmas
+pub mod RunnableLemmas
+pub mod TallyLemmas
