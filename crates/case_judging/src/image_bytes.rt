@@ -62,10 +62,11 @@ pub fn tag_of(bytes: &[u8], block: u64) -> &[u8] {
 
 /// Puts bytes in the place of others, where there are so many.
 fn put_at(bytes: &mut [u8], from: usize, run: &[u8]) {
-    for (k, byte) in run.iter().enumerate() {
-        if let Some(place) = bytes.get_mut(from.saturating_add(k)) {
-            *place = *byte;
-        }
+    let end = from.saturating_add(run.len());
+    if let Some(place) = bytes.get_mut(from..end)
+        && place.len() == run.len()
+    {
+        place.copy_from_slice(run);
     }
 }
 
@@ -113,6 +114,95 @@ fn put_journal_sector(bytes: &mut [u8], sector: u64) {
     }
     let id = 0x1111_1111_1111_1111 ^ sector;
     put_at(bytes, from.saturating_add(504), &id.to_le_bytes());
+}
+
+/// The byte where the journal begins, and how many it has.
+const JOURNAL_AT: usize = 4096;
+
+const JOURNAL_SIZE: usize = 88 * 512;
+
+/// Whether two small images are the same outside of their journals.
+pub fn is_same_outside_journal(one: &[u8], other: &[u8]) -> bool {
+    let behind = JOURNAL_AT + JOURNAL_SIZE;
+    let rest = one.len().saturating_sub(behind);
+    one.len() == other.len()
+        && run_at(one, 0, JOURNAL_AT) == run_at(other, 0, JOURNAL_AT)
+        && run_at(one, behind, rest) == run_at(other, behind, rest)
+}
+
+/// A small image with the entries of its journal in their places, and zeros in place of the journal. This has one
+/// section, which counts only where all its sectors bear one commit number. An entry is the number of a block, the last 8 bytes of its data, and its tag; the
+/// first 504 bytes of its data stand in a sector of their own.
+///
+/// Source: Linux, drivers/md/dm-integrity.c, `struct journal_entry`, `replay_journal`, `access_journal_entry` and
+/// `access_journal_data`.
+pub fn with_journal_placed(alloc: Global, image: &[u8]) -> Result<Vec<u8>, AllocError> {
+    let mut bytes = image.to_vec(alloc)?;
+    put_at(&mut bytes, JOURNAL_AT, &[0; JOURNAL_SIZE]);
+    if counts_journal(image) {
+        for entry in 0..JOURNAL_ENTRIES {
+            place_entry(&mut bytes, image, entry);
+        }
+    }
+    Ok(bytes)
+}
+
+/// How many entries the journal has.
+const JOURNAL_ENTRIES: u64 = 80;
+
+/// A sector of the journal.
+fn journal_sector(image: &[u8], sector: u64) -> &[u8] {
+    let from = (sector % JOURNAL_SECTORS) as usize * 512;
+    run_at(image, JOURNAL_AT + from, 512)
+}
+
+/// Whether each sector of the journal bears the number of the first one.
+fn counts_journal(image: &[u8]) -> bool {
+    let first = number_in(journal_sector(image, 0), 504);
+    (0..JOURNAL_SECTORS).all(|sector| number_in(journal_sector(image, sector), 504)
+        == first ^ sector)
+}
+
+/// The number in 8 bytes from one on, the lowest first.
+fn number_in(bytes: &[u8], from: usize) -> u64 {
+    match run_at(bytes, from, 8).first_chunk::<8>() {
+        Some(word) => u64::from_le_bytes(*word),
+        None => 0,
+    }
+}
+
+/// Puts the block of an entry of the journal in its place, if the entry is used.
+fn place_entry(bytes: &mut [u8], image: &[u8], entry: u64) {
+    let entry = entry % JOURNAL_ENTRIES;
+    let from = (entry / 8 * ENTRY_SIZE) as usize;
+    let fields = run_at(journal_sector(image, entry % 8), from, ENTRY_SIZE as usize);
+    let block = number_in(fields, 0);
+    if block >= BLOCKS {
+        return;
+    }
+    put_at(
+        bytes,
+        data_at(block),
+        run_at(journal_sector(image, 8 + entry), 0, 504),
+    );
+    put_at(
+        bytes,
+        data_at(block).saturating_add(504),
+        run_at(fields, 8, 8),
+    );
+    put_at(bytes, tag_at(block), run_at(fields, 16, 32));
+}
+
+/// Whether no entry of the journal is used, and all its sectors bear one commit number.
+pub fn has_empty_journal(image: &[u8]) -> bool {
+    counts_journal(image) && (0..JOURNAL_ENTRIES).all(|entry| !is_used(image, entry))
+}
+
+/// Whether an entry of the journal is used: the higher four bytes of its number are not all ones.
+fn is_used(image: &[u8], entry: u64) -> bool {
+    let entry = entry % JOURNAL_ENTRIES;
+    let from = (entry / 8 * ENTRY_SIZE) as usize;
+    run_at(journal_sector(image, entry % 8), from + 4, 4) != [255; 4].as_slice()
 }
 
 /// Whether these are the bytes of a small image: by the size, and by the first 64 bytes.

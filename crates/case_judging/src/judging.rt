@@ -106,7 +106,7 @@ pub fn judge_made(base: &[u8], made: &[u8], left: &[u8], has_synced: bool) -> Re
 }
 
 /// How many lines of the script a text tells whole. The last line of a run tells none.
-fn told_lines(text: &str) -> usize {
+pub(crate) fn told_lines(text: &str) -> usize {
     let mut told = 0usize;
     for line in text.split_inclusive('\n') {
         let is_block = line.starts_with("fault block ");
@@ -162,7 +162,7 @@ pub fn images_after(
 }
 
 /// Whether a line of a script has no reply: it has no word, or begins with #.
-fn is_skipped(line: &str) -> bool {
+pub(crate) fn is_skipped(line: &str) -> bool {
     line.starts_with('#') || line.bytes().all(|byte| byte == b' ')
 }
 
@@ -189,7 +189,7 @@ fn add_write(alloc: Global, images: &mut Vec<Vec<u8>>, line: &str) -> Result<(),
 }
 
 /// The first block that a line writes, and the bytes from there on.
-fn written_by(alloc: Global, line: &str) -> Result<Option<(u64, Vec<u8>)>, AllocError> {
+pub(crate) fn written_by(alloc: Global, line: &str) -> Result<Option<(u64, Vec<u8>)>, AllocError> {
     let mut words = line.split(' ');
     let name = words.next();
     let (Some(first), Some(third)) = (words.next(), words.next()) else {

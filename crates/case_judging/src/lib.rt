@@ -4,10 +4,14 @@
 #![tactic(auto)]
 
 mod image_bytes;
+mod journaled;
 mod judging;
 mod wrong;
 
-pub use image_bytes::{run_at, small_image};
+pub use image_bytes::{
+    has_empty_journal, is_same_outside_journal, is_small, run_at, small_image, with_journal_placed,
+};
+pub use journaled::Writes;
 pub use judging::{
     Met, Told, digests_of, images_after, judge_left, judge_made, judge_reads, judge_text, reads,
 };

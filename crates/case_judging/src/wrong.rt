@@ -10,6 +10,9 @@ pub enum Wrong {
     /// Of a block that is left.
     #[error("block {block}: {what}")]
     Block { block: u64, what: &'static str },
+    /// Of the blocks together: they are to be those after some prefix of so many writes, with so many flushed ones.
+    #[error("the blocks are those after no prefix of {begun} writes that has the first {flushed}")]
+    Prefix { flushed: usize, begun: usize },
     /// There was no memory to look at it.
     #[error("out of memory")]
     Memory,

@@ -2,21 +2,14 @@
 ghost use Rattle.std.specs.Prelude.{◌≡◌};
 ghost use Rattle.command_words.specs.Come.{has_come};
 
-use crate::command::{Command, Run};
-use crate::values::Mode;
+use crate::command::Command;
 
-/// Whether the program has the command: it has `format`, `dump`, `check`, and `run` in direct mode.
+/// Whether the program has the command: it has `format`, `dump`, `check` and `run`.
 pub fn has_come(command: &Command) -> bool
     ensures { result ≡ has_come command.now }
 {
     matches!(
         command,
-        Command::Format(_)
-            | Command::Dump(_)
-            | Command::Check(_)
-            | Command::Run(Run {
-                mode: Mode::Direct,
-                ..
-            })
+        Command::Format(_) | Command::Run(_) | Command::Dump(_) | Command::Check(_)
     )
 }

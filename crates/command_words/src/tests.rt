@@ -14,7 +14,7 @@ static TAKEN: [(&str, &str); 30] = [
     ),
     (
         "run|--mode=J|I",
-        "mode: Journal, hash: Sha256 }), come: false",
+        "mode: Journal, hash: Sha256 }), come: true",
     ),
     (
         "run|I|--mode|J|--integrity|hmac-sha256|--integrity-key-file|K",

@@ -7,6 +7,7 @@
 #![tactic(auto)]
 
 mod input;
+mod recovering;
 mod running;
 mod session;
 mod telling;

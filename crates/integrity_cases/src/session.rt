@@ -168,11 +168,27 @@ fn try_bits(
             counts.runs = counts.runs.saturating_add(1);
             let outcome = outcome_at(alloc, case, base, Edit::Flip { at, byte, bit })?;
             let label = format!(in alloc; "byte {byte} bit {bit}")?;
-            add(alloc, &mut rows, label.as_str(), outcome.as_str())?;
+            add(
+                alloc,
+                &mut rows,
+                label.as_str(),
+                without_tags(outcome.as_str()),
+            )?;
         }
     }
     put_rows(alloc, told, &rows, "bits", "")?;
     Ok(())
+}
+
+/// An outcome without the tags that a fault of the journal tells, which differ with each bit of an entry.
+fn without_tags(outcome: &str) -> &str {
+    if !outcome.starts_with("3 fault image journal tag ") {
+        return outcome;
+    }
+    match outcome.split_once(" stored ") {
+        Some((front, _)) => front,
+        None => outcome,
+    }
 }
 
 /// How a case ends on a disk with one more edit.

@@ -110,6 +110,12 @@ pub fn is_keyed(case: &Case) -> bool {
     case.words.iter().any(|word| word.as_str() == "hmac-sha256")
 }
 
+/// Whether the words of a case are those of a run in journal mode.
+pub fn is_journaled(case: &Case) -> bool {
+    let is_run = matches!(case.words.get(1), Some(word) if word.as_str() == "run");
+    is_run && case.words.iter().any(|word| word.as_str() == "J")
+}
+
 /// How a run has ended, and below it what the case shows.
 pub fn told_of(alloc: Global, case: &Case, ended: &Ended) -> Result<String> {
     let mut told = outcome_of(alloc, ended)?;

@@ -1,4 +1,5 @@
 //! Tries a case with each failure of a kind, until a run meets none.
+use crate::recovering::{Recovered, judge_recovered, recovered_by};
 use crate::running::{Ended, run};
 use crate::telling::{is_keyed, outcome_of};
 use anyhow::{Result, bail};
@@ -37,6 +38,8 @@ pub struct Trial {
     is_keyed: bool,
     /// The bytes of the image that the case makes, if it makes one.
     made: Option<Vec<u8>>,
+    /// What its runs recover, if the journal plays a part.
+    recovered: Option<Recovered>,
 }
 
 impl Trial {
@@ -45,6 +48,7 @@ impl Trial {
         let Ok(script) = str::from_utf8(&case.script) else {
             bail!("a script that is tried is text");
         };
+        let recovered = recovered_by(alloc, case, &base, script, undisturbed.text.as_str())?;
         Ok(Trial {
             disk: disk_of(alloc, &base)?,
             digests: digests_of(alloc, &base)?,
@@ -53,6 +57,7 @@ impl Trial {
             reads: Case::new(alloc, reads(alloc)?)?,
             is_keyed: is_keyed(case),
             made: made_by(alloc, case, undisturbed)?,
+            recovered,
         })
     }
 }
@@ -147,7 +152,11 @@ fn judge(
         return Ok(());
     }
     let text = ended.text.as_str();
-    let images = images_after(alloc, &trial.base, trial.script.as_str(), text)?;
+    let script = trial.script.as_str();
+    let images = match &trial.recovered {
+        Some(recovered) => recovered.images(alloc, script, text)?,
+        None => images_after(alloc, &trial.base, script, text)?,
+    };
     let mut tried: Vec<Vec<u32>> = Vec::new(alloc);
     for candidates in CHOICES {
         let choice = choice_of(alloc, &ended.disk, candidates)?;
@@ -173,6 +182,9 @@ fn judge_choice(
     counts.images = counts.images.saturating_add(1);
     if let Some(made) = &trial.made {
         return Ok(judge_made(&trial.base, made, &left, ended.disk.seen.syncs > 0)?);
+    }
+    if let Some(recovered) = &trial.recovered {
+        return judge_recovered(alloc, counts, recovered, images, ended, image, &left);
     }
     judge_left(alloc, images, &left)?;
     counts.runs = counts.runs.saturating_add(1);

@@ -23,8 +23,9 @@ use Rattle.image_check.proofs.CheckedLemmas.{awaiting_none, blocks_are, judged_i
 use Rattle.place_model.specs.Format.{format_on}
 use Rattle.command_ending.specs.Ended.{ending_of}
 use Rattle.command_model.specs.CommandRun.{Outset, Prints, IsEndedShort, only_prints}
-use Rattle.integrity_tool.specs.Checking.{IsListed, IsPrintedShort, bad_in, bad_line, check_outset, counts_line, ended_by_check, ending_by_refusal, has_bad, last_line, lines_in, outset_by_check}
+use Rattle.integrity_tool.specs.Checking.{IsListed, IsPrintedShort, bad_in, bad_line, check_outset, counts_line, has_bad, last_line, lines_in, outset_by_check}
 use Rattle.integrity_tool.specs.Opening.{HasRunOn}
+use Rattle.integrity_tool.specs.Refusing.{ended_by_opening, ending_by_refusal}
 use Rattle.integrity_tool.proofs.PrintingLemmas.{all_printed, part_printed, same_now}
 use Rattle.integrity_tool.proofs.RunningLemmas.{told_further, told_nothing}
 use Rattle.integrity_tool.proofs.StartLemmas.{before_kept, counts_begin, fine_check, lines_begin, nothing_run, refused_run, untouched_kept}
@@ -202,7 +203,7 @@ module _ (what : What) (key : Option (List ℕ)) (sectors : ℕ) (start : Conten
   pub not_checked : (fault : OpeningFault) (held : Option (List ℕ))
       → ((fault ≢ OpeningFaults.Memory) → (fault ≢ OpeningFaults.Disk)
       → fault_in {T = Unit {0}} (Err fault) ≡ fault_for what key sectors (last_image start))
-      → HasRunOn outset start script (ending_of (ended_by_check fault)) b held held
+      → HasRunOn outset start script (ending_of (ended_by_opening fault)) b held held
   not_checked OpeningFaults.Memory held refused = unchecked NoMemory held (inl refl)
   not_checked OpeningFaults.Disk held refused = unchecked DiskFailed held (inr refl)
   not_checked (OpeningFaults.Super fault) held refused = refused_as _ held (refused (λ is. absurd (cc)) (λ is. absurd (cc)))

@@ -2,41 +2,38 @@
 use Rattle.std.proofs.Common.{Result, Ok, Err, IfErr, is_err, ◌≡◌, inl, inr, ℕ, ◌<◌, true, false}
 use Rattle.std.proofs.Common.{List, [], length, take, refl, sym, ◌∙◌, ap, subst, arith}
 use Rattle.std.proofs.Common.{append-nil, length-take, Option}
-use Rattle.disk_model.specs.Disk.{Content, Image, EachImage, OnlyAdds}
-use Rattle.disk_model.specs.Moments.{EachMoment, EachSince}
-use Rattle.disk_model.proofs.MomentsLemmas.{EachMoment-weaker, adds_wider}
-use Rattle.image_model.specs.Geometry.{Geometry}
+use Rattle.disk_model.specs.Disk.{Content, Image, EachImage}
+use Rattle.disk_model.specs.Moments.{EachMoment}
+use Rattle.disk_model.proofs.MomentsLemmas.{EachMoment-weaker}
 use Rattle.device_model.specs.Device.{DeviceKind}
 use Rattle.device_model.specs.Ending.{Complete, DiskFailed, SinkFailed}
-use Rattle.device_model.specs.History.{Change, History, IsWrittenIn, with_changes}
+use Rattle.device_model.specs.History.{Change, History, with_changes}
 use Rattle.device_model.specs.Mode.{DeviceFormat}
 use Rattle.device_model.specs.Progress as Model
-use Rattle.device_model.specs.Progress.{DeviceState, Event, Close, FailedClose, event_result}
+use Rattle.device_model.specs.Progress.{DeviceState, Event, Close, FailedClose, after_event, event_result}
 use Rattle.device_model.specs.Progress.{result_in}
 use Rattle.device_model.specs.ScriptRun.{ScriptStep, changes_in, close_step}
 use Rattle.device_model.specs.ScriptRun.{only_ends, texts_of}
 use Rattle.device_model.specs.Transcript.{closed_text}
-use Rattle.direct_model.specs.DirectDisk.{DirectDisk}
-use Rattle.direct_laws.specs.MomentLaws.{IsLeftNow, IsLeftThrough, kind_of}
-use Rattle.direct_laws.specs.ServeLaws.{KeepsDevice}
+use Rattle.direct_laws.specs.MomentLaws.{IsLeftNow, IsLeftThrough}
 use Rattle.direct_laws.specs.Within.{IsWithin}
 use Rattle.stream_io.specs.Stream.{AddsPrefix}
 use Rattle.script_text.proofs.ScriptRunLemmas.{came_into}
 use Rattle.script_text.proofs.ScriptRunLemmas.{run_is_whole}
-use Rattle.direct_mode.specs.Places.{IsNoBlock, IsOfPlaces}
-use Rattle.direct_mode.proofs.PlacesLemmas.{IsOfPlaces-wider}
 use Rattle.device_core.specs.declared.condition.Condition.{Condition}
 use Rattle.device_core.specs.declared.condition.Condition.TheVariants.{Working}
-use Rattle.device_core.specs.declared.parts.Parts.{Parts}
-use Rattle.device_core.specs.Device.{IsDevice, Standing}
-use Rattle.device_core.specs.Answers as answers
 use Rattle.device_core.specs.Answers.{answer_by, event_by}
 use Rattle.device_core.specs.declared.answers.StepFault.{StepFault}
 use Rattle.device_core.specs.declared.answers.StepFault.TheVariants as faults
 use Rattle.script_session.specs.declared.tags_found.TagsFound.{TagsFound}
 use Rattle.script_session.specs.Told.{finds_fault}
-use Rattle.script_session.proofs.RunLemmas.{EachMoment-both}
-use Rattle.script_session.specs.LineRun.{IsLeftWithin, WritesOnly}
+use Rattle.integrity_device.specs.declared.mode.DeviceParts.{DeviceParts}
+use Rattle.integrity_device.specs.Answers.{HasEnded, WritesInClose}
+use Rattle.integrity_device.specs.Device.{IsDevice, Standing, kind_of}
+use Rattle.device_run.specs.Run.{IsLeftWithin}
+use Rattle.device_run.specs.Writes.{WritesOnly}
+use Rattle.device_run.proofs.EventWritesLemmas.{close_writes}
+use Rattle.device_run.proofs.RunLemmas.{EachMoment-both, left-wider}
 use Rattle.script_session.specs.LineRun.{held_with}
 use Rattle.command_ending.specs.declared.ended.Ended.{Ended}
 use Rattle.command_ending.specs.declared.ended.Ended.TheVariants as Endings
@@ -45,7 +42,6 @@ use Rattle.integrity_tool.specs.Opening.{EndsImage}
 use Rattle.integrity_tool.specs.Running.{IsCounted, IsStopped, ending_by, only_close}
 use Rattle.integrity_tool.specs.declared.closing.CloseFault.{CloseFault}
 use Rattle.integrity_tool.specs.declared.closing.CloseFault.TheVariants as CloseFaults
-use Rattle.script_session.proofs.RunLemmas.{left-wider}
 use Rattle.integrity_tool.proofs.RunningLemmas.{told_nothing}
 
 -- ---- what a close does
@@ -73,24 +69,26 @@ failed_close_in f s Model.Closed = refl
 failed_close : (f : DeviceFormat) (s : DeviceState) → (event_result f s FailedClose).changes ≡ []
 failed_close f s = failed_close_in f s s.condition
 
--- A close writes the sectors of tags alone.
-pub close_writes : (w : Standing) (parts : Parts) (a b : List Content) (changes : List Change)
-    → IsDevice w Working parts a → EachSince (OnlyAdds (IsOfPlaces parts.tags.geometry IsNoBlock)) a b
-    → WritesOnly w.disk.geometry changes a b
-close_writes w parts a b changes is writes =
-    let cells = is.cells refl in
-    adds_wider (IsOfPlaces w.disk.geometry IsNoBlock) (IsOfPlaces w.disk.geometry (IsWrittenIn changes))
-    (IsOfPlaces-wider IsNoBlock (IsWrittenIn changes) w.disk.geometry (λ block none. absurd none))
-    (subst (λ (g : Geometry). EachSince (OnlyAdds (IsOfPlaces g IsNoBlock)) a b) (sym cells.geometry) writes)
+-- What a close writes the rest of a run may.
+pub closing_writes : (w : Standing) (found : TagsFound) (parts : DeviceParts) (a b : List Content)
+    → IsDevice w Working parts a → WritesInClose parts.mode parts.common a b
+    → WritesOnly w.format.mode w.on.geometry (changes_in (only_close w found).steps) a b
+closing_writes w found parts a b is writes =
+    close_writes w parts.common a parts.mode is (changes_in (only_close w found).steps) writes
 
-module _ (w : Standing) (found : TagsFound) (disk : DirectDisk) (a b : List Content)
+module _ (w : Standing) (found : TagsFound) (a b : List Content)
     (held_a held_b : Option (List ℕ))
-    (writes : WritesOnly w.disk.geometry (changes_in (only_close w found).steps) a b) where
+    (writes : WritesOnly w.format.mode w.on.geometry (changes_in (only_close w found).steps) a b) where
   abbrev closing : ScriptStep
   closing = close_step w.format w.state
 
   abbrev kind : DeviceKind
-  kind = kind_of w.disk
+  kind = kind_of w
+
+  -- What the device is left as by such an event.
+  abbrev Closes : Event → Type 0
+  Closes event = IsLeftThrough kind w.entry w.format w.state event a b
+      × IsLeftNow kind w.entry (after_event w.format w.state event).history b
 
   texts_closed : texts_of (only_close w found).steps ≡ closed_text
   texts_closed = (run_is_whole closing (only_ends (Complete (finds_fault found)))).0 ∙ append-nil closed_text
@@ -99,13 +97,13 @@ module _ (w : Standing) (found : TagsFound) (disk : DirectDisk) (a b : List Cont
   changes_closed = (run_is_whole closing (only_ends (Complete (finds_fault found)))).1
       ∙ append-nil closing.changes
 
-  since_close : KeepsDevice w.format w.state Close w.entry w.disk disk a b
+  since_close : Closes Close
       → EachMoment a b (IsLeftWithin kind w.entry w.state.history (changes_in (only_close w found).steps))
   since_close keeps = subst (λ (l : List Change). EachMoment a b (IsLeftWithin kind w.entry w.state.history l))
-      (sym changes_closed) (since_event kind w.entry w.format w.state Close a b keeps.through)
+      (sym changes_closed) (since_event kind w.entry w.format w.state Close a b keeps.0)
 
   -- The device is closed, and that is printed: all is done.
-  pub stopped_by_close : KeepsDevice w.format w.state Close w.entry w.disk disk a b
+  pub stopped_by_close : Closes Close
       → held_b ≡ held_with closed_text held_a
       → IsStopped w (only_close w found) (Complete (finds_fault found)) a b held_a held_b
   stopped_by_close keeps told = record {
@@ -117,12 +115,12 @@ module _ (w : Standing) (found : TagsFound) (disk : DirectDisk) (a b : List Cont
     });
     since = since_close keeps;
     writes = writes;
-    now = keeps.now;
+    now = keeps.1;
     told = told;
   }
 
   -- It is closed, and the sink failed.
-  pub stopped_in_closed : KeepsDevice w.format w.state Close w.entry w.disk disk a b
+  pub stopped_in_closed : Closes Close
       → AddsPrefix closed_text held_a held_b → IsStopped w (only_close w found) SinkFailed a b held_a held_b
   stopped_in_closed keeps told = record {
     text = take told.count closed_text;
@@ -140,12 +138,12 @@ module _ (w : Standing) (found : TagsFound) (disk : DirectDisk) (a b : List Cont
     });
     since = since_close keeps;
     writes = writes;
-    now = keeps.now;
+    now = keeps.1;
     told = told.held;
   }
 
   -- The disk failed in the close, and nothing is printed.
-  pub stopped_in_close : KeepsDevice w.format w.state FailedClose w.entry w.disk disk a b → held_b ≡ held_a
+  pub stopped_in_close : Closes FailedClose → held_b ≡ held_a
       → IsStopped w (only_close w found) DiskFailed a b held_a held_b
   stopped_in_close keeps told = record {
     text = [];
@@ -163,10 +161,10 @@ module _ (w : Standing) (found : TagsFound) (disk : DirectDisk) (a b : List Cont
         (changes_in (only_close w found).steps) c
         (subst (λ (l : List Change). IsLeftWithin kind w.entry w.state.history l c)
         (failed_close w.format w.state) left))
-        (since_event kind w.entry w.format w.state FailedClose a b keeps.through);
+        (since_event kind w.entry w.format w.state FailedClose a b keeps.0);
     writes = writes;
     now = subst (λ (l : List Change). IsLeftNow kind w.entry (with_changes l w.state.history) b)
-        (failed_close w.format w.state) keeps.now;
+        (failed_close w.format w.state) keeps.1;
     told = told ∙ told_nothing held_a;
   }
 
@@ -175,8 +173,8 @@ module _ (w : Standing) (found : TagsFound) (disk : DirectDisk) (a b : List Cont
 -- The device is closed where the close did not fail.
 pub closed_device : {T : Type 0} (w : Standing) (a b : List Content) (result : Result T StepFault)
     → is_err result ≡ false
-    → answers.HasEnded w (event_by Close FailedClose result) (answer_by (λ done. Model.IsClosed) result) a b
-    → answers.HasEnded w Close Model.IsClosed a b
+    → HasEnded w (event_by Close FailedClose result) (answer_by (λ done. Model.IsClosed) result) a b
+    → HasEnded w Close Model.IsClosed a b
 closed_device w a b (Ok done) not ended = ended
 closed_device w a b (Err fault) not ended = absurd (cc)
 
@@ -184,14 +182,14 @@ closed_device w a b (Err fault) not ended = absurd (cc)
 pub failed_device : {T : Type 0} (w : Standing) (a b : List Content) (result : Result T StepFault)
     → is_err result ≡ true
     → (result ≡ Err faults.Broken → ⊥)
-    → answers.HasEnded w (event_by Close FailedClose result) (answer_by (λ done. Model.IsClosed) result) a b
-    → answers.HasEnded w FailedClose Model.DiskFailed a b
+    → HasEnded w (event_by Close FailedClose result) (answer_by (λ done. Model.IsClosed) result) a b
+    → HasEnded w FailedClose Model.DiskFailed a b
 failed_device w a b (Ok done) failed works ended = absurd (cc)
 failed_device w a b (Err faults.Disk) failed works ended = ended
 failed_device w a b (Err faults.Broken) failed works ended = absurd (works refl)
 
 -- A device is what it is in the condition that it has.
-pub in_condition : (w : Standing) (one other : Condition) (parts : Parts) (a : List Content) → one ≡ other
+pub in_condition : (w : Standing) (one other : Condition) (parts : DeviceParts) (a : List Content) → one ≡ other
     → IsDevice w other parts a → IsDevice w one parts a
 in_condition w one other parts a same is = subst (λ (x : Condition). IsDevice w x parts a) (sym same) is
 

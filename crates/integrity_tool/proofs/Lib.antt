@@ -1,6 +1,8 @@
 pub mod ClosingLemmas
 pub mod KeyLemmas
 pub mod LoopLemmas
+pub mod OpeningLemmas
+pub mod ReopeningLemmas
 pub mod RunningLemmas
 pub mod StartLemmas
 pub mod TakenLemmas

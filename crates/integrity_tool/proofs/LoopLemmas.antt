@@ -23,14 +23,15 @@ use Rattle.script_reader.specs.Lines.{FindsEnd, FindsWholeLine}
 use Rattle.script_reader.specs.Reading.{HasNoNewline, IsWithin, Reading, TakesLine, most_piece}
 use Rattle.script_reader.proofs.LinesLemmas.{is_too_long-script, lines_left-script}
 use Rattle.device_core.specs.declared.condition.Condition.TheVariants as Conditions
-use Rattle.device_core.specs.declared.parts.Parts.{Parts}
-use Rattle.device_core.specs.Device.{IsDevice, Standing}
+use Rattle.integrity_device.specs.declared.mode.DeviceParts.{DeviceParts}
+use Rattle.integrity_device.specs.Device.{IsDevice, Standing}
+use Rattle.device_run.specs.Run.{standing_behind}
 use Rattle.script_session.specs.declared.tags_found.TagsFound.{TagsFound}
 use Rattle.script_session.specs.declared.tags_found.TagsFound.TheVariants.{Matching}
 use Rattle.request_slots.specs.Flight.{Flight, ask_of}
 use Rattle.script_session.specs.declared.tickets.Tickets.{Tickets}
 use Rattle.script_session.specs.Tickets.{AreInFlight, ask_by}
-use Rattle.script_session.specs.LineRun.{events_of, held_with, standing_behind}
+use Rattle.script_session.specs.LineRun.{events_of, held_with}
 use Rattle.script_session.specs.Told.{finds_fault}
 use Rattle.command_ending.specs.Ended.{ending_of}
 use Rattle.command_ending.specs.declared.ended.Ended.{Ended}
@@ -86,7 +87,7 @@ leads_at_start w run other a held is ending later held_later stopped =
     subst (λ (r : ScriptRun). IsStopped w r ending a later held held_later) (sym is) stopped
 
 -- A run stands before its first line where nothing is read yet.
-pub at_start : (w : Standing) (parts : Parts) (a : List Content) (held : Option (List ℕ)) (script : List ℕ)
+pub at_start : (w : Standing) (parts : DeviceParts) (a : List Content) (held : Option (List ℕ)) (script : List ℕ)
     (run : ScriptRun)
     (reader : Reading) (left : Option (List ℕ)) → IsDevice w Conditions.Working parts a → left ≡ Some script
     → IsRunOf w.format w.state script run → reader ≡ record { unread = []; line = []; taken = 0 }
@@ -130,7 +131,7 @@ module _ (there : Standing) (run : ScriptRun) (start : List Content) (held_start
 
   -- Behind its first line, which was run, it stands before the others.
   behind_line : (here : Standing) (beyond : Bool) (number : ℕ) (found told found_b : TagsFound) (bytes : List ℕ)
-      (others : List (List ℕ)) (parts : Parts) (now later : List Content) (held held_b : Option (List ℕ))
+      (others : List (List ℕ)) (parts : DeviceParts) (now later : List Content) (held held_b : Option (List ℕ))
       (ran : HasRunBytes here bytes told parts now later held held_b)
       → finds_fault found_b ≡ (finds_fault found || finds_fault told) → (lines : List ReadLine)
       → AllZip IsReadAs (bytes ∷ others) lines
@@ -138,7 +139,7 @@ module _ (there : Standing) (run : ScriptRun) (start : List Content) (held_start
       there run start held_start
       → (steps : List ScriptStep)
       → run.steps ≡ steps ++ (run_from here.format beyond number here.state (finds_fault found) lines).steps
-      → StandsBefore (standing_behind here (events_of here ran.line) ran.run.run.disk) beyond
+      → StandsBefore (standing_behind here (events_of here ran.line)) beyond
       (suc number) found_b others
       later held_b (steps ++ line_step (line_outcome here.format here.state ran.line) ∷ [])
   behind_line here beyond number found told found_b bytes others parts now later held held_b ran either [] read
@@ -158,7 +159,7 @@ module _ (there : Standing) (run : ScriptRun) (start : List Content) (held_start
       ∙ (run_is_split f number s (finds_fault found)).goes_on beyond ran.line lines ran.run.runnable in
       let same : finds_fault found_b ≡ (finds_fault found || outcome.finds_fault) =
       either ∙ ap (λ (b : Bool). finds_fault found || b) ran.run.found_ in
-      let next = standing_behind here (events_of here ran.line) ran.run.run.disk in
+      let next = standing_behind here (events_of here ran.line) in
       let one : ScriptStep = line_step outcome in
       record {
         lines = lines;
@@ -191,7 +192,7 @@ module _ (there : Standing) (run : ScriptRun) (start : List Content) (held_start
       leads (ending_of ended) later held_b (stopped beyond (finds_fault found) first lines read.0)
 
   -- So does a line that is too long.
-  long_line : (here : Standing) (parts : Parts) (now : List Content)
+  long_line : (here : Standing) (parts : DeviceParts) (now : List Content)
       → IsDevice here Conditions.Working parts now
       → (beyond : Bool) (number : ℕ) (found : TagsFound) (bytes : List ℕ) (others : List (List ℕ))
       (held : Option (List ℕ)) → IsReadAs bytes (Refused TooLong) → (lines : List ReadLine)
@@ -207,7 +208,7 @@ module _ (there : Standing) (run : ScriptRun) (start : List Content) (held_start
       (read_once bytes first (Refused TooLong) read.0 long)))
 
   -- A script that is too long ends where no line is left.
-  long_script : (here : Standing) (parts : Parts) (now : List Content)
+  long_script : (here : Standing) (parts : DeviceParts) (now : List Content)
       → IsDevice here Conditions.Working parts now
       → (beyond : Bool) → beyond ≡ true → (number : ℕ) (found : TagsFound) (held : Option (List ℕ))
       (lines : List ReadLine) → AllZip IsReadAs [] lines
@@ -232,11 +233,11 @@ module _ (there : Standing) (run : ScriptRun) (start : List Content) (held_start
 
   -- ---- for callers
 
-  module _ (number : ℕ) (found : TagsFound) (old new : Reading) (left later : List ℕ) (parts : Parts)
+  module _ (number : ℕ) (found : TagsFound) (old new : Reading) (left later : List ℕ) (parts : DeviceParts)
       (now : List Content) (held : Option (List ℕ))
       (script : List ℕ) (at : IsAt there run script start held_start number found old left parts now held) where
     -- A line is found and run: the run stands before the next one.
-    pub line_done : (parts_b : Parts) (now_b : List Content) (held_b : Option (List ℕ))
+    pub line_done : (parts_b : DeviceParts) (now_b : List Content) (held_b : Option (List ℕ))
         (told found_b : TagsFound)
         (number_b : ℕ) → FindsWholeLine old new (old.unread ++ left) (new.unread ++ later)
         → HasRunBytes at.here new.line told parts_b now now_b held held_b
@@ -251,7 +252,7 @@ module _ (there : Standing) (run : ScriptRun) (start : List Content) (held_start
         parts_b now now_b held held_b ran either at.lines
         (subst (λ (l : List (List ℕ)). AllZip IsReadAs l at.lines) finds.next at.read) at.leads
         at.passed.steps at.passed.is_split in
-        let here = standing_behind at.here (events_of at.here ran.line) ran.run.run.disk in
+        let here = standing_behind at.here (events_of at.here ran.line) in
         let before = at.passed in
         let one : ScriptStep = line_step (line_outcome at.here.format at.here.state ran.line) in
         let within = before.within in
@@ -437,7 +438,7 @@ pub none_in_flight : (tickets : Tickets) (flight : Flight) → tickets.waiting.i
 none_in_flight tickets flight none empty = record { asks = ap (map ask_by) none ∙ sym (ap (map ask_of) empty) }
 
 module _ (w : Standing) (run : ScriptRun) (script : List ℕ) (start : List Content) (held_start : Option (List ℕ))
-    (number : ℕ) (found : TagsFound) (old new : Reading) (parts : Parts) (now : List Content)
+    (number : ℕ) (found : TagsFound) (old new : Reading) (parts : DeviceParts) (now : List Content)
     (held : Option (List ℕ)) where
   -- The run stands before its line, where this is left of the script.
   abbrev pub StandsAt : Option (List ℕ) → Type 0
@@ -481,7 +482,7 @@ module _ (w : Standing) (run : ScriptRun) (script : List ℕ) (start : List Cont
       (subst (λ (l : List ℕ). IsStoppedByBytes at.here number l ended now now_b held held_b) same
       (stopped at.here at.device))
 
-  pub turn_done : (before after : Option (List ℕ)) (more : Bool) (bytes : List ℕ) (parts_b : Parts)
+  pub turn_done : (before after : Option (List ℕ)) (more : Bool) (bytes : List ℕ) (parts_b : DeviceParts)
       (now_b : List Content) (held_b : Option (List ℕ)) (told found_b : TagsFound) → StandsAt before
       → Advances before after (Ok more) → more ≡ true → bytes ≡ new.line
       → ((here : Standing) → IsDevice here Conditions.Working parts now

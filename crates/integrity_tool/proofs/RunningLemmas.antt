@@ -6,7 +6,7 @@ use Rattle.std.specs.Prelude.{◌||◌}
 use Rattle.std.specs.Option.{IsSomeAnd}
 use Rattle.std.proofs.lemmas.List.Concat.{flat_map-cons}
 use Rattle.std.proofs.lemmas.List.Sums.{fold-append}
-use Rattle.std.proofs.lemmas.Option.{same_Some}
+use Rattle.std.proofs.lemmas.Option.{none-some, same_Some}
 use Rattle.disk_model.specs.Disk.{Content}
 use Rattle.disk_model.specs.Moments.{EachMoment, HasNow, content_now}
 use Rattle.disk_model.proofs.MomentsLemmas.{EachMoment-then, EachMoment-weaker, no_moment}
@@ -22,14 +22,18 @@ use Rattle.device_model.specs.ScriptRun.{IsCameTo, ScriptRun, ScriptStep, change
 use Rattle.device_model.specs.ScriptRun.{only_ends, run_from, texts_of, with_step}
 use Rattle.device_model.specs.Transcript.{closed_text}
 use Rattle.device_model.proofs.ScriptLemmas.{history-after}
-use Rattle.place_model.specs.Format.{DiskFormat}
-use Rattle.place_model.specs.Kind.{placed_kind}
-use Rattle.direct_laws.specs.MomentLaws.{IsLeftNow, kind_of}
+use Rattle.direct_laws.specs.MomentLaws.{IsLeftNow}
 use Rattle.script_text.proofs.ScriptRunLemmas.{came_further, came_into, came_into_line, came_to_nothing}
 use Rattle.script_text.proofs.ScriptRunLemmas.{run_is_split, run_is_whole}
 use Rattle.device_core.specs.declared.condition.Condition.{Condition}
-use Rattle.device_core.specs.declared.parts.Parts.{Parts}
-use Rattle.device_core.specs.Device.{IsDevice, Standing}
+use Rattle.device_core.specs.declared.condition.Condition.TheVariants.{Working}
+use Rattle.integrity_device.specs.declared.mode.DeviceParts.{DeviceParts}
+use Rattle.integrity_device.specs.Device.{IsDevice, Standing, kind_of}
+use Rattle.integrity_device.proofs.ModeLemmas.{left_now}
+use Rattle.device_run.specs.Run.{IsLeftWithin, standing_behind}
+use Rattle.device_run.specs.Writes.{WritesOnly}
+use Rattle.device_run.proofs.RunLemmas.{left-behind, left-wider}
+use Rattle.device_run.proofs.WritesLemmas.{WritesOnly-left, WritesOnly-then}
 use Rattle.script_session.specs.declared.tags_found.TagsFound.{TagsFound}
 use Rattle.script_session.specs.declared.line_end.LineEnd.{LineEnd}
 use Rattle.script_session.specs.declared.line_end.LineEnd.TheVariants as Ends
@@ -37,11 +41,8 @@ use Rattle.script_session.specs.declared.meaning.MeaningFault as session
 use Rattle.script_session.specs.Meaning.{meaning_of}
 use Rattle.command_ending.specs.Ended.{ending_of}
 use Rattle.command_ending.specs.declared.ended.Ended.{Ended}
-use Rattle.script_session.specs.LineRun.{HasEnded, HasRunLine, IsCutLine, IsHalfTold, IsLeftWithin, events_of}
-use Rattle.script_session.specs.LineRun.{WritesOnly, held_with, standing_behind}
+use Rattle.script_session.specs.LineRun.{HasEnded, HasRunLine, IsCutLine, IsHalfTold, events_of, held_with}
 use Rattle.script_session.proofs.LineLemmas.{line_cut_begun, line_cut_failed}
-use Rattle.script_session.proofs.RunLemmas.{left-behind, left-wider}
-use Rattle.script_session.proofs.WritesLemmas.{WritesOnly-left, WritesOnly-then}
 use Rattle.command_model.specs.CommandRun.{IsComplete, IsEndedBy, IsEndedShort, IsFromOutside}
 use Rattle.integrity_tool.specs.Lines.{ended_by}
 use Rattle.integrity_tool.specs.Running.{IsStopped}
@@ -53,12 +54,6 @@ and_weaker P Q None f is = is
 and_weaker P Q (Some x) f is = f x is
 
 -- ---- moments
-
--- Once a disk tells its content it tells it later too.
-told_later : (since before : List Content) (told : Content) → content_now before ≡ Some told
-    → (later : Content) × (content_now (since ++ before) ≡ Some later)
-told_later [] before told is = (told, is)
-told_later (c ∷ since) before told is = (c, refl)
 
 -- What holds of the content now holds of the one that the disk tells.
 now_of : (P : Content → Type 0) (moments : List Content) (told : Content) → content_now moments ≡ Some told
@@ -119,16 +114,16 @@ ended_further step rest text changes ending (inr cut) = inr (short_further step 
 -- ---- behind a line
 
 -- What stops the run behind a line that was run stops it with the line.
-pub stopped_further : (w : Standing) (line : ScriptLine) (found : TagsFound) (parts : Parts)
+pub stopped_further : (w : Standing) (line : ScriptLine) (found : TagsFound) (parts : DeviceParts)
     (a b : List Content)
     (held_a held_b : Option (List ℕ)) (ran : HasRunLine w line found parts a b held_a held_b)
     (rest : ScriptRun) (ending : Ending) (c : List Content) (held_c : Option (List ℕ))
-    → IsStopped (standing_behind w (events_of w line) ran.run.disk) rest ending b c held_b held_c
+    → IsStopped (standing_behind w (events_of w line)) rest ending b c held_b held_c
     → IsStopped w (with_step (line_step (line_outcome w.format w.state line)) rest) ending a c held_a held_c
 stopped_further w line found parts a b held_a held_b ran rest ending c held_c stopped =
     let step = line_step (line_outcome w.format w.state line) in
-    let there = standing_behind w (events_of w line) ran.run.disk in
-    let kind = kind_of w.disk in
+    let there = standing_behind w (events_of w line) in
+    let kind = kind_of w in
     let h = w.state.history in
     let history : there.state.history ≡ with_changes step.changes h =
     history-after w.format w.state (events_of w line) in
@@ -138,26 +133,22 @@ stopped_further w line found parts a b held_a held_b ran rest ending c held_c st
     subst (λ (l : List Change). IsLeftWithin kind w.entry h l x) (sym all)
     (left-wider kind w.entry h step.changes (changes_in rest.steps) x is) in
     let behind = λ (x : Content)
-    (is : IsLeftWithin (kind_of there.disk) w.entry there.state.history (changes_in rest.steps) x).
+    (is : IsLeftWithin kind w.entry there.state.history (changes_in rest.steps) x).
     subst (λ (l : List Change). IsLeftWithin kind w.entry h l x) (sym all)
     (left-behind kind w.entry h step.changes (changes_in rest.steps) x
-    (subst (λ (y : History). IsLeftWithin kind w.entry y (changes_in rest.steps) x) history
-    (subst (λ (f : DiskFormat). IsLeftWithin (placed_kind f.key f.sectors) w.entry there.state.history
-    (changes_in rest.steps) x) ran.run.format is))) in
+    (subst (λ (y : History). IsLeftWithin kind w.entry y (changes_in rest.steps) x) history is)) in
     record {
       text = step.text ++ stopped.text;
       changes = step.changes ++ stopped.changes;
       ended = ended_further step rest stopped.text stopped.changes ending stopped.ended;
       since = EachMoment-then (EachMoment-weaker wider ran.run.since) (EachMoment-weaker behind stopped.since);
-      writes = subst (λ (l : List Change). WritesOnly w.disk.geometry l a c) (sym all)
-          (WritesOnly-then w.disk.geometry step.changes (changes_in rest.steps) ran.run.writes
-          (subst (λ (f : DiskFormat). WritesOnly f.geometry (changes_in rest.steps) b c) ran.run.format
-          stopped.writes));
+      writes = subst (λ (l : List Change). WritesOnly w.format.mode w.on.geometry l a c) (sym all)
+          (WritesOnly-then w.format.mode w.on.geometry step.changes (changes_in rest.steps) ran.run.writes
+          stopped.writes);
       now = subst (λ (y : History). IsLeftNow kind w.entry y c)
           (ap (with_changes stopped.changes) history
           ∙ sym (fold-append with_change h step.changes stopped.changes))
-          (subst (λ (f : DiskFormat). IsLeftNow (placed_kind f.key f.sectors) w.entry
-          (with_changes stopped.changes there.state.history) c) ran.run.format stopped.now);
+          stopped.now;
       told = stopped.told ∙ ap (held_with stopped.text) ran.told ∙ told_further step.text stopped.text held_a;
     }
 
@@ -208,7 +199,7 @@ complete_prints f too_long number s found (Means line ∷ lines) complete =
         omega arith
 
 -- Something outside stops the rest of a run before any of it is done.
-pub stopped_before : (w : Standing) (condition : Condition) (parts : Parts) (a : List Content)
+pub stopped_before : (w : Standing) (condition : Condition) (parts : DeviceParts) (a : List Content)
     → IsDevice w condition parts a → (rest : ScriptRun) (ending : Ending) (held : Option (List ℕ))
     → IsCameTo rest [] [] → (IsComplete rest → 0 < length (texts_of rest.steps)) → IsFromOutside ending
     → IsStopped w rest ending a a held held
@@ -218,12 +209,12 @@ stopped_before w condition parts a is rest ending held came prints outside = rec
   ended = inr (record { came = came; whole_steps = λ other. (0, refl); short = prints; outside = outside });
   since = no_moment a _;
   writes = no_moment a _;
-  now = is.left;
+  now = left_now w condition parts.mode parts.common a is;
   told = told_nothing held;
 }
 
 -- The same, where lines are left.
-pub stopped_at_lines : (w : Standing) (condition : Condition) (parts : Parts) (a : List Content)
+pub stopped_at_lines : (w : Standing) (condition : Condition) (parts : DeviceParts) (a : List Content)
     → IsDevice w condition parts a → (ending : Ending) (held : Option (List ℕ)) → IsFromOutside ending
     → (too_long : Bool) (number : ℕ) (found : Bool) (lines : List ReadLine)
     → IsStopped w (run_from w.format too_long number w.state found lines) ending a a held held
@@ -233,7 +224,7 @@ stopped_at_lines w condition parts a is ending held outside too_long number foun
     (complete_prints w.format too_long number w.state found lines) outside
 
 -- A run that only ends so is stopped by that.
-pub stopped_by_itself : (w : Standing) (condition : Condition) (parts : Parts) (a : List Content)
+pub stopped_by_itself : (w : Standing) (condition : Condition) (parts : DeviceParts) (a : List Content)
     → IsDevice w condition parts a → (rest : ScriptRun) (ending : Ending) (held : Option (List ℕ))
     → rest ≡ only_ends ending → IsStopped w rest ending a a held held
 stopped_by_itself w condition parts a is rest ending held only =
@@ -243,15 +234,15 @@ stopped_by_itself w condition parts a is rest ending held only =
       ended = inl (record { whole = record { is_text = refl; is_changes = refl }; is = refl });
       since = no_moment a _;
       writes = no_moment a _;
-      now = is.left;
+      now = left_now w condition parts.mode parts.common a is;
       told = told_nothing held;
     })
 
 -- ---- within a line
 
-module _ (w : Standing) (condition : Condition) (parts : Parts) (a : List Content)
+module _ (w : Standing) (condition : Condition) (parts : DeviceParts) (a : List Content)
     (is : IsDevice w condition parts a)
-    (line : ScriptLine) (parts_b : Parts) (b : List Content) (held_a held_b : Option (List ℕ))
+    (line : ScriptLine) (parts_b : DeviceParts) (b : List Content) (held_a held_b : Option (List ℕ))
     (too_long : Bool) (number : ℕ) (found : Bool) (lines : List ReadLine) where
   abbrev step : ScriptStep
   step = line_step (line_outcome w.format w.state line)
@@ -268,39 +259,58 @@ module _ (w : Standing) (condition : Condition) (parts : Parts) (a : List Conten
 
   -- Each moment of the line is one of the run.
   since_line : meaning_fault w.format w.state.progress line ≡ None
-      → EachMoment a b (IsLeftWithin (kind_of w.disk) w.entry w.state.history step.changes)
-      → EachMoment a b (IsLeftWithin (kind_of w.disk) w.entry w.state.history (changes_in run.steps))
+      → EachMoment a b (IsLeftWithin (kind_of w) w.entry w.state.history step.changes)
+      → EachMoment a b (IsLeftWithin (kind_of w) w.entry w.state.history (changes_in run.steps))
   since_line runnable since = EachMoment-weaker (λ (x : Content) left.
-      subst (λ (l : List Change). IsLeftWithin (kind_of w.disk) w.entry w.state.history l x)
+      subst (λ (l : List Change). IsLeftWithin (kind_of w) w.entry w.state.history l x)
       (sym (ap (λ (r : ScriptRun). changes_in r.steps) (split runnable) ∙ (run_is_whole step behind).1))
-      (left-wider (kind_of w.disk) w.entry w.state.history step.changes (changes_in behind.steps) x left)) since
+      (left-wider (kind_of w) w.entry w.state.history step.changes (changes_in behind.steps) x left)) since
 
   writes_line : meaning_fault w.format w.state.progress line ≡ None
-      → WritesOnly w.disk.geometry step.changes a b → WritesOnly w.disk.geometry (changes_in run.steps) a b
+      → WritesOnly w.format.mode w.on.geometry step.changes a b → WritesOnly w.format.mode w.on.geometry (changes_in run.steps) a b
   writes_line runnable writes =
-      subst (λ (l : List Change). WritesOnly w.disk.geometry l a b)
+      subst (λ (l : List Change). WritesOnly w.format.mode w.on.geometry l a b)
       (sym (ap (λ (r : ScriptRun). changes_in r.steps) (split runnable) ∙ (run_is_whole step behind).1))
-      (WritesOnly-left w.disk.geometry step.changes (changes_in behind.steps) writes)
+      (WritesOnly-left w.format.mode w.on.geometry step.changes (changes_in behind.steps) writes)
+
+  -- What is left of a line that is cut off is so by some of its first changes.
+  record IsCutTo : Type 0 where
+    pub made : ℕ
+    pub left : IsLeftNow (kind_of w) w.entry (with_changes (take made step.changes) w.state.history) b
+
+  cut_to : HasNow (IsLeftWithin (kind_of w) w.entry w.state.history step.changes) b → (now : Option Content)
+      → content_now b ≡ now → IsCutTo
+  cut_to cut None none = record {
+    made = 0;
+    left = record {
+      opens = λ c told. absurd (none-some c (sym none ∙ told));
+      left = λ c told. absurd (none-some c (sym none ∙ told));
+    };
+  }
+  cut_to cut (Some later) told =
+      let left = cut later told in
+      record {
+        made = left.made;
+        left = record { opens = now_of _ b later told left.opens; left = now_of _ b later told left.left };
+      }
 
   -- A line that is cut off stops the run.
   pub stopped_in_line : (ending : Ending) → IsFromOutside ending → IsCutLine w line a b held_a held_b
       → IsStopped w run ending a b held_a held_b
   stopped_in_line ending outside cut =
-      let later = told_later cut.cut.since.since a is.told is.is_told in
-      let told : content_now b ≡ Some later.0 = ap content_now cut.cut.since.grows ∙ later.1 in
-      let left = cut.cut.now later.0 told in
+      let to = cut_to cut.cut.now (content_now b) refl in
       record {
         text = [];
-        changes = take left.made step.changes;
+        changes = take to.made step.changes;
         ended = inr (record {
-          came = came_into_line w.format too_long number w.state found line lines left.made cut.runnable;
+          came = came_into_line w.format too_long number w.state found line lines to.made cut.runnable;
           whole_steps = λ other. (0, refl);
           short = complete_prints w.format too_long number w.state found (Means line ∷ lines);
           outside = outside;
         });
         since = since_line cut.runnable cut.cut.since;
         writes = writes_line cut.runnable cut.cut.writes;
-        now = record { opens = now_of _ b later.0 told left.opens; left = now_of _ b later.0 told left.left };
+        now = to.left;
         told = cut.told ∙ told_nothing held_a;
       }
 
@@ -325,11 +335,9 @@ module _ (w : Standing) (condition : Condition) (parts : Parts) (a : List Conten
     });
     since = since_line half.runnable half.run.since;
     writes = writes_line half.runnable half.run.writes;
-    now = subst (λ (y : History). IsLeftNow (kind_of w.disk) w.entry y b)
+    now = subst (λ (y : History). IsLeftNow (kind_of w) w.entry y b)
         (history-after w.format w.state (events_of w line))
-        (subst (λ (f : DiskFormat). IsLeftNow (placed_kind f.key f.sectors) w.entry
-        (standing_behind w (events_of w line) half.run.disk).state.history b) half.run.format
-        half.run.device.left);
+        (left_now (standing_behind w (events_of w line)) Working parts_b.mode parts_b.common b half.run.device);
     told = half.told.held;
   }
 
@@ -365,7 +373,7 @@ module _ (w : Standing) (condition : Condition) (parts : Parts) (a : List Conten
       (stopped_by_end end has kept))
 
 -- Bytes that are no line stop the run.
-pub stopped_by_words : (w : Standing) (condition : Condition) (parts : Parts) (a : List Content)
+pub stopped_by_words : (w : Standing) (condition : Condition) (parts : DeviceParts) (a : List Content)
     → IsDevice w condition parts a → (held : Option (List ℕ)) (too_long : Bool) (number : ℕ) (found : Bool)
     (lines : List ReadLine) (read : ReadLine) (fault told : WordsFault) → read ≡ Refused fault → told ≡ fault
     → IsStopped w (run_from w.format too_long number w.state found (read ∷ lines))

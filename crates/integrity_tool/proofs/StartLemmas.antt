@@ -1,36 +1,23 @@
 -- A command that runs no line: what it starts on, what it leaves, and what its run is.
-use Rattle.std.proofs.Common.{◌≡◌, ◌⊎◌, inl, inr, ℕ, ◌+◌, ◌<◌, ◌≤◌, Bool, false, List, [], ◌∷◌, ◌++◌, length, map, take, drop, append_assoc, length-append, codes, arith, refl, sym, ◌∙◌, ap, subst, if◌then◌else◌, Option, Some, None, unwrap_or, Result, Ok, Err}
+use Rattle.std.proofs.Common.{◌≡◌, ◌⊎◌, inl, inr, ℕ, ◌+◌, ◌<◌, ◌≤◌, Bool, false, List, [], ◌∷◌, ◌++◌, length, map, take, drop, append_assoc, length-append, codes, arith, refl, sym, ◌∙◌, ap, subst, Option, Some, None, unwrap_or, Result, Ok, Err}
 use Rattle.std.specs.Option.{IsSomeAnd}
 use Rattle.std.specs.Fmt.{decimal}
 use Rattle.std.proofs.lemmas.List.Concat.{flat_map-cons}
-use Rattle.disk_model.specs.Disk.{Content, Image, IsImage, OnlyAdds, last_image, newest_only}
+use Rattle.disk_model.specs.Disk.{Content, Image, last_image, newest_only}
 use Rattle.disk_model.specs.Moments.{content_now, EachMoment, EachSince, HasNow}
-use Rattle.disk_model.proofs.MomentsLemmas.{EachMoment-kept, EachMoment-then, EachMoment-weaker, adds_then, content_at_end, sync_adds}
+use Rattle.disk_model.proofs.MomentsLemmas.{EachMoment-kept, EachMoment-weaker, content_at_end}
 use Rattle.device_model.specs.Device.{DeviceKind}
-use Rattle.disk_model.specs.Identity.{DiskIdentity, NamedDisk}
+use Rattle.disk_model.specs.Identity.{NamedDisk}
 use Rattle.device_model.specs.Ending.{Ending, Complete, DiskFailed, KeyFailed, NoMemory, RefusedImage, RefusedLength, RefusedLine, RefusedWords, RefusedKey, ScriptFailed, SinkFailed, KeyRefusal}
 use Rattle.device_model.specs.Mode.{DeviceFormat}
 use Rattle.device_model.specs.Progress.{DeviceState}
 use Rattle.device_model.specs.ScriptBytes.{is_too_long}
-use Rattle.device_model.specs.History.{IsWrittenIn}
-use Rattle.device_model.specs.ScriptRun.{ScriptRun, IsCameTo, IsRunOf, changes_in, only_ends, texts_of}
-use Rattle.place_model.specs.Kind.{CanOpenPlaced, placed_kind}
-use Rattle.direct_mode.specs.Places.{IsOfPlaces}
-use Rattle.device_core.specs.Opening.{IsRefused, opened_standing}
-use Rattle.script_session.proofs.RunLemmas.{EachMoment-both}
+use Rattle.device_model.specs.ScriptRun.{ScriptRun, IsCameTo, IsRunOf, only_ends, texts_of}
 use Rattle.script_text.proofs.ScriptRunLemmas.{came_to_end, came_to_nothing}
 use Rattle.script_text.proofs.TotalLemmas.{has_run}
-use Rattle.place_model.proofs.FormatLemmas.{reads_on}
-use Rattle.image_model.specs.declared.flags.TheConstants.{DIRTY_BITMAP}
 use Rattle.image_model.specs.declared.geom_fault.GeomFault.{GeomFault}
-use Rattle.image_model.specs.declared.super_fields.SuperFault.{SuperFault}
-use Rattle.image_model.specs.Geometry.{Geometry, geometry_of}
-use Rattle.image_model.specs.Openable.{first_sector}
-use Rattle.image_model.specs.Superblock.{Superblock, has_flag, superblock_of}
 use Rattle.image_opening.specs.declared.open_fault.OpenFault.{OpenFault}
 use Rattle.image_opening.specs.declared.open_fault.OpenFault.TheVariants as OpenFaults
-use Rattle.image_opening.specs.declared.reading.ImageFormat.{ImageFormat}
-use Rattle.image_opening.specs.Format.{direct_format_of, format_by, format_with, in_direct_mode, told_fields}
 use Rattle.command_ending.specs.Ended.{ending_of, key_refusal_of}
 use Rattle.command_ending.specs.declared.ended.Ended.{Ended}
 use Rattle.command_ending.specs.declared.ended.Ended.TheVariants as Endings
@@ -39,7 +26,7 @@ use Rattle.image_check.specs.declared.bad.Bad.{Bad}
 use Rattle.image_check.specs.declared.bad.What.{What}
 use Rattle.opening_fault.specs.Faults as faults
 use Rattle.image_check.specs.Faults.{fault_for}
-use Rattle.opening_fault.specs.Faults.{ImageFault}
+use Rattle.opening_fault.specs.Faults.{ImageFault, fault_of}
 use Rattle.place_model.specs.Format.{DiskFormat, format_on}
 use Rattle.image_dump.specs.declared.dump_fault.DumpFault.{DumpFault}
 use Rattle.image_dump.specs.declared.dump_fault.DumpFault.TheVariants as DumpFaults
@@ -51,21 +38,22 @@ use Rattle.image_formatting.specs.NewImage.{provided_of}
 use Rattle.integrity_tool.specs.declared.asked.Asked.{Asked}
 use Rattle.integrity_tool.specs.declared.asked.Task.{Task}
 use Rattle.integrity_tool.specs.declared.asked.Task.TheVariants as Tasks
-use Rattle.integrity_tool.specs.Checking.{check_outset, counts_line, bad_line, ending_by_refusal, outset_by_check}
+use Rattle.integrity_tool.specs.Checking.{check_outset, counts_line, bad_line, outset_by_check}
 use Rattle.integrity_tool.specs.Dumping.{dump_outset, outset_by_dump}
 use Rattle.integrity_tool.specs.Making.{format_outset, formatted_text, outset_by_format}
 use Rattle.integrity_tool.specs.Words.{asked_of, key_file_of, key_file_of_asked}
 use Rattle.integrity_tool.specs.KeyFile.{HasFile, HasHash, IsKeyRefused, IsKeyed}
-use Rattle.integrity_tool.specs.Top.{Given, HasMomentsIn, IsGiven, IsRefusedByKey, outset_in}
+use Rattle.integrity_tool.specs.Top.{Given, HasMomentsIn, IsGiven, IsKeyRefusal, IsRefusedByKey, outset_in}
 use Rattle.script_reader.specs.Reading.{most_piece}
-use Rattle.command_model.specs.CommandRun.{Making, Outset, RefusedBy, RunsOn, Prints, Makes, IsComplete, IsFromOutside, IsEndedShort, IsLeftOfMaking, IsRunAt, IsUntouched, MayBeLeftAt, only_prints}
-use Rattle.integrity_tool.specs.Opening.{HasReadIn, HasRunOn, IsMomentOf, IsMomentOn, WritesOnlyBy, WritesPlacesOnly}
+use Rattle.command_model.specs.CommandRun.{Making, Outset, RefusedBy, RunsOn, Prints, Makes, IsComplete, IsFromOutside, IsEndedShort, IsLeftAt, IsLeftOfMaking, IsRunAt, IsUntouched, MayBeLeftAt, only_prints}
+use Rattle.integrity_tool.specs.Opening.{HasReadIn, HasRunOn, IsMomentOf}
 use Rattle.integrity_tool.specs.Order.{HasMomentsAt, IsInOrderAt, IsInOrderFor, IsInOrderUnder}
-use Rattle.integrity_tool.specs.Running.{HasReadTo, HoldsText, IsStopped}
+use Rattle.integrity_tool.specs.Running.{HasReadTo, HoldsText}
 use Rattle.integrity_tool.proofs.RunningLemmas.{complete_prints, told_further, told_nothing}
 use Rattle.integrity_tool.proofs.TextsLemmas.{BeginsText, none_short}
 use Rattle.script_session.specs.LineRun.{held_with}
-use Rattle.integrity_tool.specs.Refusing.{ending_by_open}
+use Rattle.integrity_device.specs.declared.opening.OpenMode.{OpenMode}
+use Rattle.integrity_tool.specs.Refusing.{ending_by_format, ending_by_refusal}
 use Rattle.integrity_tool.specs.Outset.{geometry_on, key_by, outset_at, outset_by, outset_on, outset_under, outset_for}
 
 -- ---- what a command starts on
@@ -84,19 +72,23 @@ is_complete_type ending = ⊥
 no_complete : (ending : Ending) → (is_complete_type ending → ⊥) → (found : Bool) → ending ≡ Complete found → ⊥
 no_complete ending none found is = none (subst is_complete_type (sym is) tt)
 
-fine_open : (fault : OpenFault) → IsFine (RefusedBy (ending_by_open fault))
-fine_open OpenFaults.Memory = no_complete _ (λ (x : ⊥). x)
-fine_open OpenFaults.Disk = no_complete _ (λ (x : ⊥). x)
-fine_open (OpenFaults.Super fault) = no_complete _ (λ (x : ⊥). x)
-fine_open (OpenFaults.Geom fault) = no_complete _ (λ (x : ⊥). x)
-fine_open (OpenFaults.Mode flags) = no_complete _ (λ (x : ⊥). x)
+fine_format_fault : (fault : OpenFault) → IsFine (RefusedBy (ending_by_format fault))
+fine_format_fault OpenFaults.Memory = no_complete _ (λ (x : ⊥). x)
+fine_format_fault OpenFaults.Disk = no_complete _ (λ (x : ⊥). x)
+fine_format_fault (OpenFaults.Super fault) = no_complete _ (λ (x : ⊥). x)
+fine_format_fault (OpenFaults.Geom fault) = no_complete _ (λ (x : ⊥). x)
+fine_format_fault (OpenFaults.Mode flags) = no_complete _ (λ (x : ⊥). x)
 
-fine_by : (key : Option (List ℕ)) (sectors : ℕ) (image : Image) (told : Result ImageFormat OpenFault) → IsFine (outset_by key sectors image told)
-fine_by key sectors image (Ok format) = tt
-fine_by key sectors image (Err fault) = fine_open fault
+fine_refused : (refusal : ImageFault) → IsFine (RefusedBy (ending_by_refusal refusal))
+fine_refused (faults.ByFormat fault) = fine_format_fault fault
+fine_refused (faults.ByJournal fault) = no_complete _ (λ (x : ⊥). x)
 
-pub fine_on : (key : Option (List ℕ)) (sectors : ℕ) (image : Image) → IsFine (outset_on key sectors image)
-fine_on key sectors image = fine_by key sectors image (direct_format_of sectors image)
+fine_by : (mode : OpenMode) (key : Option (List ℕ)) (sectors : ℕ) (image : Image) (refusal : Option ImageFault) → IsFine (outset_by mode key sectors image refusal)
+fine_by mode key sectors image None = tt
+fine_by mode key sectors image (Some refusal) = fine_refused refusal
+
+pub fine_on : (mode : OpenMode) (key : Option (List ℕ)) (sectors : ℕ) (image : Image) → IsFine (outset_on mode key sectors image)
+fine_on mode key sectors image = fine_by mode key sectors image (fault_of key sectors image)
 
 -- Lines have a text where the first one has.
 some_lines : (line : List ℕ) (lines : List (List ℕ)) → 0 < length line → 0 < length (joined_lines (line ∷ lines))
@@ -134,10 +126,6 @@ pub counts_begin : (blocks bad awaiting : ℕ) → 0 < length (counts_line block
 counts_begin blocks bad awaiting =
     omega (arith, length-append (codes "blocks ") (drop 7 (counts_line blocks bad awaiting)))
 
-fine_refused : (refusal : ImageFault) → IsFine (RefusedBy (ending_by_refusal refusal))
-fine_refused (faults.ByFormat fault) = fine_open fault
-fine_refused (faults.ByJournal fault) = no_complete _ (λ (x : ⊥). x)
-
 fine_checked : (what : What) (d : DiskFormat) (image : Image) (refusal : Option ImageFault) → IsFine (outset_by_check what d image refusal)
 fine_checked what d image None = lines_begin (bad_blocks what d image) _ (counts_begin _ _ _)
 fine_checked what d image (Some refusal) = fine_refused refusal
@@ -153,7 +141,7 @@ pub fine_format : (key : Option (List ℕ)) (sectors : ℕ) (new : NewImage) →
 fine_format key sectors new = fine_made key sectors new (provided_of new sectors)
 
 fine_at : (task : Task) (key : Option (List ℕ)) (sectors : ℕ) (image : Image) → IsFine (outset_at task key sectors image)
-fine_at Tasks.Run key sectors image = fine_on key sectors image
+fine_at (Tasks.Run mode) key sectors image = fine_on mode key sectors image
 fine_at Tasks.Dump key sectors image = fine_dump sectors image
 fine_at (Tasks.Check what) key sectors image = fine_check what key sectors image
 fine_at (Tasks.Format new) key sectors image = fine_format key sectors new
@@ -173,12 +161,12 @@ IsOfRun (RunsOn kind image) = Unit {0}
 IsOfRun (Prints texts found) = ⊥
 IsOfRun (Makes making) = ⊥
 
-of_run_by : (key : Option (List ℕ)) (sectors : ℕ) (image : Image) (told : Result ImageFormat OpenFault) → IsOfRun (outset_by key sectors image told)
-of_run_by key sectors image (Ok format) = tt
-of_run_by key sectors image (Err fault) = tt
+of_run_by : (mode : OpenMode) (key : Option (List ℕ)) (sectors : ℕ) (image : Image) (refusal : Option ImageFault) → IsOfRun (outset_by mode key sectors image refusal)
+of_run_by mode key sectors image None = tt
+of_run_by mode key sectors image (Some refusal) = tt
 
-pub of_run : (key : Option (List ℕ)) (sectors : ℕ) (image : Image) → IsOfRun (outset_on key sectors image)
-of_run key sectors image = of_run_by key sectors image (direct_format_of sectors image)
+pub of_run : (mode : OpenMode) (key : Option (List ℕ)) (sectors : ℕ) (image : Image) → IsOfRun (outset_on mode key sectors image)
+of_run mode key sectors image = of_run_by mode key sectors image (fault_of key sectors image)
 
 -- ---- no sector is written
 
@@ -201,30 +189,20 @@ pub untouched_kept : {a b : List Content} (start : Content) → content_now a �
 untouched_kept start told same c here =
     inl (ap (λ (o : Option Content). unwrap_or o start) (sym here ∙ ap content_now same ∙ told))
 
--- All is as it was before: a run may have synced the disk.
+-- All is as it was before. Where a device is opened the disk may be synced, and what its journal held may be in its place.
 abbrev pub IsAsBefore : Outset → (start later : Content) → Type 0
 IsAsBefore (RefusedBy ending) start later = IsUntouched start later
-IsAsBefore (RunsOn kind image) start later = IsUntouched start later
+IsAsBefore (RunsOn kind image) start later = IsLeftAt (RunsOn kind image) start [] later
 IsAsBefore (Prints texts found) start later = later ≡ start
 IsAsBefore (Makes making) start later = later ≡ start
 
-as_synced : (outset : Outset) → IsOfRun outset → (start later : Content) → IsUntouched start later → IsAsBefore outset start later
-as_synced (RefusedBy ending) of start later untouched = untouched
-as_synced (RunsOn kind image) of start later untouched = untouched
-as_synced (Prints texts found) of start later untouched = absurd of
-as_synced (Makes making) of start later untouched = absurd of
-
-as_same : (outset : Outset) (start later : Content) → later ≡ start → IsAsBefore outset start later
+pub as_same : (outset : Outset) (start later : Content) → later ≡ start → IsAsBefore outset start later
 as_same (RefusedBy ending) start later same = inl same
-as_same (RunsOn kind image) start later same = inl same
+as_same (RunsOn kind image) start later same = inl (refl, inl same)
 as_same (Prints texts found) start later same = same
 as_same (Makes making) start later same = same
 
--- A run has synced the disk at most,
-pub before_synced : (outset : Outset) → IsOfRun outset → (start : Content) (b : List Content) → HasNow (IsUntouched start) b → HasNow (IsAsBefore outset start) b
-before_synced outset of start b untouched c told = as_synced outset of start c (untouched c told)
-
--- or the moments are as before.
+-- So it is where the moments are.
 pub before_kept : (outset : Outset) {a b : List Content} (start : Content) → content_now a ≡ Some start → b ≡ a → HasNow (IsAsBefore outset start) b
 before_kept outset start told same c here =
     as_same outset start c (ap (λ (o : Option Content). unwrap_or o start) (sym here ∙ ap content_now same ∙ told))
@@ -236,51 +214,18 @@ run_on : (kind : DeviceKind) (image : Image) (script : List ℕ) → (run : Scri
 run_on kind image script = has_run (kind.format image) (kind.opened image) script
 
 -- Whatever a command starts on, it has a run.
-some_run : (outset : Outset) (script : List ℕ) → (run : ScriptRun) × IsRunAt outset script run
+pub some_run : (outset : Outset) (script : List ℕ) → (run : ScriptRun) × IsRunAt outset script run
 some_run (RefusedBy ending) script = (only_ends ending, refl)
 some_run (RunsOn kind image) script = run_on kind image script
 some_run (Prints texts found) script = (only_prints texts found, refl)
 some_run (Makes making) script = (only_prints (making.text ∷ []) false, refl)
 
-pub untouched_may_be_left : (outset : Outset) → IsOfRun outset → (start : Content) (script : List ℕ) (later : Content) → IsUntouched start later → MayBeLeftAt outset start script later
-untouched_may_be_left (RefusedBy ending) of start script later untouched = record { run = only_ends ending; is_run = refl; made = 0; left = untouched }
-untouched_may_be_left (RunsOn kind image) of start script later untouched =
-    let r = run_on kind image script in record { run = r.0; is_run = r.1; made = 0; left = inl (refl, untouched) }
-untouched_may_be_left (Prints texts found) of start script later untouched = absurd of
-untouched_may_be_left (Makes making) of start script later untouched = absurd of
-
--- What a run writes is what it may.
-writes_by : (outset : Outset) → IsOfRun outset → (g : Geometry) (run : ScriptRun) (start later : Content) → WritesPlacesOnly g run start later → WritesOnlyBy outset g run start later
-writes_by (RefusedBy ending) of g run start later writes = writes
-writes_by (RunsOn kind image) of g run start later writes = writes
-writes_by (Prints texts found) of g run start later writes = absurd of
-writes_by (Makes making) of g run start later writes = absurd of
-
--- What a read gives of a disk that tells its content is an image of that.
-abbrev pub ReadsImages : List Content → Type 0
-ReadsImages moments = (c : Content) → content_now moments ≡ Some c → IsImage c (last_image c)
-
--- What is added since the start is added to the content that was told then.
-adds_at : {a b : List Content} (W : ℕ → List ℕ → Type 0) (start : Content) → content_now a ≡ Some start
-    → EachSince (OnlyAdds W) a b → EachMoment a b (OnlyAdds W start)
-adds_at W start told each =
-    EachMoment-weaker (λ c from. subst (λ (o : Option Content). IsSomeAnd o (λ s. OnlyAdds W s c)) told from) each
-
--- A disk that is synced at most stands at moments of any command.
-pub synced_moments : (outset : Outset) → IsOfRun outset → (g : Geometry) (start : Content) (script : List ℕ) {a b : List Content}
-    → content_now a ≡ Some start → ReadsImages a → EachSince (λ s c. c ≡ newest_only s) a b
-    → EachMoment a b (IsMomentOf outset g start script)
-synced_moments outset of g start script told reads synced =
-    let run = some_run outset script in
-    let W = IsOfPlaces g (IsWrittenIn (changes_in run.0.steps)) in
-    EachMoment-weaker
-    (λ c both. record {
-      left = both.0;
-      only = record { run = run.0; is_run = run.1; only = writes_by outset of g run.0 start c both.1 };
-    })
-    (EachMoment-both
-    (EachMoment-weaker (untouched_may_be_left outset of start script) (untouched_through start told synced))
-    (adds_at W start told (sync_adds W reads synced)))
+pub before_may_be_left : (outset : Outset) → IsOfRun outset → (start : Content) (script : List ℕ) (later : Content) → IsAsBefore outset start later → MayBeLeftAt outset start script later
+before_may_be_left (RefusedBy ending) of start script later before = record { run = only_ends ending; is_run = refl; made = 0; left = before }
+before_may_be_left (RunsOn kind image) of start script later before =
+    let r = run_on kind image script in record { run = r.0; is_run = r.1; made = 0; left = before }
+before_may_be_left (Prints texts found) of start script later before = absurd of
+before_may_be_left (Makes making) of start script later before = absurd of
 
 short_of : (f : DeviceFormat) (s : DeviceState) (script : List ℕ) (run : ScriptRun) (ending : Ending) → IsRunOf f s script run → IsFromOutside ending → IsEndedShort run [] [] ending
 short_of f s script run ending is outside = record {
@@ -356,7 +301,7 @@ nothing_run (RunsOn kind image) fine start script ending outside after untouched
       changes = [];
       ended = inr (short_of (kind.format image) (kind.opened image) script r.0 ending r.1 (early_outside ending outside));
       told = same ∙ told_nothing held_before;
-      left = λ c told. inl (refl, untouched c told);
+      left = untouched;
     }
 nothing_run (Prints texts found) fine start script ending outside after untouched held_before held same = record {
   run = only_prints texts found;
@@ -390,93 +335,6 @@ refused_run outset start script ending is after untouched held_before held same 
       told = same ∙ told_nothing held_before;
       left = untouched;
     })
-
--- ---- a script is run
-
--- The image that direct mode opens tells its format,
-tells_format : (sectors : ℕ) (told : Result Superblock SuperFault) (s : Superblock) (g : Geometry) → told ≡ Ok s → geometry_of s sectors ≡ Ok g
-    → has_flag DIRTY_BITMAP s.flags ≡ false → in_direct_mode (format_by sectors (told_fields told)) ≡ Ok (record { fields = s; geometry = g })
-tells_format sectors told s g is_told has_geometry no_bitmap =
-    let format : ImageFormat = record { fields = s; geometry = g } in
-    ap (λ (x : Result Superblock SuperFault). in_direct_mode (format_by sectors (told_fields x))) is_told
-    ∙ ap (λ (x : Result Geometry GeomFault). in_direct_mode (format_with s x)) has_geometry
-    ∙ ap (λ (b : Bool). if b then Err (OpenFaults.Mode s.flags) else Ok format) no_bitmap
-
--- so that a script runs on it.
-pub runs_on : (key : Option (List ℕ)) (sectors : ℕ) (image : Image) → CanOpenPlaced key sectors image → outset_on key sectors image ≡ RunsOn (placed_kind key sectors) image
-runs_on key sectors image can =
-    let reads = reads_on key sectors image can.0 in
-    let readable = reads.readable in
-    let no_bitmap : has_flag DIRTY_BITMAP readable.superblock.flags ≡ false = ap (λ (s : Superblock). has_flag DIRTY_BITMAP s.flags) reads.superblock ∙ can.1 in
-    ap (outset_by key sectors image) (tells_format sectors (superblock_of (first_sector sectors image)) readable.superblock readable.geometry readable.has_superblock readable.has_geometry no_bitmap)
-
--- The run came so far on it.
-pub ran : (key : Option (List ℕ)) (sectors : ℕ) (start : Content) (script : List ℕ) (run : ScriptRun) (ending : Ending) (mid after : List Content) (held_before held : Option (List ℕ))
-    → CanOpenPlaced key sectors (last_image start) → let w = opened_standing key sectors (last_image start) in
-    IsRunOf w.format w.state script run → IsStopped w run ending mid after held_before held
-    → HasRunOn (outset_on key sectors (last_image start)) start script ending after held_before held
-ran key sectors start script run ending mid after held_before held can is_run stopped =
-    subst (λ (o : Outset). HasRunOn o start script ending after held_before held) (sym (runs_on key sectors (last_image start) can)) (record {
-      run = run;
-      is_run = is_run;
-      text = stopped.text;
-      changes = stopped.changes;
-      ended = stopped.ended;
-      told = stopped.told;
-      left = λ c told. inr (record { opens = stopped.now.opens c told; left = stopped.now.left c told });
-    })
-
-pub ran_through : (key : Option (List ℕ)) (sectors : ℕ) (start : Content) (script : List ℕ) (run : ScriptRun) (ending : Ending) (mid after : List Content) (held_before held : Option (List ℕ))
-    → CanOpenPlaced key sectors (last_image start) → let w = opened_standing key sectors (last_image start) in
-    IsRunOf w.format w.state script run → IsStopped w run ending mid after held_before held
-    → EachMoment mid after (MayBeLeftAt (outset_on key sectors (last_image start)) start script)
-ran_through key sectors start script run ending mid after held_before held can is_run stopped =
-    EachMoment-weaker
-    (λ c within. subst (λ (o : Outset). MayBeLeftAt o start script c) (sym (runs_on key sectors (last_image start) can))
-    (record { run = run; is_run = is_run; made = within.made; left = inr (record { opens = within.opens; left = within.left }) }))
-    stopped.since
-
--- Both, behind the opening, which synced the disk at most.
-pub ran_on : (key : Option (List ℕ)) (sectors : ℕ) (start : Content) (script : List ℕ) (run : ScriptRun)
-    (ending : Ending) (first mid after : List Content) (held_before held : Option (List ℕ))
-    → CanOpenPlaced key sectors (last_image start) → content_now first ≡ Some start → ReadsImages first
-    → EachSince (λ s c. c ≡ newest_only s) first mid → let w = opened_standing key sectors (last_image start) in
-    IsRunOf w.format w.state script run → IsStopped w run ending mid after held_before held
-    → HasRunOn (outset_on key sectors (last_image start)) start script ending after held_before held
-    × EachMoment first after (IsMomentOn key sectors start script)
-ran_on key sectors start script run ending first mid after held_before held can told reads synced is_run stopped =
-    let outset = outset_on key sectors (last_image start) in
-    let W = IsOfPlaces (geometry_on sectors (last_image start)) (IsWrittenIn (changes_in run.steps)) in
-    let is : IsRunAt outset script run =
-    subst (λ (o : Outset). IsRunAt o script run) (sym (runs_on key sectors (last_image start) can)) is_run in
-    let left : EachMoment first after (MayBeLeftAt outset start script) =
-    EachMoment-then
-    (EachMoment-weaker (untouched_may_be_left outset (of_run key sectors (last_image start)) start script) (untouched_through start told synced))
-    (ran_through key sectors start script run ending mid after held_before held can is_run stopped) in (
-      ran key sectors start script run ending mid after held_before held can is_run stopped,
-      EachMoment-weaker
-          (λ c both. record {
-            left = both.0;
-            only = record {
-              run = run;
-              is_run = is;
-              only = writes_by outset (of_run key sectors (last_image start)) (geometry_on sectors (last_image start)) run start c both.1;
-            };
-          })
-          (EachMoment-both left (adds_at W start told (adds_then W (sync_adds W reads synced) stopped.writes))),
-    )
-
--- The disk at the end is the one that was given back.
-pub given_back : (key : Option (List ℕ)) (sectors : ℕ) (start : Content) (script : List ℕ) (ending : Ending)
-    (first : List Content) (held_before held : Option (List ℕ)) {a b : List Content}
-    → let outset = outset_on key sectors (last_image start) in
-    HasRunOn outset start script ending a held_before held
-    × EachMoment first a (IsMomentOn key sectors start script) → b ≡ a
-    → HasRunOn outset start script ending b held_before held
-    × EachMoment first b (IsMomentOn key sectors start script)
-given_back key sectors start script ending first held_before held all same =
-    subst (λ (m : List Content). HasRunOn (outset_on key sectors (last_image start)) start script ending m held_before
-    held × EachMoment first m (IsMomentOn key sectors start script)) (sym same) all
 
 -- ---- what is taken of the script
 
@@ -534,75 +392,19 @@ pub read_in_further : (outset : Outset) (script : List ℕ) (left held_before he
 read_in_further outset script left held_before held read more =
     record { run = read.run; is_run = read.is_run; read = read_further read.run script left held_before held read.read more }
 
--- The run is that of a script on an image that direct mode opens.
-pub read_on_image : (key : Option (List ℕ)) (sectors : ℕ) (start : Content) (script : List ℕ) (run : ScriptRun)
-    (left held_before held : Option (List ℕ)) → CanOpenPlaced key sectors (last_image start)
-    → let w = opened_standing key sectors (last_image start) in IsRunOf w.format w.state script run
-    → HasReadTo run script left held_before held
-    → HasReadIn (outset_on key sectors (last_image start)) script left held_before held
-read_on_image key sectors start script run left held_before held can is_run read = record {
-  run = run;
-  is_run = subst (λ (o : Outset). IsRunAt o script run) (sym (runs_on key sectors (last_image start) can)) is_run;
-  read = read;
-}
-
--- ---- a device is not opened
-
-abbrev is_disk : OpenFault → Type 0
-is_disk OpenFaults.Memory = ⊥
-is_disk OpenFaults.Disk = Unit {0}
-is_disk (OpenFaults.Super fault) = ⊥
-is_disk (OpenFaults.Geom fault) = ⊥
-is_disk (OpenFaults.Mode flags) = ⊥
-
-abbrev is_memory : OpenFault → Type 0
-is_memory OpenFaults.Memory = Unit {0}
-is_memory OpenFaults.Disk = ⊥
-is_memory (OpenFaults.Super fault) = ⊥
-is_memory (OpenFaults.Geom fault) = ⊥
-is_memory (OpenFaults.Mode flags) = ⊥
-
-not_disk : (fault : OpenFault) → ¬ is_disk fault → fault ≡ OpenFaults.Disk → ⊥
-not_disk fault none is = none (subst is_disk (sym is) tt)
-
-not_memory : (fault : OpenFault) → ¬ is_memory fault → fault ≡ OpenFaults.Memory → ⊥
-not_memory fault none is = none (subst is_memory (sym is) tt)
-
-module _ (key : Option (List ℕ)) (disk : DiskIdentity) (a b : List Content) (start : Content) (told : content_now a ≡ Some start)
-    (synced : EachSince (λ s c. c ≡ newest_only s) a b) (script : List ℕ) (held : Option (List ℕ)) where
-  told_by : (fault : OpenFault) → IsRefused key disk fault a b → ¬ is_disk fault → ¬ is_memory fault
-      → HasRunOn (outset_on key disk.sectors (last_image start)) start script (ending_by_open fault) b held held
-  told_by fault refused no_disk no_memory =
-      refused_run (outset_on key disk.sectors (last_image start)) start script (ending_by_open fault)
-      (ap (outset_by key disk.sectors (last_image start)) (refused.told (not_disk fault no_disk) (not_memory fault no_memory) start told)) b (untouched_now start told synced) held held refl
-
-  pub refused_by_open : (fault : OpenFault) → IsRefused key disk fault a b
-      → HasRunOn (outset_on key disk.sectors (last_image start)) start script (ending_by_open fault) b held held
-  refused_by_open OpenFaults.Memory refused =
-      nothing_run (outset_on key disk.sectors (last_image start)) (fine_on key disk.sectors (last_image start)) start script NoMemory tt b
-      (before_synced (outset_on key disk.sectors (last_image start)) (of_run key disk.sectors (last_image start)) start b (untouched_now start told synced)) held held refl
-  refused_by_open OpenFaults.Disk refused =
-      nothing_run (outset_on key disk.sectors (last_image start)) (fine_on key disk.sectors (last_image start)) start script DiskFailed tt b
-      (before_synced (outset_on key disk.sectors (last_image start)) (of_run key disk.sectors (last_image start)) start b (untouched_now start told synced)) held held refl
-  refused_by_open (OpenFaults.Super fault) refused = told_by (OpenFaults.Super fault) refused (λ (x : ⊥). x) (λ (x : ⊥). x)
-  refused_by_open (OpenFaults.Geom fault) refused = told_by (OpenFaults.Geom fault) refused (λ (x : ⊥). x) (λ (x : ⊥). x)
-  refused_by_open (OpenFaults.Mode flags) refused = told_by (OpenFaults.Mode flags) refused (λ (x : ⊥). x) (λ (x : ⊥). x)
-
-  pub left_by_open : ReadsImages a → EachMoment a b (IsMomentOn key disk.sectors start script)
-  left_by_open reads =
-      synced_moments (outset_on key disk.sectors (last_image start)) (of_run key disk.sectors (last_image start))
-      (geometry_on disk.sectors (last_image start))
-      start script told reads synced
-
 -- ---- a key is taken
 
-no_key_by : (key : Option (List ℕ)) (sectors : ℕ) (image : Image) (told : Result ImageFormat OpenFault) → IsRefusedByKey (outset_by key sectors image told) → ⊥
-no_key_by key sectors image (Ok format) is = is
-no_key_by key sectors image (Err OpenFaults.Memory) is = is
-no_key_by key sectors image (Err OpenFaults.Disk) is = is
-no_key_by key sectors image (Err (OpenFaults.Super fault)) is = is
-no_key_by key sectors image (Err (OpenFaults.Geom fault)) is = is
-no_key_by key sectors image (Err (OpenFaults.Mode flags)) is = is
+no_key_refused : (refusal : ImageFault) → IsKeyRefusal (ending_by_refusal refusal) → ⊥
+no_key_refused (faults.ByFormat OpenFaults.Memory) is = is
+no_key_refused (faults.ByFormat OpenFaults.Disk) is = is
+no_key_refused (faults.ByFormat (OpenFaults.Super fault)) is = is
+no_key_refused (faults.ByFormat (OpenFaults.Geom fault)) is = is
+no_key_refused (faults.ByFormat (OpenFaults.Mode flags)) is = is
+no_key_refused (faults.ByJournal fault) is = is
+
+no_key_by : (mode : OpenMode) (key : Option (List ℕ)) (sectors : ℕ) (image : Image) (refusal : Option ImageFault) → IsRefusedByKey (outset_by mode key sectors image refusal) → ⊥
+no_key_by mode key sectors image None is = is
+no_key_by mode key sectors image (Some refusal) is = no_key_refused refusal is
 
 no_key_shown : (told : Result Dump DumpFault) → IsRefusedByKey (outset_by_dump told) → ⊥
 no_key_shown (Ok dump) is = is
@@ -618,15 +420,10 @@ no_key_made key sectors new (Err fault) is = is
 
 no_key_checked : (what : What) (d : DiskFormat) (image : Image) (refusal : Option ImageFault) → IsRefusedByKey (outset_by_check what d image refusal) → ⊥
 no_key_checked what d image None is = is
-no_key_checked what d image (Some (faults.ByFormat OpenFaults.Memory)) is = is
-no_key_checked what d image (Some (faults.ByFormat OpenFaults.Disk)) is = is
-no_key_checked what d image (Some (faults.ByFormat (OpenFaults.Super fault))) is = is
-no_key_checked what d image (Some (faults.ByFormat (OpenFaults.Geom fault))) is = is
-no_key_checked what d image (Some (faults.ByFormat (OpenFaults.Mode flags))) is = is
-no_key_checked what d image (Some (faults.ByJournal fault)) is = is
+no_key_checked what d image (Some refusal) is = no_key_refused refusal is
 
 no_key_at : (task : Task) (key : Option (List ℕ)) (sectors : ℕ) (image : Image) → IsRefusedByKey (outset_at task key sectors image) → ⊥
-no_key_at Tasks.Run key sectors image is = no_key_by key sectors image (direct_format_of sectors image) is
+no_key_at (Tasks.Run mode) key sectors image is = no_key_by mode key sectors image (fault_of key sectors image) is
 no_key_at Tasks.Dump key sectors image is = no_key_shown (dump_of sectors image) is
 no_key_at (Tasks.Check what) key sectors image is = no_key_checked what (format_on key sectors image) image (fault_for what key sectors image) is
 no_key_at (Tasks.Format new) key sectors image is = no_key_made key sectors new (provided_of new sectors) is
@@ -635,7 +432,7 @@ no_key_at (Tasks.Format new) key sectors image is = no_key_made key sectors new 
 
 -- A disk that is not written keeps to every order.
 kept_at : (task : Task) (key : Option (List ℕ)) (sectors : ℕ) {a b : List Content} → b ≡ a → IsInOrderAt task key sectors a b
-kept_at Tasks.Run key sectors same = tt
+kept_at (Tasks.Run mode) key sectors same = tt
 kept_at Tasks.Dump key sectors same = tt
 kept_at (Tasks.Check what) key sectors same = tt
 kept_at (Tasks.Format new) key sectors same = inl (EachMoment-kept _ same)

@@ -4,25 +4,19 @@ use Rattle.std.specs.Prelude.{◌≡◌, ℕ, ltb, Bool, List, [], ◌∷◌, �
 use Rattle.std.specs.Fmt.{decimal}
 use Rattle.hex.specs.Hex.{encode_lower}
 use Rattle.disk_model.specs.Disk.{Image}
-use Rattle.device_model.specs.Ending.{Ending, RefusedImage, ByJournal}
+use Rattle.device_model.specs.Ending.{Ending}
 use Rattle.device_model.specs.Transcript.{with_newline}
 use Rattle.image_check.specs.Bad.{bad_blocks}
 use Rattle.image_check.specs.Checked.{Checked, checked_format, what_of}
 use Rattle.image_check.specs.declared.bad.Bad.{Bad}
 use Rattle.image_check.specs.declared.bad.What.{What}
-use Rattle.opening_fault.specs.declared.opening_fault.OpeningFault.{OpeningFault}
-use Rattle.opening_fault.specs.declared.opening_fault.OpeningFault.TheVariants.{Memory, Disk, Super, Geom, Mode, Journal}
-use Rattle.opening_fault.specs.Faults as faults
 use Rattle.image_check.specs.Faults.{fault_for}
 use Rattle.opening_fault.specs.Faults.{ImageFault}
 use Rattle.image_check.specs.Report.{awaiting_in}
 use Rattle.place_model.specs.Format.{DiskFormat, format_on}
 use Rattle.script_session.specs.LineRun.{held_with}
-use Rattle.command_ending.specs.declared.ended.Ended.{Ended}
-use Rattle.command_ending.specs.declared.ended.Ended.TheVariants as Endings
-use Rattle.command_ending.specs.declared.image_fault.ImageFault.TheVariants as Faults
 use Rattle.command_model.specs.CommandRun.{Outset, RefusedBy, Prints, IsEndedShort, only_prints}
-use Rattle.integrity_tool.specs.Refusing.{ending_by_open}
+use Rattle.integrity_tool.specs.Refusing.{ending_by_refusal}
 
 -- ---- the lines
 
@@ -50,20 +44,6 @@ abbrev pub has_bad : List Bad → Bool
 has_bad bad = ltb 0 (length bad)
 
 -- ---- what it starts on
-
--- What ends a check whose image is not opened.
-abbrev pub ended_by_check : OpeningFault → Ended
-ended_by_check Memory = Endings.Memory
-ended_by_check Disk = Endings.Disk
-ended_by_check (Super fault) = Endings.Image (Faults.Super fault)
-ended_by_check (Geom fault) = Endings.Image (Faults.Geom fault)
-ended_by_check (Mode flags) = Endings.Image (Faults.Mode flags)
-ended_by_check (Journal fault) = Endings.Image (Faults.Journal fault)
-
--- The ending of one whose image is refused by its bytes.
-abbrev pub ending_by_refusal : ImageFault → Ending
-ending_by_refusal (faults.ByFormat fault) = ending_by_open fault
-ending_by_refusal (faults.ByJournal fault) = RefusedImage (ByJournal fault)
 
 -- By why the image is refused, if it is: its lines are printed, or it is refused.
 abbrev pub outset_by_check : What → DiskFormat → Image → Option ImageFault → Outset

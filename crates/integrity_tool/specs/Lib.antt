@@ -8,6 +8,7 @@ pub mod Outset
 pub mod Running
 pub mod Top
 pub mod Refusing
+pub mod Reopening
 pub mod Checking
 pub mod Dumping
 pub mod Making

@@ -4,8 +4,8 @@ use Rattle.disk_model.specs.Disk.{Content}
 use Rattle.device_model.specs.Grammar.{ReadLine, Means, IsReadAs}
 use Rattle.device_model.specs.Script.{ScriptLine}
 use Rattle.device_model.specs.ScriptRun.{run_from}
-use Rattle.device_core.specs.declared.parts.Parts.{Parts}
-use Rattle.device_core.specs.Device.{Standing}
+use Rattle.integrity_device.specs.declared.mode.DeviceParts.{DeviceParts}
+use Rattle.integrity_device.specs.Device.{Standing}
 use Rattle.script_reader.specs.Lines.{FindsEnd, FindsLongLine, FindsLongScript, FindsWholeLine}
 use Rattle.script_reader.specs.Reading.{Reading}
 use Rattle.script_session.specs.declared.line_end.LineEnd.{LineEnd}
@@ -37,7 +37,7 @@ HasAdvanced number old new left later (Err Endings.Length) = FindsLongScript old
 HasAdvanced number old new left later (Err ended) = ended ≡ Endings.Script
 
 -- The bytes are a line, which was run.
-pub record HasRunBytes (w : Standing) (bytes : List ℕ) (found : TagsFound) (parts : Parts)
+pub record HasRunBytes (w : Standing) (bytes : List ℕ) (found : TagsFound) (parts : DeviceParts)
     (before after : List Content) (held_before held : Option (List ℕ)) : Type 0 where
   pub line : ScriptLine
   pub read : IsReadAs bytes (Means line)

@@ -1,13 +1,17 @@
 -- What the run of a script on an image tells and leaves.
-use Rattle.std.specs.Prelude.{◌≡◌, ℕ, List, Option}
+use Rattle.std.specs.Prelude.{◌≡◌, ◌⊎◌, ℕ, List, Option}
 use Rattle.disk_model.specs.Disk.{Content, OnlyAdds, last_image}
 use Rattle.disk_model.specs.Moments.{HasNow}
-use Rattle.command_model.specs.CommandRun.{Outset, RefusedBy, RunsOn, Prints, Makes, IsEndedBy, IsLeftAfter, IsRunAt, MayBeLeftAt}
+use Rattle.command_model.specs.CommandRun.{Outset, RefusedBy, RunsOn, Prints, Makes, IsEndedBy, IsLeftAfter, IsRunAt, IsUntouched, MayBeLeftAt}
 use Rattle.device_model.specs.Ending.{Ending}
-use Rattle.device_model.specs.History.{Change, IsWrittenIn}
+use Rattle.device_model.specs.History.{Change}
+use Rattle.device_model.specs.Mode.{Mode, Direct}
 use Rattle.device_model.specs.ScriptRun.{ScriptRun, changes_in}
-use Rattle.direct_mode.specs.Places.{IsOfPlaces}
 use Rattle.image_model.specs.Geometry.{Geometry}
+use Rattle.journal_opening.specs.Opening.{IsOfOpening}
+use Rattle.direct_opening.specs.Opening.{KeepsEmpty}
+use Rattle.integrity_device.specs.declared.opening.OpenMode.{OpenMode}
+use Rattle.device_run.specs.Writes.{IsOfRun}
 use Rattle.script_session.specs.LineRun.{held_with}
 use Rattle.command_ending.specs.declared.ended.Ended.{Ended}
 use Rattle.command_ending.specs.declared.ended.Ended.TheVariants as Endings
@@ -26,14 +30,29 @@ pub record HasRunOn (outset : Outset) (start : Content) (script : List ℕ) (end
   pub told : held ≡ held_with text held_before
   pub left : HasNow (IsLeftAfter outset start changes ending) after
 
--- No sector was written but those of tags, and of the blocks that the run writes.
-abbrev pub WritesPlacesOnly : Geometry → ScriptRun → (start later : Content) → Type 0
-WritesPlacesOnly g run start later = OnlyAdds (IsOfPlaces g (IsWrittenIn (changes_in run.steps))) start later
+-- The content comes by an opening in this mode: what was pending is settled, and behind that nothing is written but
+-- entries of the image's journal in their places, sectors of tags, and empty sections of the journal; in direct mode
+-- sectors of tags alone where the journal was empty.
+abbrev pub IsOfOpeningIn : Mode → Geometry → (start opened : Content) → Type 0
+IsOfOpeningIn Direct g start opened = IsOfOpening g start opened × KeepsEmpty g start opened
+IsOfOpeningIn mode g start opened = IsOfOpening g start opened
+
+-- It does, or all is as it was.
+abbrev pub IsOpenedTo : Mode → Geometry → (start opened : Content) → Type 0
+IsOpenedTo mode g start opened = (opened ≡ start) ⊎ IsOfOpeningIn mode g start opened
+
+-- What is written up to a moment of a run in this mode: in its opening what that may write; and then in direct mode
+-- sectors of tags, and of the data of blocks that the run writes, and in journal mode sectors of the journal, of tags,
+-- and of the data of blocks. Neither the superblock, nor padding, nor a sector behind the data is ever among them.
+pub record IsWrittenByRun (mode : Mode) (g : Geometry) (run : ScriptRun) (start later : Content) : Type 0 where
+  pub opened : Content
+  pub opening : IsOpenedTo mode g start opened
+  pub behind : OnlyAdds (IsOfRun mode g (changes_in run.steps)) opened later
 
 -- What was written, by what the command starts on. What the making of an image may leave tells which sectors it writes.
 abbrev pub WritesOnlyBy : Outset → Geometry → ScriptRun → (start later : Content) → Type 0
-WritesOnlyBy (RefusedBy ending) g run start later = WritesPlacesOnly g run start later
-WritesOnlyBy (RunsOn kind image) g run start later = WritesPlacesOnly g run start later
+WritesOnlyBy (RefusedBy ending) g run start later = IsUntouched start later
+WritesOnlyBy (RunsOn kind image) g run start later = IsWrittenByRun (kind.format image).mode g run start later
 WritesOnlyBy (Prints texts found) g run start later = later ≡ start
 WritesOnlyBy (Makes making) g run start later = making.MayBeLeft start later
 
@@ -51,10 +70,11 @@ pub record IsMomentOf (outset : Outset) (g : Geometry) (start : Content) (script
   pub left : MayBeLeftAt outset start script later
   pub only : IsOnlyWritten outset g start script later
 
--- The same, of the run of a script on a disk of so many sectors, with this key.
-abbrev pub IsMomentOn : Option (List ℕ) → (sectors : ℕ) → (start : Content) → List ℕ → (later : Content) → Type 0
-IsMomentOn key sectors start script later =
-    IsMomentOf (outset_on key sectors (last_image start)) (geometry_on sectors (last_image start)) start script
+-- The same, of the run of a script in this mode on a disk of so many sectors, with this key.
+abbrev pub IsMomentOn : OpenMode → Option (List ℕ) → (sectors : ℕ) → (start : Content) → List ℕ → (later : Content)
+    → Type 0
+IsMomentOn mode key sectors start script later =
+    IsMomentOf (outset_on mode key sectors (last_image start)) (geometry_on sectors (last_image start)) start script
     later
 
 -- The same, of what is done on such a disk.

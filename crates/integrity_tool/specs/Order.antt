@@ -13,7 +13,7 @@ use Rattle.integrity_tool.specs.Words.{key_file_of}
 
 -- A new image is made in its order, and nothing else has one.
 abbrev pub IsInOrderAt : Task → (key : Option (List ℕ)) → (sectors : ℕ) → (before after : List Content) → Type 0
-IsInOrderAt Tasks.Run key sectors before after = Unit {0}
+IsInOrderAt (Tasks.Run mode) key sectors before after = Unit {0}
 IsInOrderAt Tasks.Dump key sectors before after = Unit {0}
 IsInOrderAt (Tasks.Check what) key sectors before after = Unit {0}
 IsInOrderAt (Tasks.Format new) key sectors before after = IsLeftInOrder key sectors new before after

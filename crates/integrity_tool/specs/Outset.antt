@@ -4,18 +4,18 @@ use Rattle.std.specs.Prelude.{ℕ, ◌==◌, ltb, if◌then◌else◌, List, len
 use Rattle.disk_model.specs.Disk.{Image}
 use Rattle.device_model.specs.Ending.{RefusedWords, RefusedKey, KeyRefusal, EmptyKey, LongKey}
 use Rattle.image_model.specs.Geometry.{Geometry}
-use Rattle.image_opening.specs.Format.{direct_format_of}
-use Rattle.image_opening.specs.declared.open_fault.OpenFault.{OpenFault}
-use Rattle.image_opening.specs.declared.reading.ImageFormat.{ImageFormat}
 use Rattle.place_model.specs.Format.{format_on}
-use Rattle.place_model.specs.Kind.{placed_kind}
+use Rattle.place_model.specs.Kind.{kind_in}
+use Rattle.opening_fault.specs.Faults.{ImageFault, fault_of}
+use Rattle.integrity_device.specs.declared.opening.OpenMode.{OpenMode}
+use Rattle.integrity_device.specs.Opening.{asked_mode}
 use Rattle.integrity_tool.specs.declared.asked.Asked.{Asked}
 use Rattle.integrity_tool.specs.declared.asked.Task.{Task}
 use Rattle.integrity_tool.specs.declared.asked.Task.TheVariants as Tasks
 use Rattle.integrity_tool.specs.Checking.{check_outset}
 use Rattle.integrity_tool.specs.Dumping.{dump_outset}
 use Rattle.integrity_tool.specs.Making.{format_outset}
-use Rattle.integrity_tool.specs.Refusing.{ending_by_open}
+use Rattle.integrity_tool.specs.Refusing.{ending_by_refusal}
 use Rattle.integrity_tool.specs.Words.{asked_of, key_file_of}
 use Rattle.command_model.specs.CommandRun.{Outset, RefusedBy, RunsOn}
 
@@ -36,17 +36,18 @@ abbrev pub key_by : Option (List ℕ) → (bytes : List ℕ) → Result (Option 
 key_by None bytes = Ok None
 key_by (Some file) bytes = keyed (key_in bytes)
 
--- By what the image tells: a device in direct mode opens it, or it is refused.
-abbrev pub outset_by : (key : Option (List ℕ)) → (sectors : ℕ) → Image → Result ImageFormat OpenFault → Outset
-outset_by key sectors image (Ok format) = RunsOn (placed_kind key sectors) image
-outset_by key sectors image (Err fault) = RefusedBy (ending_by_open fault)
+-- By why the image is refused, if it is: a device in this mode opens it, or it is refused.
+abbrev pub outset_by : OpenMode → (key : Option (List ℕ)) → (sectors : ℕ) → Image → Option ImageFault → Outset
+outset_by mode key sectors image None = RunsOn (kind_in (asked_mode mode) key sectors) image
+outset_by mode key sectors image (Some refusal) = RefusedBy (ending_by_refusal refusal)
 
-abbrev pub outset_on : Option (List ℕ) → (sectors : ℕ) → Image → Outset
-outset_on key sectors image = outset_by key sectors image (direct_format_of sectors image)
+-- What a run in this mode starts on, on a disk of so many sectors with this image, under a key.
+abbrev pub outset_on : OpenMode → (key : Option (List ℕ)) → (sectors : ℕ) → Image → Outset
+outset_on mode key sectors image = outset_by mode key sectors image (fault_of key sectors image)
 
 -- What is done on such a disk starts on this, with this key.
 abbrev pub outset_at : Task → (key : Option (List ℕ)) → (sectors : ℕ) → Image → Outset
-outset_at Tasks.Run key sectors image = outset_on key sectors image
+outset_at (Tasks.Run mode) key sectors image = outset_on mode key sectors image
 outset_at Tasks.Dump key sectors image = dump_outset sectors image
 outset_at (Tasks.Check what) key sectors image = check_outset what key sectors image
 outset_at (Tasks.Format new) key sectors image = format_outset key sectors new

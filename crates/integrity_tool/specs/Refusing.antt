@@ -1,12 +1,33 @@
 -- How a command ends whose image is not opened.
-use Rattle.device_model.specs.Ending.{Ending, RefusedImage, DiskFailed, NoMemory, BySuperblock, ByGeometry, ByMode}
+use Rattle.device_model.specs.Ending.{Ending, RefusedImage, DiskFailed, NoMemory, BySuperblock, ByGeometry, ByMode, ByJournal}
 use Rattle.image_opening.specs.declared.open_fault.OpenFault.{OpenFault}
-use Rattle.image_opening.specs.declared.open_fault.OpenFault.TheVariants.{Memory, Disk, Super, Geom, Mode}
+use Rattle.image_opening.specs.declared.open_fault.OpenFault.TheVariants as FormatFaults
+use Rattle.opening_fault.specs.declared.opening_fault.OpeningFault.{OpeningFault}
+use Rattle.opening_fault.specs.declared.opening_fault.OpeningFault.TheVariants.{Memory, Disk, Super, Geom, Mode, Journal}
+use Rattle.opening_fault.specs.Faults as faults
+use Rattle.opening_fault.specs.Faults.{ImageFault}
+use Rattle.command_ending.specs.declared.ended.Ended.{Ended}
+use Rattle.command_ending.specs.declared.ended.Ended.TheVariants as Endings
+use Rattle.command_ending.specs.declared.image_fault.ImageFault.TheVariants as Faults
 
--- Why a disk is not opened.
-abbrev pub ending_by_open : OpenFault → Ending
-ending_by_open Memory = NoMemory
-ending_by_open Disk = DiskFailed
-ending_by_open (Super fault) = RefusedImage (BySuperblock fault)
-ending_by_open (Geom fault) = RefusedImage (ByGeometry fault)
-ending_by_open (Mode flags) = RefusedImage (ByMode flags)
+-- What ends a command whose image is not opened.
+abbrev pub ended_by_opening : OpeningFault → Ended
+ended_by_opening Memory = Endings.Memory
+ended_by_opening Disk = Endings.Disk
+ended_by_opening (Super fault) = Endings.Image (Faults.Super fault)
+ended_by_opening (Geom fault) = Endings.Image (Faults.Geom fault)
+ended_by_opening (Mode flags) = Endings.Image (Faults.Mode flags)
+ended_by_opening (Journal fault) = Endings.Image (Faults.Journal fault)
+
+-- The ending of one whose image is refused by its format,
+abbrev pub ending_by_format : OpenFault → Ending
+ending_by_format FormatFaults.Memory = NoMemory
+ending_by_format FormatFaults.Disk = DiskFailed
+ending_by_format (FormatFaults.Super fault) = RefusedImage (BySuperblock fault)
+ending_by_format (FormatFaults.Geom fault) = RefusedImage (ByGeometry fault)
+ending_by_format (FormatFaults.Mode flags) = RefusedImage (ByMode flags)
+
+-- or by that or its journal.
+abbrev pub ending_by_refusal : ImageFault → Ending
+ending_by_refusal (faults.ByFormat fault) = ending_by_format fault
+ending_by_refusal (faults.ByJournal fault) = RefusedImage (ByJournal fault)

@@ -9,14 +9,16 @@ use Rattle.device_model.specs.Grammar.{ReadLine, IsReadAs}
 use Rattle.device_model.specs.History.{Change, with_changes}
 use Rattle.device_model.specs.ScriptBytes.{most_script}
 use Rattle.device_model.specs.ScriptRun.{ScriptRun, ScriptStep, changes_in, close_step, only_ends, run_from, texts_of, with_step}
-use Rattle.direct_laws.specs.MomentLaws.{IsLeftNow, kind_of}
+use Rattle.direct_laws.specs.MomentLaws.{IsLeftNow}
 use Rattle.device_core.specs.declared.condition.Condition.TheVariants as Conditions
-use Rattle.device_core.specs.declared.parts.Parts.{Parts}
-use Rattle.device_core.specs.Device.{IsDevice, Standing}
+use Rattle.integrity_device.specs.declared.mode.DeviceParts.{DeviceParts}
+use Rattle.integrity_device.specs.Device.{IsDevice, Standing, kind_of}
+use Rattle.device_run.specs.Run.{IsLeftWithin}
+use Rattle.device_run.specs.Writes.{WritesOnly}
 use Rattle.script_reader.specs.Lines.{lines_left}
 use Rattle.script_reader.specs.Reading.{HasNoNewline, Reading, most_piece}
 use Rattle.script_session.specs.declared.tags_found.TagsFound.{TagsFound}
-use Rattle.script_session.specs.LineRun.{IsLeftWithin, WritesOnly, held_with}
+use Rattle.script_session.specs.LineRun.{held_with}
 use Rattle.script_session.specs.Told.{finds_fault}
 use Rattle.command_ending.specs.Ended.{ending_of}
 use Rattle.command_ending.specs.declared.ended.Ended.{Ended}
@@ -29,17 +31,17 @@ ending_by (Ok found) = Complete (finds_fault found)
 ending_by (Err ended) = ending_of ended
 
 -- This is what stopped the rest of a run on a device: the rest came so far; at each moment some of its changes
--- are made, and now these; no sector is written but those of the blocks that it writes, and of tags; and the sink
--- holds its text behind what it held.
+-- are made, and now these; no sector is written but those that it may write in the device's mode; and the sink holds
+-- its text behind what it held.
 pub record IsStopped (w : Standing) (rest : ScriptRun) (ending : Ending) (before after : List Content)
     (held_before held : Option (List ℕ)) : Type 0 where
   pub text : List ℕ
   pub changes : List Change
   pub ended : IsEndedBy rest text changes ending
   pub since : EachMoment before after
-      (IsLeftWithin (kind_of w.disk) w.entry w.state.history (changes_in rest.steps))
-  pub writes : WritesOnly w.disk.geometry (changes_in rest.steps) before after
-  pub now : IsLeftNow (kind_of w.disk) w.entry (with_changes changes w.state.history) after
+      (IsLeftWithin (kind_of w) w.entry w.state.history (changes_in rest.steps))
+  pub writes : WritesOnly w.format.mode w.on.geometry (changes_in rest.steps) before after
+  pub now : IsLeftNow (kind_of w) w.entry (with_changes changes w.state.history) after
   pub told : held ≡ held_with text held_before
 
 -- What stops the rest of a run here stops the whole run, which began there.
@@ -77,7 +79,7 @@ pub record IsPassed (run rest : ScriptRun) (script : List ℕ) (held_start : Opt
 -- A run of a script stands before its line of this number.
 pub record IsAt (there : Standing) (run : ScriptRun) (script : List ℕ) (start : List Content)
     (held_start : Option (List ℕ)) (number : ℕ) (found : TagsFound) (reader : Reading) (left : List ℕ)
-    (parts : Parts) (now : List Content) (held : Option (List ℕ)) : Type 0 where
+    (parts : DeviceParts) (now : List Content) (held : Option (List ℕ)) : Type 0 where
   pub here : Standing
   pub device : IsDevice here Conditions.Working parts now
   pub lines : List ReadLine
@@ -95,7 +97,7 @@ only_close w found = with_step (close_step w.format w.state) (only_ends (Complet
 
 -- All lines are run: the close is left.
 pub record IsAtClose (there : Standing) (run : ScriptRun) (start : List Content) (held_start : Option (List ℕ))
-    (found : TagsFound) (parts : Parts) (now : List Content) (held : Option (List ℕ)) : Type 0 where
+    (found : TagsFound) (parts : DeviceParts) (now : List Content) (held : Option (List ℕ)) : Type 0 where
   pub here : Standing
   pub device : IsDevice here Conditions.Working parts now
   pub leads : Leads here (only_close here found) now held there run start held_start

@@ -1,5 +1,5 @@
 -- What the words ask for.
--- Own: of the commands that words can be, the program has `format`, `dump`, `check`, and the runs in direct mode.
+-- Own: of the commands that words can be, the program has `format`, `dump`, `check` and `run`.
 use Rattle.std.specs.Prelude.{ℕ, if◌then◌else◌, List, [], Option, Some, None}
 use Rattle.command_words.specs.Commands.{command_of}
 use Rattle.command_words.specs.Come.{has_come}
@@ -15,6 +15,8 @@ use Rattle.command_words.specs.declared.values.Checked.{Checked}
 use Rattle.command_words.specs.declared.values.Checked.TheVariants as checks
 use Rattle.command_words.specs.declared.values.HashChoice.{HashChoice}
 use Rattle.command_words.specs.declared.values.HashChoice.TheVariants.{Sha256, HmacSha256}
+use Rattle.command_words.specs.declared.values.Mode.{Mode}
+use Rattle.command_words.specs.declared.values.Mode.TheVariants as modes
 use Rattle.command_words.specs.declared.values.Padding as words
 use Rattle.command_words.specs.declared.values.Padding.TheVariants as paddings
 use Rattle.command_words.specs.declared.values.Wipe as words_wipe
@@ -27,6 +29,8 @@ use Rattle.image_formatting.specs.declared.new_image.Padding.TheVariants.{Fixed,
 use Rattle.image_formatting.specs.declared.new_image.Wipe.{Wipe}
 use Rattle.image_formatting.specs.declared.new_image.Wipe.TheVariants.{Wiped, Kept}
 use Rattle.image_formatting.specs.NewImage.{IsNewImage}
+use Rattle.integrity_device.specs.declared.opening.OpenMode.{OpenMode}
+use Rattle.integrity_device.specs.declared.opening.OpenMode.TheVariants.{Direct, Journal}
 use Rattle.integrity_tool.specs.declared.asked.Asked.{Asked}
 use Rattle.integrity_tool.specs.declared.asked.Task.{Task}
 use Rattle.integrity_tool.specs.declared.asked.Task.TheVariants as Tasks
@@ -55,7 +59,7 @@ new_image_of format = record {
 
 -- Its fields are in their ranges. What else is done asks for none.
 abbrev pub IsTask : Task → Type 0
-IsTask Tasks.Run = Unit {0}
+IsTask (Tasks.Run mode) = Unit {0}
 IsTask Tasks.Dump = Unit {0}
 IsTask (Tasks.Check what) = Unit {0}
 IsTask (Tasks.Format new) = IsNewImage new
@@ -65,8 +69,13 @@ IsTask (Tasks.Format new) = IsNewImage new
 abbrev pub format_asked : Format → Asked
 format_asked format = record { image = format.image; hash = format.hash; task = Tasks.Format (new_image_of format) }
 
+-- The mode of a run.
+abbrev pub mode_as : Mode → OpenMode
+mode_as modes.Journal = Journal
+mode_as modes.Direct = Direct
+
 abbrev pub run_asked : Run → Asked
-run_asked run = record { image = run.image; hash = run.hash; task = Tasks.Run }
+run_asked run = record { image = run.image; hash = run.hash; task = Tasks.Run (mode_as run.mode) }
 
 -- A dump looks at no tag, and needs no key.
 abbrev pub dump_asked : Dump → Asked
@@ -121,7 +130,7 @@ key_file_of_asked (Some asked) = key_file_of asked.hash
 -- ---- what has no script
 
 abbrev pub IsScriptless : Task → Type 0
-IsScriptless Tasks.Run = ⊥
+IsScriptless (Tasks.Run mode) = ⊥
 IsScriptless Tasks.Dump = Unit {0}
 IsScriptless (Tasks.Check what) = Unit {0}
 IsScriptless (Tasks.Format new) = Unit {0}

@@ -2,16 +2,17 @@
 ghost use Rattle.std.specs.Prelude.{◌≡◌, ◌⊎◌, Err, IfErr, IfOk, IfSome, None, Some, map};
 ghost use Rattle.std.specs.String.{string_bytes};
 ghost use Rattle.command_ending.specs.declared.ended.Ended.TheVariants as Endings;
-ghost use Rattle.integrity_tool.specs.Words.{IsTask, asked_by, asked_in, asked_of, check_asked, dump_asked, format_asked, new_image_of, padding_as, run_asked, what_as, wipe_as};
+ghost use Rattle.integrity_tool.specs.Words.{IsTask, asked_by, asked_in, asked_of, check_asked, dump_asked, format_asked, mode_as, new_image_of, padding_as, run_asked, what_as, wipe_as};
 ghost use Rattle.image_formatting.specs.NewImage.{IsNewImage};
 
 use command_ending::Ended;
 use command_words::{
-    Check, Checked, Command, Dump, FileName, Format, HashChoice, Padding, Run, Wipe, WordsFault,
-    has_come, parse,
+    Check, Checked, Command, Dump, FileName, Format, HashChoice, Mode, Padding, Run, Wipe,
+    WordsFault, has_come, parse,
 };
 use image_check::What;
 use image_formatting::NewImage;
+use integrity_device::OpenMode;
 use std::alloc::Global;
 
 /// What the words ask for.
@@ -28,8 +29,8 @@ pub(crate) struct Asked {
 /// What is done on an image.
 #[derive(Clone, Copy, Debug)]
 pub(crate) enum Task {
-    /// A script is run on a device in direct mode.
-    Run,
+    /// A script is run on a device in this mode.
+    Run(OpenMode),
     /// What the image shows is printed.
     Dump,
     /// Its bad blocks are printed.
@@ -104,7 +105,17 @@ fn run_asked(run: Run) -> Asked
     Asked {
         image: run.image,
         hash: run.hash,
-        task: Task::Run,
+        task: Task::Run(mode(run.mode)),
+    }
+}
+
+/// The same mode.
+fn mode(mode: Mode) -> OpenMode
+    ensures { result ≡ mode_as mode }
+{
+    match mode {
+        Mode::Journal => OpenMode::Journal,
+        Mode::Direct => OpenMode::Direct,
     }
 }
 

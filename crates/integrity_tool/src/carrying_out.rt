@@ -67,7 +67,7 @@ pub(crate) fn carry_out<D: Disk, S: Source, O: Sink>(
     ensures identity { D.identity disk.new ≡ D.identity disk.old }
 {
     match task {
-        Task::Run => run_image(alloc, disk, hash, script, out),
+        Task::Run(mode) => run_image(alloc, disk, hash, mode, script, out),
         Task::Dump => done(print_image(alloc, disk, out)),
         Task::Check(what) => print_check(alloc, disk, hash, what, out),
         Task::Format(new) => done(make_image(alloc, disk, hash, new, out)),

@@ -13,16 +13,16 @@ ghost use Rattle.image_check.specs.Checked.{IsCheckOf};
 ghost use Rattle.image_check.specs.Report.{with_found};
 ghost use Rattle.script_session.specs.Told.{finds_fault};
 ghost use Rattle.command_ending.specs.Ended.{Puts, ending_of};
-ghost use Rattle.integrity_tool.specs.Checking.{IsListed, IsPrintedShort, bad_in, bad_line, check_outset, counts_line, ended_by_check, lines_in};
+ghost use Rattle.integrity_tool.specs.Checking.{IsListed, IsPrintedShort, bad_in, bad_line, check_outset, counts_line, lines_in};
 ghost use Rattle.integrity_tool.specs.Opening.{HasRunOn};
 ghost use Rattle.integrity_tool.specs.Running.{HasEndCause, IsCounted, ending_by};
 ghost use Rattle.integrity_tool.specs.Tasks.{EndsTask};
 
-use command_ending::{Ended, ImageFault, MOST_DIGITS, put_pieces, tag_digits};
+use crate::refusing::ended_by_opening;
+use command_ending::{Ended, MOST_DIGITS, put_pieces, tag_digits};
 use hmac_tag::Hash;
 use image_check::{Bad, CheckedImage, What};
 use itoa::Buffer;
-use opening_fault::OpeningFault;
 use script_session::TagsFound;
 use sector_disk::{Disk, Failed};
 use std::alloc::Global;
@@ -60,7 +60,7 @@ pub(crate) fn print_check<D: Disk, O: Sink>(
 {
     let mut image = match CheckedImage::open(alloc, disk, hash, what) {
         Ok(image) => image,
-        Err(fault) => return Err(ended_by(fault)),
+        Err(fault) => return Err(ended_by_opening(fault)),
     };
     let bad = match print_bad(disk, &mut image, out) {
         Ok(bad) => bad,
@@ -203,19 +203,5 @@ fn tags_found(bad: u64) -> TagsFound
         TagsFound::Differing
     } else {
         TagsFound::Matching
-    }
-}
-
-/// What ends a check whose image is not opened.
-fn ended_by(fault: OpeningFault) -> Ended
-    ensures { result ≡ ended_by_check fault }
-{
-    match fault {
-        OpeningFault::Memory => Ended::Memory,
-        OpeningFault::Disk => Ended::Disk,
-        OpeningFault::Super(fault) => Ended::Image(ImageFault::Super(fault)),
-        OpeningFault::Geom(fault) => Ended::Image(ImageFault::Geom(fault)),
-        OpeningFault::Mode { flags } => Ended::Image(ImageFault::Mode { flags }),
-        OpeningFault::Journal(fault) => Ended::Image(ImageFault::Journal(fault)),
     }
 }

@@ -2,12 +2,12 @@
 ghost use Rattle.std.specs.Prelude.{◌≡◌, ◌≤◌, Err};
 ghost use Rattle.disk_model.specs.Causes.{Rose};
 ghost use Rattle.device_core.specs.declared.condition.Condition.TheVariants.{Working};
-ghost use Rattle.device_core.specs.Device.{IsDevice, IsReady, Standing};
+ghost use Rattle.integrity_device.specs.Device.{IsDevice, IsReady, Standing};
 ghost use Rattle.integrity_tool.specs.Closing.{HasCloseCounts, close_ending, fault_ended};
 ghost use Rattle.integrity_tool.specs.Running.{IsStopped, only_close};
 
 use command_ending::Ended;
-use device_core::Device;
+use integrity_device::Device;
 use script_session::TagsFound;
 use sector_disk::Disk;
 use stream_io::{Sink, put_all};
@@ -39,12 +39,13 @@ impl CloseFault {
 ///
 /// - `Disk`: the disk failed. Nothing is printed.
 /// - `Sink`: the sink failed. All is flushed.
-pub(crate) fn close<'d, D: Disk, O: Sink>(
-    device: Device<'d, D>,
+pub(crate) fn close<'d, 'p, D: Disk, O: Sink>(
+    device: Device<'d, 'p, D>,
     found: TagsFound,
     out: &mut O,
 ) -> (Result<TagsFound, CloseFault>, &'d mut D)
-    requires ready { IsReady device.parts (D.identity device.disk.now) (D.moments device.disk.now) }
+    requires ready { IsReady device.condition device.parts
+        (D.identity device.disk.now) (D.moments device.disk.now) }
     requires works { device.condition ≡ Working }
 
     ensures stopped { (w : Standing) → IsDevice w Working device.entry.parts (D.moments device.entry.disk.now)

@@ -13,8 +13,11 @@ mod keyed;
 mod lines;
 mod making;
 mod opening;
+mod refusing;
+mod reopening;
 mod running;
 mod top_call;
 
 pub use command_ending::end_without_memory;
+pub use reopening::reopened_images_begin_with_what_a_cut_left;
 pub use top_call::integrity;

@@ -3,14 +3,14 @@ ghost use Rattle.std.specs.Prelude.{◌≡◌, ◌≤◌, ◌+◌, ◌++◌, ◌
 ghost use Rattle.std.specs.Option.{ForSome, IsSomeAnd};
 ghost use Rattle.disk_model.specs.Causes.{Rose};
 ghost use Rattle.device_core.specs.declared.condition.Condition.TheVariants.{Working};
-ghost use Rattle.device_core.specs.Device.{IsDevice, IsReady, Standing};
+ghost use Rattle.integrity_device.specs.Device.{IsDevice, IsReady, Standing};
 ghost use Rattle.script_reader.specs.Reading.{IsWithin, TakesLine};
 ghost use Rattle.script_session.specs.Tickets.{AreInFlight, Stays};
 ghost use Rattle.integrity_tool.specs.Lines.{HasAdvanced, HasRunBytes, IsStoppedByBytes, ended_by};
 ghost use Rattle.integrity_tool.specs.Running.{EndsScript, HasEndCause, HasRead, IsCounted};
 
 use command_ending::{Ended, FormFault, LineRefusal};
-use device_core::Device;
+use integrity_device::Device;
 use script_reader::{LineReader, NextLine};
 use script_session::{LineEnd, TagsFound, Tickets, run_line};
 use script_text::read_line;
@@ -61,19 +61,19 @@ pub(crate) fn advance<S: Source>(
 /// - `Line`: the bytes are no line, or one that has no meaning here.
 /// - `Disk`, `Sink`: that failed.
 /// - `Memory`: there is none for what the line needs.
-pub(crate) fn run_bytes<'d, D: Disk, O: Sink>(
+pub(crate) fn run_bytes<'d, 'p, D: Disk, O: Sink>(
     alloc: Global,
-    device: &mut Device<'d, D>,
+    device: &mut Device<'d, 'p, D>,
     tickets: &mut Tickets,
     bytes: &[u8],
     number: u64,
     out: &mut O,
 ) -> Result<TagsFound, Ended>
-    requires ready { IsReady device.old.parts (D.identity device.old.disk.now)
-        (D.moments device.old.disk.now) }
+    requires ready { IsReady device.old.condition device.old.parts
+        (D.identity device.old.disk.now) (D.moments device.old.disk.now) }
     requires works { device.old.condition ≡ Working }
-    requires tickets { AreInFlight tickets.old device.old.parts.slots }
-    requires number { device.old.parts.slots.submitted + 1 < 2 ^ 64 }
+    requires tickets { AreInFlight tickets.old device.old.parts.common.slots }
+    requires number { device.old.parts.common.slots.submitted + 1 < 2 ^ 64 }
 
     ensures ran { IfOk result (λ found. (w : Standing)
         → IsDevice w Working device.old.parts (D.moments device.old.disk.now)
@@ -93,8 +93,8 @@ pub(crate) fn run_bytes<'d, D: Disk, O: Sink>(
         × IsCounted Ended.Sink (O.faults out.old) (O.faults out.new) result }
 
     ensures works { OnOk result (device.new.condition ≡ Working) }
-    ensures stays { Stays device.old.parts device.new.parts tickets.new (D.identity device.old.disk.now)
-        (D.identity device.new.disk.now) (D.moments device.new.disk.now) }
+    ensures stays { Stays device.new.condition device.old.parts device.new.parts tickets.new
+        (D.identity device.old.disk.now) (D.identity device.new.disk.now) (D.moments device.new.disk.now) }
     ensures same_disk { device.new.disk.ghost_name ≡ device.old.disk.ghost_name }
 {
     match read_line(bytes) {

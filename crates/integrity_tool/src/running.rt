@@ -4,14 +4,14 @@ ghost use Rattle.std.specs.Prelude.{◌≡◌, ◌≤◌, ◌||◌, [], IfErr, I
 ghost use Rattle.device_model.specs.ScriptRun.{ScriptRun, IsRunOf};
 ghost use Rattle.disk_model.specs.Causes.{Rose};
 ghost use Rattle.device_core.specs.declared.condition.Condition.TheVariants.{Working};
-ghost use Rattle.device_core.specs.Device.{IsDevice, IsReady, Standing};
+ghost use Rattle.integrity_device.specs.Device.{IsDevice, IsReady, Standing};
 ghost use Rattle.script_session.specs.Told.{finds_fault};
 ghost use Rattle.command_ending.specs.Ended.{ending_of};
 ghost use Rattle.integrity_tool.specs.Running.{EndsScript, HasEndCause, HasReadTo, HasTaken, IsAtClose, IsCounted, IsStopped};
 
 use crate::lines::{advance, run_bytes};
 use command_ending::Ended;
-use device_core::Device;
+use integrity_device::Device;
 use script_reader::LineReader;
 use script_session::{TagsFound, Tickets};
 use sector_disk::Disk;
@@ -26,17 +26,18 @@ use stream_io::{Sink, Source};
 /// - `Line`, `Length`: the script is refused from there on.
 /// - `Disk`, `Script`, `Sink`: that failed.
 /// - `Memory`: there is none for what a line needs.
-pub(crate) fn run_lines<'d, D: Disk, S: Source, O: Sink>(
+pub(crate) fn run_lines<'d, 'p, D: Disk, S: Source, O: Sink>(
     alloc: Global,
-    device: &mut Device<'d, D>,
+    device: &mut Device<'d, 'p, D>,
     reader: &mut LineReader,
     script: &mut S,
     out: &mut O,
 ) -> Result<TagsFound, Ended>
-    requires ready { IsReady device.old.parts (D.identity device.old.disk.now)
-        (D.moments device.old.disk.now) }
+    requires ready { IsReady device.old.condition device.old.parts
+        (D.identity device.old.disk.now) (D.moments device.old.disk.now) }
     requires works { device.old.condition ≡ Working }
-    requires requests { (device.old.parts.slots.slots ≡ []) × (device.old.parts.slots.submitted ≡ 0) }
+    requires requests { (device.old.parts.common.slots.slots ≡ [])
+        × (device.old.parts.common.slots.submitted ≡ 0) }
     requires reader { reader.old ≡ record { unread = []; line = []; taken = 0 } }
 
     ensures lines { IfOk result (λ found. (w : Standing) (left : List ℕ) (run : ScriptRun)
@@ -64,8 +65,8 @@ pub(crate) fn run_lines<'d, D: Disk, S: Source, O: Sink>(
         → IsRunOf w.format w.state left run
         → HasReadTo run left (S.left script.new) (O.held out.old) (O.held out.new)) }
     ensures works { OnOk result (device.new.condition ≡ Working) }
-    ensures ready { IsReady device.new.parts (D.identity device.new.disk.now)
-        (D.moments device.new.disk.now) }
+    ensures ready { IsReady device.new.condition device.new.parts
+        (D.identity device.new.disk.now) (D.moments device.new.disk.now) }
     ensures identity { D.identity device.new.disk.now ≡ D.identity device.old.disk.now }
     ensures same_disk { device.new.disk.ghost_name ≡ device.old.disk.ghost_name }
 {

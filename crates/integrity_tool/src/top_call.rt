@@ -25,8 +25,8 @@ use stream_io::{NamedSource, Sink, Source};
 
 /// Does what the words say, and answers the status. The words are the program's name and then those of a command.
 ///
-/// The commands are `format IMAGE`, `dump IMAGE`, `check IMAGE`, and `run IMAGE --mode D`. The key is bound and read, at most 4097
-/// bytes of it, before the image is bound, and the script of a run only once the device is open.
+/// The commands are `format IMAGE`, `dump IMAGE`, `check IMAGE`, and `run IMAGE --mode D` and `--mode J`. The key is bound
+/// and read, at most 4097 bytes of it, before the image is bound, and the script of a run only once the device is open.
 ///
 /// # Statuses
 ///

@@ -9,7 +9,7 @@ use Rattle.device_model.specs.Request.{Asked, RequestState, Unfinished, Finished
 use Rattle.device_model.specs.Script.{finish_all_events, finish_events, is_did, last_answer, room_events, turn_events, turns_left, whole_finish}
 use Rattle.device_model.proofs.IdleLemmas.{after_events-append, room_events-same}
 use Rattle.device_model.proofs.ScriptLemmas.{changes_of-append, finish-condition}
-use Rattle.script_session.proofs.FinishLemmas.{serve-finished, whole_finish-finished}
+use Rattle.device_run.proofs.FinishLemmas.{serve-finished, whole_finish-finished}
 
 -- The tickets of those that are neither taken nor dropped. The first has ticket t.
 abbrev pub numbers_from : ℕ → List Asked → List ℕ
@@ -140,9 +140,9 @@ module _ (f : DeviceFormat) where
       → SameEnd s (whole_finish f (suc k) s ++ rest (after_events f s (whole_finish f (suc k) s))) (rest s)
   same_done s k a works there done rest =
       let serve = Serve (suc k) in
-      let is = serve-finished f s k a works there done in
+      let is = serve-finished f s k a there works done in
       let still : after_event f s serve ≡ s = ap (λ (x : EventResult). record { history = with_changes x.changes s.history; progress = x.progress; condition = s.condition }) is in
-      let events = whole_finish-finished f s k a works there done in
+      let events = whole_finish-finished f s k a there works done in
       same_then s _ (serve ∷ rest (after_event f s serve)) (rest s)
       (same_none s _ _ (ap (λ (l : List Event). l ++ rest (after_events f s l)) events))
       (record {

@@ -30,32 +30,37 @@ use Rattle.request_slots.specs.declared.slot.Outcome.TheVariants.{Unfinished, Fi
 use Rattle.request_slots.specs.declared.slot.Slot.{Slot}
 use Rattle.request_slots.specs.declared.submit_fault.SubmitFault.{SubmitFault}
 use Rattle.request_slots.specs.declared.submit_fault.SubmitFault.TheVariants as Faults
-use Rattle.device_core.specs.declared.answers.Served.{Served}
-use Rattle.device_core.specs.declared.answers.Served.TheVariants as Serves
+use Rattle.journal_device.specs.declared.served.Served.{Served}
+use Rattle.journal_device.specs.declared.served.Served.TheVariants as Serves
+use Rattle.journal_device.specs.Answers.{served_answer}
+use Rattle.device_core.specs.declared.answers.Moved.{Moved}
+use Rattle.device_core.specs.declared.answers.Moved.TheVariants as Moves
+use Rattle.device_core.specs.Answers.{moved_answer}
 use Rattle.device_core.specs.declared.condition.Condition.{Condition}
 use Rattle.device_core.specs.declared.condition.Condition.TheVariants as Conditions
-use Rattle.device_core.specs.declared.parts.Parts.{Parts}
-use Rattle.device_core.specs.Answers.{HasTaken, IsDone, served_answer}
-use Rattle.device_core.specs.Device.{HasDone, IsDevice, IsReady, Standing}
+use Rattle.integrity_device.specs.declared.mode.DeviceParts.{DeviceParts}
+use Rattle.integrity_device.specs.Answers.{Answers, HasDone, HasTaken, IsDone, KeepsParts}
+use Rattle.integrity_device.specs.Device.{IsDevice, IsReady, Standing, mode_of, with_slots}
+use Rattle.integrity_device.proofs.ModeLemmas.{condition_now, flight_now}
+use Rattle.device_run.specs.Run.{HasBegun, HasFailed, HasRun, standing_behind}
+use Rattle.device_run.proofs.RunLemmas.{failed_then, failed_wider, run_one, run_then}
+use Rattle.device_run.proofs.WritesLemmas.{WritesOnly-kept}
 use Rattle.device_core.proofs.TurnLemmas.{slot-is}
 use Rattle.script_session.specs.declared.line_answer.LineAnswer.{LineAnswer}
 use Rattle.script_session.specs.declared.line_answer.LineAnswer.TheVariants as Lines
 use Rattle.script_session.specs.declared.tickets.Tickets.{Tickets}
 use Rattle.script_session.specs.declared.tickets.Waiting.{Waiting}
-use Rattle.script_session.specs.LineRun.{HasAnswered, HasBegun, HasFailed, HasRun, standing_behind}
-use Rattle.script_session.specs.Serves.{HasServedOnce, KeepsAll}
+use Rattle.script_session.specs.LineRun.{HasAnswered}
 use Rattle.script_session.specs.Tickets.{AreInFlight, Stays, ask_by, is_of}
-use Rattle.script_session.specs.Told.{IsNoTicket, IsTicketOf, answer_found, answer_told, finds_fault, refused_answer, reply_found, reply_told, served_line}
-use Rattle.script_session.proofs.RunLemmas.{failed_then, failed_wider, run_one, run_then}
+use Rattle.script_session.specs.Told.{IsNoTicket, IsTicketOf, answer_found, answer_told, finds_fault, moved_line, refused_answer, reply_found, reply_told, served_line}
 use Rattle.script_session.proofs.SplitLemmas.{IsSplit, asks-without, split_of, split_own, split_removed}
 use Rattle.script_session.proofs.TicketLemmas.{any-asks}
 use Rattle.script_session.proofs.WayLemmas.{in_flight_kept}
-use Rattle.script_session.proofs.WritesLemmas.{WritesOnly-kept}
 
 -- ---- one event
 
 -- It is told of an event what it answers.
-pub answered_run : (w : Standing) (event : Event) (answer : Model.Answer) (line : LineAnswer) (parts : Parts)
+pub answered_run : (w : Standing) (event : Event) (answer : Model.Answer) (line : LineAnswer) (parts : DeviceParts)
     (a b : List Content)
     → HasRun w (event ∷ []) parts a b → (Model.event_result w.format w.state event).answer ≡ answer
     → answer_told line ≡ answer_text answer → finds_fault (answer_found line) ≡ tells_fault answer
@@ -67,31 +72,48 @@ answered_run w event answer line parts a b run is text found = record {
 }
 
 pub answered_done : (w : Standing) (event : Event) (answer : Model.Answer) (line : LineAnswer)
-    (condition : Condition) (parts : Parts) (a b : List Content)
+    (condition : Condition) (parts : DeviceParts) (a b : List Content)
     → IsDone w event answer condition parts a b → condition ≡ Conditions.Working → b ≡ a
     → answer_told line ≡ answer_text answer → finds_fault (answer_found line) ≡ tells_fault answer
     → HasAnswered w (event ∷ []) line parts a b
 answered_done w event answer line condition parts a b is works same text found =
     answered_run w event answer line parts a b
-    (run_one w event parts a b (subst (λ (x : Condition). HasDone w event x parts a b) works is.done) (WritesOnly-kept w.disk.format.geometry _ same)) is.answers text found
+    (run_one w event parts a b (subst (λ (x : Condition). HasDone w event x parts a b) works is.done) (WritesOnly-kept w.format.mode w.on.geometry _ same)) is.answers text found
 
 served_text : (served : Served) → answer_told (served_line served) ≡ answer_text (served_answer served)
 served_text (Serves.Held by) = refl
 served_text Serves.Did = refl
 served_text Serves.Done = refl
+served_text Serves.NoRoom = refl
 
 served_found : (served : Served)
     → finds_fault (answer_found (served_line served)) ≡ tells_fault (served_answer served)
 served_found (Serves.Held by) = refl
 served_found Serves.Did = refl
 served_found Serves.Done = refl
+served_found Serves.NoRoom = refl
 
-pub served_told : (w : Standing) (ticket : ℕ) (served : Served) (line : LineAnswer) (parts : Parts)
-    (a b : List Content) → line ≡ served_line served
-    → HasServedOnce w ticket served parts a b → HasAnswered w (Model.Serve ticket ∷ []) line parts a b
-served_told w ticket served line parts a b is once =
+pub served_told : (w : Standing) (ticket : ℕ) (served : Served) (line : LineAnswer) (parts : DeviceParts)
+    (a b : List Content) → line ≡ served_line served → HasRun w (Model.Serve ticket ∷ []) parts a b
+    → Answers w (Model.Serve ticket) (served_answer served) → HasAnswered w (Model.Serve ticket ∷ []) line parts a b
+served_told w ticket served line parts a b is run answers =
     subst (λ (l : LineAnswer). HasAnswered w (Model.Serve ticket ∷ []) l parts a b) (sym is)
-    (answered_run w (Model.Serve ticket) (served_answer served) (served_line served) parts a b once.run once.answers (served_text served) (served_found served))
+    (answered_run w (Model.Serve ticket) (served_answer served) (served_line served) parts a b run answers (served_text served) (served_found served))
+
+moved_text : (moved : Moved) → answer_told (moved_line moved) ≡ answer_text (moved_answer moved)
+moved_text Moves.Did = refl
+moved_text Moves.Idle = refl
+
+moved_found : (moved : Moved) → finds_fault (answer_found (moved_line moved)) ≡ tells_fault (moved_answer moved)
+moved_found Moves.Did = refl
+moved_found Moves.Idle = refl
+
+pub moved_told : (w : Standing) (actor : Model.Actor) (moved : Moved) (line : LineAnswer) (parts : DeviceParts)
+    (a b : List Content) → line ≡ moved_line moved → HasRun w (Model.Step actor ∷ []) parts a b
+    → Answers w (Model.Step actor) (moved_answer moved) → HasAnswered w (Model.Step actor ∷ []) line parts a b
+moved_told w actor moved line parts a b is run answers =
+    subst (λ (l : LineAnswer). HasAnswered w (Model.Step actor ∷ []) l parts a b) (sym is)
+    (answered_run w (Model.Step actor) (moved_answer moved) (moved_line moved) parts a b run answers (moved_text moved) (moved_found moved))
 
 -- ---- a submission
 
@@ -155,7 +177,7 @@ submitted_ticket fault n line answer same is =
     by (Some x) = refused_none x
 
 pub submit_told : (w : Standing) (request : Request) (fault : Option SubmitFault) (n : ℕ) (line : LineAnswer)
-    (condition : Condition) (parts : Parts) (a : List Content)
+    (condition : Condition) (parts : DeviceParts) (a : List Content)
     → IsDone w (Model.Submit (as_submission request)) (submit_answer fault n) condition parts a a
     → condition ≡ Conditions.Working → line ≡ submitted_line fault n
     → HasAnswered w (Model.Submit (as_submission request) ∷ []) line parts a a
@@ -291,7 +313,7 @@ replied_request p k a Asks.Finished r reply returned same = cc
 replied_request p k a Asks.Taken r reply returned same = absurd (cc)
 replied_request p k a Asks.Dropped r reply returned same = absurd (cc)
 
-module _ (w : Standing) (parts : Parts) (a : List Content) (is : IsDevice w Conditions.Working parts a) (own : Waiting) (as_asked : IsAskedAs own 1 w.state.progress.requests) (condition : Condition) (new : Parts) (b : List Content) (works : condition ≡ Conditions.Working) where
+module _ (w : Standing) (parts : DeviceParts) (a : List Content) (is : IsDevice w Conditions.Working parts a) (own : Waiting) (as_asked : IsAskedAs own 1 w.state.progress.requests) (condition : Condition) (new : DeviceParts) (b : List Content) (works : condition ≡ Conditions.Working) where
   ticket_is : own.ticket ≡ suc as_asked.place
   ticket_is = let same = as_asked.ticket_ in omega (arith, same)
 
@@ -301,19 +323,19 @@ module _ (w : Standing) (parts : Parts) (a : List Content) (is : IsDevice w Cond
   taken_request r reply returned same =
       replied_request w.state.progress as_asked.place as_asked.asked as_asked.asked.state r reply returned
       (sym (ap (λ (x : EventResult). x.answer)
-      (ap (λ (t : ℕ). Model.event_result w.format w.state (Take t)) ticket_is ∙ result-working w.format w.state (Take (suc as_asked.place)) is.condition_
+      (ap (λ (t : ℕ). Model.event_result w.format w.state (Take t)) ticket_is ∙ result-working w.format w.state (Take (suc as_asked.place)) (condition_now w Conditions.Working parts.mode parts.common a is)
       ∙ ap (Model.take_asked w.state.progress as_asked.place) as_asked.there)) ∙ same)
 
   -- It is told of a reply what the model says.
   pub taken_told : (reply : Reply) → ◌≡◌ {A = Result Reply ℕ} (Ok reply)
-      (taken_by own.ticket (slot_of own.ticket parts.slots)) → HasTaken w own.ticket (Ok reply) condition new b
+      (taken_by own.ticket (slot_of own.ticket parts.common.slots)) → HasTaken w own.ticket (Ok reply) condition new b
       → HasAnswered w (Take own.ticket ∷ []) (Lines.Replied own.first own.count reply) new b b
   taken_told reply same taken =
       let r = taken.taken.0 in
       let asked = as_asked.asked in
-      let found = taken_ok own.ticket (slot_of own.ticket parts.slots) reply same in
-      let slot : slot_of own.ticket parts.slots ≡ Some (slot_for (1 + as_asked.place) asked) =
-      ap (λ (t : ℕ). slot_of t parts.slots) ticket_is ∙ slot-is w.format parts.slots w.state.progress.requests is.flight as_asked.place asked as_asked.there as_asked.open_ in
+      let found = taken_ok own.ticket (slot_of own.ticket parts.common.slots) reply same in
+      let slot : slot_of own.ticket parts.common.slots ≡ Some (slot_for (1 + as_asked.place) asked) =
+      ap (λ (t : ℕ). slot_of t parts.common.slots) ticket_is ∙ slot-is w.format parts.common.slots w.state.progress.requests (flight_now w Conditions.Working parts.mode parts.common a is) as_asked.place asked as_asked.there as_asked.open_ in
       let own_slot : Some found.0 ≡ Some (slot_for (1 + as_asked.place) asked) = sym found.1 ∙ slot in
       let same_slot : found.0 ≡ slot_for (1 + as_asked.place) asked = cc own_slot in
       let reply_is : reply ≡ reply_of (slot_for (1 + as_asked.place) asked) = found.3 ∙ ap reply_of same_slot in
@@ -326,23 +348,24 @@ module _ (w : Standing) (parts : Parts) (a : List Content) (is : IsDevice w Cond
       ∙ ap (λ (x : Reply). script.reply_text asked.request (as_reply x)) (sym reply_is)
       ∙ ap (λ (q : Asks.Request). script.reply_text q (as_reply reply)) (sym request_is) in
       answered_run w (Take own.ticket) (Model.Replied r (as_reply reply) (returned_in reply)) (Lines.Replied own.first own.count reply) new b b
-      (run_one w (Take own.ticket) new b b (subst (λ (x : Condition). HasDone w (Take own.ticket) x new b b) works taken.done) (WritesOnly-kept w.disk.format.geometry _ refl)) taken.taken.1 text (reply_found-is reply)
+      (run_one w (Take own.ticket) new b b (subst (λ (x : Condition). HasDone w (Take own.ticket) x new b b) works taken.done) (WritesOnly-kept w.format.mode w.on.geometry _ refl)) taken.taken.1 text (reply_found-is reply)
 
-pub untaken_told : (w : Standing) (ticket back : ℕ) (condition : Condition) (new : Parts) (a : List Content)
+pub untaken_told : (w : Standing) (ticket back : ℕ) (condition : Condition) (new : DeviceParts) (a : List Content)
     → condition ≡ Conditions.Working → HasTaken w ticket (Err back) condition new a
     → HasAnswered w (Take ticket ∷ []) Lines.NotDone new a a
 untaken_told w ticket back condition new a works taken =
     answered_run w (Take ticket) Model.NotDone Lines.NotDone new a a
-    (run_one w (Take ticket) new a a (subst (λ (x : Condition). HasDone w (Take ticket) x new a a) works taken.done) (WritesOnly-kept w.disk.format.geometry _ refl)) taken.taken refl refl
+    (run_one w (Take ticket) new a a (subst (λ (x : Condition). HasDone w (Take ticket) x new a a) works taken.done) (WritesOnly-kept w.format.mode w.on.geometry _ refl)) taken.taken refl refl
 
 -- ---- what stays
 
-pub stays_kept : (old new : Parts) (tickets : Tickets) (before disk : DiskIdentity) (moments : List Content)
-    → AreInFlight tickets old.slots
-    → KeepsAll old new before disk moments → Stays old new tickets before disk moments
-stays_kept old new tickets before disk moments are kept = record {
+pub stays_kept : (condition : Condition) (old new : DeviceParts) (tickets : Tickets) (before disk : DiskIdentity)
+    (moments : List Content) → AreInFlight tickets old.common.slots
+    → KeepsParts condition old new before disk moments → Stays condition old new tickets before disk moments
+stays_kept condition old new tickets before disk moments are kept = record {
   ready = kept.ready;
-  tickets_ = in_flight_kept tickets old.slots new.slots are kept.flight;
+  tickets_ = in_flight_kept tickets old.common.slots new.common.slots are kept.flight;
+  mode_ = kept.mode;
   blocks = kept.flight.blocks;
   block_size = kept.flight.block_size;
   submitted = let same = kept.flight.submitted in omega (arith, same);
@@ -350,16 +373,17 @@ stays_kept old new tickets before disk moments are kept = record {
 }
 
 -- Only the requests in flight have changed.
-pub stays_slots : (old new : Parts) (slots : Flight) (tickets : Tickets) (before disk : DiskIdentity)
-    (moments : List Content) → new ≡ record old { slots = slots }
-    → IsReady new disk moments → AreInFlight tickets slots → slots.blocks ≡ old.slots.blocks
-    → slots.block_size ≡ old.slots.block_size → slots.submitted ≡ old.slots.submitted → disk ≡ before
-    → Stays old new tickets before disk moments
-stays_slots old new slots tickets before disk moments is ready are blocks block_size submitted identity =
-    let same : new.slots ≡ slots = ap (λ (p : Parts). p.slots) is in
+pub stays_slots : (condition : Condition) (old new : DeviceParts) (slots : Flight) (tickets : Tickets)
+    (before disk : DiskIdentity) (moments : List Content) → new ≡ with_slots old slots
+    → IsReady condition new disk moments → AreInFlight tickets slots → slots.blocks ≡ old.common.slots.blocks
+    → slots.block_size ≡ old.common.slots.block_size → slots.submitted ≡ old.common.slots.submitted → disk ≡ before
+    → Stays condition old new tickets before disk moments
+stays_slots condition old new slots tickets before disk moments is ready are blocks block_size submitted identity =
+    let same : new.common.slots ≡ slots = ap (λ (p : DeviceParts). p.common.slots) is in
     record {
       ready = ready;
       tickets_ = subst (AreInFlight tickets) (sym same) are;
+      mode_ = ap (λ (p : DeviceParts). mode_of p.mode) is;
       blocks = ap (λ (x : Flight). x.blocks) same ∙ blocks;
       block_size = ap (λ (x : Flight). x.block_size) same ∙ block_size;
       submitted = let count = ap (λ (x : Flight). x.submitted) same in omega (arith, count, submitted);
@@ -426,13 +450,14 @@ no_ticket Lines.Nothing answer told other = told
 no_ticket Lines.SlotsFull answer told other = told
 no_ticket Lines.ReadOnly answer told other = told
 no_ticket (Lines.HeldBy by) answer told other = told
+no_ticket Lines.NoRoom answer told other = told
 no_ticket Lines.Did answer told other = told
 no_ticket Lines.Done answer told other = told
 no_ticket Lines.Idle answer told other = told
 no_ticket Lines.NotDone answer told other = told
 no_ticket (Lines.Replied first count reply) answer told other = told
 
-module _ (w : Standing) (ask : script.Ask) (p q : Parts) (a b c : List Content) where
+module _ (w : Standing) (ask : script.Ask) (p q : DeviceParts) (a b c : List Content) where
   abbrev submission : Submission
   submission = submission_of w.format.blocks.block_size ask
 
@@ -447,7 +472,7 @@ module _ (w : Standing) (ask : script.Ask) (p q : Parts) (a b c : List Content) 
 
   module _ (first : HasRun w before p a b) where
     abbrev here : Standing
-    here = standing_behind w before first.disk
+    here = standing_behind w before
 
     -- It is refused.
     pub ask_refused : (told : LineAnswer) → HasAnswered here (Model.Submit submission ∷ []) told q b c
@@ -466,26 +491,26 @@ module _ (w : Standing) (ask : script.Ask) (p q : Parts) (a b c : List Content) 
         }
 
     -- There was no memory for it.
-    pub ask_begun : (u : Parts) (d : List Content) → u ≡ p → d ≡ b
+    pub ask_begun : (u : DeviceParts) (d : List Content) → u ≡ p → d ≡ b
         → HasBegun w (line_events w.format w.state line) u a d
     ask_begun u d same same_moments = record {
       made = before;
       rest = whole_events w.format submission at_rest;
       all = refl;
-      run = subst (λ (x : Parts). HasRun w before x a d) (sym same)
+      run = subst (λ (x : DeviceParts). HasRun w before x a d) (sym same)
           (subst (λ (m : List Content). HasRun w before p a m) (sym same_moments) first);
     }
 
     module _ (ticket : ℕ) (given : (Model.event_result w.format at_rest (Model.Submit submission)).answer ≡ Model.Ticket ticket) (second : HasRun here (Model.Submit submission ∷ []) q b c) where
       abbrev next : Standing
-      next = standing_behind here (Model.Submit submission ∷ []) second.disk
+      next = standing_behind here (Model.Submit submission ∷ [])
 
       abbrev finished : List Event
       finished = whole_finish w.format ticket next.state
 
       -- It is served and its reply taken.
-      pub ask_done : (r u : Parts) (d e : List Content) (third : HasRun next finished r c d) (told : LineAnswer)
-          → HasAnswered (standing_behind next finished third.disk) (Take ticket ∷ []) told u d e
+      pub ask_done : (r u : DeviceParts) (d e : List Content) (third : HasRun next finished r c d) (told : LineAnswer)
+          → HasAnswered (standing_behind next finished) (Take ticket ∷ []) told u d e
           → HasAnswered w (line_events w.format w.state line) told u a e
       ask_done r u d e third told answered =
           let whole = whole-ticket w.format at_rest submission ticket given in
@@ -502,7 +527,7 @@ module _ (w : Standing) (ask : script.Ask) (p q : Parts) (a b c : List Content) 
           }
 
       -- The disk failed in a serve of it.
-      pub ask_failed : (r : Parts) (d : List Content) → HasFailed next finished r c d
+      pub ask_failed : (r : DeviceParts) (d : List Content) → HasFailed next finished r c d
           → HasFailed w (line_events w.format w.state line) r a d
       ask_failed r d failed =
           let whole = whole-ticket w.format at_rest submission ticket given in

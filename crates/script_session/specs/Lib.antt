@@ -1,6 +1,5 @@
 pub mod LineRun
 pub mod Meaning
-pub mod Serves
 pub mod Stop
 pub mod Tickets
 pub mod Told

@@ -5,8 +5,9 @@ use Rattle.disk_model.specs.Identity.{DiskIdentity}
 use Rattle.range_lock.specs.Asks.{ask_for}
 use Rattle.range_lock.specs.declared.ask.Ask.{Ask}
 use Rattle.request_slots.specs.Flight.{Flight, ask_of}
-use Rattle.device_core.specs.declared.parts.Parts.{Parts}
-use Rattle.device_core.specs.Device.{IsReady}
+use Rattle.device_core.specs.declared.condition.Condition.{Condition}
+use Rattle.integrity_device.specs.declared.mode.DeviceParts.{DeviceParts}
+use Rattle.integrity_device.specs.Device.{IsReady, mode_of}
 use Rattle.script_session.specs.declared.tickets.Tickets.{Tickets}
 use Rattle.script_session.specs.declared.tickets.Waiting.{Waiting}
 
@@ -26,13 +27,14 @@ numbers_of tickets = map (λ waiting. waiting.ticket) tickets.waiting.items
 pub record AreInFlight (tickets : Tickets) (flight : Flight) : Type 0 where
   pub asks : map ask_by tickets.waiting.items ≡ map ask_of flight.slots
 
--- What a line leaves in any case: the device is ready, with the same blocks on the same disk, has taken one
--- request more at most, and the tickets are those in flight.
-pub record Stays (old new : Parts) (tickets : Tickets) (disk_before disk : DiskIdentity)
+-- What a line leaves in any case: the device is ready, in the same mode, with the same blocks on the same disk, has
+-- taken one request more at most, and the tickets are those in flight.
+pub record Stays (condition : Condition) (old new : DeviceParts) (tickets : Tickets) (disk_before disk : DiskIdentity)
     (moments : List Content) : Type 0 where
-  pub ready : IsReady new disk moments
-  pub tickets_ : AreInFlight tickets new.slots
-  pub blocks : new.slots.blocks ≡ old.slots.blocks
-  pub block_size : new.slots.block_size ≡ old.slots.block_size
-  pub submitted : new.slots.submitted ≤ suc old.slots.submitted
+  pub ready : IsReady condition new disk moments
+  pub tickets_ : AreInFlight tickets new.common.slots
+  pub mode_ : mode_of new.mode ≡ mode_of old.mode
+  pub blocks : new.common.slots.blocks ≡ old.common.slots.blocks
+  pub block_size : new.common.slots.block_size ≡ old.common.slots.block_size
+  pub submitted : new.common.slots.submitted ≤ suc old.common.slots.submitted
   pub identity : disk ≡ disk_before

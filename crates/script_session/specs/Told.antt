@@ -9,10 +9,12 @@ use Rattle.request_slots.specs.declared.reply.Reply.{Reply}
 use Rattle.request_slots.specs.declared.reply.Reply.TheVariants as replies
 use Rattle.request_slots.specs.declared.submit_fault.SubmitFault.{SubmitFault}
 use Rattle.request_slots.specs.declared.submit_fault.SubmitFault.TheVariants as refusals
-use Rattle.device_core.specs.declared.answers.Served.{Served}
-use Rattle.device_core.specs.declared.answers.Served.TheVariants as serves
+use Rattle.device_core.specs.declared.answers.Moved.{Moved}
+use Rattle.device_core.specs.declared.answers.Moved.TheVariants as moves
+use Rattle.journal_device.specs.declared.served.Served.{Served}
+use Rattle.journal_device.specs.declared.served.Served.TheVariants as serves
 use Rattle.script_session.specs.declared.line_answer.LineAnswer.{LineAnswer}
-use Rattle.script_session.specs.declared.line_answer.LineAnswer.TheVariants.{Nothing, Ticket, SlotsFull, ReadOnly, HeldBy, Did, Done, Idle, NotDone, Replied}
+use Rattle.script_session.specs.declared.line_answer.LineAnswer.TheVariants.{Nothing, Ticket, SlotsFull, ReadOnly, HeldBy, NoRoom, Did, Done, Idle, NotDone, Replied}
 use Rattle.script_session.specs.declared.tags_found.TagsFound.{TagsFound}
 use Rattle.script_session.specs.declared.tags_found.TagsFound.TheVariants.{Matching, Differing}
 
@@ -36,6 +38,7 @@ answer_told (Ticket ticket) = script.answer_text (progress.Ticket ticket)
 answer_told SlotsFull = script.answer_text progress.SlotsFull
 answer_told ReadOnly = script.answer_text progress.ReadOnly
 answer_told (HeldBy by) = script.answer_text (progress.HeldBy by)
+answer_told NoRoom = script.answer_text progress.NoRoom
 answer_told Did = script.answer_text progress.Did
 answer_told Done = script.answer_text progress.Done
 answer_told Idle = script.answer_text progress.Idle
@@ -55,6 +58,7 @@ answer_found (Ticket ticket) = Matching
 answer_found SlotsFull = Matching
 answer_found ReadOnly = Matching
 answer_found (HeldBy by) = Matching
+answer_found NoRoom = Matching
 answer_found Did = Matching
 answer_found Done = Matching
 answer_found Idle = Matching
@@ -66,6 +70,12 @@ abbrev pub served_line : Served → LineAnswer
 served_line (serves.Held by) = HeldBy by
 served_line serves.Did = Did
 served_line serves.Done = Done
+served_line serves.NoRoom = NoRoom
+
+-- What is told of a step.
+abbrev pub moved_line : Moved → LineAnswer
+moved_line moves.Did = Did
+moved_line moves.Idle = Idle
 
 -- What is told of a request that is refused.
 abbrev pub refused_answer : SubmitFault → LineAnswer

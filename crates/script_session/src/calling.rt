@@ -5,34 +5,39 @@ ghost use Rattle.disk_model.specs.Causes.{HasCause};
 ghost use Rattle.device_model.specs.Progress.{Serve, Step, Submit, Take};
 ghost use Rattle.device_core.specs.Answers as Core;
 ghost use Rattle.device_core.specs.declared.condition.Condition.TheVariants.{Broken, Working};
-ghost use Rattle.device_core.specs.Device.{IsDevice, IsReady, Standing};
+ghost use Rattle.integrity_device.specs.Answers.{HasNoWork, KeepsParts};
+ghost use Rattle.integrity_device.specs.Device.{IsDevice, IsReady, Standing, mode_of};
+ghost use Rattle.device_run.specs.Run.{HasFailed};
 ghost use Rattle.request_slots.specs.Flight.{count_in, first_in};
 ghost use Rattle.request_slots.specs.InFlight.{as_submission};
 ghost use Rattle.script_text.specs.Line.{actor_of};
 ghost use Rattle.script_session.specs.declared.line_answer.LineAnswer.TheVariants.{Ticket};
-ghost use Rattle.script_session.specs.LineRun.{HasAnswered, HasFailed, TellsTicket};
-ghost use Rattle.script_session.specs.Told.{refused_answer, served_line};
+ghost use Rattle.script_session.specs.LineRun.{HasAnswered, TellsTicket};
+ghost use Rattle.script_session.specs.Told.{moved_line, refused_answer, served_line};
 ghost use Rattle.script_session.specs.Tickets.{AreInFlight, Stays, is_of};
 
 use crate::Tickets;
-use crate::finishing::serve;
 use crate::line_answer::LineAnswer;
 use crate::tickets::Waiting;
-use device_core::{Actor, Device, Moved, Served};
+use device_core::{Actor, Moved};
+use device_run::serve;
+use integrity_device::Device;
+use journal_device::Served;
 use request_slots::{Request, SubmitFault};
 use sector_disk::{Disk, Failed};
 
 /// Submits a request. Its ticket comes last, where it gets one; there is room for it.
-pub(crate) fn submit<'d, D: Disk>(
-    device: &mut Device<'d, D>,
+pub(crate) fn submit<'d, 'p, D: Disk>(
+    device: &mut Device<'d, 'p, D>,
     tickets: &mut Tickets,
     request: Request,
 ) -> LineAnswer
-    requires ready { IsReady device.old.parts (D.identity device.old.disk.now) (D.moments device.old.disk.now) }
+    requires ready { IsReady device.old.condition device.old.parts
+        (D.identity device.old.disk.now) (D.moments device.old.disk.now) }
     requires works { device.old.condition ≡ Working }
-    requires tickets { AreInFlight tickets.old device.old.parts.slots }
+    requires tickets { AreInFlight tickets.old device.old.parts.common.slots }
     requires room { vec_len tickets.old.waiting < vec_capacity tickets.old.waiting }
-    requires number { device.old.parts.slots.submitted + 1 < 2 ^ 64 }
+    requires number { device.old.parts.common.slots.submitted + 1 < 2 ^ 64 }
 
     ensures answered { (w : Standing) → IsDevice w Working device.old.parts (D.moments device.old.disk.now)
         → HasAnswered w (Submit (as_submission request) ∷ []) result device.new.parts
@@ -43,8 +48,8 @@ pub(crate) fn submit<'d, D: Disk>(
         → list_any (is_of ticket) tickets.new.waiting.items ≡ true }
 
     ensures works { device.new.condition ≡ Working }
-    ensures stays { Stays device.old.parts device.new.parts tickets.new (D.identity device.old.disk.now)
-        (D.identity device.new.disk.now) (D.moments device.new.disk.now) }
+    ensures stays { Stays device.new.condition device.old.parts device.new.parts tickets.new
+        (D.identity device.old.disk.now) (D.identity device.new.disk.now) (D.moments device.new.disk.now) }
     ensures disk { device.new.disk.now ≡ device.old.disk.now }
     ensures same_disk { device.new.disk.ghost_name ≡ device.old.disk.ghost_name }
 {
@@ -63,19 +68,20 @@ pub(crate) fn submit<'d, D: Disk>(
     }
 }
 
-/// Serves the request of a ticket once.
+/// Serves the request of a ticket once. No room is made where the journal has none.
 ///
 /// # Errors
 ///
 /// - `Failed`: the disk failed. The device is broken then.
-pub(crate) fn serve_one<'d, D: Disk>(
-    device: &mut Device<'d, D>,
+pub(crate) fn serve_one<'d, 'p, D: Disk>(
+    device: &mut Device<'d, 'p, D>,
     tickets: &Tickets,
     number: u64,
 ) -> Result<LineAnswer, Failed>
-    requires ready { IsReady device.old.parts (D.identity device.old.disk.now) (D.moments device.old.disk.now) }
+    requires ready { IsReady device.old.condition device.old.parts
+        (D.identity device.old.disk.now) (D.moments device.old.disk.now) }
     requires works { device.old.condition ≡ Working }
-    requires tickets { AreInFlight tickets.now device.old.parts.slots }
+    requires tickets { AreInFlight tickets.now device.old.parts.common.slots }
     requires number { list_any (is_of number) tickets.now.waiting.items ≡ true }
 
     ensures answered { IfOk result (λ answer. (w : Standing)
@@ -91,8 +97,8 @@ pub(crate) fn serve_one<'d, D: Disk>(
 
     ensures works { OnOk result (device.new.condition ≡ Working) }
     ensures broken { OnErr result (device.new.condition ≡ Broken) }
-    ensures stays { Stays device.old.parts device.new.parts tickets.now (D.identity device.old.disk.now)
-        (D.identity device.new.disk.now) (D.moments device.new.disk.now) }
+    ensures stays { Stays device.new.condition device.old.parts device.new.parts tickets.now
+        (D.identity device.old.disk.now) (D.identity device.new.disk.now) (D.moments device.new.disk.now) }
     ensures same_disk { device.new.disk.ghost_name ≡ device.old.disk.ghost_name }
 {
     let served = serve(device, tickets.ticket_of(number))?;
@@ -100,14 +106,15 @@ pub(crate) fn serve_one<'d, D: Disk>(
 }
 
 /// Takes the reply of the request of a ticket, which is then no more in flight. One that is not done stays so.
-pub(crate) fn take<'d, D: Disk>(
-    device: &mut Device<'d, D>,
+pub(crate) fn take<'d, 'p, D: Disk>(
+    device: &mut Device<'d, 'p, D>,
     tickets: &mut Tickets,
     number: u64,
 ) -> LineAnswer
-    requires ready { IsReady device.old.parts (D.identity device.old.disk.now) (D.moments device.old.disk.now) }
+    requires ready { IsReady device.old.condition device.old.parts
+        (D.identity device.old.disk.now) (D.moments device.old.disk.now) }
     requires works { device.old.condition ≡ Working }
-    requires tickets { AreInFlight tickets.old device.old.parts.slots }
+    requires tickets { AreInFlight tickets.old device.old.parts.common.slots }
     requires number { list_any (is_of number) tickets.old.waiting.items ≡ true }
 
     ensures answered { (w : Standing) → IsDevice w Working device.old.parts (D.moments device.old.disk.now)
@@ -115,9 +122,9 @@ pub(crate) fn take<'d, D: Disk>(
         (D.moments device.old.disk.now) (D.moments device.new.disk.now) }
 
     ensures works { device.new.condition ≡ Working }
-    ensures stays { Stays device.old.parts device.new.parts tickets.new (D.identity device.old.disk.now)
-        (D.identity device.new.disk.now) (D.moments device.new.disk.now) }
-    ensures submitted { device.new.parts.slots.submitted ≡ device.old.parts.slots.submitted }
+    ensures stays { Stays device.new.condition device.old.parts device.new.parts tickets.new
+        (D.identity device.old.disk.now) (D.identity device.new.disk.now) (D.moments device.new.disk.now) }
+    ensures submitted { device.new.parts.common.slots.submitted ≡ device.old.parts.common.slots.submitted }
     ensures disk { device.new.disk.now ≡ device.old.disk.now }
     ensures same_disk { device.new.disk.ghost_name ≡ device.old.disk.ghost_name }
 {
@@ -150,10 +157,12 @@ pub(crate) fn take<'d, D: Disk>(
 /// # Errors
 ///
 /// - `Failed`: the disk failed. The device is broken then.
-pub(crate) fn step<'d, D: Disk>(
-    device: &mut Device<'d, D>,
+pub(crate) fn step<'d, 'p, D: Disk>(
+    device: &mut Device<'d, 'p, D>,
     actor: script_text::Actor,
 ) -> Result<LineAnswer, Failed>
+    requires ready { IsReady device.old.condition device.old.parts
+        (D.identity device.old.disk.now) (D.moments device.old.disk.now) }
     requires works { device.old.condition ≡ Working }
 
     ensures answered { IfOk result (λ answer. (w : Standing)
@@ -168,14 +177,23 @@ pub(crate) fn step<'d, D: Disk>(
 
     ensures works { OnOk result (device.new.condition ≡ Working) }
     ensures broken { OnErr result (device.new.condition ≡ Broken) }
-    ensures parts { device.new.parts ≡ device.old.parts }
-    ensures disk { device.new.disk.now ≡ device.old.disk.now }
+    ensures keeps { KeepsParts device.new.condition device.old.parts device.new.parts
+        (D.identity device.old.disk.now) (D.identity device.new.disk.now) (D.moments device.new.disk.now) }
+    ensures quiet { HasNoWork (mode_of device.old.parts.mode) (actor_of actor)
+        → device.new.disk.now ≡ device.old.disk.now }
     ensures same_disk { device.new.disk.ghost_name ≡ device.old.disk.ghost_name }
 {
-    match device.step(core_actor(actor)) {
-        Ok(Moved::Did) => Ok(LineAnswer::Did),
-        Ok(Moved::Idle) => Ok(LineAnswer::Idle),
-        Err(_) => Err(Failed),
+    let moved = device_run::step(device, core_actor(actor))?;
+    Ok(moved_answer(moved))
+}
+
+/// What is told of a step.
+fn moved_answer(moved: Moved) -> LineAnswer
+    ensures { result ≡ moved_line moved }
+{
+    match moved {
+        Moved::Did => LineAnswer::Did,
+        Moved::Idle => LineAnswer::Idle,
     }
 }
 
@@ -187,6 +205,7 @@ fn served_answer(served: Served) -> LineAnswer
         Served::Held { by } => LineAnswer::HeldBy { by },
         Served::Did => LineAnswer::Did,
         Served::Done => LineAnswer::Done,
+        Served::NoRoom => LineAnswer::NoRoom,
     }
 }
 

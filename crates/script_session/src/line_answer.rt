@@ -18,6 +18,8 @@ pub(crate) enum LineAnswer {
     HeldBy {
         by: u64,
     },
+    /// The journal has no room for the request's block.
+    NoRoom,
     /// A serve or a step did something.
     Did,
     /// The request is done.

@@ -5,31 +5,33 @@ ghost use Rattle.device_model.specs.Progress.{Submit};
 ghost use Rattle.device_model.specs.Script.{AskLine, submission_of};
 ghost use Rattle.disk_model.specs.Causes.{HasCause};
 ghost use Rattle.device_core.specs.declared.condition.Condition.TheVariants.{Broken, Working};
-ghost use Rattle.device_core.specs.Device.{IsDevice, IsReady, Standing};
+ghost use Rattle.integrity_device.specs.Device.{IsDevice, IsReady, Standing, mode_of};
+ghost use Rattle.device_run.specs.Run.{HasBegun, HasFailed};
 ghost use Rattle.script_text.specs.Line.{ask_of, line_of};
 ghost use Rattle.script_session.specs.declared.line_answer.LineAnswer.TheVariants.{Ticket};
 ghost use Rattle.script_session.specs.declared.line_end.LineEnd.TheVariants as Ends;
 ghost use Rattle.script_session.specs.declared.meaning.MeaningFault.{MeaningFault};
-ghost use Rattle.script_session.specs.LineRun.{HasAnswered, HasBegun, HasEnded, HasFailed, HasLineCause, HasRunLine, ServesNone, TellsTicket, events_of};
+ghost use Rattle.script_session.specs.LineRun.{HasAnswered, HasEnded, HasLineCause, HasRunLine, ServesNone, TellsTicket, events_of};
 ghost use Rattle.script_session.specs.Meaning.{fault_on};
 ghost use Rattle.script_session.specs.Stop.{HasStopCause};
 ghost use Rattle.script_session.specs.Tickets.{AreInFlight, Stays, is_of, numbers_of};
 
 use crate::calling::{serve_one, step, submit, take};
-use crate::finishing::{finish, finish_all};
+use crate::finishing::finish_all;
 use crate::line_answer::LineAnswer;
 use crate::stop::Stop;
 use crate::telling::{TellFault, tags_found, tell};
 use crate::{LineEnd, TagsFound, Tickets, asking, meaning};
-use device_core::Device;
+use device_run::finish;
+use integrity_device::Device;
 use script_text::{Ask, Line};
 use sector_disk::{Disk, Memory};
 use std::alloc::Global;
 use stream_io::Sink;
 
 /// Runs one line of a script on a device that works, and prints what it is told. It is judged first, and its
-/// text is printed once all that it does is done. Nothing is written but sectors of tags, and those of the data
-/// of blocks that it writes.
+/// text is printed once all that it does is done. In direct mode nothing is written but sectors of tags, and those of
+/// the data of blocks that it writes; in journal mode nothing but sectors of the journal, of tags, and of data.
 ///
 /// # Errors
 ///
@@ -38,17 +40,18 @@ use stream_io::Sink;
 /// - `Sink`: `out` failed. All is done, and a part of the text is printed.
 /// - `Memory`: there is none for a request or for the text. Nothing is printed. The first of what it does is
 ///   done, or all.
-pub fn run_line<'d, D: Disk, O: Sink>(
+pub fn run_line<'d, 'p, D: Disk, O: Sink>(
     alloc: Global,
-    device: &mut Device<'d, D>,
+    device: &mut Device<'d, 'p, D>,
     tickets: &mut Tickets,
     line: &Line<'_>,
     out: &mut O,
 ) -> Result<TagsFound, LineEnd>
-    requires ready { IsReady device.old.parts (D.identity device.old.disk.now) (D.moments device.old.disk.now) }
+    requires ready { IsReady device.old.condition device.old.parts
+        (D.identity device.old.disk.now) (D.moments device.old.disk.now) }
     requires works { device.old.condition ≡ Working }
-    requires tickets { AreInFlight tickets.old device.old.parts.slots }
-    requires number { device.old.parts.slots.submitted + 1 < 2 ^ 64 }
+    requires tickets { AreInFlight tickets.old device.old.parts.common.slots }
+    requires number { device.old.parts.common.slots.submitted + 1 < 2 ^ 64 }
 
     ensures ran { IfOk result (λ found. (w : Standing)
         → IsDevice w Working device.old.parts (D.moments device.old.disk.now)
@@ -65,11 +68,11 @@ pub fn run_line<'d, D: Disk, O: Sink>(
     ensures cause { HasLineCause (D.faults device.old.disk.now) (D.faults device.new.disk.now)
         (O.faults out.old) (O.faults out.new) result }
 
-    ensures quiet { ServesNone (line_of line.now) → device.new.disk.now ≡ device.old.disk.now }
+    ensures quiet { ServesNone (mode_of device.old.parts.mode) (line_of line.now) → device.new.disk.now ≡ device.old.disk.now }
     ensures works { result ≢ Err Ends.Disk → device.new.condition ≡ Working }
     ensures broken { result ≡ Err Ends.Disk → device.new.condition ≡ Broken }
-    ensures stays { Stays device.old.parts device.new.parts tickets.new (D.identity device.old.disk.now)
-        (D.identity device.new.disk.now) (D.moments device.new.disk.now) }
+    ensures stays { Stays device.new.condition device.old.parts device.new.parts tickets.new
+        (D.identity device.old.disk.now) (D.identity device.new.disk.now) (D.moments device.new.disk.now) }
     ensures same_disk { device.new.disk.ghost_name ≡ device.old.disk.ghost_name }
 {
     if let Some(fault) = meaning::fault_of(line, device.blocks(), device.block_size(), tickets) {
@@ -93,17 +96,18 @@ pub fn run_line<'d, D: Disk, O: Sink>(
 ///
 /// - `Disk`: the disk failed. The device is broken then.
 /// - `Memory`: there is none for a request.
-fn answer_of<'d, D: Disk>(
+fn answer_of<'d, 'p, D: Disk>(
     alloc: Global,
-    device: &mut Device<'d, D>,
+    device: &mut Device<'d, 'p, D>,
     tickets: &mut Tickets,
     line: &Line<'_>,
 ) -> Result<LineAnswer, Stop>
-    requires ready { IsReady device.old.parts (D.identity device.old.disk.now) (D.moments device.old.disk.now) }
+    requires ready { IsReady device.old.condition device.old.parts
+        (D.identity device.old.disk.now) (D.moments device.old.disk.now) }
     requires works { device.old.condition ≡ Working }
-    requires tickets { AreInFlight tickets.old device.old.parts.slots }
-    requires number { device.old.parts.slots.submitted + 1 < 2 ^ 64 }
-    requires runnable { fault_on device.old.parts.slots.blocks device.old.parts.slots.block_size
+    requires tickets { AreInFlight tickets.old device.old.parts.common.slots }
+    requires number { device.old.parts.common.slots.submitted + 1 < 2 ^ 64 }
+    requires runnable { fault_on device.old.parts.common.slots.blocks device.old.parts.common.slots.block_size
         (numbers_of tickets.old) (line_of line.now) ≡ None }
 
     ensures answered { IfOk result (λ answer. (w : Standing)
@@ -121,11 +125,11 @@ fn answer_of<'d, D: Disk>(
         → HasBegun w (events_of w (line_of line.now)) device.new.parts
         (D.moments device.old.disk.now) (D.moments device.new.disk.now) }
 
-    ensures quiet { ServesNone (line_of line.now) → device.new.disk.now ≡ device.old.disk.now }
+    ensures quiet { ServesNone (mode_of device.old.parts.mode) (line_of line.now) → device.new.disk.now ≡ device.old.disk.now }
     ensures works { result ≢ Err Stop.Disk → device.new.condition ≡ Working }
     ensures broken { result ≡ Err Stop.Disk → device.new.condition ≡ Broken }
-    ensures stays { Stays device.old.parts device.new.parts tickets.new (D.identity device.old.disk.now)
-        (D.identity device.new.disk.now) (D.moments device.new.disk.now) }
+    ensures stays { Stays device.new.condition device.old.parts device.new.parts tickets.new
+        (D.identity device.old.disk.now) (D.identity device.new.disk.now) (D.moments device.new.disk.now) }
     ensures same_disk { device.new.disk.ghost_name ≡ device.old.disk.ghost_name }
 {
     match *line {
@@ -144,16 +148,17 @@ fn answer_of<'d, D: Disk>(
 ///
 /// - `Disk`: the disk failed. The device is broken then.
 /// - `Memory`: there is none for the request.
-fn ask_whole<'d, D: Disk>(
+fn ask_whole<'d, 'p, D: Disk>(
     alloc: Global,
-    device: &mut Device<'d, D>,
+    device: &mut Device<'d, 'p, D>,
     tickets: &mut Tickets,
     ask: &Ask<'_>,
 ) -> Result<LineAnswer, Stop>
-    requires ready { IsReady device.old.parts (D.identity device.old.disk.now) (D.moments device.old.disk.now) }
+    requires ready { IsReady device.old.condition device.old.parts
+        (D.identity device.old.disk.now) (D.moments device.old.disk.now) }
     requires works { device.old.condition ≡ Working }
-    requires tickets { AreInFlight tickets.old device.old.parts.slots }
-    requires number { device.old.parts.slots.submitted + 1 < 2 ^ 64 }
+    requires tickets { AreInFlight tickets.old device.old.parts.common.slots }
+    requires number { device.old.parts.common.slots.submitted + 1 < 2 ^ 64 }
 
     ensures answered { IfOk result (λ answer. (w : Standing)
         → IsDevice w Working device.old.parts (D.moments device.old.disk.now)
@@ -172,8 +177,8 @@ fn ask_whole<'d, D: Disk>(
 
     ensures works { result ≢ Err Stop.Disk → device.new.condition ≡ Working }
     ensures broken { result ≡ Err Stop.Disk → device.new.condition ≡ Broken }
-    ensures stays { Stays device.old.parts device.new.parts tickets.new (D.identity device.old.disk.now)
-        (D.identity device.new.disk.now) (D.moments device.new.disk.now) }
+    ensures stays { Stays device.new.condition device.old.parts device.new.parts tickets.new
+        (D.identity device.old.disk.now) (D.identity device.new.disk.now) (D.moments device.new.disk.now) }
     ensures same_disk { device.new.disk.ghost_name ≡ device.old.disk.ghost_name }
 {
     finish_all(device, tickets)?;
@@ -190,16 +195,17 @@ fn ask_whole<'d, D: Disk>(
 /// # Errors
 ///
 /// - `Memory`: there is none for it. Nothing was done.
-fn start<'d, D: Disk>(
+fn start<'d, 'p, D: Disk>(
     alloc: Global,
-    device: &mut Device<'d, D>,
+    device: &mut Device<'d, 'p, D>,
     tickets: &mut Tickets,
     ask: &Ask<'_>,
 ) -> Result<LineAnswer, Memory>
-    requires ready { IsReady device.old.parts (D.identity device.old.disk.now) (D.moments device.old.disk.now) }
+    requires ready { IsReady device.old.condition device.old.parts
+        (D.identity device.old.disk.now) (D.moments device.old.disk.now) }
     requires works { device.old.condition ≡ Working }
-    requires tickets { AreInFlight tickets.old device.old.parts.slots }
-    requires number { device.old.parts.slots.submitted + 1 < 2 ^ 64 }
+    requires tickets { AreInFlight tickets.old device.old.parts.common.slots }
+    requires number { device.old.parts.common.slots.submitted + 1 < 2 ^ 64 }
 
     ensures answered { IfOk result (λ answer. (w : Standing)
         → IsDevice w Working device.old.parts (D.moments device.old.disk.now)
@@ -214,8 +220,8 @@ fn start<'d, D: Disk>(
     ensures err { OnErr result (device.new.parts ≡ device.old.parts) }
 
     ensures works { device.new.condition ≡ Working }
-    ensures stays { Stays device.old.parts device.new.parts tickets.new (D.identity device.old.disk.now)
-        (D.identity device.new.disk.now) (D.moments device.new.disk.now) }
+    ensures stays { Stays device.new.condition device.old.parts device.new.parts tickets.new
+        (D.identity device.old.disk.now) (D.identity device.new.disk.now) (D.moments device.new.disk.now) }
     ensures disk { device.new.disk.now ≡ device.old.disk.now }
     ensures same_disk { device.new.disk.ghost_name ≡ device.old.disk.ghost_name }
 {

@@ -87,6 +87,7 @@ fn told_of(answer: &LineAnswer) -> Option<Told<'_>>
         LineAnswer::SlotsFull => Told::SlotsFull,
         LineAnswer::ReadOnly => Told::ReadOnly,
         LineAnswer::HeldBy { by } => Told::HeldBy { by: *by },
+        LineAnswer::NoRoom => Told::NoRoom,
         LineAnswer::Did => Told::Did,
         LineAnswer::Done => Told::Done,
         LineAnswer::Idle => Told::Idle,

@@ -1,12 +1,14 @@
-//! Lines on the small image in memory, and what they tell.
+//! Lines on small images in memory, in each mode, and what they tell.
 ghost use Rattle.std.specs.Prelude.{◌≤◌};
 ghost use Rattle.disk_model.specs.Identity.{IsBound};
 
 use crate::{LineEnd, MeaningFault, TagsFound, Tickets, run_line};
-use device_core::Device;
 use hmac_tag::Hash;
-use script_text::{Ask, Line};
+use image_formatting::{NewImage, Padding, Wipe, format};
+use integrity_device::{Device, OpenMode};
+use script_text::{Actor, Ask, Line};
 use sector_disk::{Disk, MemDisk};
+use sector_pool::Region;
 use std::alloc::Global;
 use std::test::Fail;
 use stream_io::MemSink;
@@ -17,6 +19,28 @@ const SMALL_BYTES: [u8; 32] = [
     0x69, 0x6e, 0x74, 0x65, 0x67, 0x72, 0x74, 0x00, 0x04, 0x03, 0x20, 0x00, 0x01, 0x00, 0x00, 0x00,
     0x50, 0x00, 0x00, 0x00, 0x00, 0x00, 0x00, 0x00, 0x08, 0x00, 0x00, 0x00, 0x00, 0x0f, 0x00, 0x00,
 ];
+
+/// What a new image is to be: a journal of one section, of 8 metadata sectors and 80 entries of one sector.
+const NEW: NewImage = NewImage {
+    tag_size: 32,
+    log2_spb: 0,
+    log2_interleave: 3,
+    sections: 1,
+    log2_region: 15,
+    salt: None,
+    padding: Padding::Fixed,
+    wipe: Wipe::Kept,
+};
+
+/// A write of block 5, each byte of which is this one.
+fn fill_of(byte: u8) -> Ask<'static> {
+    Ask::Fill {
+        first: 5,
+        count: 1,
+        byte,
+        fua: false,
+    }
+}
 
 /// The small image on a disk of so many sectors, with zeros behind the first.
 fn small_disk(alloc: Global, sectors: u64) -> Result<MemDisk, Fail>
@@ -29,16 +53,18 @@ fn small_disk(alloc: Global, sectors: u64) -> Result<MemDisk, Fail>
     Ok(disk)
 }
 
-/// Runs lines with a device of its own, up to the first that is ended. None where the device is not opened.
+/// Runs lines with a device of its own in a mode, up to the first that is ended. None where it is not opened.
 fn run_lines<D: Disk>(
     alloc: Global,
     disk: &mut D,
+    mode: OpenMode,
     lines: &[Line<'_>],
     out: &mut MemSink,
 ) -> Option<Result<TagsFound, LineEnd>>
     requires { IsBound (D.identity disk.old).name }
 {
-    let Ok(mut device) = Device::open(alloc, disk, Hash::Sha256) else {
+    let mut region = Region::new();
+    let Ok(mut device) = Device::open(alloc, disk, &mut region, Hash::Sha256, mode) else {
         return None;
     };
     let mut tickets = Tickets::new(alloc);
@@ -63,17 +89,11 @@ fn run_lines<D: Disk>(
 fn a_request_in_flight_is_told_when_it_is_taken(rt: HostRuntime) -> Result<(), Fail> {
     let mut disk = small_disk(rt.alloc(), 256)?;
     let mut out = MemSink::new(rt.alloc(), 200)?;
-    let fill = Ask::Fill {
-        first: 5,
-        count: 1,
-        byte: 0xaa,
-        fua: false,
-    };
     let read = Ask::Read { first: 5, count: 1 };
     let lines = [
         Line::Ask {
             start: false,
-            ask: fill,
+            ask: fill_of(0xaa),
         },
         Line::Ask {
             start: true,
@@ -83,7 +103,7 @@ fn a_request_in_flight_is_told_when_it_is_taken(rt: HostRuntime) -> Result<(), F
         Line::Serve { ticket: 2 },
         Line::Take { ticket: 2 },
     ];
-    let ended = run_lines(rt.alloc(), &mut disk, &lines, &mut out);
+    let ended = run_lines(rt.alloc(), &mut disk, OpenMode::Direct, &lines, &mut out);
     assert_eq!(rt; ended, Some(Ok(TagsFound::Matching)));
     let told = "ok write 5 1\nticket 2\nnot done\ndone\nok read 5 1 aa*512\n";
     assert_eq!(rt; out.bytes(), told.as_bytes());
@@ -107,12 +127,39 @@ fn a_line_of_no_such_block_is_refused(rt: HostRuntime) -> Result<(), Fail> {
             },
         },
     ];
-    let ended = run_lines(rt.alloc(), &mut disk, &lines, &mut out);
+    let ended = run_lines(rt.alloc(), &mut disk, OpenMode::Direct, &lines, &mut out);
     let fault = MeaningFault::Range {
         first: 79,
         count: 2,
     };
     assert_eq!(rt; ended, Some(Err(LineEnd::Refused(fault))));
     assert!(rt; out.bytes().starts_with(b"fault block 6 stored 00"));
+    Ok(())
+}
+
+#[test]
+fn steps_in_journal_mode_are_told(rt: HostRuntime) -> Result<(), Fail> {
+    let mut disk = MemDisk::new(rt.alloc(), 512, 2000)?;
+    format(rt.alloc(), &mut disk, Hash::Sha256, NEW)?;
+    let mut out = MemSink::new(rt.alloc(), 200)?;
+    let commit = Line::Step {
+        actor: Actor::Commit,
+    };
+    let lines = [
+        Line::Ask {
+            start: false,
+            ask: fill_of(0xaa),
+        },
+        commit,
+        commit,
+        Line::Ask {
+            start: false,
+            ask: Ask::Read { first: 5, count: 1 },
+        },
+    ];
+    let ended = run_lines(rt.alloc(), &mut disk, OpenMode::Journal, &lines, &mut out);
+    assert_eq!(rt; ended, Some(Ok(TagsFound::Matching)));
+    let told = "ok write 5 1\ndid\nidle\nok read 5 1 aa*512\n";
+    assert_eq!(rt; out.bytes(), told.as_bytes());
     Ok(())
 }

@@ -21,7 +21,7 @@ returns-in-Err-clause-runs g c script start told =
     let held = g.O.Sink.held c.args.out.now in
     let fault = c.in-Err.fault in
     subst (λ (e : Ended). HasRunOn (check_outset c.args.what key sectors (last_image start)) start script (ending_of e) (g.D.Disk.moments c.open.new.disk) held held)
-    (sym c.ended_by.ensures)
+    (sym c.ended_by_opening.ensures)
     (not_checked c.args.what key sectors start script told c.open.ensures.kept fault held
     (λ memory disk.
     fault_in-err (Unit {0}) Checked fault

@@ -2,17 +2,17 @@ use Rattle.std.proofs.Common.{◌≡◌, ℕ, ◌+◌, ◌-◌, ◌≤◌, List,
 use Rattle.std.specs.Option.{IsSomeAnd}
 use Rattle.device_model.specs.ScriptRun.{ScriptRun, IsRunOf}
 use Rattle.device_core.specs.declared.condition.Condition.TheVariants.{Working}
-use Rattle.device_core.specs.Device.{IsDevice, IsReady, Standing}
+use Rattle.integrity_device.specs.Device.{IsDevice, IsReady, Standing}
 use Rattle.script_session.specs.Tickets.{AreInFlight}
 use Rattle.integrity_tool.specs.Running.{IsAt, read_by}
 use Rattle.integrity_tool.proofs.running.run_lines.Given as goal
 
 abbrev pub invariant-loop-tickets : goal.invariant-loop-tickets
 invariant-loop-tickets g l = record {
-  ready : IsReady l.device.parts (g.D.Disk.identity l.device.disk.now) (g.D.Disk.moments l.device.disk.now);
+  ready : IsReady l.device.condition l.device.parts (g.D.Disk.identity l.device.disk.now) (g.D.Disk.moments l.device.disk.now);
   works : l.device.condition ≡ Working;
-  flight : AreInFlight l.tickets l.device.parts.slots;
-  submitted : l.device.parts.slots.submitted + 1 ≤ l.number;
+  flight : AreInFlight l.tickets l.device.parts.common.slots;
+  submitted : l.device.parts.common.slots.submitted + 1 ≤ l.number;
   number : l.number ≤ l.reader.taken + 1;
   taken : l.reader.taken ≤ 16777216;
   read : (left : List ℕ) → g.S.Source.left l.initial.script ≡ Some left

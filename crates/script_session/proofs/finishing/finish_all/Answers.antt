@@ -1,17 +1,16 @@
-use Rattle.std.proofs.Common.{◌≡◌, ◌<◌, ◌≤◌, List, length, get_or, refl, ◌∙◌, subst, arith}
-use Rattle.direct_mode.proofs.ServingLemmas.{on_err_always}
+use Rattle.std.proofs.Common.{◌≡◌, ◌<◌, ◌≤◌, List, length, get_or, refl, ◌∙◌, subst}
+use Rattle.std.proofs.lemmas.Result.{err_from_is_err_and}
+use Rattle.device_run.proofs.CallLemmas.{kept_then, runs_failed, same_flight}
+use Rattle.device_run.proofs.RunLemmas.{run_none}
 use Rattle.script_session.specs.declared.tickets.Waiting.{Waiting}
-use Rattle.script_session.proofs.RunLemmas.{run_none}
 use Rattle.script_session.proofs.TicketLemmas.{ticket_there}
-use Rattle.script_session.proofs.WayLemmas.{all_cut_at, all_run_at, each_more_at, in_flight_kept, kept_flight, same_flight}
+use Rattle.script_session.proofs.WayLemmas.{all_cut_at, all_run_at, each_more_at, in_flight_kept}
 use Rattle.script_session.proofs.finishing.finish_all.Goals as goal
 
 pub loop-waiting-init : goal.loop-waiting-init
 loop-waiting-init g c = record {
-  ready = c.requires.ready;
   works = c.requires.works;
-  flight = same_flight _;
-  identity = refl;
+  keeps = record { ready = c.requires.ready; mode = refl; flight = same_flight _; identity = refl };
   faults = refl;
   same_disk = refl;
   way = λ w is. run_none w _ _ is;
@@ -19,37 +18,48 @@ loop-waiting-init g c = record {
 
 pub finish-requires-clause-there : goal.finish-requires-clause-there
 finish-requires-clause-there g c =
-    ticket_there c.args.tickets.now c.loop-waiting.device.parts.slots (in_flight_kept c.args.tickets.now _ _ c.requires.tickets c.loop-waiting.invariant.flight)
+    ticket_there c.args.tickets.now c.loop-waiting.device.parts.common.slots (in_flight_kept c.args.tickets.now _ _ c.requires.tickets c.loop-waiting.invariant.keeps.flight)
     c.loop-waiting.waiting-index c.waiting-item.result
     (subst (λ (l : List Waiting). c.loop-waiting.waiting-index < length l) c.deref-waiting-items.ensures.value c.loop-waiting-test.true)
     (subst (λ (l : List Waiting). c.waiting-item.result ≡ get_or l c.loop-waiting.waiting-index c.waiting-item.result) c.deref-waiting-items.ensures.value c.waiting-item.is)
 
-pub returns-in_err-finish-clause-err : goal.returns-in_err-finish-clause-err
-returns-in_err-finish-clause-err g c = on_err_always c.from_residual.result (λ w is.
+pub returns-in_err-finish-clause-runs : goal.returns-in_err-finish-clause-runs
+returns-in_err-finish-clause-runs g c =
+    let p = err_from_is_err_and c.from_residual.result c.from_residual.ensures.1 in
+    let runs = c.in_err-finish.ensures.runs in
+    runs_failed _ _ _ _ _ _ _ _ c.from_residual.result p.0 p.1
+    (λ w is.
     let way = c.loop-waiting.invariant.way w is in
     all_cut_at w c.args.tickets.now c.args.device.now.parts _ is c.requires.tickets c.loop-waiting.waiting-index c.waiting-item.result
     (subst (λ (l : List Waiting). c.loop-waiting.waiting-index < length l) c.deref-waiting-items.ensures.value c.loop-waiting-test.true)
     (subst (λ (l : List Waiting). c.waiting-item.result ≡ get_or l c.loop-waiting.waiting-index c.waiting-item.result) c.deref-waiting-items.ensures.value c.waiting-item.is)
-    _ _ _ _ way (c.in_err-finish.ensures.err _ way.device))
+    _ _ _ _ way (runs.err _ way.device)) runs.broken
+    (kept_then _ _ _ _ _ _ _ _ _ _ c.loop-waiting.invariant.keeps runs.keeps)
 
 pub loop-waiting-preserved : goal.loop-waiting-preserved
-loop-waiting-preserved g c = record {
-  ready = c.finish.ensures.kept.ready;
-  works = c.in_ok-finish.ensures.works;
-  flight = kept_flight _ _ _ c.loop-waiting.invariant.flight c.finish.ensures.kept.flight;
-  identity = c.finish.ensures.kept.identity ∙ c.loop-waiting.invariant.identity;
-  faults = c.in_ok-finish.ensures.cause.passed ∙ c.loop-waiting.invariant.faults;
-  same_disk = c.finish.ensures.same_disk ∙ c.loop-waiting.invariant.same_disk;
-  way = λ w is.
-      let way = c.loop-waiting.invariant.way w is in
-      each_more_at w c.args.tickets.now c.args.device.now.parts _ is c.requires.tickets c.loop-waiting.waiting-index c.waiting-item.result
-      (subst (λ (l : List Waiting). c.loop-waiting.waiting-index < length l) c.deref-waiting-items.ensures.value c.loop-waiting-test.true)
-      (subst (λ (l : List Waiting). c.waiting-item.result ≡ get_or l c.loop-waiting.waiting-index c.waiting-item.result) c.deref-waiting-items.ensures.value c.waiting-item.is)
-      _ _ _ _ way (c.in_ok-finish.ensures.done _ way.device);
-}
+loop-waiting-preserved g c =
+    let runs = c.in_ok-finish.ensures.runs in
+    record {
+      works = runs.works;
+      keeps = kept_then _ _ _ _ _ _ _ _ _ _ c.loop-waiting.invariant.keeps runs.keeps;
+      faults = c.in_ok-finish.ensures.cause.passed ∙ c.loop-waiting.invariant.faults;
+      same_disk = c.finish.ensures.same_disk ∙ c.loop-waiting.invariant.same_disk;
+      way = λ w is.
+          let way = c.loop-waiting.invariant.way w is in
+          each_more_at w c.args.tickets.now c.args.device.now.parts _ is c.requires.tickets c.loop-waiting.waiting-index c.waiting-item.result
+          (subst (λ (l : List Waiting). c.loop-waiting.waiting-index < length l) c.deref-waiting-items.ensures.value c.loop-waiting-test.true)
+          (subst (λ (l : List Waiting). c.waiting-item.result ≡ get_or l c.loop-waiting.waiting-index c.waiting-item.result) c.deref-waiting-items.ensures.value c.waiting-item.is)
+          _ _ _ _ way (runs.done _ way.device);
+    }
 
-pub returns-clause-done : goal.returns-clause-done
-returns-clause-done g c w is =
-    all_run_at w c.args.tickets.now c.args.device.now.parts _ is c.requires.tickets c.loop-waiting.waiting-index
-    (subst (λ (l : List Waiting). length l ≤ c.loop-waiting.waiting-index) c.deref-waiting-items.ensures.value c.loop-waiting-test.false) _ _
-    (c.loop-waiting.invariant.way w is)
+pub returns-clause-runs : goal.returns-clause-runs
+returns-clause-runs g c = record {
+  done = λ w is.
+      all_run_at w c.args.tickets.now c.args.device.now.parts _ is c.requires.tickets c.loop-waiting.waiting-index
+      (subst (λ (l : List Waiting). length l ≤ c.loop-waiting.waiting-index) c.deref-waiting-items.ensures.value c.loop-waiting-test.false) _ _
+      (c.loop-waiting.invariant.way w is);
+  err = tt;
+  works = c.loop-waiting.invariant.works;
+  broken = tt;
+  keeps = c.loop-waiting.invariant.keeps;
+}

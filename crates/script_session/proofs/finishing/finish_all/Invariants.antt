@@ -1,16 +1,16 @@
-use Rattle.std.proofs.Common.{◌≡◌, ◌≤◌, map, take}
+use Rattle.std.proofs.Common.{◌≡◌, map, take}
 use Rattle.device_core.specs.declared.condition.Condition.TheVariants.{Working}
-use Rattle.device_core.specs.Device.{IsDevice, IsReady, KeepsFlight, Standing}
-use Rattle.script_session.specs.LineRun.{HasRun}
+use Rattle.integrity_device.specs.Answers.{KeepsParts}
+use Rattle.integrity_device.specs.Device.{IsDevice, Standing}
+use Rattle.device_run.specs.Run.{HasRun}
 use Rattle.script_session.proofs.AllLemmas.{finish_each}
 use Rattle.script_session.proofs.finishing.finish_all.Given as goal
 
 abbrev pub invariant-loop-waiting : goal.invariant-loop-waiting
 invariant-loop-waiting g l = record {
-  ready : IsReady l.device.parts (g.D.Disk.identity l.device.disk.now) (g.D.Disk.moments l.device.disk.now);
   works : l.device.condition ≡ Working;
-  flight : KeepsFlight l.initial.device.parts.slots l.device.parts.slots;
-  identity : g.D.Disk.identity l.device.disk.now ≡ g.D.Disk.identity l.initial.device.disk.now;
+  keeps : KeepsParts l.device.condition l.initial.device.parts l.device.parts
+      (g.D.Disk.identity l.initial.device.disk.now) (g.D.Disk.identity l.device.disk.now) (g.D.Disk.moments l.device.disk.now);
   faults : g.D.Counted.faults l.device.disk.now ≡ g.D.Counted.faults l.initial.device.disk.now;
   same_disk : l.device.disk.ghost_name ≡ l.initial.device.disk.ghost_name;
   way : (w : Standing) → IsDevice w Working l.initial.device.parts (g.D.Disk.moments l.initial.device.disk.now)

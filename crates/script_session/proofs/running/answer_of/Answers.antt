@@ -1,10 +1,12 @@
 use Rattle.std.proofs.Common.{sym, ◌∙◌, ap, subst}
 use Rattle.script_text.specs.Line.{line_of}
 use Rattle.script_text.specs.declared.line.Line.{Line}
-use Rattle.script_session.specs.LineRun.{HasFailed, events_of}
+use Rattle.device_run.specs.Run.{HasFailed}
+use Rattle.device_run.proofs.RunLemmas.{none_begun}
+use Rattle.script_session.specs.LineRun.{events_of}
 use Rattle.script_session.specs.Meaning.{fault_on}
 use Rattle.script_session.specs.Tickets.{numbers_of}
-use Rattle.script_session.proofs.RunLemmas.{none_begun}
+use Rattle.script_session.proofs.CallLemmas.{stays_kept}
 use Rattle.script_session.proofs.TicketLemmas.{ticket_held}
 use Rattle.script_session.proofs.running.answer_of.Goals as goal
 
@@ -17,13 +19,13 @@ pub serve_one-requires-clause-number : goal.serve_one-requires-clause-number
 serve_one-requires-clause-number g c =
     let parts = c.args.device.now.parts in
     ticket_held c.args.tickets.now c.in-Serve.ticket
-    (ap (λ (x : Line). fault_on parts.slots.blocks parts.slots.block_size (numbers_of c.args.tickets.now) (line_of x)) (sym c.in-Serve.is) ∙ c.requires.runnable)
+    (ap (λ (x : Line). fault_on parts.common.slots.blocks parts.common.slots.block_size (numbers_of c.args.tickets.now) (line_of x)) (sym c.in-Serve.is) ∙ c.requires.runnable)
 
 pub take-requires-clause-number : goal.take-requires-clause-number
 take-requires-clause-number g c =
     let parts = c.args.device.now.parts in
     ticket_held c.args.tickets.now c.in-Take.ticket
-    (ap (λ (x : Line). fault_on parts.slots.blocks parts.slots.block_size (numbers_of c.args.tickets.now) (line_of x)) (sym c.in-Take.is) ∙ c.requires.runnable)
+    (ap (λ (x : Line). fault_on parts.common.slots.blocks parts.common.slots.block_size (numbers_of c.args.tickets.now) (line_of x)) (sym c.in-Take.is) ∙ c.requires.runnable)
 
 pub returns-in_err-step-in-Step-clause-disk : goal.returns-in_err-step-in-Step-clause-disk
 returns-in_err-step-in-Step-clause-disk g c stopped w is =
@@ -31,3 +33,9 @@ returns-in_err-step-in-Step-clause-disk g c stopped w is =
     let after = g.D.Disk.moments c.step.new.device.disk.now in
     subst (λ (x : Line). HasFailed w (events_of w (line_of x)) c.step.new.device.parts before after) (sym c.in-Step.is)
     (c.in_err-step-in-Step.ensures.err w is)
+
+pub returns-in_err-step-in-Step-clause-stays : goal.returns-in_err-step-in-Step-clause-stays
+returns-in_err-step-in-Step-clause-stays g c = stays_kept _ _ _ c.args.tickets.now _ _ _ c.requires.tickets c.step.ensures.keeps
+
+pub returns-in_ok-step-in-Step-clause-stays : goal.returns-in_ok-step-in-Step-clause-stays
+returns-in_ok-step-in-Step-clause-stays g c = stays_kept _ _ _ c.args.tickets.now _ _ _ c.requires.tickets c.step.ensures.keeps

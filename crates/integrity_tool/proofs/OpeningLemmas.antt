@@ -1,0 +1,230 @@
+-- The opening of a run: what it leaves and writes, whether a device is open then or not; and the run behind it.
+use Rattle.std.proofs.Common.{◌≡◌, ◌≢◌, inl, inr, ℕ, List, refl, sym, ◌∙◌, ap, subst, Option, Some, None, Err}
+use Rattle.std.proofs.lemmas.Option.{same_Some}
+use Rattle.disk_model.specs.Disk.{Content, Image, last_image}
+use Rattle.disk_model.specs.Identity.{DiskIdentity}
+use Rattle.disk_model.specs.Moments.{content_now, EachMoment, HasNow}
+use Rattle.disk_model.proofs.DiskLemmas.{OnlyAdds-none}
+use Rattle.disk_model.proofs.MomentsLemmas.{EachMoment-then, EachMoment-weaker, content_at_end}
+use Rattle.device_model.specs.Device.{DeviceKind}
+use Rattle.device_model.specs.Ending.{Ending, DiskFailed, NoMemory}
+use Rattle.device_model.specs.Mode as Modes
+use Rattle.device_model.specs.ScriptRun.{ScriptRun, IsRunOf, changes_in}
+use Rattle.image_model.specs.Geometry.{Geometry}
+use Rattle.place_model.specs.Kind.{CanOpenIn, kind_in}
+use Rattle.opening_fault.specs.declared.opening_fault.OpeningFault.{OpeningFault}
+use Rattle.opening_fault.specs.declared.opening_fault.OpeningFault.TheVariants as OpeningFaults
+use Rattle.opening_fault.specs.FaultLaws.{OpensLaw}
+use Rattle.opening_fault.specs.Faults.{ImageFault, fault_in, fault_of}
+use Rattle.journal_opening.proofs.MomentsLemmas.{each_from}
+use Rattle.integrity_device.specs.declared.mode.DeviceParts.{DeviceParts}
+use Rattle.integrity_device.specs.declared.opening.OpenMode.{OpenMode}
+use Rattle.integrity_device.specs.declared.opening.OpenMode.TheVariants.{Direct, Journal}
+use Rattle.integrity_device.specs.Opening.{IsRefused, LeavesOpening, WritesInOpening, asked_mode, opened_standing}
+use Rattle.device_run.specs.Writes.{IsOfRun}
+use Rattle.device_run.proofs.RunLemmas.{EachMoment-both}
+use Rattle.command_ending.specs.Ended.{ending_of}
+use Rattle.command_model.specs.CommandRun.{Outset, RunsOn, IsRunAt, MayBeLeftAt}
+use Rattle.integrity_tool.specs.Opening.{HasReadIn, HasRunOn, IsMomentOn, IsOfOpeningIn, IsOpenedTo, WritesOnlyBy}
+use Rattle.integrity_tool.specs.Outset.{geometry_on, outset_by, outset_on}
+use Rattle.integrity_tool.specs.Refusing.{ended_by_opening, ending_by_refusal}
+use Rattle.integrity_tool.specs.Running.{HasReadTo, IsStopped}
+use Rattle.integrity_tool.proofs.StartLemmas.{IsAsBefore, as_same, before_may_be_left, fine_on, nothing_run, of_run, refused_run, some_run, untouched_now, untouched_through}
+
+-- ---- an image that the mode opens
+
+module _ (law : OpensLaw) (mode : OpenMode) (key : Option (List ℕ)) (sectors : ℕ) (image : Image) where
+  in_journal : (mode : OpenMode) → (kind_in (asked_mode mode) key sectors).CanOpen image → CanOpenIn Modes.Journal key sectors image
+  in_journal Direct can = can
+  in_journal Journal can = can
+
+  in_mode : (mode : OpenMode) → CanOpenIn Modes.Journal key sectors image → (kind_in (asked_mode mode) key sectors).CanOpen image
+  in_mode Direct can = can
+  in_mode Journal can = can
+
+  -- An image without a fault is one that the mode opens,
+  can_open : fault_of key sectors image ≡ None → (kind_in (asked_mode mode) key sectors).CanOpen image
+  can_open none = in_mode mode ((law key sectors image).0 none)
+
+  -- and a script runs on one that it opens.
+  pub runs_on : (kind_in (asked_mode mode) key sectors).CanOpen image
+      → outset_on mode key sectors image ≡ RunsOn (kind_in (asked_mode mode) key sectors) image
+  runs_on can = ap (outset_by mode key sectors image) ((law key sectors image).1 (in_journal mode can))
+
+-- What holds of the content that is told at the start holds of each.
+at_told : (P : Content → Type 0) (moments : List Content) (start : Content) → content_now moments ≡ Some start → P start
+    → HasNow P moments
+at_told P moments start told has c is = subst P (same_Some start c (sym told ∙ is)) has
+
+-- What an opening writes, of each content since.
+written_in : (mode : OpenMode) (key : Option (List ℕ)) (sectors : ℕ) (start : Content) {a b : List Content}
+    → content_now a ≡ Some start → WritesInOpening mode key sectors a b
+    → EachMoment a b (IsOfOpeningIn (asked_mode mode) (geometry_on sectors (last_image start)) start)
+written_in Direct key sectors start told writes =
+    EachMoment-both (each_from _ start told writes.recovers) (each_from _ start told writes.keeps)
+written_in Journal key sectors start told writes = each_from _ start told writes
+
+-- ---- the opening
+
+module _ (law : OpensLaw) (mode : OpenMode) (key : Option (List ℕ)) (disk now : DiskIdentity) (a b : List Content)
+    (start : Content) (told : content_now a ≡ Some start) (script : List ℕ) where
+  abbrev image : Image
+  image = last_image start
+
+  abbrev kind : DeviceKind
+  kind = kind_in (asked_mode mode) key disk.sectors
+
+  abbrev outset : Outset
+  outset = outset_on mode key disk.sectors image
+
+  abbrev g : Geometry
+  g = geometry_on disk.sectors image
+
+  module _ (leaves : LeavesOpening mode key disk now a b) where
+    left_by : (refusal : Option ImageFault) → fault_of key disk.sectors image ≡ refusal
+        → EachMoment a b (IsAsBefore (outset_by mode key disk.sectors image refusal) start)
+    left_by None none =
+        let left = leaves.left (at_told _ a start told (can_open law mode key disk.sectors image none)) in
+        EachMoment-weaker (λ c both. inr (record { opens = both.0; left = both.1 }))
+        (EachMoment-both (each_from _ start told left.opens) (each_from _ start told left.left))
+    left_by (Some refusal) is = untouched_through start told (leaves.refused start told refusal is)
+
+    -- Each moment is as before,
+    left_each : EachMoment a b (IsAsBefore outset start)
+    left_each = left_by (fault_of key disk.sectors image) refl
+
+    -- and so is the end.
+    left_now : HasNow (IsAsBefore outset start) b
+    left_now = content_at_end left_each (at_told (IsAsBefore outset start) a start told (as_same outset start start refl))
+
+    writes_by : (run : ScriptRun) (refusal : Option ImageFault) → fault_of key disk.sectors image ≡ refusal
+        → EachMoment a b (WritesOnlyBy (outset_by mode key disk.sectors image refusal) g run start)
+    writes_by run None none =
+        EachMoment-weaker (λ c of. record {
+          opened = c;
+          opening = inr of;
+          behind = OnlyAdds-none (IsOfRun (asked_mode mode) g (changes_in run.steps)) c;
+        })
+        (written_in mode key disk.sectors start told leaves.writes)
+    writes_by run (Some refusal) is = untouched_through start told (leaves.refused start told refusal is)
+
+    -- Each is one of the command.
+    pub opening_moments : EachMoment a b (IsMomentOn mode key disk.sectors start script)
+    opening_moments =
+        let run = some_run outset script in
+        EachMoment-weaker
+        (λ c both. record { left = both.0; only = record { run = run.0; is_run = run.1; only = both.1 } })
+        (EachMoment-both
+        (EachMoment-weaker (before_may_be_left outset (of_run mode key disk.sectors image) start script) left_each)
+        (writes_by run.0 (fault_of key disk.sectors image) refl))
+
+    -- ---- no device is open
+
+    module _ (held : Option (List ℕ)) where
+      told_by : (refusal : ImageFault) (fault : OpeningFault) → IsRefused key disk fault a b → fault ≢ OpeningFaults.Disk
+          → fault ≢ OpeningFaults.Memory → fault_in {T = DeviceParts} (Err fault) ≡ Some refusal
+          → HasRunOn outset start script (ending_by_refusal refusal) b held held
+      told_by refusal fault refused not_disk not_memory is =
+          refused_run outset start script (ending_by_refusal refusal)
+          (ap (outset_by mode key disk.sectors image) (sym (refused.told not_disk not_memory start told) ∙ is)) b
+          (untouched_now start told (refused.nothing not_disk)) held held refl
+
+      -- What ended the run is that the image is refused, or comes from outside.
+      pub refused_by_opening : (fault : OpeningFault) → IsRefused key disk fault a b
+          → HasRunOn outset start script (ending_of (ended_by_opening fault)) b held held
+      refused_by_opening OpeningFaults.Memory refused =
+          nothing_run outset (fine_on mode key disk.sectors image) start script NoMemory tt b left_now held held refl
+      refused_by_opening OpeningFaults.Disk refused =
+          nothing_run outset (fine_on mode key disk.sectors image) start script DiskFailed tt b left_now held held refl
+      refused_by_opening (OpeningFaults.Super fault) refused =
+          told_by _ (OpeningFaults.Super fault) refused (λ is. absurd (cc)) (λ is. absurd (cc)) refl
+      refused_by_opening (OpeningFaults.Geom fault) refused =
+          told_by _ (OpeningFaults.Geom fault) refused (λ is. absurd (cc)) (λ is. absurd (cc)) refl
+      refused_by_opening (OpeningFaults.Mode flags) refused =
+          told_by _ (OpeningFaults.Mode flags) refused (λ is. absurd (cc)) (λ is. absurd (cc)) refl
+      refused_by_opening (OpeningFaults.Journal fault) refused =
+          told_by _ (OpeningFaults.Journal fault) refused (λ is. absurd (cc)) (λ is. absurd (cc)) refl
+
+    -- ---- a device is open, and its run came so far
+
+    module _ (can : kind.CanOpen image) (run : ScriptRun) (ending : Ending) (after : List Content)
+        (held_before held : Option (List ℕ))
+        (is_run : IsRunOf (kind.format image) (kind.opened image) script run)
+        (stopped : IsStopped (opened_standing (asked_mode mode) key disk.sectors image) run ending b after held_before held) where
+      is_outset : outset ≡ RunsOn kind image
+      is_outset = runs_on law mode key disk.sectors image can
+
+      ran : HasRunOn outset start script ending after held_before held
+      ran =
+          subst (λ (o : Outset). HasRunOn o start script ending after held_before held) (sym is_outset) (record {
+            run = run;
+            is_run = is_run;
+            text = stopped.text;
+            changes = stopped.changes;
+            ended = stopped.ended;
+            told = stopped.told;
+            left = λ c at. inr (record { opens = stopped.now.opens c at; left = stopped.now.left c at });
+          })
+
+      ran_through : EachMoment b after (MayBeLeftAt outset start script)
+      ran_through =
+          EachMoment-weaker
+          (λ c within. subst (λ (o : Outset). MayBeLeftAt o start script c) (sym is_outset)
+          (record { run = run; is_run = is_run; made = within.made; left = inr (record { opens = within.opens; left = within.left }) }))
+          stopped.since
+
+      -- What stands once the device is open is what its opening left.
+      opened_to : HasNow (IsOpenedTo (asked_mode mode) g start) b
+      opened_to =
+          content_at_end
+          (EachMoment-weaker (λ c of. inr of) (written_in mode key disk.sectors start told leaves.writes))
+          (at_told (IsOpenedTo (asked_mode mode) g start) a start told (inl refl))
+
+      writes_behind : (opened : Option Content) → content_now b ≡ opened
+          → EachMoment b after (WritesOnlyBy (RunsOn kind image) g run start)
+      writes_behind None none = EachMoment-weaker (λ c from. absurd (rw none at from)) stopped.writes
+      writes_behind (Some opened) is =
+          EachMoment-weaker (λ c adds. record { opened = opened; opening = opened_to opened is; behind = adds })
+          (each_from _ opened is stopped.writes)
+
+      ran_moments : EachMoment b after (IsMomentOn mode key disk.sectors start script)
+      ran_moments =
+          EachMoment-weaker
+          (λ c both. record {
+            left = both.0;
+            only = record {
+              run = run;
+              is_run = subst (λ (o : Outset). IsRunAt o script run) (sym is_outset) is_run;
+              only = subst (λ (o : Outset). WritesOnlyBy o g run start c) (sym is_outset) both.1;
+            };
+          })
+          (EachMoment-both ran_through (writes_behind (content_now b) refl))
+
+      -- All of it is one of the command's runs.
+      pub ran_on : HasRunOn outset start script ending after held_before held
+          × EachMoment a after (IsMomentOn mode key disk.sectors start script)
+      ran_on = (ran, EachMoment-then opening_moments ran_moments)
+
+-- What is taken of the script is so of the command's.
+pub read_on_image : (law : OpensLaw) (mode : OpenMode) (key : Option (List ℕ)) (sectors : ℕ) (image : Image) (script : List ℕ)
+    → let kind = kind_in (asked_mode mode) key sectors in kind.CanOpen image
+    → (run : ScriptRun) (left held_before held : Option (List ℕ)) → IsRunOf (kind.format image) (kind.opened image) script run
+    → HasReadTo run script left held_before held
+    → HasReadIn (outset_on mode key sectors image) script left held_before held
+read_on_image law mode key sectors image script can run left held_before held is_run read = record {
+  run = run;
+  is_run = subst (λ (o : Outset). IsRunAt o script run) (sym (runs_on law mode key sectors image can)) is_run;
+  read = read;
+}
+
+-- The disk at the end is the one that was given back.
+pub given_back : (mode : OpenMode) (key : Option (List ℕ)) (sectors : ℕ) (start : Content) (script : List ℕ) (ending : Ending)
+    (first : List Content) (held_before held : Option (List ℕ)) {a b : List Content}
+    → let outset = outset_on mode key sectors (last_image start) in
+    HasRunOn outset start script ending a held_before held
+    × EachMoment first a (IsMomentOn mode key sectors start script) → b ≡ a
+    → HasRunOn outset start script ending b held_before held
+    × EachMoment first b (IsMomentOn mode key sectors start script)
+given_back mode key sectors start script ending first held_before held all same =
+    subst (λ (m : List Content). HasRunOn (outset_on mode key sectors (last_image start)) start script ending m held_before
+    held × EachMoment first m (IsMomentOn mode key sectors start script)) (sym same) all
