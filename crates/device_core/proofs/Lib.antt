@@ -2,7 +2,6 @@ pub mod TurnLemmas
 pub mod DoneLemmas
 pub mod ServeLemmas
 pub mod EventLemmas
-pub mod OpeningLemmas
 pub mod ReadyLemmas
 pub mod LeftLemmas
 pub mod Worked
