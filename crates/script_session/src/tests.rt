@@ -1,5 +1,4 @@
 //! Lines on small images in memory, in each mode, and what they tell.
-ghost use Rattle.std.specs.Prelude.{◌≤◌};
 ghost use Rattle.disk_model.specs.Identity.{IsBound};
 
 use crate::{LineEnd, MeaningFault, TagsFound, Tickets, run_line};
@@ -12,13 +11,6 @@ use sector_pool::Region;
 use std::alloc::Global;
 use std::test::Fail;
 use stream_io::MemSink;
-
-/// Bytes 0 to 31 of the small image, as `integritysetup format --integrity-legacy-hmac` writes them: 80 blocks of
-/// 512 bytes, and tags of 32.
-const SMALL_BYTES: [u8; 32] = [
-    0x69, 0x6e, 0x74, 0x65, 0x67, 0x72, 0x74, 0x00, 0x04, 0x03, 0x20, 0x00, 0x01, 0x00, 0x00, 0x00,
-    0x50, 0x00, 0x00, 0x00, 0x00, 0x00, 0x00, 0x00, 0x08, 0x00, 0x00, 0x00, 0x00, 0x0f, 0x00, 0x00,
-];
 
 /// What a new image is to be: a journal of one section, of 8 metadata sectors and 80 entries of one sector.
 const NEW: NewImage = NewImage {
@@ -42,14 +34,10 @@ fn fill_of(byte: u8) -> Ask<'static> {
     }
 }
 
-/// The small image on a disk of so many sectors, with zeros behind the first.
-fn small_disk(alloc: Global, sectors: u64) -> Result<MemDisk, Fail>
-    requires { 1 ≤ sectors }
-{
-    let mut bytes = [0; 512];
-    bytes[..32].copy_from_slice(&SMALL_BYTES);
-    let mut disk = MemDisk::new(alloc, sectors, 20)?;
-    disk.write_run(0, &bytes)?;
+/// A new image on a disk of 256 sectors: 80 blocks of zeros, whose tags are zeros too.
+fn new_disk(alloc: Global) -> Result<MemDisk, Fail> {
+    let mut disk = MemDisk::new(alloc, 256, 2000)?;
+    format(alloc, &mut disk, Hash::Sha256, NEW)?;
     Ok(disk)
 }
 
@@ -87,7 +75,7 @@ fn run_lines<D: Disk>(
 
 #[test]
 fn a_request_in_flight_is_told_when_it_is_taken(rt: HostRuntime) -> Result<(), Fail> {
-    let mut disk = small_disk(rt.alloc(), 256)?;
+    let mut disk = new_disk(rt.alloc())?;
     let mut out = MemSink::new(rt.alloc(), 200)?;
     let read = Ask::Read { first: 5, count: 1 };
     let lines = [
@@ -112,7 +100,7 @@ fn a_request_in_flight_is_told_when_it_is_taken(rt: HostRuntime) -> Result<(), F
 
 #[test]
 fn a_line_of_no_such_block_is_refused(rt: HostRuntime) -> Result<(), Fail> {
-    let mut disk = small_disk(rt.alloc(), 256)?;
+    let mut disk = new_disk(rt.alloc())?;
     let mut out = MemSink::new(rt.alloc(), 200)?;
     let lines = [
         Line::Ask {
@@ -139,8 +127,7 @@ fn a_line_of_no_such_block_is_refused(rt: HostRuntime) -> Result<(), Fail> {
 
 #[test]
 fn steps_in_journal_mode_are_told(rt: HostRuntime) -> Result<(), Fail> {
-    let mut disk = MemDisk::new(rt.alloc(), 512, 2000)?;
-    format(rt.alloc(), &mut disk, Hash::Sha256, NEW)?;
+    let mut disk = new_disk(rt.alloc())?;
     let mut out = MemSink::new(rt.alloc(), 200)?;
     let commit = Line::Step {
         actor: Actor::Commit,
