@@ -52,8 +52,8 @@ pub record MayBeLeftPlaced (key : Option (List ℕ)) (sectors : ℕ) (entry : Im
   pub blocks : blocks_of (format_on key sectors left) ≡ blocks_of (format_on key sectors entry)
   pub left_is : IsLeftPlaced (format_on key sectors left) h left
 
--- The devices in direct mode that look at no journal.
--- Own: as long as nothing recovers a journal; an image that has entries is opened without them.
+-- The devices in direct mode below the opening: they look at no journal.
+-- Own: the kind of a device over its parts, for an opening that has emptied the journal before.
 abbrev pub placed_kind : Option (List ℕ) → ℕ → DeviceKind
 placed_kind key sectors = record {
   CanOpen = CanOpenPlaced key sectors;
