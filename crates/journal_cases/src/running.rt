@@ -86,13 +86,7 @@ pub fn run(
         }
     }
     run.history.judge(alloc, &run.journal)?;
-    let Running {
-        journal,
-        history,
-        told,
-        ..
-    } = run;
-    let disk = journal.into_disk();
+    let (disk, history, told) = run.end();
     Ok(Ran {
         told,
         history,
@@ -102,6 +96,17 @@ pub fn run(
 }
 
 impl Running<'_> {
+    /// Ends the run: the disk comes back, with what was told.
+    fn end(self) -> (KeptDisk, History, String) {
+        let Running {
+            journal,
+            history,
+            told,
+            order: _,
+        } = self;
+        (journal.into_disk(), history, told)
+    }
+
     /// Makes a step.
     fn make(&mut self, alloc: Global, step: Step) -> Result<Goes> {
         match step {

@@ -13,7 +13,7 @@ use Rattle.image_model.proofs.SectorLemmas.{length-piece, piece-piece}
 use Rattle.journal_section.specs.Entries.{BearsNumber}
 use Rattle.journal_model.specs.Batch.{AreSections, IsSection}
 use Rattle.journal_model.specs.Cuts.{next_after, number_after}
-use Rattle.journal_model.specs.Ring.{next_batch, opened_at, IsNextBatch, with_commit}
+use Rattle.journal_model.specs.Ring.{next_batch, opened_at, IsNextBatch, JournalRing, with_commit}
 use Rattle.journal_model.proofs.Runs.{run_joins, run_drop}
 use Rattle.device_laws.proofs.StepLemmas.{sealed_law}
 use Rattle.journal_ring.specs.declared.marks.Marks.{Marks}
@@ -195,3 +195,17 @@ module _ (g : Geometry) (bytes counts : List ℕ) (m : Marks) (is : IsRing g byt
             let e : number_after g.sections next batch m.number ≡ m.number = ap (λ (b : Bool). if b then later 1 m.number else m.number) (ne_eqb (next + batch) g.sections before) in
             let low = is.number in omega arith
       ]
+
+-- The sections of the next batch have its bytes.
+pub batch_told : (g : Geometry) (pool counts : List ℕ) (m : Marks) (ring : JournalRing) (total from count : ℕ) → IsRing g pool counts m
+    → view_of g pool m ≡ ring → total ≡ g.sections → from ≡ next_of total m → count ≡ batch_of total m
+    → IsNextBatch ring (piece pool (512 * (from * section_sectors g.shape)) (512 * (count * section_sectors g.shape)))
+batch_told g pool counts m ring total from count is told total_is from_is count_is =
+    let place : from ≡ next_of g.sections m = from_is ∙ ap (λ (n : ℕ). next_of n m) total_is in
+    let many : count ≡ batch_of g.sections m = count_is ∙ ap (λ (n : ℕ). batch_of n m) total_is in
+    let bytes : piece pool (512 * (from * section_sectors g.shape)) (512 * (count * section_sectors g.shape))
+    ≡ piece pool (512 * (next_of g.sections m * section_sectors g.shape)) (512 * (batch_of g.sections m * section_sectors g.shape)) =
+    ap (λ (n : ℕ). piece pool (512 * (n * section_sectors g.shape)) (512 * (count * section_sectors g.shape))) place
+    ∙ ap (λ (n : ℕ). piece pool (512 * (next_of g.sections m * section_sectors g.shape)) (512 * (n * section_sectors g.shape))) many in
+    subst (λ (r : JournalRing). IsNextBatch r (piece pool (512 * (from * section_sectors g.shape)) (512 * (count * section_sectors g.shape)))) told
+    (subst (IsNextBatch (view_of g pool m)) (sym bytes) (batch-is g pool counts m is))

@@ -1,5 +1,6 @@
 pub mod SectionsLemmas
-pub mod PutInLemmas
+pub mod RunsLemmas
+pub mod CutLemmas
 pub mod WrapLemmas
 pub mod RingLemmas
 pub mod BatchLemmas

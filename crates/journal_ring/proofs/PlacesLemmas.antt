@@ -1,11 +1,11 @@
 -- Where the sections of a ring lie, and what stands in them.
-use Rattle.std.proofs.Common.{◌≡◌, ◌≢◌, inl, inr, ℕ, zero, suc, ◌+◌, ◌-◌, ◌*◌, ◌<◌, ◌≤◌, ltb, leb, Bool, if◌then◌else◌, List, [], ◌∷◌, ◌++◌, length, map, drop, get_or, set, slice_index, slice_get, refl, sym, ◌∙◌, ap, subst, arith, Option, Some, None, length-append, replicate}
+use Rattle.std.proofs.Common.{◌≡◌, ◌≢◌, inl, inr, ℕ, zero, suc, ◌+◌, ◌-◌, ◌*◌, ◌<◌, ◌≤◌, ltb, leb, Bool, if◌then◌else◌, List, [], ◌∷◌, ◌++◌, length, map, take, drop, get_or, set, slice_index, slice_get, refl, sym, ◌∙◌, ap, subst, arith, Option, Some, None, length-append, replicate}
 use Rattle.std.specs.List.{range_with_len}
 use Rattle.std.proofs.lemmas.Bool.{cases_lt, cases_eq, eq-eqb, ne_eqb}
 use Rattle.std.proofs.lemmas.List.{map-append, drop-map, get_or_past, get_or-set_same, get_or-set_other, length-set, length-map}
 use Rattle.std.proofs.lemmas.List.FromFn.{length-map-range_with_len, get_or-map-range_with_len}
 use Rattle.std.proofs.lemmas.Option.{none-some}
-use Rattle.image_model.specs.Geometry.{Geometry, Shape, section_entries}
+use Rattle.image_model.specs.Geometry.{section_sectors, Geometry, Shape, section_entries}
 use Rattle.journal_section.proofs.EntriesLemmas.{length-entries_of}
 use Rattle.image_model.specs.Section.{Entry}
 use Rattle.journal_section.specs.Entries.{entries_of, BearsNumber, HoldsEntries}
@@ -14,6 +14,11 @@ use Rattle.commit_id.specs.Shape.{IsShape}
 use Rattle.commit_id.proofs.ShapeLemmas.{shape_holds}
 use Rattle.journal_model.specs.Ring.{JournalRing}
 use Rattle.journal_model.proofs.Runs.{run_joins, run_drop}
+use Rattle.std.proofs.Common.{◌^◌, length-drop}
+use Rattle.std.proofs.Math.Nat.{mul-le-mul_right}
+use Rattle.std.proofs.lemmas.List.{length-take-le}
+use Rattle.image_model.specs.Geometry.{IsGeometry}
+use Rattle.image_model.proofs.Bounds.{has_entries}
 use Rattle.journal_ring.specs.declared.marks.Marks.{Marks}
 use Rattle.journal_ring.specs.Sections.{wrap, section_bytes, used_in, filled, IsHeld}
 use Rattle.journal_ring.specs.Ring.{section_of, entries_held, view_of, number_at, IsRing}
@@ -282,3 +287,40 @@ meta_fits shape bytes is size =
     let least = (shape_holds shape is).2.sectors_low in
     let sectors = is.sectors in
     omega arith
+
+-- What a look at entry n of a section needs, and what it finds.
+pub record Looks (g : Geometry) (pool : List ℕ) (ring : JournalRing) (i n : ℕ) : Type 0 where
+  pub low : n < section_entries g.shape
+  pub meta_size : length (take 4096 (section_bytes g.shape pool i)) ≡ 4096
+  pub size : length (section_bytes g.shape pool i) ≡ 512 * section_sectors g.shape
+  pub some : (entry : Entry) × (slice_get (used_in g.shape (section_bytes g.shape pool i)) n ≡ Some entry)
+  pub finds : (entry : Entry) → slice_get (entries_at ring i) n ≡ Some entry → get_or (entries_of g.shape (section_bytes g.shape pool i)) n None ≡ Some entry
+  pub there : (entry : Entry) → slice_get (used_in g.shape (section_bytes g.shape pool i)) n ≡ Some entry
+      → get_or (entries_of g.shape (section_bytes g.shape pool i)) n None ≡ Some entry
+
+pub looks_from : (g : Geometry) (pool counts : List ℕ) (m : Marks) (ring : JournalRing) (i n : ℕ) → IsRing g pool counts m → view_of g pool m ≡ ring
+    → i < ring.geometry.sections → n < length (entries_at ring i) → Looks g pool ring i n
+looks_from g pool counts m ring i n is view low some =
+    let bytes : List ℕ = section_bytes g.shape pool i in
+    let shows : Shows g.shape ring i n bytes = shows_from g pool counts m ring g.shape i n bytes pool is view refl low some refl refl in
+    let most = used_low g.shape bytes shows.holds in
+    let used = shows.used in
+    let size = shows.holds.size in
+    let least = (has_entries g.shape is.geometry.spb.0 is.geometry.spb.1 is.geometry.tag_size.0 is.geometry.tag_size.1).sectors_low in
+    record {
+      low = omega arith;
+      meta_size = length-take-le 4096 bytes (let e : 4096 ≤ length bytes = omega arith in e);
+      size = size;
+      some = used_there (used_in g.shape bytes) n shows.used;
+      finds = λ entry told. entry_told g.shape bytes n entry shows.holds (subst (λ (xs : List Entry). slice_get xs n ≡ Some entry) shows.same told);
+      there = λ entry told. entry_told g.shape bytes n entry shows.holds told;
+    }
+
+-- The data sectors of an entry.
+pub parts_long : (g : Geometry) (bytes : List ℕ) (n : ℕ) → IsGeometry g (2 ^ 48) → length bytes ≡ 512 * section_sectors g.shape → n < section_entries g.shape
+    → length (take (512 * g.shape.spb) (drop (512 * (8 + n * g.shape.spb)) bytes)) ≡ 512 * g.shape.spb
+parts_long g bytes n is size low =
+    let rows : (n + 1) * g.shape.spb ≤ section_entries g.shape * g.shape.spb = mul-le-mul_right g.shape.spb (let e : n + 1 ≤ section_entries g.shape = omega arith in e) in
+    let width = (has_entries g.shape is.spb.0 is.spb.1 is.tag_size.0 is.tag_size.1).sectors_is in
+    length-take-le (512 * g.shape.spb) (drop (512 * (8 + n * g.shape.spb)) bytes)
+    (let rest = length-drop (512 * (8 + n * g.shape.spb)) bytes in let e : 512 * g.shape.spb ≤ length (drop (512 * (8 + n * g.shape.spb)) bytes) = omega arith in e)

@@ -9,18 +9,16 @@ ghost use Rattle.commit_id.specs.Shape.{as_shape, IsShape};
 ghost use Rattle.image_model.specs.Section.{Entry};
 ghost use Rattle.journal_section.specs.View.{view_of as entry_view};
 ghost use Rattle.journal_model.specs.JournaledDisk.{JournaledDisk, IsCutOf, IsSound, StandsFor};
-ghost use Rattle.journal_model.specs.Ring.{empty_ring, has_open_section, has_room, with_commit, with_put, HasFreeSection, IsNextBatch, IsRingOf};
+ghost use Rattle.journal_model.specs.Ring.{empty_ring, has_open_section, has_room, with_commit, with_put, HasFreeSection, IsRingOf};
 
 use crate::committing::write_batch;
 use crate::marks::{Marks, batch, committed, next, next_number, position, wrap};
-use crate::pool::{clear_section, put_in_section, section, sections};
-use crate::reading::{content_in, view_in};
+use crate::pieces::Pieces;
 use crate::room::RingRoom;
 use commit_id::Shape;
 use hmac_tag::Tag;
 use journal_overlay::Place;
-use journal_section::EntryView;
-use layout::Geometry;
+use journal_section::{EntryView, block_bytes, entry};
 use sector_disk::{Disk, Failed};
 use sector_pool::Run;
 use std::marker::Model;
@@ -43,8 +41,7 @@ pub enum Moved {
 /// The sections of a journal, in memory.
 #[derive(Drop)]
 pub struct Ring<'p> {
-    geometry: Geometry,
-    pool: Run<'p>,
+    pool: Pieces<'p>,
     counts: Vec<u64>,
     marks: Marks,
 }
@@ -56,9 +53,9 @@ impl<'p> Model for Ring<'p> {
 
     ghost use Rattle.journal_ring.specs.Ring.{view_of, IsRing};
 
-    ghost view = { λ ring. view_of ring.geometry ring.pool.bytes ring.marks };
+    ghost view = { λ ring. view_of ring.pool.geometry ring.pool.bytes ring.marks };
 
-    ghost invariant = { λ ring. IsRing ring.geometry ring.pool.bytes ring.counts.items ring.marks };
+    ghost invariant = { λ ring. IsRing ring.pool.geometry ring.pool.bytes ring.counts.items ring.marks };
 }
 
 impl<'p> Ring<'p> {
@@ -72,7 +69,8 @@ impl<'p> Ring<'p> {
     /// The ring over a journal of which nothing is to be placed: the next section to be written is `next`, under
     /// `number`.
     ///
-    /// Own: it keeps the pool as one run of sectors, and reaches what an entry has by slices of it.
+    /// Own: the metadata sectors of a section and the data sectors of each of its entries are runs of their own while
+    /// it takes entries.
     pub fn new(room: RingRoom, pool: Run<'p>, next: u64, number: u8) -> Ring<'p>
         requires pool { length pool.bytes ≡ 512 * journal_sectors room }
         requires next { next < room.sections }
@@ -80,7 +78,12 @@ impl<'p> Ring<'p> {
 
         ensures { result ≡ empty_ring room next number }
     {
-        let RingRoom { geometry, counts } = room;
+        let RingRoom {
+            geometry,
+            counts,
+            before,
+            behind,
+        } = room;
         let marks = Marks {
             first: next,
             committed: 0,
@@ -89,8 +92,7 @@ impl<'p> Ring<'p> {
             closed: true,
         };
         Ring {
-            geometry,
-            pool,
+            pool: Pieces::new(geometry, pool, before, behind),
             counts,
             marks,
         }
@@ -115,7 +117,7 @@ impl<'p> Ring<'p> {
         ensures room { IsOk result ↔ (has_room self.old ≡ true) }
         ensures err { OnErr result (self.new ≡ self.old) }
     {
-        let sector = block * self.geometry.shape().spb;
+        let sector = block * self.pool.shape().spb;
         self.make_open()?;
         Ok(self.put_last(sector, bytes, tag))
     }
@@ -128,12 +130,12 @@ impl<'p> Ring<'p> {
         ensures { (entry : Entry) → slice_get (entries_at self.now place.section) place.entry ≡ Some entry
             → result ≡ entry_view entry }
     {
-        let shape = self.geometry.shape();
-        view_in(
-            section(self.pool.bytes(), shape, place.section),
-            shape,
-            place.entry,
-        )
+        let shape = self.pool.shape();
+        let metadata = self.pool.metadata(place.section);
+        match entry(shape, metadata, place.entry) {
+            Some(view) => view,
+            None => unreachable!(),
+        }
     }
 
     /// Puts the bytes of an entry's block into `out`.
@@ -145,13 +147,10 @@ impl<'p> Ring<'p> {
         ensures { (entry : Entry) → slice_get (entries_at self.now place.section) place.entry ≡ Some entry
             → out.new ≡ entry.bytes }
     {
-        let shape = self.geometry.shape();
-        content_in(
-            section(self.pool.bytes(), shape, place.section),
-            shape,
-            place.entry,
-            out,
-        );
+        let shape = self.pool.shape();
+        let metadata = self.pool.metadata(place.section);
+        let parts = self.pool.data(place.section, place.entry);
+        block_bytes(shape, metadata, parts, place.entry, out);
     }
 
     /// Whether the section of an entry is committed.
@@ -160,7 +159,7 @@ impl<'p> Ring<'p> {
 
         ensures { result ≡ is_committed self.now place.section }
     {
-        let sections = self.geometry.sections();
+        let sections = self.pool.sections();
         position(sections, self.marks, place.section) < self.marks.committed
     }
 
@@ -172,7 +171,7 @@ impl<'p> Ring<'p> {
         ensures { self.new ≡ with_free self.old }
     {
         self.counts[section as usize] = 0;
-        self.marks.first = wrap(self.geometry.sections(), self.marks.first + 1);
+        self.marks.first = wrap(self.pool.sections(), self.marks.first + 1);
         self.marks.committed -= 1;
     }
 
@@ -182,7 +181,7 @@ impl<'p> Ring<'p> {
 
         ensures { result ≡ is_free self.now section }
     {
-        let sections = self.geometry.sections();
+        let sections = self.pool.sections();
         self.marks.committed + self.marks.opened <= position(sections, self.marks, section)
     }
 
@@ -212,7 +211,7 @@ impl<'p> Ring<'p> {
     pub fn sections(&self) -> u64
         ensures { result ≡ self.now.geometry.sections }
     {
-        self.geometry.sections()
+        self.pool.sections()
     }
 
     /// What a section of it looks like.
@@ -220,7 +219,7 @@ impl<'p> Ring<'p> {
         ensures shape { as_shape result ≡ self.now.geometry.shape }
         ensures is_shape { IsShape result }
     {
-        self.geometry.shape()
+        self.pool.shape()
     }
 
     /// Whether the last opened section takes one more entry.
@@ -237,8 +236,8 @@ impl<'p> Ring<'p> {
         if closed || opened == 0 {
             return false;
         }
-        let last = wrap(self.geometry.sections(), first + (committed + opened - 1));
-        self.counts[last as usize] < self.geometry.shape().entries
+        let last = wrap(self.pool.sections(), first + (committed + opened - 1));
+        self.counts[last as usize] < self.pool.shape().entries
     }
 
     /// Opens the next section, which is free.
@@ -248,8 +247,7 @@ impl<'p> Ring<'p> {
         ensures section { self.new ≡ with_section self.old }
         ensures is_open { has_open_section self.new ≡ true }
     {
-        let sections = self.geometry.sections();
-        let shape = self.geometry.shape();
+        let sections = self.pool.sections();
         let Marks {
             first,
             committed,
@@ -264,7 +262,7 @@ impl<'p> Ring<'p> {
             next_number(number)
         };
         let section = wrap(sections, first + (committed + opened));
-        clear_section(self.pool.bytes_mut(), shape, section, number);
+        self.pool.open(section, number);
         self.marks.opened = opened + 1;
         self.marks.closed = false;
     }
@@ -302,8 +300,7 @@ impl<'p> Ring<'p> {
         ensures put { let entry : Entry = record { sector = sector; bytes = bytes.now; tag = tag.now } in
             self.new ≡ with_entry entry self.old }
     {
-        let sections = self.geometry.sections();
-        let shape = self.geometry.shape();
+        let sections = self.pool.sections();
         let Marks {
             first,
             committed,
@@ -312,15 +309,7 @@ impl<'p> Ring<'p> {
         } = self.marks;
         let section = wrap(sections, first + (committed + opened - 1));
         let entry = self.counts[section as usize];
-        put_in_section(
-            self.pool.bytes_mut(),
-            shape,
-            section,
-            entry,
-            sector,
-            bytes,
-            tag,
-        );
+        self.pool.put(section, entry, sector, bytes, tag);
         self.counts[section as usize] = entry + 1;
         Place { section, entry }
     }
@@ -329,32 +318,22 @@ impl<'p> Ring<'p> {
     fn has_free_section(&self) -> bool
         ensures { IsTrue result ↔ HasFreeSection self.now }
     {
-        self.marks.committed + self.marks.opened < self.geometry.sections()
+        self.marks.committed + self.marks.opened < self.pool.sections()
     }
 
-    /// The bytes of the next batch.
-    fn batch_bytes(&self) -> &[u8]
-        ensures { IsNextBatch self.now result.now }
-    {
-        let total = self.geometry.sections();
-        let shape = self.geometry.shape();
-        let from = next(total, self.marks);
-        sections(self.pool.bytes(), shape, from, batch(total, self.marks))
-    }
-
-    /// The sector of the disk where it begins.
+    /// The sector of the disk where the next batch begins.
     fn batch_at(&self) -> u64
         ensures { result ≡ section_at self.now.geometry self.now.next }
     {
-        let next = next(self.geometry.sections(), self.marks);
-        self.geometry.section_at(next)
+        let next = next(self.pool.sections(), self.marks);
+        self.pool.section_at(next)
     }
 
     /// Takes the next batch for committed.
     fn move_on(&mut self)
         ensures { self.new ≡ with_commit self.old }
     {
-        self.marks = committed(self.geometry.sections(), self.marks);
+        self.marks = committed(self.pool.sections(), self.marks);
     }
 
     /// Writes the opened sections, up to the journal's end, and syncs. No entry goes into them any more.
@@ -392,7 +371,11 @@ impl<'p> Ring<'p> {
         if self.marks.opened == 0 {
             return Ok(Moved::Idle);
         }
-        write_batch(disk, self.batch_at(), self.batch_bytes())?;
+        let at = self.batch_at();
+        let total = self.pool.sections();
+        let from = next(total, self.marks);
+        let count = batch(total, self.marks);
+        write_batch(disk, at, &mut self.pool, from, count)?;
         self.move_on();
         Ok(Moved::Did)
     }

@@ -3,6 +3,7 @@ ghost use Rattle.std.specs.Prelude.{◌≡◌, IfOk};
 
 use layout::Geometry;
 use sector_disk::Memory;
+use sector_pool::Run;
 use std::alloc::Global;
 use std::marker::Model;
 
@@ -12,6 +13,10 @@ pub struct RingRoom {
     pub(crate) geometry: Geometry,
     /// How many entries each section has.
     pub(crate) counts: Vec<u64>,
+    /// Room for the runs before the entries of the section that is cut.
+    pub(crate) before: Vec<Run<'static>>,
+    /// Room for the runs of its entries, and for that of what lies behind it.
+    pub(crate) behind: Vec<Run<'static>>,
 }
 
 impl Model for RingRoom {
@@ -19,11 +24,13 @@ impl Model for RingRoom {
 
     ghost Value = { Geometry };
 
+    ghost use Rattle.std.specs.Vec.{vec_capacity};
     ghost use Rattle.journal_ring.specs.Room.{IsRoom};
 
     ghost view = { λ room. room.geometry };
 
-    ghost invariant = { λ room. IsRoom room.geometry room.counts.items };
+    ghost invariant = { λ room. IsRoom room.geometry room.counts.items room.before.items room.behind.items
+        (vec_capacity room.before) (vec_capacity room.behind) };
 }
 
 impl RingRoom {
@@ -39,6 +46,19 @@ impl RingRoom {
         let Ok(counts) = Vec::from_elem(alloc, 0u64, geometry.sections() as usize) else {
             return Err(Memory);
         };
-        Ok(RingRoom { geometry, counts })
+        let shape = geometry.shape();
+        let runs = shape.entries as usize + 1;
+        let Ok(before) = Vec::with_capacity(alloc, 2) else {
+            return Err(Memory);
+        };
+        let Ok(behind) = Vec::with_capacity(alloc, runs) else {
+            return Err(Memory);
+        };
+        Ok(RingRoom {
+            geometry,
+            counts,
+            before,
+            behind,
+        })
     }
 }

@@ -9,5 +9,5 @@ pub returns : goal.returns
 returns c =
     let m = c.self.inside.marks in
     ap (λ (n : ℕ). ltb n m.committed) (c.position.ensures ∙ ap (λ (n : ℕ). wrap n (c.args.place.section + (n - m.first))) c.sections-sections.ensures)
-    ∙ sym (committed-is c.self.inside.geometry c.self.inside.pool.bytes c.self.inside.counts.items m c.self.invariant c.args.place.section)
+    ∙ sym (committed-is c.self.inside.pool.geometry c.self.inside.pool.bytes c.self.inside.counts.items m c.self.invariant c.args.place.section)
     ∙ ap (λ (ring : JournalRing). is_committed ring c.args.place.section) c.self.view_is

@@ -11,5 +11,5 @@ returns c =
     let low = subst (λ (ring : JournalRing). c.args.section < ring.geometry.sections) (sym c.self.view_is) c.requires.section in
     let long = c.self.invariant.counts_are in
     c.index.ensures ∙ get_or_default counts c.args.section c.index.result.now 0 (omega arith)
-    ∙ entries-count c.self.inside.geometry c.self.inside.pool.bytes counts c.self.inside.marks c.self.invariant c.args.section low
+    ∙ entries-count c.self.inside.pool.geometry c.self.inside.pool.bytes counts c.self.inside.marks c.self.invariant c.args.section low
     ∙ ap (λ (ring : JournalRing). length (entries_at ring c.args.section)) c.self.view_is

@@ -8,7 +8,7 @@ use Rattle.journal_ring.proofs.ring.Ring.free.Goals as goal
 
 pub invariant_of-self : goal.invariant_of-self
 invariant_of-self c =
-    let g = c.self.inside.geometry in
+    let g = c.self.inside.pool.geometry in
     let pool = c.self.inside.pool.bytes in
     let counts = c.self.inside.counts.items in
     let m = c.self.inside.marks in
@@ -24,7 +24,7 @@ invariant_of-self c =
 
 pub returns : goal.returns
 returns c =
-    let g = c.self.inside.geometry in
+    let g = c.self.inside.pool.geometry in
     let pool = c.self.inside.pool.bytes in
     let counts = c.self.inside.counts.items in
     let m = c.self.inside.marks in

@@ -6,7 +6,7 @@ use Rattle.journal_ring.proofs.ring.Ring.has_free_section.Goals as goal
 
 pub returns : goal.returns
 returns c =
-    let g = c.self.inside.geometry in
+    let g = c.self.inside.pool.geometry in
     let bytes = c.self.inside.pool.bytes in
     let m = c.self.inside.marks in
     let sections = c.sections.ensures in (

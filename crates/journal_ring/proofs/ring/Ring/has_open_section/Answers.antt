@@ -9,7 +9,7 @@ use Rattle.journal_ring.proofs.ring.Ring.has_open_section.Goals as goal
 
 pub returns-then-closed : goal.returns-then-closed
 returns-then-closed c =
-    let g = c.self.inside.geometry in
+    let g = c.self.inside.pool.geometry in
     let bytes = c.self.inside.pool.bytes in
     let m = c.self.inside.marks in
     elim c.then-closed.either [
@@ -19,7 +19,7 @@ returns-then-closed c =
 
 pub returns : goal.returns
 returns c =
-    let g = c.self.inside.geometry in
+    let g = c.self.inside.pool.geometry in
     let bytes = c.self.inside.pool.bytes in
     let counts = c.self.inside.counts.items in
     let m = c.self.inside.marks in

@@ -9,5 +9,5 @@ pub returns : goal.returns
 returns c =
     let m = c.self.inside.marks in
     ap (leb (m.committed + m.opened)) (c.position.ensures ∙ ap (λ (n : ℕ). wrap n (c.args.section + (n - m.first))) c.sections-sections.ensures)
-    ∙ sym (free-is c.self.inside.geometry c.self.inside.pool.bytes c.self.inside.counts.items m c.self.invariant c.args.section)
+    ∙ sym (free-is c.self.inside.pool.geometry c.self.inside.pool.bytes c.self.inside.counts.items m c.self.invariant c.args.section)
     ∙ ap (λ (ring : JournalRing). is_free ring c.args.section) c.self.view_is

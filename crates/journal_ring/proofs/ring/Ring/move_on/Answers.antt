@@ -7,7 +7,7 @@ use Rattle.journal_ring.proofs.ring.Ring.move_on.Goals as goal
 
 pub invariant_of-self : goal.invariant_of-self
 invariant_of-self c =
-    let g = c.self.inside.geometry in
+    let g = c.self.inside.pool.geometry in
     let bytes = c.self.inside.pool.bytes in
     let counts = c.self.inside.counts.items in
     let m = c.self.inside.marks in
@@ -16,7 +16,7 @@ invariant_of-self c =
 
 pub returns : goal.returns
 returns c =
-    let g = c.self.inside.geometry in
+    let g = c.self.inside.pool.geometry in
     let bytes = c.self.inside.pool.bytes in
     let counts = c.self.inside.counts.items in
     let m = c.self.inside.marks in

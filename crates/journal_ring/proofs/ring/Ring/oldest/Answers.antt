@@ -7,13 +7,13 @@ use Rattle.journal_ring.proofs.ring.Ring.oldest.Goals as goal
 
 pub returns-clause-oldest : goal.returns-clause-oldest
 returns-clause-oldest c =
-    sym (oldest-some c.self.inside.geometry c.self.inside.pool.bytes c.self.inside.counts.items c.self.inside.marks c.self.invariant c.if-self-eq0.false)
+    sym (oldest-some c.self.inside.pool.geometry c.self.inside.pool.bytes c.self.inside.counts.items c.self.inside.marks c.self.invariant c.if-self-eq0.false)
     ∙ ap oldest_of c.self.view_is
 
 pub returns-clause-bounds : goal.returns-clause-bounds
 returns-clause-bounds c =
-    subst HasBounds c.self.view_is (bounds_of c.self.inside.geometry c.self.inside.pool.bytes c.self.inside.counts.items c.self.inside.marks c.self.invariant)
+    subst HasBounds c.self.view_is (bounds_of c.self.inside.pool.geometry c.self.inside.pool.bytes c.self.inside.counts.items c.self.inside.marks c.self.invariant)
 
 pub returns-then-self-eq0-clause-bounds : goal.returns-then-self-eq0-clause-bounds
 returns-then-self-eq0-clause-bounds c =
-    subst HasBounds c.self.view_is (bounds_of c.self.inside.geometry c.self.inside.pool.bytes c.self.inside.counts.items c.self.inside.marks c.self.invariant)
+    subst HasBounds c.self.view_is (bounds_of c.self.inside.pool.geometry c.self.inside.pool.bytes c.self.inside.counts.items c.self.inside.marks c.self.invariant)

@@ -1,26 +1,21 @@
-use Rattle.std.proofs.Common.{◌≡◌, ◌+◌, ◌<◌, ◌≤◌, ℕ, arith, sym, subst, ap, ◌∙◌, if◌then◌else◌}
+use Rattle.std.proofs.Common.{◌≡◌, ◌+◌, ◌<◌, ◌≤◌, ℕ, arith, sym, subst, ap, refl, ◌∙◌, if◌then◌else◌}
 use Rattle.std.proofs.lemmas.Bool.{lt-ltb, le-ltb}
-use Rattle.commit_id.specs.Shape.{as_shape}
+use Rattle.image_model.specs.Geometry.{section_entries}
 use Rattle.image_model.specs.Walk.{later}
 use Rattle.journal_model.specs.Ring.{HasFreeSection, has_open_section}
 use Rattle.journal_ring.specs.Sections.{wrap}
 use Rattle.journal_ring.specs.Ring.{section_of, number_at, view_of, with_section}
-use Rattle.journal_ring.proofs.RingLemmas.{IsRing-open, view_of-open, Clears, clears_from, free_more, sections_few, with_section-open, entries_some}
+use Rattle.journal_ring.proofs.RingLemmas.{IsRing-open, view_of-open, Clears, clears_from, free_more, with_section-open, entries_some}
 use Rattle.journal_ring.proofs.ring.Ring.open_section.Goals as goal
 use Rattle.journal_ring.proofs.ring.Ring.open_section.Goals.{then-next-opened, else-next-opened}
 
-pub clear_section-requires-clause-section : goal.clear_section-requires-clause-section
-clear_section-requires-clause-section c =
-    let few = sections_few c.self.inside.geometry c.self.invariant.geometry in
-    omega (arith, c.sections-sections.ensures, c.wrap-section.ensures.inside)
+more : (c : goal.After-self-2-1) → c.self.inside.marks.committed + c.self.inside.marks.opened < c.self.inside.pool.geometry.sections
+more c = free_more c.self.inside.pool.geometry c.self.inside.pool.bytes c.self.inside.marks (subst HasFreeSection (sym c.self.view_is) c.requires)
 
-more : (c : goal.After-self-3-1) → c.self.inside.marks.committed + c.self.inside.marks.opened < c.self.inside.geometry.sections
-more c = free_more c.self.inside.geometry c.self.inside.pool.bytes c.self.inside.marks (subst HasFreeSection (sym c.self.view_is) c.requires)
-
-number_is : (c : goal.After-self-3-1) → c.if-next-opened.number
-    ≡ number_at c.self.inside.geometry.sections (section_of c.self.inside.geometry c.self.inside.marks c.self.inside.marks.committed) c.self.inside.marks.number c.self.inside.marks.opened
+number_is : (c : goal.After-self-2-1) → c.if-next-opened.number
+    ≡ number_at c.self.inside.pool.geometry.sections (section_of c.self.inside.pool.geometry c.self.inside.marks c.self.inside.marks.committed) c.self.inside.marks.number c.self.inside.marks.opened
 number_is c =
-    let g = c.self.inside.geometry in
+    let g = c.self.inside.pool.geometry in
     let m = c.self.inside.marks in
     let next : c.wrap-next.result ≡ section_of g m m.committed =
     c.wrap-next.ensures.section ∙ ap (λ (n : ℕ). wrap n (m.first + m.committed)) c.sections-sections.ensures in
@@ -35,33 +30,35 @@ number_is c =
           ∙ ap (λ b. if b then m.number else later 1 m.number) (sym (le-ltb (section_of g m m.committed + m.opened) g.sections high))
     ]
 
-clears : (c : goal.After-self-3-1) → Clears c.self.inside.geometry c.self.inside.pool.bytes c.clear_section.new.bytes c.self.inside.marks
+clears : (c : goal.After-self-2-1) → Clears c.self.inside.pool.geometry c.self.inside.pool.bytes c.open.new.self.bytes c.self.inside.marks
 clears c =
-    let g = c.self.inside.geometry in
+    let g = c.self.inside.pool.geometry in
     let m = c.self.inside.marks in
     let place : c.wrap-section.result ≡ section_of g m (m.committed + m.opened) =
     c.wrap-section.ensures.section ∙ ap (λ (n : ℕ). wrap n (m.first + (m.committed + m.opened))) c.sections-sections.ensures in
-    clears_from g c.self.inside.pool.bytes c.clear_section.new.bytes m (as_shape c.shape-shape.result) c.wrap-section.result c.if-next-opened.number
-    c.shape-shape.result.entries c.bytes_mut.result.now c.shape-shape.ensures.shape place (number_is c) c.bytes_mut.ensures.bytes
-    c.shape-shape.ensures.is_shape.entries c.clear_section.ensures.number c.clear_section.ensures.entries c.clear_section.ensures.others
+    clears_from g c.self.inside.pool.bytes c.open.new.self.bytes m g.shape c.wrap-section.result c.if-next-opened.number
+    (section_entries g.shape) c.self.inside.pool.bytes refl place (number_is c) refl refl c.open.ensures.number c.open.ensures.entries c.open.ensures.others
 
 pub invariant_of-self : goal.invariant_of-self
 invariant_of-self c =
     let is = clears c in
-    IsRing-open c.self.inside.geometry c.self.inside.pool.bytes c.clear_section.new.bytes c.self.inside.counts.items c.self.inside.marks
-    c.self.invariant (more c) is.changes is.bears is.clear
+    rw c.open.ensures.geometry
+    (IsRing-open c.self.inside.pool.geometry c.self.inside.pool.bytes c.open.new.self.bytes c.self.inside.counts.items c.self.inside.marks
+    c.self.invariant (more c) is.changes is.bears is.clear)
 
 pub returns-clause-section : goal.returns-clause-section
 returns-clause-section c =
     let is = clears c in
-    view_of-open c.self.inside.geometry c.self.inside.pool.bytes c.clear_section.new.bytes c.self.inside.counts.items c.self.inside.marks
+    rw c.open.ensures.geometry
+    (view_of-open c.self.inside.pool.geometry c.self.inside.pool.bytes c.open.new.self.bytes c.self.inside.counts.items c.self.inside.marks
     c.self.invariant (more c) is.changes is.bears is.clear
-    ∙ ap with_section c.self.view_is
+    ∙ ap with_section c.self.view_is)
 
 pub returns-clause-is_open : goal.returns-clause-is_open
 returns-clause-is_open c =
     let is = clears c in
-    let g = c.self.inside.geometry in
-    ap has_open_section (view_of-open g c.self.inside.pool.bytes c.clear_section.new.bytes c.self.inside.counts.items c.self.inside.marks
+    let g = c.self.inside.pool.geometry in
+    rw c.open.ensures.geometry
+    (ap has_open_section (view_of-open g c.self.inside.pool.bytes c.open.new.self.bytes c.self.inside.counts.items c.self.inside.marks
     c.self.invariant (more c) is.changes is.bears is.clear)
-    ∙ with_section-open (view_of g c.self.inside.pool.bytes c.self.inside.marks) (entries_some g c.self.invariant.geometry)
+    ∙ with_section-open (view_of g c.self.inside.pool.bytes c.self.inside.marks) (entries_some g c.self.invariant.geometry))

@@ -1,24 +1,43 @@
-use Rattle.std.proofs.Common.{◌≡◌, List, subst, slice_get, Some}
-use Rattle.image_model.specs.Section.{Entry}
-use Rattle.commit_id.specs.Shape.{as_shape}
-use Rattle.journal_ring.proofs.PlacesLemmas.{shows_from}
+use Rattle.std.proofs.Common.{ℕ, List, arith, sym, ap, ◌∙◌, get_or, None, length}
+use Rattle.std.specs.Option.{option_map}
+use Rattle.std.proofs.lemmas.Option.{none-some, same_Some}
+use Rattle.image_model.specs.Geometry.{section_entries, Shape}
+use Rattle.journal_section.specs.Entries.{entries_of}
+use Rattle.journal_section.specs.View.{view_of}
+use Rattle.journal_ring.specs.Sections.{section_bytes}
+use Rattle.journal_ring.proofs.PlacesLemmas.{looks_from}
 use Rattle.journal_ring.proofs.ring.Ring.view.Goals as goal
 
-pub view_in-requires-clause-holds : goal.view_in-requires-clause-holds
-view_in-requires-clause-holds c =
-    (shows_from c.self.inside.geometry c.self.inside.pool.bytes c.self.inside.counts.items c.self.inside.marks c.args.self.now (as_shape c.shape-shape.result)
-    c.args.place.section c.args.place.entry c.section.result.now c.bytes.result.now c.self.invariant c.self.view_is c.shape-shape.ensures.shape
-    c.requires.section c.requires.entry c.section.ensures.bytes c.bytes.ensures).holds
+pub entry-requires-clause-meta : goal.entry-requires-clause-meta
+entry-requires-clause-meta c =
+    let looks = looks_from c.self.inside.pool.geometry c.self.inside.pool.bytes c.self.inside.counts.items c.self.inside.marks c.args.self.now c.args.place.section c.args.place.entry
+    c.self.invariant c.self.view_is c.requires.section c.requires.entry in
+    ap length c.metadata-metadata.ensures ∙ looks.meta_size
 
-pub view_in-requires-clause-used : goal.view_in-requires-clause-used
-view_in-requires-clause-used c =
-    (shows_from c.self.inside.geometry c.self.inside.pool.bytes c.self.inside.counts.items c.self.inside.marks c.args.self.now (as_shape c.shape-shape.result)
-    c.args.place.section c.args.place.entry c.section.result.now c.bytes.result.now c.self.invariant c.self.view_is c.shape-shape.ensures.shape
-    c.requires.section c.requires.entry c.section.ensures.bytes c.bytes.ensures).used
+pub entry-requires-clause-n : goal.entry-requires-clause-n
+entry-requires-clause-n c =
+    let looks = looks_from c.self.inside.pool.geometry c.self.inside.pool.bytes c.self.inside.counts.items c.self.inside.marks c.args.self.now c.args.place.section c.args.place.entry
+    c.self.invariant c.self.view_is c.requires.section c.requires.entry in
+    let low = looks.low in
+    let count = c.shape-shape.ensures.is_shape.entries ∙ ap section_entries c.shape-shape.ensures.shape in
+    omega (arith, low, count)
+
+pub unreachable-requires : goal.unreachable-requires
+unreachable-requires c =
+    let looks = looks_from c.self.inside.pool.geometry c.self.inside.pool.bytes c.self.inside.counts.items c.self.inside.marks c.args.self.now c.args.place.section c.args.place.entry
+    c.self.invariant c.self.view_is c.requires.section c.requires.entry in
+    let bytes : List ℕ = section_bytes c.self.inside.pool.geometry.shape c.self.inside.pool.bytes c.args.place.section in
+    none-some (view_of looks.some.0)
+    (sym c.in-None.is ∙ c.entry.ensures bytes (sym c.metadata-metadata.ensures)
+    ∙ ap (λ (s : Shape). option_map view_of (get_or (entries_of s bytes) c.args.place.entry None)) c.shape-shape.ensures.shape
+    ∙ ap (option_map view_of) (looks.there looks.some.0 looks.some.1))
 
 pub returns : goal.returns
 returns c entry there =
-    let shows = shows_from c.self.inside.geometry c.self.inside.pool.bytes c.self.inside.counts.items c.self.inside.marks c.args.self.now (as_shape c.shape-shape.result)
-    c.args.place.section c.args.place.entry c.section.result.now c.bytes.result.now c.self.invariant c.self.view_is c.shape-shape.ensures.shape
-    c.requires.section c.requires.entry c.section.ensures.bytes c.bytes.ensures in
-    c.view_in.ensures entry (subst (λ (xs : List Entry). slice_get xs c.args.place.entry ≡ Some entry) shows.same there)
+    let looks = looks_from c.self.inside.pool.geometry c.self.inside.pool.bytes c.self.inside.counts.items c.self.inside.marks c.args.self.now c.args.place.section c.args.place.entry
+    c.self.invariant c.self.view_is c.requires.section c.requires.entry in
+    let bytes : List ℕ = section_bytes c.self.inside.pool.geometry.shape c.self.inside.pool.bytes c.args.place.section in
+    same_Some c.in-Some.view (view_of entry)
+    (sym c.in-Some.is ∙ c.entry.ensures bytes (sym c.metadata-metadata.ensures)
+    ∙ ap (λ (s : Shape). option_map view_of (get_or (entries_of s bytes) c.args.place.entry None)) c.shape-shape.ensures.shape
+    ∙ ap (option_map view_of) (looks.finds entry there))
