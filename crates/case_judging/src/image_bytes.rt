@@ -116,6 +116,34 @@ fn put_journal_sector(bytes: &mut [u8], sector: u64) {
     put_at(bytes, from.saturating_add(504), &id.to_le_bytes());
 }
 
+/// The sector where the first area begins, how many areas there are, and how many sectors each has: 8 of tags, and then
+/// 8 blocks.
+const AREAS_AT: usize = 96;
+
+const AREAS: usize = 10;
+
+const AREA_SECTORS: usize = 16;
+
+/// The bytes of an area's tags: 8 of 32.
+const TAGS_SIZE: usize = 256;
+
+/// Whether two small images are the same where no block and no tag stands.
+pub fn is_same_outside_blocks(one: &[u8], other: &[u8]) -> bool {
+    let front = 512 * AREAS_AT;
+    let behind = front + 512 * AREAS * AREA_SECTORS;
+    one.len() == other.len()
+        && run_at(one, 0, front) == run_at(other, 0, front)
+        && (0..AREAS).all(|area| behind_tags(one, area) == behind_tags(other, area))
+        && run_at(one, behind, one.len().saturating_sub(behind))
+            == run_at(other, behind, other.len().saturating_sub(behind))
+}
+
+/// The bytes of an area between its tags and its blocks.
+fn behind_tags(bytes: &[u8], area: usize) -> &[u8] {
+    let from = 512 * (AREAS_AT + area % AREAS * AREA_SECTORS) + TAGS_SIZE;
+    run_at(bytes, from, 8 * 512 - TAGS_SIZE)
+}
+
 /// The byte where the journal begins, and how many it has.
 const JOURNAL_AT: usize = 4096;
 
@@ -137,7 +165,7 @@ pub fn is_same_outside_journal(one: &[u8], other: &[u8]) -> bool {
 /// Source: Linux, drivers/md/dm-integrity.c, `struct journal_entry`, `replay_journal`, `access_journal_entry` and
 /// `access_journal_data`.
 pub fn with_journal_placed(alloc: Global, image: &[u8]) -> Result<Vec<u8>, AllocError> {
-    let mut bytes = image.to_vec(alloc)?;
+    let mut bytes = Vec::from_slice(alloc, image)?;
     put_at(&mut bytes, JOURNAL_AT, &[0; JOURNAL_SIZE]);
     if counts_journal(image) {
         for entry in 0..JOURNAL_ENTRIES {

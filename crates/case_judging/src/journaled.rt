@@ -157,7 +157,7 @@ impl Writes {
     /// began with after the first of its writes, so many that the text tells what is flushed and what may have begun.
     pub fn judge(&self, alloc: Global, base: &[u8], left: &[u8], text: &str) -> Result<(), Wrong> {
         let Span { flushed, begun } = self.span_of(text);
-        let mut image = base.to_vec(alloc)?;
+        let mut image = Vec::from_slice(alloc, base)?;
         let mut differing = differing_blocks(&image, left);
         for (k, written) in self.writes.iter().enumerate() {
             if k >= begun || (k >= flushed && differing == 0) {
@@ -200,7 +200,7 @@ fn flight_of(alloc: Global, ticket: u64, line: &str) -> Result<Flight, AllocErro
         for (data, block) in bytes.chunks(512).zip(first..BLOCKS) {
             ahead.push(Written {
                 block,
-                data: data.to_vec(alloc)?,
+                data: Vec::from_slice(alloc, data)?,
                 tag: digest_of(block, data),
             })?;
         }

@@ -4,15 +4,17 @@
 #![tactic(auto)]
 
 mod image_bytes;
+mod images;
 mod journaled;
 mod judging;
+mod reading;
 mod wrong;
 
 pub use image_bytes::{
-    has_empty_journal, is_same_outside_journal, is_small, run_at, small_image, with_journal_placed,
+    has_empty_journal, is_same_outside_journal, is_small, small_image, with_journal_placed,
 };
+pub use images::{Images, judge_left};
 pub use journaled::Writes;
-pub use judging::{
-    Met, Told, digests_of, images_after, judge_left, judge_made, judge_reads, judge_text, reads,
-};
+pub use judging::{Met, Told, judge_made, judge_text};
+pub use reading::{Known, judge_reads, reads};
 pub use wrong::Wrong;

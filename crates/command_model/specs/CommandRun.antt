@@ -1,11 +1,13 @@
 -- The run of a command: what it starts on, what its run is, how far that came, and what it leaves.
 -- Own: a command that is refused prints one line; a run ends at the first thing that ends it.
 use Rattle.std.specs.Prelude.{◌≡◌, ◌≢◌, ◌⊎◌, ℕ, ◌<◌, Bool, false, List, [], ◌∷◌, ◌++◌, length, map, take}
-use Rattle.disk_model.specs.Disk.{Content, EachImage, Image, newest_only}
+use Rattle.disk_model.specs.Disk.{Content, EachImage, Image, last_image, newest_only}
 use Rattle.device_model.specs.Device.{DeviceKind}
 use Rattle.device_model.specs.Ending.{Ending, Complete, RefusedWords, RefusedKey, RefusedLine, RefusedLength, RefusedImage, DiskFailed, KeyFailed, ScriptFailed, SinkFailed, NoMemory, status_of, fault_text}
 use Rattle.device_model.specs.History.{Change, with_changes}
 use Rattle.device_model.specs.ScriptRun.{ScriptRun, ScriptStep, IsCameTo, IsRunOf, IsWhole, changes_in, only_ends, texts_of}
+use Rattle.image_model.specs.Geometry.{Geometry}
+use Rattle.command_model.specs.Exercise.{exercise_run}
 
 -- A way to make an image: what is printed once it is made; what stands while it is made; and what it is then.
 pub record Making : Type 1 where
@@ -13,13 +15,25 @@ pub record Making : Type 1 where
   pub MayBeLeft : (start later : Content) → Type 0
   pub IsMade : (start later : Content) → Type 0
 
+-- A way to make an image and to exercise it: what stands while it is made, and what it is then; the device that opens it,
+-- and where the blocks of an image lie; and the workload, so many requests of a seed.
+pub record Exercising : Type 1 where
+  pub MayBeLeft : (start later : Content) → Type 0
+  pub IsMade : (start made : Content) → Type 0
+  pub kind : DeviceKind
+  pub geometry : Image → Geometry
+  pub count : ℕ
+  pub seed : ℕ
+
 -- What a command starts on: it is refused before any line; its script runs on a device that opens an image; it prints what
--- the image tells, text by text, and whether a block's stored tag differs; or it makes an image.
+-- the image tells, text by text, and whether a block's stored tag differs; it makes an image; or it makes one and exercises
+-- a device on it.
 pub data Outset : Type 1 where
   RefusedBy : (ending : Ending) → Outset
   RunsOn : (kind : DeviceKind) → (image : Image) → Outset
   Prints : (texts : List (List ℕ)) → (found_fault : Bool) → Outset
   Makes : (making : Making) → Outset
+  Exercises : (exercising : Exercising) → Outset
 
 -- The step of a run that prints a text, and does nothing else.
 abbrev pub printing_step : List ℕ → ScriptStep
@@ -29,18 +43,18 @@ printing_step text = record { text = text; changes = [] }
 abbrev pub only_prints : List (List ℕ) → (found_fault : Bool) → ScriptRun
 only_prints texts found_fault = record { steps = map printing_step texts; ending = Complete found_fault }
 
--- Its run, where nothing outside fails. One that is refused runs no line.
-abbrev pub IsRunAt : Outset → (script : List ℕ) → ScriptRun → Type 0
-IsRunAt (RefusedBy ending) script run = run ≡ only_ends ending
-IsRunAt (RunsOn kind image) script run = IsRunOf (kind.format image) (kind.opened image) script run
-IsRunAt (Prints texts found_fault) script run = run ≡ only_prints texts found_fault
-IsRunAt (Makes making) script run = run ≡ only_prints (making.text ∷ []) false
+-- The run of an exercise on an image: its requests are run on the device that opens it, and its line is printed.
+abbrev pub run_of_exercise : Exercising → Image → ScriptRun
+run_of_exercise e image = exercise_run (e.kind.format image) (e.kind.opened image) e.count e.seed
 
--- ---- how far it came
+-- The image was made for it.
+pub record IsExerciseOf (e : Exercising) (run : ScriptRun) : Type 0 where
+  pub start : Content
+  pub made : Content
+  pub is_made : e.IsMade start made
+  pub is : run ≡ run_of_exercise e (last_image made)
 
--- The run comes to its own end: no line of it is refused.
-abbrev pub IsComplete : ScriptRun → Type 0
-IsComplete run = (found_fault : Bool) × (run.ending ≡ Complete found_fault)
+-- ---- how it ends
 
 -- It is a fault outside, or want of memory.
 abbrev pub IsFromOutside : Ending → Type 0
@@ -55,6 +69,26 @@ IsFromOutside KeyFailed = Unit {0}
 IsFromOutside ScriptFailed = Unit {0}
 IsFromOutside SinkFailed = Unit {0}
 IsFromOutside NoMemory = Unit {0}
+
+-- Something outside ended an exercise before its image was made: there is no device, and nothing is printed.
+pub record IsUnmade (run : ScriptRun) : Type 0 where
+  pub ending : Ending
+  pub outside : IsFromOutside ending
+  pub is : run ≡ only_ends ending
+
+-- Its run, where nothing outside fails. One that is refused runs no line.
+abbrev pub IsRunAt : Outset → (script : List ℕ) → ScriptRun → Type 0
+IsRunAt (RefusedBy ending) script run = run ≡ only_ends ending
+IsRunAt (RunsOn kind image) script run = IsRunOf (kind.format image) (kind.opened image) script run
+IsRunAt (Prints texts found_fault) script run = run ≡ only_prints texts found_fault
+IsRunAt (Makes making) script run = run ≡ only_prints (making.text ∷ []) false
+IsRunAt (Exercises exercising) script run = IsExerciseOf exercising run ⊎ IsUnmade run
+
+-- ---- how far it came
+
+-- The run comes to its own end: no line of it is refused.
+abbrev pub IsComplete : ScriptRun → Type 0
+IsComplete run = (found_fault : Bool) × (run.ending ≡ Complete found_fault)
 
 -- The text is that of some of the first steps, each of them whole.
 abbrev pub IsOfSteps : ScriptRun → List ℕ → Type 0
@@ -88,13 +122,25 @@ pub record IsLeftBy (kind : DeviceKind) (image : Image) (changes : List Change) 
   pub opens : EachImage kind.CanOpen later
   pub left : EachImage (kind.MayBeLeft image (with_changes changes (kind.opened image).history)) later
 
+-- The same, or the device was not open yet and the disk is synced at most.
+abbrev pub IsLeftOfRun : DeviceKind → Image → (start : Content) → List Change → (later : Content) → Type 0
+IsLeftOfRun kind image start changes later =
+    ((changes ≡ []) × IsUntouched start later) ⊎ IsLeftBy kind image changes later
+
+-- The image was made for an exercise, which made these changes.
+pub record IsLeftOfNew (e : Exercising) (start : Content) (changes : List Change) (later : Content) : Type 0 where
+  pub made : Content
+  pub is_made : e.IsMade start made
+  pub left : IsLeftOfRun e.kind (last_image made) made changes later
+
 -- What is left of a disk with this content at the start, once these changes are made.
 abbrev pub IsLeftAt : Outset → (start : Content) → List Change → (later : Content) → Type 0
 IsLeftAt (RefusedBy ending) start changes later = IsUntouched start later
-IsLeftAt (RunsOn kind image) start changes later =
-    ((changes ≡ []) × IsUntouched start later) ⊎ IsLeftBy kind image changes later
+IsLeftAt (RunsOn kind image) start changes later = IsLeftOfRun kind image start changes later
 IsLeftAt (Prints texts found_fault) start changes later = later ≡ start
 IsLeftAt (Makes making) start changes later = making.MayBeLeft start later
+IsLeftAt (Exercises exercising) start changes later =
+    ((changes ≡ []) × exercising.MayBeLeft start later) ⊎ IsLeftOfNew exercising start changes later
 
 -- What is left where the making of an image ended so: the image, where it came to its end or only could not be told; all as it
 -- was, where something ended it before; and what may stand at some moment, where the disk failed.
@@ -111,6 +157,24 @@ IsLeftOfMaking making start ScriptFailed later = later ≡ start
 IsLeftOfMaking making start SinkFailed later = making.IsMade start later
 IsLeftOfMaking making start NoMemory later = later ≡ start
 
+-- What is left where an exercise made these changes and ended so: of the device on the new image what they leave, where it
+-- came to its end or only could not be told; where the disk failed maybe what stands while the image is made; and where
+-- there was no memory maybe all as it was.
+abbrev pub IsLeftOfExercise : Exercising → (start : Content) → List Change → Ending → (later : Content) → Type 0
+IsLeftOfExercise e start changes (Complete found_fault) later = IsLeftOfNew e start changes later
+IsLeftOfExercise e start changes RefusedWords later = later ≡ start
+IsLeftOfExercise e start changes (RefusedKey refusal) later = later ≡ start
+IsLeftOfExercise e start changes (RefusedLine number fault) later = later ≡ start
+IsLeftOfExercise e start changes RefusedLength later = later ≡ start
+IsLeftOfExercise e start changes (RefusedImage fault) later = later ≡ start
+IsLeftOfExercise e start changes DiskFailed later =
+    ((changes ≡ []) × e.MayBeLeft start later) ⊎ IsLeftOfNew e start changes later
+IsLeftOfExercise e start changes KeyFailed later = later ≡ start
+IsLeftOfExercise e start changes ScriptFailed later = later ≡ start
+IsLeftOfExercise e start changes SinkFailed later = IsLeftOfNew e start changes later
+IsLeftOfExercise e start changes NoMemory later =
+    ((changes ≡ []) × (later ≡ start)) ⊎ IsLeftOfNew e start changes later
+
 -- What is left of a disk with this content at the start, where the command made these changes and ended so.
 abbrev pub IsLeftAfter : Outset → (start : Content) → List Change → Ending → (later : Content) → Type 0
 IsLeftAfter (RefusedBy refused) start changes ending later = IsLeftAt (RefusedBy refused) start changes later
@@ -118,6 +182,8 @@ IsLeftAfter (RunsOn kind image) start changes ending later = IsLeftAt (RunsOn ki
 IsLeftAfter (Prints texts found_fault) start changes ending later =
     IsLeftAt (Prints texts found_fault) start changes later
 IsLeftAfter (Makes making) start changes ending later = IsLeftOfMaking making start ending later
+IsLeftAfter (Exercises exercising) start changes ending later =
+    IsLeftOfExercise exercising start changes ending later
 
 -- What stands at a moment of the command: what some of the first changes of its run leave.
 pub record MayBeLeftAt (outset : Outset) (start : Content) (script : List ℕ) (later : Content) : Type 0 where

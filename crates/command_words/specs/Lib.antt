@@ -7,6 +7,5 @@ pub mod Judging
 pub mod Commands
 pub mod Answers
 pub mod Found
-pub mod Come
 pub mod PlainForm
 pub mod Sizes

@@ -6,7 +6,6 @@
 //! alone see `clap`.
 #![tactic(auto)]
 
-mod coming;
 mod command;
 mod given;
 mod judging;
@@ -20,7 +19,6 @@ mod tests;
 mod values;
 mod words_fault;
 
-pub use coming::has_come;
 pub use command::{Check, Command, Dump, Exercise, Format, Run};
 pub use parsing::parse;
 pub use plain_law::plain_words_are_their_command;

@@ -1,6 +1,6 @@
 //! Words and the commands that they are.
 
-use crate::{BlockSize, FileName, Interleave, TagSize, WordsFault, has_come, parse};
+use crate::{BlockSize, FileName, Interleave, TagSize, WordsFault, parse};
 use std::alloc::{AllocError, Global};
 use std::test::Fail;
 
@@ -10,12 +10,9 @@ use std::test::Fail;
 static TAKEN: [(&str, &str); 30] = [
     (
         "run|I|--mode|D",
-        "Run(Run { image: FileName { name: \"I\" }, mode: Direct, hash: Sha256 }), come: true",
+        "Run(Run { image: FileName { name: \"I\" }, mode: Direct, hash: Sha256 })",
     ),
-    (
-        "run|--mode=J|I",
-        "mode: Journal, hash: Sha256 }), come: true",
-    ),
+    ("run|--mode=J|I", "mode: Journal, hash: Sha256 })"),
     (
         "run|I|--mode|J|--integrity|hmac-sha256|--integrity-key-file|K",
         "hash: HmacSha256 { key_file: FileName { name: \"K\" } }",
@@ -39,12 +36,12 @@ static TAKEN: [(&str, &str); 30] = [
     ("dump|I|--", "name: \"I\""),
     (
         "check|I",
-        "Check(Check { image: FileName { name: \"I\" }, hash: Sha256, checked: Cells }), come: true",
+        "Check(Check { image: FileName { name: \"I\" }, hash: Sha256, checked: Cells })",
     ),
     ("check|--placed|I", "checked: Placed"),
     (
         "exercise|I|0|0",
-        "Exercise(Exercise { image: FileName { name: \"I\" }, seed: 0, count: Within { number: 0 } }), come: false",
+        "Exercise(Exercise { image: FileName { name: \"I\" }, seed: 0, count: Within { number: 0 } })",
     ),
     (
         "exercise|I|18446744073709551615|1000000",
@@ -60,7 +57,7 @@ static TAKEN: [(&str, &str); 30] = [
     ),
     (
         "format|I",
-        "number: 15 }, salt: None, padding: Fixed, wipe: Zeros }), come: true",
+        "number: 15 }, salt: None, padding: Fixed, wipe: Zeros })",
     ),
     (
         "format|I|--tag-size|1|--sections|1|--log2-blocks-per-bit|0",
@@ -171,11 +168,11 @@ fn words_of(alloc: Global, words: &str) -> Result<Vec<String>, AllocError> {
     Ok(all)
 }
 
-/// What `Debug` shows of the command that these words are, and whether it has come. Nothing where they are none.
+/// What `Debug` shows of the command that these words are. Nothing where they are none.
 fn shown(alloc: Global, words: &str) -> Result<Option<String>, Fail> {
     let words = words_of(alloc, words)?;
     match parse(alloc, words.as_slice()) {
-        Ok(command) => Ok(Some(format!(in alloc; "{command:?}, come: {}", has_come(&command))?)),
+        Ok(command) => Ok(Some(format!(in alloc; "{command:?}")?)),
         Err(WordsFault::Refused) => Ok(None),
         Err(fault) => Err(fault)?,
     }

@@ -6,23 +6,17 @@
 //! number, and a case or a run that is not as it should be with status 1.
 #![tactic(auto)]
 
-mod input;
-mod recovering;
-mod running;
-mod session;
-mod telling;
-mod trying;
+mod tool;
 
 use anyhow::{Result, bail};
-use input::run_text;
-use session::Session;
+use case_trying::{Counts, Session, run_text};
 use std::alloc::Global;
 use std::{env, fs, io};
-use trying::Counts;
+use tool::Tool;
 
 /// Runs the cases of a text, and prints what each shows.
 fn print_cases(rt: &impl Print, alloc: Global, session: &mut Session, text: &str) -> Result<()> {
-    let told = run_text(alloc, session, text)?;
+    let told = run_text(alloc, &Tool, session, text)?;
     rt.print(told)?;
     Ok(())
 }

@@ -47,7 +47,7 @@ use Rattle.integrity_tool.proofs.RunningLemmas.{told_nothing}
 -- ---- what a close does
 
 -- At each moment of an event some of its first changes are made.
-since_event : (kind : DeviceKind) (entry : Image) (f : DeviceFormat) (s : DeviceState) (event : Event)
+pub since_event : (kind : DeviceKind) (entry : Image) (f : DeviceFormat) (s : DeviceState) (event : Event)
     (a b : List Content)
     → IsLeftThrough kind entry f s event a b
     → EachMoment a b (IsLeftWithin kind entry s.history (event_result f s event).changes)
@@ -66,7 +66,7 @@ failed_close_in f s Model.Broken = refl
 failed_close_in f s Model.Closed = refl
 
 -- A close in which the disk fails does nothing to the history.
-failed_close : (f : DeviceFormat) (s : DeviceState) → (event_result f s FailedClose).changes ≡ []
+pub failed_close : (f : DeviceFormat) (s : DeviceState) → (event_result f s FailedClose).changes ≡ []
 failed_close f s = failed_close_in f s s.condition
 
 -- What a close writes the rest of a run may.

@@ -9,6 +9,7 @@ pub mod TakenLemmas
 pub mod TopLemmas
 pub mod TextsLemmas
 pub mod CheckingLemmas
+pub mod ExercisingLemmas
 pub mod MakingLemmas
 pub mod PrintingLemmas
 pub mod TaskLemmas

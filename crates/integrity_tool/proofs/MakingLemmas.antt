@@ -24,7 +24,7 @@ use Rattle.integrity_tool.proofs.TextsLemmas.{none_short}
 use Rattle.integrity_tool.proofs.PrintingLemmas.{one_cut, one_printed}
 
 -- A formatting leaves what it began with, or what it may.
-left_since : (key : Option (List ℕ)) (sectors : ℕ) (new : NewImage) (start : Content) {a b : List Content} → content_now a ≡ Some start
+pub left_since : (key : Option (List ℕ)) (sectors : ℕ) (new : NewImage) (start : Content) {a b : List Content} → content_now a ≡ Some start
     → EachSince (IsLeftByFormat key sectors new) a b → EachMoment a b (IsLeftByFormat key sectors new start)
 left_since key sectors new start told since =
     EachMoment-weaker

@@ -52,12 +52,12 @@ module _ (law : OpensLaw) (mode : OpenMode) (key : Option (List ℕ)) (sectors :
   runs_on can = ap (outset_by mode key sectors image) ((law key sectors image).1 (in_journal mode can))
 
 -- What holds of the content that is told at the start holds of each.
-at_told : (P : Content → Type 0) (moments : List Content) (start : Content) → content_now moments ≡ Some start → P start
+pub at_told : (P : Content → Type 0) (moments : List Content) (start : Content) → content_now moments ≡ Some start → P start
     → HasNow P moments
 at_told P moments start told has c is = subst P (same_Some start c (sym told ∙ is)) has
 
 -- What an opening writes, of each content since.
-written_in : (mode : OpenMode) (key : Option (List ℕ)) (sectors : ℕ) (start : Content) {a b : List Content}
+pub written_in : (mode : OpenMode) (key : Option (List ℕ)) (sectors : ℕ) (start : Content) {a b : List Content}
     → content_now a ≡ Some start → WritesInOpening mode key sectors a b
     → EachMoment a b (IsOfOpeningIn (asked_mode mode) (geometry_on sectors (last_image start)) start)
 written_in Direct key sectors start told writes =

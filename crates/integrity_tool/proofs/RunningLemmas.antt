@@ -56,7 +56,7 @@ and_weaker P Q (Some x) f is = f x is
 -- ---- moments
 
 -- What holds of the content now holds of the one that the disk tells.
-now_of : (P : Content → Type 0) (moments : List Content) (told : Content) → content_now moments ≡ Some told
+pub now_of : (P : Content → Type 0) (moments : List Content) (told : Content) → content_now moments ≡ Some told
     → P told
     → HasNow P moments
 now_of P moments told is has x is_x = subst P (same_Some _ _ (sym is ∙ is_x)) has

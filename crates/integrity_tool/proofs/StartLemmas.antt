@@ -5,7 +5,7 @@ use Rattle.std.specs.Fmt.{decimal}
 use Rattle.std.proofs.lemmas.List.Concat.{flat_map-cons}
 use Rattle.disk_model.specs.Disk.{Content, Image, last_image, newest_only}
 use Rattle.disk_model.specs.Moments.{content_now, EachMoment, EachSince, HasNow}
-use Rattle.disk_model.proofs.MomentsLemmas.{EachMoment-kept, EachMoment-weaker, content_at_end}
+use Rattle.disk_model.proofs.MomentsLemmas.{EachMoment-kept, EachMoment-weaker, content_at_end, no_moment}
 use Rattle.device_model.specs.Device.{DeviceKind}
 use Rattle.disk_model.specs.Identity.{NamedDisk}
 use Rattle.device_model.specs.Ending.{Ending, Complete, DiskFailed, KeyFailed, NoMemory, RefusedImage, RefusedLength, RefusedLine, RefusedWords, RefusedKey, ScriptFailed, SinkFailed, KeyRefusal}
@@ -40,12 +40,13 @@ use Rattle.integrity_tool.specs.declared.asked.Task.{Task}
 use Rattle.integrity_tool.specs.declared.asked.Task.TheVariants as Tasks
 use Rattle.integrity_tool.specs.Checking.{check_outset, counts_line, bad_line, outset_by_check}
 use Rattle.integrity_tool.specs.Dumping.{dump_outset, outset_by_dump}
+use Rattle.integrity_tool.specs.Exercising.{exercise_image, exercise_outset, outset_by_exercise}
 use Rattle.integrity_tool.specs.Making.{format_outset, formatted_text, outset_by_format}
 use Rattle.integrity_tool.specs.Words.{asked_of, key_file_of, key_file_of_asked}
 use Rattle.integrity_tool.specs.KeyFile.{HasFile, HasHash, IsKeyRefused, IsKeyed}
 use Rattle.integrity_tool.specs.Top.{Given, HasMomentsIn, IsGiven, IsKeyRefusal, IsRefusedByKey, outset_in}
 use Rattle.script_reader.specs.Reading.{most_piece}
-use Rattle.command_model.specs.CommandRun.{Making, Outset, RefusedBy, RunsOn, Prints, Makes, IsComplete, IsFromOutside, IsEndedShort, IsLeftAt, IsLeftOfMaking, IsRunAt, IsUntouched, MayBeLeftAt, only_prints}
+use Rattle.command_model.specs.CommandRun.{Exercising, Making, Outset, RefusedBy, RunsOn, Prints, Makes, Exercises, IsComplete, IsFromOutside, IsEndedShort, IsLeftAt, IsLeftOfExercise, IsLeftOfMaking, IsRunAt, IsUntouched, MayBeLeftAt, only_prints}
 use Rattle.integrity_tool.specs.Opening.{HasReadIn, HasRunOn, IsMomentOf}
 use Rattle.integrity_tool.specs.Order.{HasMomentsAt, IsInOrderAt, IsInOrderFor, IsInOrderUnder}
 use Rattle.integrity_tool.specs.Running.{HasReadTo, HoldsText}
@@ -64,6 +65,7 @@ IsFine (RefusedBy ending) = (found : Bool) → ending ≡ Complete found → ⊥
 IsFine (RunsOn kind image) = Unit {0}
 IsFine (Prints texts found) = BeginsText texts
 IsFine (Makes making) = (0 < length making.text) × ((start : Content) → making.MayBeLeft start start)
+IsFine (Exercises exercising) = (start : Content) → exercising.MayBeLeft start start
 
 abbrev is_complete_type : Ending → Type 0
 is_complete_type (Complete found) = Unit {0}
@@ -140,11 +142,19 @@ fine_made key sectors new (Err fault) = no_complete _ (λ (x : ⊥). x)
 pub fine_format : (key : Option (List ℕ)) (sectors : ℕ) (new : NewImage) → IsFine (format_outset key sectors new)
 fine_format key sectors new = fine_made key sectors new (provided_of new sectors)
 
+fine_exercised : (sectors count seed : ℕ) (told : Result ℕ GeomFault) → IsFine (outset_by_exercise sectors count seed told)
+fine_exercised sectors count seed (Ok provided) = λ start image is. inl is
+fine_exercised sectors count seed (Err fault) = no_complete _ (λ (x : ⊥). x)
+
+pub fine_exercise : (sectors count seed : ℕ) → IsFine (exercise_outset sectors count seed)
+fine_exercise sectors count seed = fine_exercised sectors count seed (provided_of exercise_image sectors)
+
 fine_at : (task : Task) (key : Option (List ℕ)) (sectors : ℕ) (image : Image) → IsFine (outset_at task key sectors image)
 fine_at (Tasks.Run mode) key sectors image = fine_on mode key sectors image
 fine_at Tasks.Dump key sectors image = fine_dump sectors image
 fine_at (Tasks.Check what) key sectors image = fine_check what key sectors image
 fine_at (Tasks.Format new) key sectors image = fine_format key sectors new
+fine_at (Tasks.Exercise seed count) key sectors image = fine_exercise sectors count seed
 
 fine_under : (task : Task) (told : Result (Option (List ℕ)) KeyRefusal) (sectors : ℕ) (image : Image) → IsFine (outset_under task told sectors image)
 fine_under task (Ok key) sectors image = fine_at task key sectors image
@@ -160,6 +170,7 @@ IsOfRun (RefusedBy ending) = Unit {0}
 IsOfRun (RunsOn kind image) = Unit {0}
 IsOfRun (Prints texts found) = ⊥
 IsOfRun (Makes making) = ⊥
+IsOfRun (Exercises exercising) = ⊥
 
 of_run_by : (mode : OpenMode) (key : Option (List ℕ)) (sectors : ℕ) (image : Image) (refusal : Option ImageFault) → IsOfRun (outset_by mode key sectors image refusal)
 of_run_by mode key sectors image None = tt
@@ -195,12 +206,14 @@ IsAsBefore (RefusedBy ending) start later = IsUntouched start later
 IsAsBefore (RunsOn kind image) start later = IsLeftAt (RunsOn kind image) start [] later
 IsAsBefore (Prints texts found) start later = later ≡ start
 IsAsBefore (Makes making) start later = later ≡ start
+IsAsBefore (Exercises exercising) start later = later ≡ start
 
 pub as_same : (outset : Outset) (start later : Content) → later ≡ start → IsAsBefore outset start later
 as_same (RefusedBy ending) start later same = inl same
 as_same (RunsOn kind image) start later same = inl (refl, inl same)
 as_same (Prints texts found) start later same = same
 as_same (Makes making) start later same = same
+as_same (Exercises exercising) start later same = same
 
 -- So it is where the moments are.
 pub before_kept : (outset : Outset) {a b : List Content} (start : Content) → content_now a ≡ Some start → b ≡ a → HasNow (IsAsBefore outset start) b
@@ -219,6 +232,7 @@ some_run (RefusedBy ending) script = (only_ends ending, refl)
 some_run (RunsOn kind image) script = run_on kind image script
 some_run (Prints texts found) script = (only_prints texts found, refl)
 some_run (Makes making) script = (only_prints (making.text ∷ []) false, refl)
+some_run (Exercises exercising) script = (only_ends NoMemory, inr (record { ending = NoMemory; outside = tt; is = refl }))
 
 pub before_may_be_left : (outset : Outset) → IsOfRun outset → (start : Content) (script : List ℕ) (later : Content) → IsAsBefore outset start later → MayBeLeftAt outset start script later
 before_may_be_left (RefusedBy ending) of start script later before = record { run = only_ends ending; is_run = refl; made = 0; left = before }
@@ -226,6 +240,7 @@ before_may_be_left (RunsOn kind image) of start script later before =
     let r = run_on kind image script in record { run = r.0; is_run = r.1; made = 0; left = before }
 before_may_be_left (Prints texts found) of start script later before = absurd of
 before_may_be_left (Makes making) of start script later before = absurd of
+before_may_be_left (Exercises exercising) of start script later before = absurd of
 
 short_of : (f : DeviceFormat) (s : DeviceState) (script : List ℕ) (run : ScriptRun) (ending : Ending) → IsRunOf f s script run → IsFromOutside ending → IsEndedShort run [] [] ending
 short_of f s script run ending is outside = record {
@@ -276,6 +291,20 @@ left_unmade making fine start later ScriptFailed early same = absurd early
 left_unmade making fine start later SinkFailed early same = absurd early
 left_unmade making fine start later NoMemory early same = same
 
+left_unexercised : (e : Exercising) → IsFine (Exercises e) → (start later : Content) (ending : Ending) → IsEarly ending → later ≡ start → IsLeftOfExercise e start [] ending later
+left_unexercised e fine start later (Complete found_fault) early same = absurd early
+left_unexercised e fine start later RefusedWords early same = absurd early
+left_unexercised e fine start later (RefusedKey refusal) early same = absurd early
+left_unexercised e fine start later (RefusedLine number fault) early same = absurd early
+left_unexercised e fine start later RefusedLength early same = absurd early
+left_unexercised e fine start later (RefusedImage fault) early same = absurd early
+left_unexercised e fine start later DiskFailed early same =
+    inl (refl, subst (λ (c : Content). e.MayBeLeft start c) (sym same) (fine start))
+left_unexercised e fine start later KeyFailed early same = same
+left_unexercised e fine start later ScriptFailed early same = absurd early
+left_unexercised e fine start later SinkFailed early same = absurd early
+left_unexercised e fine start later NoMemory early same = inl (refl, same)
+
 -- Something outside ended a command before its first line.
 pub nothing_run : (outset : Outset) → IsFine outset → (start : Content) (script : List ℕ) (ending : Ending) → IsEarly ending
     → (after : List Content) → HasNow (IsAsBefore outset start) after → (held_before held : Option (List ℕ)) → held ≡ held_before → HasRunOn outset start script ending after held_before held
@@ -320,6 +349,15 @@ nothing_run (Makes making) fine start script ending outside after untouched held
   ended = inr (none_short (making.text ∷ []) false ending fine.0 (early_outside ending outside));
   told = same ∙ told_nothing held_before;
   left = λ c told. left_unmade making fine start c ending outside (untouched c told);
+}
+nothing_run (Exercises exercising) fine start script ending outside after untouched held_before held same = record {
+  run = only_ends ending;
+  is_run = inr (record { ending = ending; outside = early_outside ending outside; is = refl });
+  text = [];
+  changes = [];
+  ended = inl (record { whole = record { is_text = refl; is_changes = refl }; is = refl });
+  told = same ∙ told_nothing held_before;
+  left = λ c told. left_unexercised exercising fine start c ending outside (untouched c told);
 }
 
 -- It was refused.
@@ -418,6 +456,10 @@ no_key_made : (key : Option (List ℕ)) (sectors : ℕ) (new : NewImage) (told :
 no_key_made key sectors new (Ok provided) is = is
 no_key_made key sectors new (Err fault) is = is
 
+no_key_exercised : (sectors count seed : ℕ) (told : Result ℕ GeomFault) → IsRefusedByKey (outset_by_exercise sectors count seed told) → ⊥
+no_key_exercised sectors count seed (Ok provided) is = is
+no_key_exercised sectors count seed (Err fault) is = is
+
 no_key_checked : (what : What) (d : DiskFormat) (image : Image) (refusal : Option ImageFault) → IsRefusedByKey (outset_by_check what d image refusal) → ⊥
 no_key_checked what d image None is = is
 no_key_checked what d image (Some refusal) is = no_key_refused refusal is
@@ -427,6 +469,7 @@ no_key_at (Tasks.Run mode) key sectors image is = no_key_by mode key sectors ima
 no_key_at Tasks.Dump key sectors image is = no_key_shown (dump_of sectors image) is
 no_key_at (Tasks.Check what) key sectors image is = no_key_checked what (format_on key sectors image) image (fault_for what key sectors image) is
 no_key_at (Tasks.Format new) key sectors image is = no_key_made key sectors new (provided_of new sectors) is
+no_key_at (Tasks.Exercise seed count) key sectors image is = no_key_exercised sectors count seed (provided_of exercise_image sectors) is
 
 -- ---- the order
 
@@ -436,6 +479,8 @@ kept_at (Tasks.Run mode) key sectors same = tt
 kept_at Tasks.Dump key sectors same = tt
 kept_at (Tasks.Check what) key sectors same = tt
 kept_at (Tasks.Format new) key sectors same = inl (EachMoment-kept _ same)
+kept_at (Tasks.Exercise seed count) key sectors {b = b} same =
+    record { made = b; making = inl (EachMoment-kept _ same); behind = no_moment b _ }
 
 kept_under : (task : Task) (told : Result (Option (List ℕ)) KeyRefusal) (sectors : ℕ) {a b : List Content} → b ≡ a → IsInOrderUnder task told sectors a b
 kept_under task (Ok key) sectors same = kept_at task key sectors same

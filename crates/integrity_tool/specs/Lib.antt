@@ -11,5 +11,7 @@ pub mod Refusing
 pub mod Reopening
 pub mod Checking
 pub mod Dumping
+pub mod Exercising
+pub mod Exercised
 pub mod Making
 pub mod Tasks

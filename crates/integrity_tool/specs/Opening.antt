@@ -2,10 +2,10 @@
 use Rattle.std.specs.Prelude.{◌≡◌, ◌⊎◌, ℕ, List, Option}
 use Rattle.disk_model.specs.Disk.{Content, OnlyAdds, last_image}
 use Rattle.disk_model.specs.Moments.{HasNow}
-use Rattle.command_model.specs.CommandRun.{Outset, RefusedBy, RunsOn, Prints, Makes, IsEndedBy, IsLeftAfter, IsRunAt, IsUntouched, MayBeLeftAt}
+use Rattle.command_model.specs.CommandRun.{Exercising, Outset, RefusedBy, RunsOn, Prints, Makes, Exercises, IsEndedBy, IsLeftAfter, IsRunAt, IsUntouched, MayBeLeftAt}
 use Rattle.device_model.specs.Ending.{Ending}
 use Rattle.device_model.specs.History.{Change}
-use Rattle.device_model.specs.Mode.{Mode, Direct}
+use Rattle.device_model.specs.Mode.{Mode, Direct, Journal}
 use Rattle.device_model.specs.ScriptRun.{ScriptRun, changes_in}
 use Rattle.image_model.specs.Geometry.{Geometry}
 use Rattle.journal_opening.specs.Opening.{IsOfOpening}
@@ -49,12 +49,20 @@ pub record IsWrittenByRun (mode : Mode) (g : Geometry) (run : ScriptRun) (start 
   pub opening : IsOpenedTo mode g start opened
   pub behind : OnlyAdds (IsOfRun mode g (changes_in run.steps)) opened later
 
+-- The same behind the making of an image that is exercised: what a run in journal mode writes on that.
+pub record IsWrittenByExercise (e : Exercising) (run : ScriptRun) (start later : Content) : Type 0 where
+  pub made : Content
+  pub is_made : e.IsMade start made
+  pub written : IsWrittenByRun Journal (e.geometry (last_image made)) run made later
+
 -- What was written, by what the command starts on. What the making of an image may leave tells which sectors it writes.
 abbrev pub WritesOnlyBy : Outset → Geometry → ScriptRun → (start later : Content) → Type 0
 WritesOnlyBy (RefusedBy ending) g run start later = IsUntouched start later
 WritesOnlyBy (RunsOn kind image) g run start later = IsWrittenByRun (kind.format image).mode g run start later
 WritesOnlyBy (Prints texts found) g run start later = later ≡ start
 WritesOnlyBy (Makes making) g run start later = making.MayBeLeft start later
+WritesOnlyBy (Exercises exercising) g run start later =
+    exercising.MayBeLeft start later ⊎ IsWrittenByExercise exercising run start later
 
 -- No other sector was written.
 pub record IsOnlyWritten (outset : Outset) (g : Geometry) (start : Content) (script : List ℕ) (later : Content)

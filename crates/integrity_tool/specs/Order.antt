@@ -7,16 +7,18 @@ use Rattle.image_formatting.specs.Formatted.{IsLeftInOrder}
 use Rattle.integrity_tool.specs.declared.asked.Asked.{Asked}
 use Rattle.integrity_tool.specs.declared.asked.Task.{Task}
 use Rattle.integrity_tool.specs.declared.asked.Task.TheVariants as Tasks
+use Rattle.integrity_tool.specs.Exercising.{IsExercisedInOrder}
 use Rattle.integrity_tool.specs.Opening.{IsMomentAt}
 use Rattle.integrity_tool.specs.Outset.{key_by}
 use Rattle.integrity_tool.specs.Words.{key_file_of}
 
--- A new image is made in its order, and nothing else has one.
+-- A new image is made in its order, one to be exercised too, and nothing else has one.
 abbrev pub IsInOrderAt : Task → (key : Option (List ℕ)) → (sectors : ℕ) → (before after : List Content) → Type 0
 IsInOrderAt (Tasks.Run mode) key sectors before after = Unit {0}
 IsInOrderAt Tasks.Dump key sectors before after = Unit {0}
 IsInOrderAt (Tasks.Check what) key sectors before after = Unit {0}
 IsInOrderAt (Tasks.Format new) key sectors before after = IsLeftInOrder key sectors new before after
+IsInOrderAt (Tasks.Exercise seed count) key sectors before after = IsExercisedInOrder sectors before after
 
 -- The same, under the key that is told, where one is.
 abbrev pub IsInOrderUnder : Task → Result (Option (List ℕ)) KeyRefusal → ℕ → (before after : List Content) → Type 0

@@ -14,6 +14,7 @@ use Rattle.integrity_tool.specs.declared.asked.Task.{Task}
 use Rattle.integrity_tool.specs.declared.asked.Task.TheVariants as Tasks
 use Rattle.integrity_tool.specs.Checking.{check_outset}
 use Rattle.integrity_tool.specs.Dumping.{dump_outset}
+use Rattle.integrity_tool.specs.Exercising.{exercise_outset}
 use Rattle.integrity_tool.specs.Making.{format_outset}
 use Rattle.integrity_tool.specs.Refusing.{ending_by_refusal}
 use Rattle.integrity_tool.specs.Words.{asked_of, key_file_of}
@@ -51,6 +52,7 @@ outset_at (Tasks.Run mode) key sectors image = outset_on mode key sectors image
 outset_at Tasks.Dump key sectors image = dump_outset sectors image
 outset_at (Tasks.Check what) key sectors image = check_outset what key sectors image
 outset_at (Tasks.Format new) key sectors image = format_outset key sectors new
+outset_at (Tasks.Exercise seed count) key sectors image = exercise_outset sectors count seed
 
 abbrev pub outset_under : Task → Result (Option (List ℕ)) KeyRefusal → (sectors : ℕ) → Image → Outset
 outset_under task (Ok key) sectors image = outset_at task key sectors image

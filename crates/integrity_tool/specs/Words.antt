@@ -1,14 +1,15 @@
 -- What the words ask for.
--- Own: of the commands that words can be, the program has `format`, `dump`, `check` and `run`.
-use Rattle.std.specs.Prelude.{ℕ, if◌then◌else◌, List, [], Option, Some, None}
+-- Own: the commands are `format`, `dump`, `check`, `run` and `exercise`.
+use Rattle.std.specs.Prelude.{◌≤◌, ℕ, List, [], Option, Some, None}
+use Rattle.std.specs.Option.{option_map}
 use Rattle.command_words.specs.Commands.{command_of}
-use Rattle.command_words.specs.Come.{has_come}
 use Rattle.command_words.specs.Numbers.{log2_of}
 use Rattle.command_words.specs.Sizes.{log2_sectors}
 use Rattle.command_words.specs.declared.command.Command.{Command}
 use Rattle.command_words.specs.declared.command.Command.TheVariants as Commands
 use Rattle.command_words.specs.declared.command.Check.{Check}
 use Rattle.command_words.specs.declared.command.Dump.{Dump}
+use Rattle.command_words.specs.declared.command.Exercise.{Exercise}
 use Rattle.command_words.specs.declared.command.Format.{Format}
 use Rattle.command_words.specs.declared.command.Run.{Run}
 use Rattle.command_words.specs.declared.values.Checked.{Checked}
@@ -57,12 +58,16 @@ new_image_of format = record {
   wipe = wipe_as format.wipe;
 }
 
--- Its fields are in their ranges. What else is done asks for none.
+-- Its fields are in their ranges, and an exercise has at most so many requests. What else is done asks for none.
+abbrev pub most_requests : ℕ
+most_requests = 1000000
+
 abbrev pub IsTask : Task → Type 0
 IsTask (Tasks.Run mode) = Unit {0}
 IsTask Tasks.Dump = Unit {0}
 IsTask (Tasks.Check what) = Unit {0}
 IsTask (Tasks.Format new) = IsNewImage new
+IsTask (Tasks.Exercise seed count) = count ≤ most_requests
 
 -- ---- by the words
 
@@ -89,25 +94,25 @@ what_as checks.Placed = Placed
 abbrev pub check_asked : Check → Asked
 check_asked check = record { image = check.image; hash = check.hash; task = Tasks.Check (what_as check.checked) }
 
+-- An exercise makes tags without a key.
+abbrev pub exercise_asked : Exercise → Asked
+exercise_asked exercise = record {
+  image = exercise.image;
+  hash = Sha256;
+  task = Tasks.Exercise exercise.seed exercise.count;
+}
+
 -- What a command asks for.
-abbrev pub asked_in : Command → Option Asked
-asked_in (Commands.Format format) = Some (format_asked format)
-asked_in (Commands.Run run) = Some (run_asked run)
-asked_in (Commands.Dump dump) = Some (dump_asked dump)
-asked_in (Commands.Check check) = Some (check_asked check)
-asked_in (Commands.Exercise exercise) = None
-
--- The same, if the program has it.
-abbrev pub asked_by : Command → Option Asked
-asked_by command = if has_come command then asked_in command else None
-
-abbrev pub asked_with : Option Command → Option Asked
-asked_with None = None
-asked_with (Some command) = asked_by command
+abbrev pub asked_by : Command → Asked
+asked_by (Commands.Format format) = format_asked format
+asked_by (Commands.Run run) = run_asked run
+asked_by (Commands.Dump dump) = dump_asked dump
+asked_by (Commands.Check check) = check_asked check
+asked_by (Commands.Exercise exercise) = exercise_asked exercise
 
 -- What the words ask for. The first is the program's name.
 abbrev pub asked_of : List (List ℕ) → Option Asked
-asked_of words = asked_with (command_of words)
+asked_of words = option_map asked_by (command_of words)
 
 -- The name of the image, and no bytes where the words ask for none.
 abbrev pub image_of : Option Asked → List ℕ
@@ -134,6 +139,7 @@ IsScriptless (Tasks.Run mode) = ⊥
 IsScriptless Tasks.Dump = Unit {0}
 IsScriptless (Tasks.Check what) = Unit {0}
 IsScriptless (Tasks.Format new) = Unit {0}
+IsScriptless (Tasks.Exercise seed count) = Unit {0}
 
 -- The words ask for nothing that reads a script.
 abbrev pub HasNoScript : Option Asked → Type 0

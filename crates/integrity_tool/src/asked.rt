@@ -1,14 +1,14 @@
 //! What the words ask for.
-ghost use Rattle.std.specs.Prelude.{◌≡◌, ◌⊎◌, Err, IfErr, IfOk, IfSome, None, Some, map};
+ghost use Rattle.std.specs.Prelude.{◌≡◌, ◌⊎◌, Err, IfErr, IfOk, None, Some, map};
 ghost use Rattle.std.specs.String.{string_bytes};
 ghost use Rattle.command_ending.specs.declared.ended.Ended.TheVariants as Endings;
-ghost use Rattle.integrity_tool.specs.Words.{IsTask, asked_by, asked_in, asked_of, check_asked, dump_asked, format_asked, mode_as, new_image_of, padding_as, run_asked, what_as, wipe_as};
+ghost use Rattle.integrity_tool.specs.Words.{IsTask, asked_by, asked_of, check_asked, dump_asked, exercise_asked, format_asked, mode_as, new_image_of, padding_as, run_asked, what_as, wipe_as};
 ghost use Rattle.image_formatting.specs.NewImage.{IsNewImage};
 
 use command_ending::Ended;
 use command_words::{
-    Check, Checked, Command, Dump, FileName, Format, HashChoice, Mode, Padding, Run, Wipe,
-    WordsFault, has_come, parse,
+    Check, Checked, Command, Dump, Exercise, FileName, Format, HashChoice, Mode, Padding, Run,
+    Wipe, WordsFault, parse,
 };
 use image_check::What;
 use image_formatting::NewImage;
@@ -20,7 +20,7 @@ use std::alloc::Global;
 pub(crate) struct Asked {
     /// The image.
     pub(crate) image: FileName,
-    /// The hash of its tags. A dump looks at none of them, and needs no key.
+    /// The hash of its tags. A dump looks at none of them, and an exercise makes its own: neither needs a key.
     pub(crate) hash: HashChoice,
     /// What is done on it.
     pub(crate) task: Task,
@@ -37,13 +37,20 @@ pub(crate) enum Task {
     Check(What),
     /// A new image is made.
     Format(NewImage),
+    /// A new image is made and exercised.
+    Exercise {
+        /// The number that tells the requests.
+        seed: u64,
+        /// How many there are.
+        count: u64,
+    },
 }
 
 /// What the words ask for. The first is the program's name.
 ///
 /// # Errors
 ///
-/// - `Words`: they are no command that the program has.
+/// - `Words`: they are no command.
 /// - `Memory`: there is none.
 pub(crate) fn words_asked(alloc: Global, words: &[String]) -> Result<Asked, Ended>
     ensures asked { IfOk result (λ asked. asked_of (map string_bytes words.now) ≡ Some asked) }
@@ -53,35 +60,23 @@ pub(crate) fn words_asked(alloc: Global, words: &[String]) -> Result<Asked, Ende
     ensures errors { IfErr result (λ ended. (ended ≡ Endings.Words) ⊎ (ended ≡ Endings.Memory)) }
 {
     match parse(alloc, words) {
-        Ok(command) => asked_by(command).ok_or(Ended::Words),
+        Ok(command) => Ok(asked_by(command)),
         Err(WordsFault::Refused) => Err(Ended::Words),
         Err(WordsFault::Memory) => Err(Ended::Memory),
     }
 }
 
-/// What a command asks for, if it is one that the program has.
-fn asked_by(command: Command) -> Option<Asked>
+/// What a command asks for.
+fn asked_by(command: Command) -> Asked
     ensures asked { result ≡ asked_by command }
-    ensures task { IfSome result (λ asked. IsTask asked.task) }
-{
-    if has_come(&command) {
-        asked_in(command)
-    } else {
-        None
-    }
-}
-
-/// What a command asks for, if it is one that the program will have in this form.
-fn asked_in(command: Command) -> Option<Asked>
-    ensures asked { result ≡ asked_in command }
-    ensures task { IfSome result (λ asked. IsTask asked.task) }
+    ensures task { IsTask result.task }
 {
     match command {
-        Command::Format(format) => Some(format_asked(format)),
-        Command::Run(run) => Some(run_asked(run)),
-        Command::Dump(dump) => Some(dump_asked(dump)),
-        Command::Check(check) => Some(check_asked(check)),
-        Command::Exercise(_) => None,
+        Command::Format(format) => format_asked(format),
+        Command::Run(run) => run_asked(run),
+        Command::Dump(dump) => dump_asked(dump),
+        Command::Check(check) => check_asked(check),
+        Command::Exercise(exercise) => exercise_asked(exercise),
     }
 }
 
@@ -138,6 +133,21 @@ fn check_asked(check: Check) -> Asked
         image: check.image,
         hash: check.hash,
         task: Task::Check(what(check.checked)),
+    }
+}
+
+/// What `exercise` asks for.
+fn exercise_asked(exercise: Exercise) -> Asked
+    ensures asked { result ≡ exercise_asked exercise }
+    ensures task { IsTask result.task }
+{
+    Asked {
+        image: exercise.image,
+        hash: HashChoice::Sha256,
+        task: Task::Exercise {
+            seed: exercise.seed,
+            count: exercise.count.number(),
+        },
     }
 }
 

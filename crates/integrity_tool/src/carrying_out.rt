@@ -16,6 +16,7 @@ ghost use Rattle.integrity_tool.specs.Words.{IsScriptless, IsTask};
 use crate::asked::Task;
 use crate::checking::print_check;
 use crate::dumping::print_image;
+use crate::exercising::exercise_image;
 use crate::making::make_image;
 use crate::opening::run_image;
 use command_ending::Ended;
@@ -71,6 +72,7 @@ pub(crate) fn carry_out<D: Disk, S: Source, O: Sink>(
         Task::Dump => done(print_image(alloc, disk, out)),
         Task::Check(what) => print_check(alloc, disk, hash, what, out),
         Task::Format(new) => done(make_image(alloc, disk, hash, new, out)),
+        Task::Exercise { seed, count } => exercise_image(alloc, disk, seed, count, out),
     }
 }
 

@@ -9,6 +9,7 @@ mod carrying_out;
 mod checking;
 mod closing;
 mod dumping;
+mod exercising;
 mod keyed;
 mod lines;
 mod making;

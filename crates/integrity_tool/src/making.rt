@@ -54,7 +54,7 @@ pub(crate) fn make_image<D: Disk, O: Sink>(
     ensures identity { D.identity disk.new ≡ D.identity disk.old }
 {
     match format(alloc, disk, hash, new) {
-        Err(fault) => Err(ended_by(fault)),
+        Err(fault) => Err(ended_by_format(fault)),
         Ok(provided) => match put_provided(out, provided) {
             Ok(()) => Ok(()),
             Err(_) => Err(Ended::Sink),
@@ -77,7 +77,7 @@ fn put_provided<O: Sink>(out: &mut O, provided: u64) -> Result<(), Failed>
 }
 
 /// What ends the making of an image that is not made.
-fn ended_by(fault: FormatFault) -> Ended
+pub(crate) fn ended_by_format(fault: FormatFault) -> Ended
     ensures { result ≡ ended_by_format fault }
 {
     match fault {

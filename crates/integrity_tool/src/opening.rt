@@ -150,7 +150,7 @@ fn run_device<'d, D: Disk, S: Source, O: Sink>(
 }
 
 /// Why a device was not opened, and the disk that comes back.
-fn handed_back<'d, D: Disk>(refused: Refused<'d, D>) -> (OpeningFault, &'d mut D)
+pub(crate) fn handed_back<'d, D: Disk>(refused: Refused<'d, D>) -> (OpeningFault, &'d mut D)
     ensures fault { result.0 ≡ refused.entry.fault }
     ensures disk { result.1.now ≡ refused.entry.disk.now }
     ensures same_disk { result.1.ghost_name ≡ refused.entry.disk.ghost_name }

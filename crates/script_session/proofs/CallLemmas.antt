@@ -52,7 +52,7 @@ use Rattle.script_session.specs.declared.tickets.Tickets.{Tickets}
 use Rattle.script_session.specs.declared.tickets.Waiting.{Waiting}
 use Rattle.script_session.specs.LineRun.{HasAnswered}
 use Rattle.script_session.specs.Tickets.{AreInFlight, Stays, ask_by, is_of}
-use Rattle.script_session.specs.Told.{IsNoTicket, IsTicketOf, answer_found, answer_told, finds_fault, moved_line, refused_answer, reply_found, reply_told, served_line}
+use Rattle.script_session.specs.Told.{IsNoTicket, IsReplied, IsTicketOf, answer_found, answer_told, finds_fault, moved_line, refused_answer, reply_found, reply_in, reply_told, served_line}
 use Rattle.script_session.proofs.SplitLemmas.{IsSplit, asks-without, split_of, split_own, split_removed}
 use Rattle.script_session.proofs.TicketLemmas.{any-asks}
 use Rattle.script_session.proofs.WayLemmas.{in_flight_kept}
@@ -64,21 +64,22 @@ pub answered_run : (w : Standing) (event : Event) (answer : Model.Answer) (line 
     (a b : List Content)
     → HasRun w (event ∷ []) parts a b → (Model.event_result w.format w.state event).answer ≡ answer
     → answer_told line ≡ answer_text answer → finds_fault (answer_found line) ≡ tells_fault answer
-    → HasAnswered w (event ∷ []) line parts a b
-answered_run w event answer line parts a b run is text found = record {
+    → IsReplied (reply_in line) (Some answer) → HasAnswered w (event ∷ []) line parts a b
+answered_run w event answer line parts a b run is text found reply = record {
   run = run;
   text = text ∙ ap answer_text (sym is);
   found = found ∙ ap tells_fault (sym is);
+  reply = subst (λ (x : Model.Answer). IsReplied (reply_in line) (Some x)) (sym is) reply;
 }
 
 pub answered_done : (w : Standing) (event : Event) (answer : Model.Answer) (line : LineAnswer)
     (condition : Condition) (parts : DeviceParts) (a b : List Content)
     → IsDone w event answer condition parts a b → condition ≡ Conditions.Working → b ≡ a
     → answer_told line ≡ answer_text answer → finds_fault (answer_found line) ≡ tells_fault answer
-    → HasAnswered w (event ∷ []) line parts a b
-answered_done w event answer line condition parts a b is works same text found =
+    → IsReplied (reply_in line) (Some answer) → HasAnswered w (event ∷ []) line parts a b
+answered_done w event answer line condition parts a b is works same text found reply =
     answered_run w event answer line parts a b
-    (run_one w event parts a b (subst (λ (x : Condition). HasDone w event x parts a b) works is.done) (WritesOnly-kept w.format.mode w.on.geometry _ same)) is.answers text found
+    (run_one w event parts a b (subst (λ (x : Condition). HasDone w event x parts a b) works is.done) (WritesOnly-kept w.format.mode w.on.geometry _ same)) is.answers text found reply
 
 served_text : (served : Served) → answer_told (served_line served) ≡ answer_text (served_answer served)
 served_text (Serves.Held by) = refl
@@ -93,12 +94,18 @@ served_found Serves.Did = refl
 served_found Serves.Done = refl
 served_found Serves.NoRoom = refl
 
+served_reply : (served : Served) → IsReplied (reply_in (served_line served)) (Some (served_answer served))
+served_reply (Serves.Held by) = tt
+served_reply Serves.Did = tt
+served_reply Serves.Done = tt
+served_reply Serves.NoRoom = tt
+
 pub served_told : (w : Standing) (ticket : ℕ) (served : Served) (line : LineAnswer) (parts : DeviceParts)
     (a b : List Content) → line ≡ served_line served → HasRun w (Model.Serve ticket ∷ []) parts a b
     → Answers w (Model.Serve ticket) (served_answer served) → HasAnswered w (Model.Serve ticket ∷ []) line parts a b
 served_told w ticket served line parts a b is run answers =
     subst (λ (l : LineAnswer). HasAnswered w (Model.Serve ticket ∷ []) l parts a b) (sym is)
-    (answered_run w (Model.Serve ticket) (served_answer served) (served_line served) parts a b run answers (served_text served) (served_found served))
+    (answered_run w (Model.Serve ticket) (served_answer served) (served_line served) parts a b run answers (served_text served) (served_found served) (served_reply served))
 
 moved_text : (moved : Moved) → answer_told (moved_line moved) ≡ answer_text (moved_answer moved)
 moved_text Moves.Did = refl
@@ -108,12 +115,16 @@ moved_found : (moved : Moved) → finds_fault (answer_found (moved_line moved)) 
 moved_found Moves.Did = refl
 moved_found Moves.Idle = refl
 
+moved_reply : (moved : Moved) → IsReplied (reply_in (moved_line moved)) (Some (moved_answer moved))
+moved_reply Moves.Did = tt
+moved_reply Moves.Idle = tt
+
 pub moved_told : (w : Standing) (actor : Model.Actor) (moved : Moved) (line : LineAnswer) (parts : DeviceParts)
     (a b : List Content) → line ≡ moved_line moved → HasRun w (Model.Step actor ∷ []) parts a b
     → Answers w (Model.Step actor) (moved_answer moved) → HasAnswered w (Model.Step actor ∷ []) line parts a b
 moved_told w actor moved line parts a b is run answers =
     subst (λ (l : LineAnswer). HasAnswered w (Model.Step actor ∷ []) l parts a b) (sym is)
-    (answered_run w (Model.Step actor) (moved_answer moved) (moved_line moved) parts a b run answers (moved_text moved) (moved_found moved))
+    (answered_run w (Model.Step actor) (moved_answer moved) (moved_line moved) parts a b run answers (moved_text moved) (moved_found moved) (moved_reply moved))
 
 -- ---- a submission
 
@@ -131,6 +142,13 @@ refused_found Faults.ReadOnly = refl
 refused_found (Faults.Range first count blocks) = refl
 refused_found (Faults.Length have need) = refl
 refused_found (Faults.SlotsFull slots) = refl
+
+refused_reply : (fault : SubmitFault) → IsReplied (reply_in (refused_answer fault)) (Some (as_answer fault))
+refused_reply Faults.Broken = tt
+refused_reply Faults.ReadOnly = tt
+refused_reply (Faults.Range first count blocks) = tt
+refused_reply (Faults.Length have need) = tt
+refused_reply (Faults.SlotsFull slots) = tt
 
 -- What is told of it.
 abbrev pub submitted_line : Option SubmitFault → ℕ → LineAnswer
@@ -160,6 +178,11 @@ submitted_found : (fault : Option SubmitFault) (n : ℕ)
 submitted_found None n = refl
 submitted_found (Some fault) n = refused_found fault
 
+submitted_reply : (fault : Option SubmitFault) (n : ℕ)
+    → IsReplied (reply_in (submitted_line fault n)) (Some (submit_answer fault n))
+submitted_reply None n = tt
+submitted_reply (Some fault) n = refused_reply fault
+
 refused_none : (fault : SubmitFault) → IsTicketOf (refused_answer fault) (as_answer fault)
 refused_none Faults.Broken = tt
 refused_none Faults.ReadOnly = tt
@@ -183,7 +206,7 @@ pub submit_told : (w : Standing) (request : Request) (fault : Option SubmitFault
     → HasAnswered w (Model.Submit (as_submission request) ∷ []) line parts a a
 submit_told w request fault n line condition parts a is works same =
     subst (λ (l : LineAnswer). HasAnswered w (Model.Submit (as_submission request) ∷ []) l parts a a) (sym same)
-    (answered_done w (Model.Submit (as_submission request)) (submit_answer fault n) (submitted_line fault n) condition parts a a is works refl (submitted_text fault n) (submitted_found fault n))
+    (answered_done w (Model.Submit (as_submission request)) (submit_answer fault n) (submitted_line fault n) condition parts a a is works refl (submitted_text fault n) (submitted_found fault n) (submitted_reply fault n))
 
 -- ---- a request in flight
 
@@ -348,14 +371,14 @@ module _ (w : Standing) (parts : DeviceParts) (a : List Content) (is : IsDevice 
       ∙ ap (λ (x : Reply). script.reply_text asked.request (as_reply x)) (sym reply_is)
       ∙ ap (λ (q : Asks.Request). script.reply_text q (as_reply reply)) (sym request_is) in
       answered_run w (Take own.ticket) (Model.Replied r (as_reply reply) (returned_in reply)) (Lines.Replied own.first own.count reply) new b b
-      (run_one w (Take own.ticket) new b b (subst (λ (x : Condition). HasDone w (Take own.ticket) x new b b) works taken.done) (WritesOnly-kept w.format.mode w.on.geometry _ refl)) taken.taken.1 text (reply_found-is reply)
+      (run_one w (Take own.ticket) new b b (subst (λ (x : Condition). HasDone w (Take own.ticket) x new b b) works taken.done) (WritesOnly-kept w.format.mode w.on.geometry _ refl)) taken.taken.1 text (reply_found-is reply) (record { asked = r; is = refl })
 
 pub untaken_told : (w : Standing) (ticket back : ℕ) (condition : Condition) (new : DeviceParts) (a : List Content)
     → condition ≡ Conditions.Working → HasTaken w ticket (Err back) condition new a
     → HasAnswered w (Take ticket ∷ []) Lines.NotDone new a a
 untaken_told w ticket back condition new a works taken =
     answered_run w (Take ticket) Model.NotDone Lines.NotDone new a a
-    (run_one w (Take ticket) new a a (subst (λ (x : Condition). HasDone w (Take ticket) x new a a) works taken.done) (WritesOnly-kept w.format.mode w.on.geometry _ refl)) taken.taken refl refl
+    (run_one w (Take ticket) new a a (subst (λ (x : Condition). HasDone w (Take ticket) x new a a) works taken.done) (WritesOnly-kept w.format.mode w.on.geometry _ refl)) taken.taken refl refl tt
 
 -- ---- what stays
 
@@ -488,6 +511,7 @@ module _ (w : Standing) (ask : script.Ask) (p q : DeviceParts) (a b c : List Con
           run = subst (λ (l : List Event). HasRun w (before ++ l) q a c) (sym whole) (run_then w before (Model.Submit submission ∷ []) p q a b c first answered.run);
           text = answered.text ∙ ap script.told_text (sym last);
           found = answered.found ∙ ap script.told_fault (sym last);
+          reply = subst (IsReplied (reply_in told)) (sym last) answered.reply;
         }
 
     -- There was no memory for it.
@@ -524,6 +548,7 @@ module _ (w : Standing) (ask : script.Ask) (p q : DeviceParts) (a b c : List Con
                 (run_then next finished (Take ticket ∷ []) r u c d e third answered.run)));
             text = answered.text ∙ ap script.told_text (sym last);
             found = answered.found ∙ ap script.told_fault (sym last);
+            reply = subst (IsReplied (reply_in told)) (sym last) answered.reply;
           }
 
       -- The disk failed in a serve of it.

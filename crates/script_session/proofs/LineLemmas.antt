@@ -10,9 +10,11 @@ use Rattle.integrity_device.proofs.ModeLemmas.{flight_now}
 use Rattle.device_run.specs.Run.{HasBegun, HasFailed, HasRun, IsCutOff}
 use Rattle.device_run.proofs.RunLemmas.{cut_run}
 use Rattle.script_session.specs.declared.line_answer.LineAnswer.{LineAnswer}
+use Rattle.script_session.specs.declared.stop.Stop.{Stop}
+use Rattle.script_session.specs.declared.stop.Stop.TheVariants as Stops
 use Rattle.script_session.specs.declared.tags_found.TagsFound.{TagsFound}
 use Rattle.script_session.specs.declared.tickets.Tickets.{Tickets}
-use Rattle.script_session.specs.LineRun.{HasAnswered, HasRunLine, IsBegunLine, IsCutLine, IsFailedLine, IsHalfTold, IsRunnable, events_of, held_with}
+use Rattle.script_session.specs.LineRun.{HasAnswered, HasRunLine, HasStopped, IsBegunLine, IsCutLine, IsFailedLine, IsHalfTold, IsRunnable, events_of, held_with}
 use Rattle.script_session.specs.Meaning.{fault_on}
 use Rattle.script_session.specs.Tickets.{AreInFlight, numbers_of}
 use Rattle.script_session.specs.Told.{answer_found, answer_told, finds_fault}
@@ -86,3 +88,9 @@ pub line_cut_begun : (w : Standing) (line : ScriptLine) (parts : DeviceParts) (a
     (before now : Option (List ℕ)) → IsBegunLine w line parts a b before now → IsCutLine w line a b before now
 line_cut_begun w line parts a b before now is =
     line_cut w line is.runnable a b before now (cut_begun w (events_of w line) parts a b is.begun) is.told
+
+-- What is stopped is cut off.
+pub cut_stopped : (w : Standing) (events : List Event) (stop : Stop) (parts : DeviceParts) (a b : List Content)
+    → HasStopped w events stop parts a b → IsCutOff w events a b
+cut_stopped w events Stops.Disk parts a b stopped = stopped.cut
+cut_stopped w events Stops.Memory parts a b stopped = cut_begun w events parts a b stopped

@@ -1,23 +1,26 @@
 -- What the run of one line does, as `device_model` has it: its events, what may be left, and what is told.
-use Rattle.std.specs.Prelude.{◌≡◌, ◌≢◌, ℕ, ◌≤◌, true, List, Option, Some, None, Result, Err}
+use Rattle.std.specs.Prelude.{◌≡◌, ◌≢◌, ℕ, ◌≤◌, true, false, List, Option, Some, None, Result, Err}
 use Rattle.std.specs.Option.{option_map}
 use Rattle.disk_model.specs.Causes.{Rose}
 use Rattle.disk_model.specs.Disk.{Content}
 use Rattle.device_model.specs.Mode as Modes
 use Rattle.device_model.specs.Progress.{Event, Submit, answers, event_result}
-use Rattle.device_model.specs.Script.{AskLine, ScriptLine, ServeLine, Skip, StepLine, TakeLine, last_answer, line_events, line_outcome, meaning_fault, told_fault, told_text}
+use Rattle.device_model.specs.Script.{Ask, AskLine, ScriptLine, ServeLine, Skip, StepLine, TakeLine, last_answer, line_events, line_outcome, meaning_fault, told_fault, told_text}
 use Rattle.device_model.specs.Submission.{Submission}
 use Rattle.stream_io.specs.Stream.{AddsPrefix, with_bytes}
 use Rattle.integrity_device.specs.declared.mode.DeviceParts.{DeviceParts}
 use Rattle.integrity_device.specs.Answers.{HasNoWork}
 use Rattle.integrity_device.specs.Device.{Standing}
 use Rattle.device_run.specs.Run.{HasBegun, HasFailed, HasRun, IsCutOff}
+use Rattle.request_slots.specs.declared.reply.Reply.{Reply}
 use Rattle.script_session.specs.declared.line_answer.LineAnswer.{LineAnswer}
 use Rattle.script_session.specs.declared.line_end.LineEnd.{LineEnd}
 use Rattle.script_session.specs.declared.line_end.LineEnd.TheVariants as Ends
+use Rattle.script_session.specs.declared.stop.Stop.{Stop}
+use Rattle.script_session.specs.declared.stop.Stop.TheVariants as Stops
 use Rattle.script_session.specs.declared.tags_found.TagsFound.{TagsFound}
 use Rattle.script_session.specs.Meaning.{meaning_of}
-use Rattle.script_session.specs.Told.{IsTicketOf, answer_found, answer_told, finds_fault}
+use Rattle.script_session.specs.Told.{IsReplied, IsTicketOf, answer_found, answer_told, finds_fault, reply_in}
 
 -- ---- some events
 
@@ -27,6 +30,12 @@ pub record HasAnswered (w : Standing) (events : List Event) (answer : LineAnswer
   pub run : HasRun w events parts before after
   pub text : answer_told answer ≡ told_text (last_answer (answers w.format w.state events))
   pub found : finds_fault (answer_found answer) ≡ told_fault (last_answer (answers w.format w.state events))
+  pub reply : IsReplied (reply_in answer) (last_answer (answers w.format w.state events))
+
+-- The disk failed in one of the events, or there was no memory for one: some of the first are done then.
+abbrev pub HasStopped : Standing → List Event → Stop → DeviceParts → (before after : List Content) → Type 0
+HasStopped w events Stops.Disk parts before after = HasFailed w events parts before after
+HasStopped w events Stops.Memory parts before after = HasBegun w events parts before after
 
 -- What is told of a submission is a ticket exactly where it got that.
 abbrev pub TellsTicket : Standing → Submission → LineAnswer → Type 0
@@ -41,6 +50,13 @@ IsRunnable w line = meaning_fault w.format w.state.progress line ≡ None
 -- What a line does to a device.
 abbrev pub events_of : Standing → ScriptLine → List Event
 events_of w line = line_events w.format w.state line
+
+-- The request of a line without `start` is done, and this is its reply, if it got one.
+pub record HasRunAsk (w : Standing) (ask : Ask) (reply : Option Reply) (parts : DeviceParts)
+    (before after : List Content) : Type 0 where
+  pub runnable : IsRunnable w (AskLine false ask)
+  pub run : HasRun w (events_of w (AskLine false ask)) parts before after
+  pub reply_ : IsReplied reply (line_outcome w.format w.state (AskLine false ask)).answer
 
 -- It serves no request, and steps no actor that has something to do in the mode.
 abbrev pub ServesNone : Modes.Mode → ScriptLine → Type 0

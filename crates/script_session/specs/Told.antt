@@ -1,10 +1,11 @@
 -- What is told of a line that was run.
-use Rattle.std.specs.Prelude.{◌≡◌, ℕ, Bool, true, false, List, []}
+use Rattle.std.specs.Prelude.{◌≡◌, ℕ, Bool, true, false, List, [], Option, Some, None}
 use Rattle.device_model.specs.Progress as progress
 use Rattle.device_model.specs.Reply.{Bytes, TagFault}
 use Rattle.device_model.specs.Request as request
 use Rattle.device_model.specs.Script as script
 use Rattle.device_model.specs.Transcript.{read_text, write_text}
+use Rattle.request_slots.specs.InFlight.{as_reply, returned_in}
 use Rattle.request_slots.specs.declared.reply.Reply.{Reply}
 use Rattle.request_slots.specs.declared.reply.Reply.TheVariants as replies
 use Rattle.request_slots.specs.declared.submit_fault.SubmitFault.{SubmitFault}
@@ -65,6 +66,20 @@ answer_found Idle = Matching
 answer_found NotDone = Matching
 answer_found (Replied first count reply) = reply_found reply
 
+-- The reply that it has, if it has one.
+abbrev pub reply_in : LineAnswer → Option Reply
+reply_in Nothing = None
+reply_in (Ticket ticket) = None
+reply_in SlotsFull = None
+reply_in ReadOnly = None
+reply_in (HeldBy by) = None
+reply_in NoRoom = None
+reply_in Did = None
+reply_in Done = None
+reply_in Idle = None
+reply_in NotDone = None
+reply_in (Replied first count reply) = Some reply
+
 -- What is told of a serve.
 abbrev pub served_line : Served → LineAnswer
 served_line (serves.Held by) = HeldBy by
@@ -93,3 +108,21 @@ IsNoTicket answer = Unit {0}
 abbrev pub IsTicketOf : LineAnswer → progress.Answer → Type 0
 IsTicketOf (Ticket ticket) answer = answer ≡ progress.Ticket ticket
 IsTicketOf line answer = IsNoTicket answer
+
+-- ---- replies
+
+abbrev pub IsNoReply : progress.Answer → Type 0
+IsNoReply (progress.Replied request reply returned) = ⊥
+IsNoReply answer = Unit {0}
+
+-- A request is answered by this reply, with the bytes that go back.
+pub record IsReplyOf (reply : Reply) (answer : progress.Answer) : Type 0 where
+  pub asked : request.Request
+  pub is : answer ≡ progress.Replied asked (as_reply reply) (returned_in reply)
+
+-- The reply is that of the answer, and there is none exactly where the answer is none.
+abbrev pub IsReplied : Option Reply → Option progress.Answer → Type 0
+IsReplied None None = Unit {0}
+IsReplied None (Some answer) = IsNoReply answer
+IsReplied (Some reply) None = ⊥
+IsReplied (Some reply) (Some answer) = IsReplyOf reply answer

@@ -2,10 +2,11 @@
 //!
 //! A contract says of the device which one of `device_model` it is, and what the line does to that one
 //! (`specs/LineRun.antt`, the file to read first). A line is judged before anything is done; its text is told once
-//! all that it does is done.
+//! all that it does is done. A request can also be run by itself, for its reply.
 #![tactic(auto)]
 
 mod asking;
+mod asking_whole;
 mod calling;
 mod finishing;
 mod line_answer;
@@ -19,8 +20,10 @@ mod telling;
 mod tests;
 mod tickets;
 
+pub use asking_whole::run_ask;
 pub use line_end::LineEnd;
 pub use meaning::MeaningFault;
 pub use running::run_line;
+pub use stop::Stop;
 pub use tags_found::TagsFound;
 pub use tickets::Tickets;

@@ -148,7 +148,7 @@ fn answer_of<'d, 'p, D: Disk>(
 ///
 /// - `Disk`: the disk failed. The device is broken then.
 /// - `Memory`: there is none for the request.
-fn ask_whole<'d, 'p, D: Disk>(
+pub(crate) fn ask_whole<'d, 'p, D: Disk>(
     alloc: Global,
     device: &mut Device<'d, 'p, D>,
     tickets: &mut Tickets,

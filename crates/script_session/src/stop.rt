@@ -3,7 +3,7 @@ use sector_disk::{Failed, Memory};
 
 /// What stops a line before it is answered.
 #[derive(Clone, Copy, Debug, PartialEq, Eq)]
-pub(crate) enum Stop {
+pub enum Stop {
     /// The disk failed.
     Disk,
     /// There is no memory for a request.

@@ -169,3 +169,41 @@ returns-in-Format-clause-ahead g c left told start told_start =
     subst (λ (t : Task). HasReadIn (outset_at t key sectors (last_image start)) left (g.S.Source.left c.args.script.now) (g.O.Sink.held c.args.out.now) (g.O.Sink.held c.make_image.new.out))
     (sym c.in-Format.is)
     (read_no_script (outset_at (Tasks.Format c.in-Format.new) key sectors (last_image start)) start left _ _ _ _ _ told (c.make_image.ensures.runs left start told_start))
+
+pub returns-in-Exercise-clause-runs : goal.returns-in-Exercise-clause-runs
+returns-in-Exercise-clause-runs g c left told start told_start =
+    let key = key_of c.args.hash in
+    let sectors = (g.D.Disk.identity c.args.disk.now).sectors in
+    let before = g.D.Disk.moments c.args.disk.now in
+    let after = g.D.Disk.moments c.exercise_image.new.disk in
+    let moments = c.exercise_image.ensures.moments left start told_start in
+    subst (λ (t : Task). HasRunOn (outset_at t key sectors (last_image start)) start left (ending_by c.exercise_image.result) after (g.O.Sink.held c.args.out.now) (g.O.Sink.held c.exercise_image.new.out)
+    × HasMomentsAt t key sectors start left before after) (sym c.in-Exercise.is) (
+      c.exercise_image.ensures.runs left start told_start,
+      record { each = moments.each; order = moments.order },
+    )
+
+pub returns-in-Exercise-clause-ends : goal.returns-in-Exercise-clause-ends
+returns-in-Exercise-clause-ends g c = ends_wider c.exercise_image.result c.exercise_image.ensures.ends
+
+pub returns-in-Exercise-clause-cause : goal.returns-in-Exercise-clause-cause
+returns-in-Exercise-clause-cause g c = causes_wider _ _ _ c.exercise_image.result c.exercise_image.ensures.cause
+
+pub returns-in-Exercise-clause-counted : goal.returns-in-Exercise-clause-counted
+returns-in-Exercise-clause-counted g c =
+    (c.exercise_image.ensures.counted.0, uncounted Endings.Script _ c.exercise_image.result, c.exercise_image.ensures.counted.1)
+
+pub returns-in-Exercise-clause-unread : goal.returns-in-Exercise-clause-unread
+returns-in-Exercise-clause-unread g c =
+    (whatever_ended (λ ended. IsBeforeScript ended → c.args.script.now ≡ c.args.script.now) (λ ended before. refl) c.exercise_image.result, λ none. refl)
+
+pub returns-in-Exercise-clause-taken : goal.returns-in-Exercise-clause-taken
+returns-in-Exercise-clause-taken g c = none_taken _ _ refl
+
+pub returns-in-Exercise-clause-ahead : goal.returns-in-Exercise-clause-ahead
+returns-in-Exercise-clause-ahead g c left told start told_start =
+    let key = key_of c.args.hash in
+    let sectors = (g.D.Disk.identity c.args.disk.now).sectors in
+    subst (λ (t : Task). HasReadIn (outset_at t key sectors (last_image start)) left (g.S.Source.left c.args.script.now) (g.O.Sink.held c.args.out.now) (g.O.Sink.held c.exercise_image.new.out))
+    (sym c.in-Exercise.is)
+    (read_no_script (outset_at (Tasks.Exercise c.in-Exercise.seed c.in-Exercise.count) key sectors (last_image start)) start left _ _ _ _ _ told (c.exercise_image.ensures.runs left start told_start))

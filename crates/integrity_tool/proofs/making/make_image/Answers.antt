@@ -26,7 +26,7 @@ returns-in-Err-clause-runs g c script start told =
     let sectors = (g.D.Disk.identity c.args.disk.now).sectors in
     let held = g.O.Sink.held c.args.out.now in
     subst (λ (e : Ended). HasRunOn (format_outset key sectors c.args.new) start script (ending_of e) (g.D.Disk.moments c.format.new.disk) held held)
-    (sym c.ended_by.ensures)
+    (sym c.ended_by_format.ensures)
     (not_made key sectors c.args.new start script told (geometry_on sectors (last_image start)) (left_in_order key sectors c.args.new c.format.ensures.moments) c.in-Err.fault held
     (λ f. (λ is. (c.format.ensures.geom f).0 (cc (c.in-Err.is, is)), λ is. cc (c.in-Err.is, (c.format.ensures.geom f).1 is)))
     c.in-Err.ensures.untouched).0

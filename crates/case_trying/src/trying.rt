@@ -1,14 +1,13 @@
 //! Tries a case with each failure of a kind, until a run meets none.
 use crate::recovering::{Recovered, judge_recovered, recovered_by};
-use crate::running::{Ended, run};
-use crate::telling::{is_keyed, outcome_of};
 use anyhow::{Result, bail};
-use case_disks::{bytes_of, choice_of, copy_of, disk_of, image_left, image_of};
+use case_disks::choice_from;
 use case_judging::{
-    Met, Told, digests_of, images_after, judge_left, judge_made, judge_reads, judge_text, reads,
+    Images, Known, Met, Told, judge_left, judge_made, judge_reads, judge_text, reads,
 };
-use case_text::{CHOICES, Candidates, Case, Fails, Kind, name_of, with_failure};
-use sector_disk::MemDisk;
+use case_running::{Command, Ended, is_keyed, outcome_of, run};
+use case_text::{CHOICES, Case, Fails, Kind, name_of, with_failure};
+use cut_disk::CutDisk;
 use std::alloc::Global;
 
 /// The most runs of a kind that are tried.
@@ -27,13 +26,12 @@ pub struct Counts {
     pub expected: u64,
 }
 
-/// What a case is tried on: the disk that each run begins with, and its bytes with their tags.
+/// What a case is tried on: the disk that each run begins with.
 #[derive(Drop)]
 pub struct Trial {
-    disk: MemDisk,
-    base: Vec<u8>,
-    digests: Vec<[u8; 32]>,
-    script: String,
+    base: Known,
+    /// The images of its script on it.
+    images: Images,
     reads: Case,
     is_keyed: bool,
     /// The bytes of the image that the case makes, if it makes one.
@@ -44,16 +42,23 @@ pub struct Trial {
 
 impl Trial {
     /// Looks at the disk that runs of a case begin with. Its script is text.
-    pub fn new(alloc: Global, case: &Case, base: Vec<u8>, undisturbed: &Ended) -> Result<Trial> {
+    pub fn new<C: Command>(
+        alloc: Global,
+        command: &C,
+        case: &Case,
+        base: Vec<u8>,
+        undisturbed: &Ended,
+    ) -> Result<Trial> {
         let Ok(script) = str::from_utf8(&case.script) else {
             bail!("a script that is tried is text");
         };
-        let recovered = recovered_by(alloc, case, &base, script, undisturbed.text.as_str())?;
+        let text = undisturbed.text.as_str();
+        let recovered = recovered_by(alloc, command, case, &base, script, text)?;
+        // What is recovered is judged by images of its own.
+        let script = if recovered.is_some() { "" } else { script };
         Ok(Trial {
-            disk: disk_of(alloc, &base)?,
-            digests: digests_of(alloc, &base)?,
-            base,
-            script: script.to_string(alloc)?,
+            images: Images::of_script(alloc, &base, script)?,
+            base: Known::new(alloc, base)?,
             reads: Case::new(alloc, reads(alloc)?)?,
             is_keyed: is_keyed(case),
             made: made_by(alloc, case, undisturbed)?,
@@ -66,8 +71,7 @@ impl Trial {
 fn made_by(alloc: Global, case: &Case, undisturbed: &Ended) -> Result<Option<Vec<u8>>> {
     match case.words.get(1) {
         Some(word) if word.as_str() == "format" => {
-            let mut image = image_left(alloc, &undisturbed.disk, Candidates::Last)?;
-            Ok(Some(bytes_of(alloc, &mut image)?))
+            Ok(Some(Vec::from_slice(alloc, undisturbed.disk.bytes())?))
         }
         _ => Ok(None),
     }
@@ -75,15 +79,15 @@ fn made_by(alloc: Global, case: &Case, undisturbed: &Ended) -> Result<Option<Vec
 
 /// Tries each failure of a kind, and tells how many runs failed and how many images were looked at,
 /// or what is wrong.
-pub fn try_each(
+pub fn try_each<C: Command>(
     alloc: Global,
+    command: &C,
     counts: &mut Counts,
     trial: &Trial,
     case: &Case,
     undisturbed: &Ended,
     kind: Kind,
 ) -> Result<String> {
-    let name = name_of(kind);
     let first = match kind {
         Kind::Stop | Kind::Room => 0,
         _ => 1,
@@ -91,35 +95,54 @@ pub fn try_each(
     let images = counts.images;
     let mut told = String::new(alloc);
     for number in first..MOST {
-        let ended = run_at(alloc, counts, trial, case, kind, number)?;
+        let fails = with_failure(case.fails, kind, number);
+        let ended = run_again(alloc, command, counts, trial, case, fails)?;
         let met = met_by(kind, number, &ended);
-        if let Err(fault) = judge(alloc, counts, trial, undisturbed, &ended, met) {
+        if let Err(fault) = judge(alloc, command, counts, trial, undisturbed, &ended, met) {
             counts.wrong = counts.wrong.saturating_add(1);
-            let outcome = outcome_of(alloc, &ended)?;
-            let line = format!(in alloc; "\nWRONG {name} {number}: {fault}: {outcome}")?;
-            told.push_str(line.as_str())?;
+            let fault = format!(in alloc; "{fault}")?;
+            told.push_str(wrong_told(alloc, kind, number, fault.as_str(), &ended)?.as_str())?;
         }
         if let Met::Nothing = met {
             let failed = number.saturating_sub(first);
             let images = counts.images.saturating_sub(images);
-            return Ok(format!(in alloc; "\neach {name}: {failed} failed, {images} images{told}")?);
+            return tried_told(alloc, kind, failed, images, told.as_str());
         }
     }
     bail!("each run met a failure")
 }
 
-/// Makes the run with this number.
-fn run_at(
+/// What is told of a run that is wrong.
+fn wrong_told(
     alloc: Global,
+    kind: Kind,
+    number: u64,
+    fault: &str,
+    ended: &Ended,
+) -> Result<String> {
+    let name = name_of(kind);
+    let outcome = outcome_of(alloc, ended)?;
+    Ok(format!(in alloc; "\nWRONG {name} {number}: {fault}: {outcome}")?)
+}
+
+/// What is told of the failures of a kind.
+fn tried_told(alloc: Global, kind: Kind, failed: u64, images: u64, wrong: &str) -> Result<String> {
+    let name = name_of(kind);
+    Ok(format!(in alloc; "\neach {name}: {failed} failed, {images} images{wrong}")?)
+}
+
+/// Makes a run of the case where this fails.
+fn run_again<C: Command>(
+    alloc: Global,
+    command: &C,
     counts: &mut Counts,
     trial: &Trial,
     case: &Case,
-    kind: Kind,
-    number: u64,
+    fails: Fails,
 ) -> Result<Ended> {
     counts.runs = counts.runs.saturating_add(1);
-    let disk = copy_of(alloc, &trial.disk)?;
-    run(alloc, case, with_failure(case.fails, kind, number), disk)
+    let disk = CutDisk::new(alloc, trial.base.bytes())?;
+    run(alloc, command, case, fails, disk)
 }
 
 /// The failure of a kind, with this number, that a run met.
@@ -135,8 +158,9 @@ fn met_by(kind: Kind, number: u64, ended: &Ended) -> Met {
 }
 
 /// Looks at a run, and at the images of what it left, each choice of candidates once.
-fn judge(
+fn judge<C: Command>(
     alloc: Global,
+    command: &C,
     counts: &mut Counts,
     trial: &Trial,
     undisturbed: &Ended,
@@ -151,17 +175,11 @@ fn judge(
     if trial.is_keyed && trial.made.is_none() {
         return Ok(());
     }
-    let text = ended.text.as_str();
-    let script = trial.script.as_str();
-    let images = match &trial.recovered {
-        Some(recovered) => recovered.images(alloc, script, text)?,
-        None => images_after(alloc, &trial.base, script, text)?,
-    };
     let mut tried: Vec<Vec<u32>> = Vec::new(alloc);
     for candidates in CHOICES {
-        let choice = choice_of(alloc, &ended.disk, candidates)?;
+        let choice = choice_from(alloc, ended.disk.last(), candidates)?;
         if !tried.contains(&choice) {
-            judge_choice(alloc, counts, trial, &images, ended, &choice)?;
+            judge_choice(alloc, command, counts, trial, ended, &choice)?;
             tried.push(choice)?;
         }
     }
@@ -169,27 +187,31 @@ fn judge(
 }
 
 /// Looks at an image of what a run left.
-fn judge_choice(
+fn judge_choice<C: Command>(
     alloc: Global,
+    command: &C,
     counts: &mut Counts,
     trial: &Trial,
-    images: &[Vec<u8>],
     ended: &Ended,
     choice: &[u32],
 ) -> Result<()> {
-    let mut image = image_of(alloc, &ended.disk.disk, choice)?;
-    let left = bytes_of(alloc, &mut image)?;
+    let Some(left) = ended.disk.image(alloc, choice)? else {
+        bail!("there was no memory for what is left");
+    };
     counts.images = counts.images.saturating_add(1);
+    let base = trial.base.bytes();
     if let Some(made) = &trial.made {
-        return Ok(judge_made(&trial.base, made, &left, ended.disk.seen.syncs > 0)?);
+        return Ok(judge_made(base, made, &left, ended.disk.seen.syncs > 0)?);
     }
+    let text = ended.text.as_str();
     if let Some(recovered) = &trial.recovered {
-        return judge_recovered(alloc, counts, recovered, images, ended, image, &left);
+        return judge_recovered(alloc, command, counts, recovered, base, &left, text);
     }
-    judge_left(alloc, images, &left)?;
+    judge_left(trial.images.left_by(text), &left)?;
     counts.runs = counts.runs.saturating_add(1);
-    let again = run(alloc, &trial.reads, Fails::NONE, image)?;
-    judge_reads(alloc, &trial.base, &trial.digests, &left, told_by(&again))?;
+    let disk = CutDisk::new(alloc, &left)?;
+    let again = run(alloc, command, &trial.reads, Fails::NONE, disk)?;
+    judge_reads(alloc, &trial.base, &left, told_by(&again))?;
     Ok(())
 }
 

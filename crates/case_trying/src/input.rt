@@ -1,17 +1,26 @@
 //! Runs the cases of a text.
 use crate::session::Session;
-use crate::telling::{Repeated, add, put_rows};
 use anyhow::{Context, Result, bail};
+use case_running::{Command, Repeated, add, put_rows};
 use case_text::{Block, blocks_of, case_of, cut, table_of};
 use std::alloc::Global;
 
-/// Runs the cases of a text, and tells what each shows.
-pub fn run_text(alloc: Global, session: &mut Session, text: &str) -> Result<String> {
+/// Runs the cases of a text by a command, and tells what each shows.
+///
+/// # Errors
+///
+/// A line is none of a case, or a case asks for what there is none of: the context tells the line.
+pub fn run_text<C: Command>(
+    alloc: Global,
+    command: &C,
+    session: &mut Session,
+    text: &str,
+) -> Result<String> {
     let blocks = blocks_of(alloc, text)?;
     let mut told = String::new(alloc);
     for block in &blocks {
         if block.is_case {
-            let shown = run_block(alloc, session, &blocks, block)?;
+            let shown = run_block(alloc, command, session, &blocks, block)?;
             told.push_str(shown.as_str())?;
         }
     }
@@ -19,22 +28,23 @@ pub fn run_text(alloc: Global, session: &mut Session, text: &str) -> Result<Stri
 }
 
 /// Runs a case, for each row of the table that it names, and tells what it shows.
-fn run_block(
+fn run_block<C: Command>(
     alloc: Global,
+    command: &C,
     session: &mut Session,
     blocks: &[Block],
     block: &Block,
 ) -> Result<String> {
     let mut rows = Vec::new(alloc);
     match table_of(blocks, block)? {
-        None => run_row(alloc, session, block, "", &mut rows)?,
+        None => run_row(alloc, command, session, block, "", &mut rows)?,
         Some(table) => {
             for row in &table.lines {
                 let (word, text) = cut(row.text.as_str());
                 if word != "row" {
                     bail!("line {}: it is no row", row.number);
                 }
-                run_row(alloc, session, block, text, &mut rows)?;
+                run_row(alloc, command, session, block, text, &mut rows)?;
             }
         }
     }
@@ -48,8 +58,9 @@ fn run_block(
 }
 
 /// Runs a case with a row's columns in their places.
-fn run_row(
+fn run_row<C: Command>(
     alloc: Global,
+    command: &C,
     session: &mut Session,
     block: &Block,
     row: &str,
@@ -58,7 +69,7 @@ fn run_row(
     let number = block.number;
     let case = case_of(alloc, block, row)?;
     let shown = session
-        .run_case(alloc, &case)
+        .run_case(alloc, command, &case)
         .context(format_args!("line {number}"))?;
     match &case.expected {
         None => add(alloc, rows, row, shown.as_str())?,

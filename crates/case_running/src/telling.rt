@@ -1,9 +1,9 @@
 //! What a run and a case show, as text.
-use crate::running::{Ended, run};
-use anyhow::Result;
-use case_disks::{bytes_of, image_left};
-use case_judging::run_at;
-use case_text::{Candidates, Case, Fails, Show};
+use crate::running::{Command, Ended, run};
+use anyhow::{Result, bail};
+use case_disks::choice_from;
+use case_text::{Candidates, Case, Fails, Piece, Show};
+use cut_disk::CutDisk;
 use sha2::{Digest, Sha256};
 use std::alloc::{AllocError, Global};
 
@@ -116,57 +116,82 @@ pub fn is_journaled(case: &Case) -> bool {
     is_run && case.words.iter().any(|word| word.as_str() == "J")
 }
 
-/// How a run has ended, and below it what the case shows.
-pub fn told_of(alloc: Global, case: &Case, ended: &Ended) -> Result<String> {
+/// How a run has ended, and below it what the case shows. A script of the case is run by the command too.
+pub fn told_of<C: Command>(
+    alloc: Global,
+    command: &C,
+    case: &Case,
+    ended: &Ended,
+) -> Result<String> {
     let mut told = outcome_of(alloc, ended)?;
     if ended.key_calls > 0 && !is_keyed(case) {
         told.push_str("\nthe key was touched")?;
     }
     for show in &case.shows {
         told.push_str("\n")?;
-        let line = shown(alloc, show, ended)?;
+        let line = shown(alloc, command, show, ended)?;
         told.push_str(line.as_str())?;
     }
     Ok(told)
 }
 
 /// What is shown of a run.
-fn shown(alloc: Global, show: &Show, ended: &Ended) -> Result<String> {
-    let mut image = image_left(alloc, &ended.disk, Candidates::Last)?;
-    let bytes = bytes_of(alloc, &mut image)?;
+fn shown<C: Command>(alloc: Global, command: &C, show: &Show, ended: &Ended) -> Result<String> {
     match show {
-        Show::Digest => {
-            let digest = hex::encode(alloc, Sha256::digest(&bytes))?;
-            Ok(format!(in alloc; "digest {digest}")?)
-        }
-        Show::Bytes(piece) => {
-            let (at, first) = (piece.at, piece.first);
-            let from = at.saturating_mul(512).saturating_add(first) as usize;
-            let run = hex::encode(alloc, run_at(&bytes, from, piece.count as usize))?;
-            Ok(format!(in alloc; "sector {at} from byte {first}: {run}")?)
-        }
+        Show::Digest => digest_told(alloc, ended.disk.bytes()),
+        Show::Bytes(piece) => piece_told(alloc, ended.disk.bytes(), *piece),
         Show::Writes => {
             let (writes, syncs) = (ended.disk.seen.writes, ended.disk.seen.syncs);
             Ok(format!(in alloc; "{writes} sectors written, {syncs} syncs")?)
         }
-        Show::Reopened { candidates, script } => reopened(alloc, ended, *candidates, script),
+        Show::Reopened { candidates, script } => {
+            let case = Case::new(alloc, script.clone()?)?;
+            let image = image_left(alloc, &ended.disk, *candidates)?;
+            let disk = CutDisk::new(alloc, &image)?;
+            let again = run(alloc, command, &case, Fails::NONE, disk)?;
+            reopened(alloc, *candidates, &again)
+        }
     }
 }
 
-/// How a script ends on an image of what is left.
-fn reopened(
-    alloc: Global,
-    ended: &Ended,
-    candidates: Candidates,
-    script: &Vec<u8>,
-) -> Result<String> {
+/// The SHA-256 of the bytes of a disk.
+fn digest_told(alloc: Global, bytes: &[u8]) -> Result<String> {
+    let digest = hex::encode(alloc, Sha256::digest(bytes))?;
+    Ok(format!(in alloc; "digest {digest}")?)
+}
+
+/// Some bytes of a disk, or none where it does not have so many.
+fn piece_told(alloc: Global, bytes: &[u8], piece: Piece) -> Result<String> {
+    let (at, first) = (piece.at, piece.first);
+    let from = at.saturating_mul(512).saturating_add(first) as usize;
+    let end = from.saturating_add(piece.count as usize);
+    let run = match bytes.get(from..end) {
+        Some(run) => run,
+        None => &[],
+    };
+    let run = hex::encode(alloc, run)?;
+    Ok(format!(in alloc; "sector {at} from byte {first}: {run}")?)
+}
+
+/// The bytes of an image of what is left on a disk.
+///
+/// # Errors
+///
+/// There is no memory for it, or there was none for what it is made of.
+pub fn image_left(alloc: Global, disk: &CutDisk, candidates: Candidates) -> Result<Vec<u8>> {
+    let choice = choice_from(alloc, disk.last(), candidates)?;
+    match disk.image(alloc, &choice)? {
+        Some(bytes) => Ok(bytes),
+        None => bail!("there was no memory for what is left"),
+    }
+}
+
+/// How a script has ended on an image of what is left.
+fn reopened(alloc: Global, candidates: Candidates, again: &Ended) -> Result<String> {
     let name = match candidates {
         Candidates::First => "first",
         _ => "last",
     };
-    let image = image_left(alloc, &ended.disk, candidates)?;
-    let case = Case::new(alloc, script.clone()?)?;
-    let again = run(alloc, &case, Fails::NONE, image)?;
-    let outcome = outcome_of(alloc, &again)?;
+    let outcome = outcome_of(alloc, again)?;
     Ok(format!(in alloc; "{name}: {outcome}")?)
 }

@@ -1,17 +1,30 @@
-//! Makes the program's call on objects in memory, where calls fail as a case wants it.
+//! Runs a command on objects in memory, where calls fail as a case wants it.
 use anyhow::{Result, bail};
-use case_disks::{WatchedDisk, WatchedFile, WatchedSink, WatchedSource};
+use case_disks::{WatchedFile, WatchedSink, WatchedSource};
 use case_text::{Case, Fails};
-use integrity_tool::integrity;
-use sector_disk::MemDisk;
+use cut_disk::CutDisk;
 use std::alloc::Global;
+
+/// A command that is run by its words.
+pub trait Command {
+    /// Runs it with these words on a disk, with a key and a script, and answers its status.
+    fn call(
+        &self,
+        alloc: Global,
+        words: &[String],
+        disk: &mut CutDisk,
+        key: &mut WatchedFile<'_>,
+        script: &mut WatchedSource<'_>,
+        out: &mut WatchedSink,
+    ) -> u8;
+}
 
 /// How a run has ended: its status, all that it has printed, and what was asked of its objects.
 #[derive(Drop)]
 pub struct Ended {
     pub status: u8,
     pub text: String,
-    pub disk: WatchedDisk,
+    pub disk: CutDisk,
     /// How many calls failed of the script's source, of the sink and of the key's source.
     pub source_failed: u64,
     pub sink_failed: u64,
@@ -20,15 +33,25 @@ pub struct Ended {
     pub key_calls: u64,
 }
 
-/// Runs the program's call on a disk, with what a case gives, where this fails.
-pub fn run(alloc: Global, case: &Case, fails: Fails, disk: MemDisk) -> Result<Ended> {
-    let mut disk = WatchedDisk::new(alloc, disk, fails)?;
+/// Runs a command on a disk, with what a case gives, where this fails.
+///
+/// # Errors
+///
+/// There is no memory, or what was printed is no UTF-8.
+pub fn run<C: Command>(
+    alloc: Global,
+    command: &C,
+    case: &Case,
+    fails: Fails,
+    mut disk: CutDisk,
+) -> Result<Ended> {
+    disk.watch(fails);
     let mut key = WatchedFile::new(&case.key, fails.key);
     let mut script = WatchedSource::new(&case.script, fails.source);
     let Ok(mut out) = WatchedSink::new(alloc, fails) else {
         bail!("there is no memory for a sink");
     };
-    let status = call(
+    let status = command.call(
         alloc,
         &case.words,
         &mut disk,
@@ -45,18 +68,6 @@ pub fn run(alloc: Global, case: &Case, fails: Fails, disk: MemDisk) -> Result<En
         key_failed: key.failed,
         key_calls: key.calls,
     })
-}
-
-/// Makes the program's call. It stands alone, so that no proof but its own sees its contract.
-fn call(
-    alloc: Global,
-    words: &[String],
-    disk: &mut WatchedDisk,
-    key: &mut WatchedFile<'_>,
-    script: &mut WatchedSource<'_>,
-    out: &mut WatchedSink,
-) -> u8 {
-    integrity(alloc, words, disk, key, script, out)
 }
 
 /// What was printed.

@@ -1,0 +1,181 @@
+//! Looks at what a run has left whose journal plays a part: by the blocks of each image with its journal, and by what
+//! later runs on the image read and leave.
+use crate::trying::Counts;
+use anyhow::{Result, bail};
+use case_judging::{
+    Images, Known, Told, Writes, has_empty_journal, is_same_outside_journal, is_small, judge_left,
+    judge_reads, reads, with_journal_placed,
+};
+use case_running::{Command, Ended, is_journaled, run};
+use case_text::{Case, Fails};
+use cut_disk::CutDisk;
+use std::alloc::Global;
+
+/// What runs of a case are judged by whose journal plays a part.
+#[derive(Drop)]
+pub struct Recovered {
+    /// The image that each run begins with, with its journal's entries in their places, and its tags.
+    base: Known,
+    judged: Judged,
+    /// Reads of all blocks, in journal mode and in direct mode.
+    journaled: Case,
+    direct: Case,
+}
+
+/// What is to be left of the blocks.
+#[derive(Drop)]
+enum Judged {
+    /// The journal is refused: the disk stays as it is.
+    Refused,
+    /// Those after some prefix of the writes, in journal mode.
+    Journaled(Writes),
+    /// Those of the images, in direct mode.
+    Direct(Images),
+}
+
+/// What runs of a case recover whose undisturbed run has printed a text, if the journal plays a part: the case is in
+/// journal mode, or runs on an image with a journal that is not empty.
+pub fn recovered_by<C: Command>(
+    alloc: Global,
+    command: &C,
+    case: &Case,
+    base: &[u8],
+    script: &str,
+    text: &str,
+) -> Result<Option<Recovered>> {
+    if !is_small(base) || (!is_journaled(case) && has_empty_journal(base)) {
+        return Ok(None);
+    }
+    let journaled = reads_in(alloc, "J")?;
+    let disk = CutDisk::new(alloc, base)?;
+    let opened = run(alloc, command, &journaled, Fails::NONE, disk)?;
+    let base = with_journal_placed(alloc, base)?;
+    let judged = if is_refused(&opened) {
+        Judged::Refused
+    } else {
+        judged_by(alloc, case, &base, script, text)?
+    };
+    Ok(Some(Recovered {
+        base: Known::new(alloc, base)?,
+        judged,
+        journaled,
+        direct: reads_in(alloc, "D")?,
+    }))
+}
+
+/// What the blocks are judged by that are left of a script.
+fn judged_by(alloc: Global, case: &Case, base: &[u8], script: &str, text: &str) -> Result<Judged> {
+    if is_journaled(case) {
+        return Ok(Judged::Journaled(Writes::of_script(alloc, script, text)?));
+    }
+    Ok(Judged::Direct(Images::of_script(alloc, base, script)?))
+}
+
+/// Whether a run has told that its image is refused.
+fn is_refused(ended: &Ended) -> bool {
+    ended.status == 3 && ended.text.as_str().starts_with("fault image ")
+}
+
+/// Reads of all blocks in a mode.
+fn reads_in(alloc: Global, mode: &str) -> Result<Case> {
+    let mut case = Case::new(alloc, reads(alloc)?)?;
+    if let Some(word) = case.words.last_mut() {
+        *word = mode.to_string(alloc)?;
+    }
+    Ok(case)
+}
+
+/// Looks at an image of what a run left that has printed a text. Its blocks, with the entries of its journal in their
+/// places, are those after a prefix of the writes, or in direct mode those of the images. A run in journal mode reads
+/// the same, and leaves them in their places. So does one in direct mode, of every fourth image, and it empties the
+/// journal.
+pub fn judge_recovered<C: Command>(
+    alloc: Global,
+    command: &C,
+    counts: &mut Counts,
+    recovered: &Recovered,
+    base: &[u8],
+    left: &[u8],
+    text: &str,
+) -> Result<()> {
+    let blocks = with_journal_placed(alloc, left)?;
+    match &recovered.judged {
+        Judged::Refused => {
+            return judge_refused(alloc, command, counts, recovered, base, left);
+        }
+        Judged::Journaled(writes) => {
+            writes.judge(alloc, recovered.base.bytes(), &blocks, text)?;
+        }
+        Judged::Direct(images) => judge_left(images.left_by(text), &blocks)?,
+    }
+    if counts.images % 4 != 0 {
+        let case = &recovered.journaled;
+        read_again(alloc, command, counts, recovered, case, left, &blocks)?;
+        return Ok(());
+    }
+    judge_both(alloc, command, counts, recovered, left, &blocks)
+}
+
+/// Reads all blocks of what is left in journal mode, and then in direct mode, which empties the journal.
+fn judge_both<C: Command>(
+    alloc: Global,
+    command: &C,
+    counts: &mut Counts,
+    recovered: &Recovered,
+    left: &[u8],
+    blocks: &[u8],
+) -> Result<()> {
+    let case = &recovered.journaled;
+    read_again(alloc, command, counts, recovered, case, left, blocks)?;
+    let case = &recovered.direct;
+    let after = read_again(alloc, command, counts, recovered, case, left, blocks)?;
+    if !has_empty_journal(after.disk.bytes()) {
+        bail!("direct mode has not emptied the journal");
+    }
+    Ok(())
+}
+
+/// Looks at what is left of an image whose journal is refused: it is as it was, and is refused again.
+fn judge_refused<C: Command>(
+    alloc: Global,
+    command: &C,
+    counts: &mut Counts,
+    recovered: &Recovered,
+    base: &[u8],
+    left: &[u8],
+) -> Result<()> {
+    if left != base {
+        bail!("an image that is refused has changed");
+    }
+    counts.runs = counts.runs.saturating_add(1);
+    let disk = CutDisk::new(alloc, left)?;
+    let again = run(alloc, command, &recovered.journaled, Fails::NONE, disk)?;
+    if !is_refused(&again) {
+        bail!("an image that was refused is opened");
+    }
+    Ok(())
+}
+
+/// Reads all blocks of what is left, and gives the run that does. The blocks are in their places behind it.
+fn read_again<C: Command>(
+    alloc: Global,
+    command: &C,
+    counts: &mut Counts,
+    recovered: &Recovered,
+    case: &Case,
+    image: &[u8],
+    blocks: &[u8],
+) -> Result<Ended> {
+    counts.runs = counts.runs.saturating_add(1);
+    let disk = CutDisk::new(alloc, image)?;
+    let again = run(alloc, command, case, Fails::NONE, disk)?;
+    let told = Told {
+        status: again.status,
+        text: again.text.as_str(),
+    };
+    judge_reads(alloc, &recovered.base, blocks, told)?;
+    if !is_same_outside_journal(again.disk.bytes(), blocks) {
+        bail!("a run on what is left does not bring it to its places");
+    }
+    Ok(again)
+}

@@ -1,0 +1,228 @@
+//! Runs the requests of an exercise, one by one, and counts what they are answered.
+ghost use Rattle.std.specs.Prelude.{◌≡◌, ◌≢◌, ◌+◌, ◌<◌, ◌≤◌, ◌^◌, ◌∷◌, [], Err, IfErr, IfOk, None, OnErr, OnOk, false};
+ghost use Rattle.command_model.specs.Exercise.{read_all};
+ghost use Rattle.command_model.specs.Workload.{workload_asks};
+ghost use Rattle.device_model.specs.Script.{AskLine};
+ghost use Rattle.device_core.specs.declared.condition.Condition.TheVariants.{Broken, Working};
+ghost use Rattle.integrity_device.specs.Device.{IsDevice, IsReady, Standing, mode_of};
+ghost use Rattle.device_run.specs.Run.{IsCutOff};
+ghost use Rattle.script_text.specs.Line.{ask_of};
+ghost use Rattle.script_session.specs.Meaning.{fault_on};
+ghost use Rattle.script_session.specs.Stop.{HasStopCause};
+ghost use Rattle.script_session.specs.Tickets.{AreInFlight, numbers_of};
+ghost use Rattle.workload.specs.Tally.{lines_in, no_tally};
+ghost use Rattle.device_exercise.specs.Exercising.{HasExercised, HasRunAsks, StaysWithin, events_of_asks};
+ghost use Rattle.device_exercise.specs.Exercising.{exercise_events, with_reply_of};
+
+use integrity_device::Device;
+use request_slots::Reply;
+use script_session::{Stop, Tickets, run_ask};
+use script_text::Ask;
+use sector_disk::Disk;
+use std::alloc::Global;
+use workload::{Tally, Workload};
+
+/// Runs `count` requests of the workload of a seed on a device that works and has no request in flight, one by one, and
+/// then a read of each block by itself, in order. It tells how many requests of the workload there were, and what all
+/// replies brought. Nothing is printed, and the device stays open.
+///
+/// # Errors
+///
+/// - `Disk`: the disk failed. The device is broken then.
+/// - `Memory`: there is none for a request. The first of what it does is done, and the device works.
+///
+/// Own: `docs/COMMANDS.md`, the exercise.
+pub fn exercise<'d, 'p, D: Disk>(
+    alloc: Global,
+    device: &mut Device<'d, 'p, D>,
+    seed: u64,
+    count: u64,
+) -> Result<Tally, Stop>
+    requires ready { IsReady device.old.condition device.old.parts
+        (D.identity device.old.disk.now) (D.moments device.old.disk.now) }
+    requires works { device.old.condition ≡ Working }
+    requires requests { device.old.parts.common.slots.slots ≡ [] }
+    requires number { device.old.parts.common.slots.submitted + count + device.old.parts.common.slots.blocks < 2 ^ 64 }
+
+    ensures ran { IfOk result (λ tally. (w : Standing)
+        → IsDevice w Working device.old.parts (D.moments device.old.disk.now)
+        → HasExercised w seed count tally device.new.parts
+        (D.moments device.old.disk.now) (D.moments device.new.disk.now)) }
+
+    ensures stopped { IfErr result (λ _. (w : Standing)
+        → IsDevice w Working device.old.parts (D.moments device.old.disk.now)
+        → IsCutOff w (exercise_events w seed count)
+        (D.moments device.old.disk.now) (D.moments device.new.disk.now)) }
+    ensures cause { HasStopCause (D.faults device.old.disk.now) (D.faults device.new.disk.now) result }
+
+    ensures works { result ≢ Err Stop.Disk → device.new.condition ≡ Working }
+    ensures broken { result ≡ Err Stop.Disk → device.new.condition ≡ Broken }
+    ensures ready { IsReady device.new.condition device.new.parts
+        (D.identity device.new.disk.now) (D.moments device.new.disk.now) }
+    ensures mode { mode_of device.new.parts.mode ≡ mode_of device.old.parts.mode }
+    ensures blocks { device.new.parts.common.slots.blocks ≡ device.old.parts.common.slots.blocks }
+    ensures block_size { device.new.parts.common.slots.block_size ≡ device.old.parts.common.slots.block_size }
+    ensures identity { D.identity device.new.disk.now ≡ D.identity device.old.disk.now }
+    ensures same_disk { device.new.disk.ghost_name ≡ device.old.disk.ghost_name }
+{
+    let mut tickets = Tickets::new(alloc);
+    let mut tally = run_workload(alloc, device, &mut tickets, seed, count)?;
+    read_blocks(alloc, device, &mut tickets, &mut tally)?;
+    Ok(tally)
+}
+
+/// Runs and counts `count` requests of the workload of a seed.
+///
+/// # Errors
+///
+/// - `Disk`: the disk failed. The device is broken then.
+/// - `Memory`: there is none for a request.
+fn run_workload<'d, 'p, D: Disk>(
+    alloc: Global,
+    device: &mut Device<'d, 'p, D>,
+    tickets: &mut Tickets,
+    seed: u64,
+    count: u64,
+) -> Result<Tally, Stop>
+    requires ready { IsReady device.old.condition device.old.parts
+        (D.identity device.old.disk.now) (D.moments device.old.disk.now) }
+    requires works { device.old.condition ≡ Working }
+    requires tickets { AreInFlight tickets.old device.old.parts.common.slots }
+    requires number { device.old.parts.common.slots.submitted + count < 2 ^ 64 }
+
+    ensures ran { IfOk result (λ tally. (w : Standing)
+        → IsDevice w Working device.old.parts (D.moments device.old.disk.now)
+        → HasRunAsks w (workload_asks count seed device.old.parts.common.slots.blocks)
+        (workload_asks count seed device.old.parts.common.slots.blocks) no_tally tally device.new.parts
+        (D.moments device.old.disk.now) (D.moments device.new.disk.now)) }
+    ensures faults { IfOk result (λ tally. tally.faults ≤ count) }
+
+    ensures stopped { OnErr result ((w : Standing)
+        → IsDevice w Working device.old.parts (D.moments device.old.disk.now)
+        → IsCutOff w (events_of_asks w (workload_asks count seed device.old.parts.common.slots.blocks))
+        (D.moments device.old.disk.now) (D.moments device.new.disk.now)) }
+    ensures cause { HasStopCause (D.faults device.old.disk.now) (D.faults device.new.disk.now) result }
+
+    ensures works { result ≢ Err Stop.Disk → device.new.condition ≡ Working }
+    ensures broken { result ≡ Err Stop.Disk → device.new.condition ≡ Broken }
+    ensures stays { StaysWithin count device.new.condition device.old.parts device.new.parts tickets.new
+        (D.identity device.old.disk.now) (D.identity device.new.disk.now) (D.moments device.new.disk.now) }
+    ensures same_disk { device.new.disk.ghost_name ≡ device.old.disk.ghost_name }
+{
+    let mut workload = Workload::new(seed, device.blocks());
+    let mut tally = Tally::new();
+    for _made in 0..count {
+        let ask = workload.next_ask();
+        tally.add_ask(&ask);
+        run_counted(alloc, device, tickets, &mut tally, &ask)?;
+    }
+    Ok(tally)
+}
+
+/// Reads each block by itself, in order, and adds what its reply brings.
+///
+/// # Errors
+///
+/// - `Disk`: the disk failed. The device is broken then.
+/// - `Memory`: there is none for a request.
+fn read_blocks<'d, 'p, D: Disk>(
+    alloc: Global,
+    device: &mut Device<'d, 'p, D>,
+    tickets: &mut Tickets,
+    tally: &mut Tally,
+) -> Result<(), Stop>
+    requires ready { IsReady device.old.condition device.old.parts
+        (D.identity device.old.disk.now) (D.moments device.old.disk.now) }
+    requires works { device.old.condition ≡ Working }
+    requires tickets { AreInFlight tickets.old device.old.parts.common.slots }
+    requires number { device.old.parts.common.slots.submitted + device.old.parts.common.slots.blocks < 2 ^ 64 }
+    requires faults { tally.old.faults + device.old.parts.common.slots.blocks < 2 ^ 64 }
+
+    ensures ran { OnOk result ((w : Standing)
+        → IsDevice w Working device.old.parts (D.moments device.old.disk.now)
+        → HasRunAsks w (read_all device.old.parts.common.slots.blocks) [] tally.old tally.new device.new.parts
+        (D.moments device.old.disk.now) (D.moments device.new.disk.now)) }
+
+    ensures stopped { OnErr result ((w : Standing)
+        → IsDevice w Working device.old.parts (D.moments device.old.disk.now)
+        → IsCutOff w (events_of_asks w (read_all device.old.parts.common.slots.blocks))
+        (D.moments device.old.disk.now) (D.moments device.new.disk.now)) }
+    ensures cause { HasStopCause (D.faults device.old.disk.now) (D.faults device.new.disk.now) result }
+
+    ensures works { result ≢ Err Stop.Disk → device.new.condition ≡ Working }
+    ensures broken { result ≡ Err Stop.Disk → device.new.condition ≡ Broken }
+    ensures stays { StaysWithin device.old.parts.common.slots.blocks device.new.condition device.old.parts
+        device.new.parts tickets.new (D.identity device.old.disk.now) (D.identity device.new.disk.now)
+        (D.moments device.new.disk.now) }
+    ensures same_disk { device.new.disk.ghost_name ≡ device.old.disk.ghost_name }
+{
+    let blocks = device.blocks();
+    for block in 0..blocks {
+        let ask = Ask::Read {
+            first: block,
+            count: 1,
+        };
+        run_counted(alloc, device, tickets, tally, &ask)?;
+    }
+    Ok(())
+}
+
+/// Runs a request, and adds what its reply brings.
+///
+/// # Errors
+///
+/// - `Disk`: the disk failed. The device is broken then.
+/// - `Memory`: there is none for the request.
+fn run_counted<'d, 'p, D: Disk>(
+    alloc: Global,
+    device: &mut Device<'d, 'p, D>,
+    tickets: &mut Tickets,
+    tally: &mut Tally,
+    ask: &Ask<'_>,
+) -> Result<(), Stop>
+    requires ready { IsReady device.old.condition device.old.parts
+        (D.identity device.old.disk.now) (D.moments device.old.disk.now) }
+    requires works { device.old.condition ≡ Working }
+    requires tickets { AreInFlight tickets.old device.old.parts.common.slots }
+    requires number { device.old.parts.common.slots.submitted + 1 < 2 ^ 64 }
+    requires faults { tally.old.faults + 1 < 2 ^ 64 }
+    requires runnable { fault_on device.old.parts.common.slots.blocks device.old.parts.common.slots.block_size
+        (numbers_of tickets.old) (AskLine false (ask_of ask.now)) ≡ None }
+
+    ensures ran { OnOk result ((w : Standing)
+        → IsDevice w Working device.old.parts (D.moments device.old.disk.now)
+        → HasRunAsks w (ask_of ask.now ∷ []) [] tally.old tally.new device.new.parts
+        (D.moments device.old.disk.now) (D.moments device.new.disk.now)) }
+
+    ensures stopped { OnErr result ((w : Standing)
+        → IsDevice w Working device.old.parts (D.moments device.old.disk.now)
+        → IsCutOff w (events_of_asks w (ask_of ask.now ∷ []))
+        (D.moments device.old.disk.now) (D.moments device.new.disk.now)) }
+    ensures cause { HasStopCause (D.faults device.old.disk.now) (D.faults device.new.disk.now) result }
+
+    ensures lines { lines_in tally.new ≡ lines_in tally.old }
+    ensures faults { tally.new.faults ≤ tally.old.faults + 1 }
+    ensures works { result ≢ Err Stop.Disk → device.new.condition ≡ Working }
+    ensures broken { result ≡ Err Stop.Disk → device.new.condition ≡ Broken }
+    ensures stays { StaysWithin 1 device.new.condition device.old.parts device.new.parts tickets.new
+        (D.identity device.old.disk.now) (D.identity device.new.disk.now) (D.moments device.new.disk.now) }
+    ensures same_disk { device.new.disk.ghost_name ≡ device.old.disk.ghost_name }
+{
+    let reply = run_ask(alloc, device, tickets, ask)?;
+    add_any(tally, &reply);
+    Ok(())
+}
+
+/// Adds what a reply brings, if there is one.
+fn add_any(tally: &mut Tally, reply: &Option<Reply>)
+    requires { tally.old.faults + 1 < 2 ^ 64 }
+
+    ensures added { tally.new ≡ with_reply_of reply.now tally.old }
+
+    ensures lines { lines_in tally.new ≡ lines_in tally.old }
+    ensures faults { tally.new.faults ≤ tally.old.faults + 1 }
+{
+    if let Some(reply) = reply {
+        tally.add_reply(reply);
+    }
+}

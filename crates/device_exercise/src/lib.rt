@@ -1,0 +1,11 @@
+//! An exercise of a device: the requests of a workload, and a read of each block, run one by one and counted.
+//!
+//! What an exercise is stands in `command_model`, `specs/Exercise.antt`; a contract says that a device does its events,
+//! and that the tally is its own (`specs/Exercising.antt`, the file to read first).
+#![tactic(auto)]
+
+mod exercising;
+#[cfg(test)]
+mod tests;
+
+pub use exercising::exercise;

@@ -1,0 +1,23 @@
+//! The program's one call, as the command of the cases.
+use case_disks::{WatchedFile, WatchedSink, WatchedSource};
+use case_running::Command;
+use cut_disk::CutDisk;
+use integrity_tool::integrity;
+use std::alloc::Global;
+
+/// The program's one call.
+pub struct Tool;
+
+impl Command for Tool {
+    fn call(
+        &self,
+        alloc: Global,
+        words: &[String],
+        disk: &mut CutDisk,
+        key: &mut WatchedFile<'_>,
+        script: &mut WatchedSource<'_>,
+        out: &mut WatchedSink,
+    ) -> u8 {
+        integrity(alloc, words, disk, key, script, out)
+    }
+}

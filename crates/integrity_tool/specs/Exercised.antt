@@ -1,0 +1,121 @@
+-- What came of an exercise on a device: what was counted, what is left, and what is printed.
+use Rattle.std.specs.Prelude.{◌≡◌, ◌⊎◌, ℕ, List, take, Option, None, Result, Ok, Err, IfErr}
+use Rattle.disk_model.specs.Disk.{Content, EachImage, last_image}
+use Rattle.disk_model.specs.Moments.{EachMoment, HasNow}
+use Rattle.device_model.specs.History.{Change, with_changes}
+use Rattle.device_model.specs.Mode.{Journal}
+use Rattle.device_model.specs.ScriptRun.{ScriptRun}
+use Rattle.place_model.specs.Kind.{CanOpenIn, kind_in}
+use Rattle.direct_laws.specs.MomentLaws.{IsLeftNow}
+use Rattle.integrity_device.specs.Device.{Standing, kind_of}
+use Rattle.integrity_device.specs.Opening.{opened_standing}
+use Rattle.device_run.specs.Run.{IsLeftWithin}
+use Rattle.device_run.specs.Writes.{WritesOnly}
+use Rattle.stream_io.specs.Stream.{AddsPrefix}
+use Rattle.script_session.specs.declared.stop.Stop.{Stop}
+use Rattle.script_session.specs.declared.stop.Stop.TheVariants as Stops
+use Rattle.script_session.specs.declared.tags_found.TagsFound.{TagsFound}
+use Rattle.script_session.specs.LineRun.{held_with}
+use Rattle.script_session.specs.Told.{finds_fault}
+use Rattle.command_ending.specs.declared.ended.Ended.{Ended}
+use Rattle.command_ending.specs.declared.ended.Ended.TheVariants as Endings
+use Rattle.command_model.specs.CommandRun.{IsLeftOfRun}
+use Rattle.command_model.specs.Exercise.{Tally, exercise_run, exercise_step, exercise_tally, exercise_text, finds_faults}
+use Rattle.integrity_tool.specs.Opening.{IsWrittenByRun}
+use Rattle.integrity_tool.specs.Outset.{geometry_on}
+
+-- ---- on a device
+
+-- All that an exercise does to the history of a device, its close included.
+abbrev pub exercise_changes : Standing → (count seed : ℕ) → List Change
+exercise_changes w count seed = (exercise_step w.format w.state count seed).changes
+
+-- All of it was done and counted, or some of the first.
+abbrev pub HasCounted : {E : Type 0} → Standing → (count seed : ℕ) → Result Tally E → List Change → Type 0
+HasCounted w count seed (Ok tally) changes =
+    (tally ≡ exercise_tally w.format w.state count seed) × (changes ≡ exercise_changes w count seed)
+HasCounted w count seed (Err ended) changes = (made : ℕ) × (changes ≡ take made (exercise_changes w count seed))
+
+-- An exercise on a device came so far, and so it is left; at each moment some of its first changes are made, and no
+-- sector is written but those that it may write.
+pub record IsExercised (w : Standing) (count seed : ℕ) (counted : Result Tally Stop) (before after : List Content)
+    : Type 0 where
+  pub changes : List Change
+  pub is_counted : HasCounted w count seed counted changes
+  pub since : EachMoment before after
+      (IsLeftWithin (kind_of w) w.entry w.state.history (exercise_changes w count seed))
+  pub writes : WritesOnly w.format.mode w.on.geometry (exercise_changes w count seed) before after
+  pub now : IsLeftNow (kind_of w) w.entry (with_changes changes w.state.history) after
+
+-- What was counted, or what ends a command whose exercise is stopped.
+abbrev pub ended_count : Result Tally Stop → Result Tally Ended
+ended_count (Ok tally) = Ok tally
+ended_count (Err Stops.Disk) = Err Endings.Disk
+ended_count (Err Stops.Memory) = Err Endings.Memory
+
+-- ---- on a new image
+
+-- The device that has been opened on an image that was made.
+abbrev pub new_standing : (sectors : ℕ) → (made : Content) → Standing
+new_standing sectors made = opened_standing Journal None sectors (last_image made)
+
+-- The run of the exercise on that.
+abbrev pub new_run : (sectors count seed : ℕ) → (made : Content) → ScriptRun
+new_run sectors count seed made =
+    let w = new_standing sectors made in exercise_run w.format w.state count seed
+
+-- What stands at a moment behind the making: some of the first changes are made, no sector is written but those that
+-- the run may write, and each image can be opened.
+pub record IsMomentOfNew (sectors count seed : ℕ) (made later : Content) : Type 0 where
+  pub done : ℕ
+  pub left : IsLeftOfRun (kind_in Journal None sectors) (last_image made) made
+      (take done (exercise_changes (new_standing sectors made) count seed)) later
+  pub written : IsWrittenByRun Journal (geometry_on sectors (last_image made)) (new_run sectors count seed made)
+      made later
+  pub opens : EachImage (CanOpenIn Journal None sectors) later
+
+-- The exercise came so far on the image that was made, and so it is left. What ended it, if something did, is the disk or
+-- want of memory: a new image is not refused.
+pub record IsExercisedOn (sectors count seed : ℕ) (made : Content) (counted : Result Tally Ended)
+    (before after : List Content) : Type 0 where
+  pub changes : List Change
+  pub is_counted : HasCounted (new_standing sectors made) count seed counted changes
+  pub ends : IfErr counted (λ ended. (ended ≡ Endings.Disk) ⊎ (ended ≡ Endings.Memory))
+  pub each : EachMoment before after (IsMomentOfNew sectors count seed made)
+  pub now : HasNow (IsLeftOfRun (kind_in Journal None sectors) (last_image made) made changes) after
+
+-- What ends it behind the making: the disk, or want of memory. Where the disk does not tell its content, it may be any
+-- end of an opening.
+abbrev pub EndsExercise : Ended → Type 0
+EndsExercise Endings.Words = ⊥
+EndsExercise (Endings.Key refusal) = ⊥
+EndsExercise (Endings.Line number refusal) = ⊥
+EndsExercise Endings.Length = ⊥
+EndsExercise (Endings.Image fault) = Unit {0}
+EndsExercise Endings.Disk = Unit {0}
+EndsExercise Endings.KeySource = ⊥
+EndsExercise Endings.Script = ⊥
+EndsExercise Endings.Sink = ⊥
+EndsExercise Endings.Memory = Unit {0}
+
+-- ---- its line
+
+-- The line of a tally is printed, or there was no memory for it, or the sink has taken a part of it.
+abbrev pub IsTallyTold : Tally → (held_before held : Option (List ℕ)) → Result TagsFound Ended → Type 0
+IsTallyTold tally held_before held (Ok found) =
+    (finds_fault found ≡ finds_faults tally) × (held ≡ held_with (exercise_text tally) held_before)
+IsTallyTold tally held_before held (Err ended) =
+    ((ended ≡ Endings.Memory) × (held ≡ held_before))
+    ⊎ ((ended ≡ Endings.Sink) × AddsPrefix (exercise_text tally) held_before held)
+
+-- What was counted is told, or what ended it ends the command, and nothing is printed.
+abbrev pub IsCountTold : Result Tally Ended → (held_before held : Option (List ℕ)) → Result TagsFound Ended → Type 0
+IsCountTold (Ok tally) held_before held result = IsTallyTold tally held_before held result
+IsCountTold (Err ended) held_before held result = (result ≡ Err ended) × (held ≡ held_before)
+
+-- The exercise came so far on the image that was made, and this is told of it.
+pub record IsExercisedTo (sectors count seed : ℕ) (made : Content) (result : Result TagsFound Ended)
+    (before after : List Content) (held_before held : Option (List ℕ)) : Type 0 where
+  pub counted : Result Tally Ended
+  pub exercised : IsExercisedOn sectors count seed made counted before after
+  pub told : IsCountTold counted held_before held result
