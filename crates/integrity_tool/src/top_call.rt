@@ -25,13 +25,14 @@ use stream_io::{NamedSource, Sink, Source};
 
 /// Does what the words say, and answers the status. The words are the program's name and then those of a command.
 ///
-/// The commands are `format IMAGE`, `dump IMAGE`, `check IMAGE`, and `run IMAGE --mode D` and `--mode J`. The key is bound
-/// and read, at most 4097 bytes of it, before the image is bound, and the script of a run only once the device is open.
+/// The commands are `format IMAGE`, `dump IMAGE`, `check IMAGE`, `run IMAGE --mode D` and `--mode J`, and
+/// `exercise IMAGE SEED COUNT`. The key is bound and read, at most 4097 bytes of it, before the image is bound, and the
+/// script of a run only once the device is open.
 ///
 /// # Statuses
 ///
-/// - 0: the command came to its end: the image is made, its lines are printed, or the script was run to its end and
-///   the device closed.
+/// - 0: the command came to its end: the image is made, its lines are printed, or the script or the exercise was run
+///   to its end and the device closed.
 /// - 1: it came to its end, and a reply that was taken, or a line of a check, names a block whose stored tag differs.
 /// - 2: the words are no command, the bytes of the key file no key, or the script is refused.
 /// - 3: the image is refused.
