@@ -1,5 +1,4 @@
 //! Disks in memory, and the images of what a run left.
-use crate::WatchedDisk;
 use anyhow::{Result, bail};
 use case_text::Candidates;
 use sector_disk::{Disk, Failed, MemDisk};
@@ -51,28 +50,6 @@ pub fn image_of(alloc: Global, disk: &MemDisk, choice: &[u32]) -> Result<MemDisk
     }
 }
 
-/// The last candidate of each sector of what a run left.
-fn last_candidates(left: &WatchedDisk) -> Result<Vec<u32>> {
-    let mut last = left.seen.added.clone()?;
-    let (at, count) = left.seen.torn;
-    // A write that failed has written some of its sectors from the front, or none.
-    for k in 0..count {
-        let before = last.clone()?;
-        if let Some(index) = last.get_mut(at.saturating_add(k) as usize) {
-            *index = index.saturating_add(1);
-        }
-        if !left.disk.has(&last) {
-            return Ok(before);
-        }
-    }
-    Ok(last)
-}
-
-/// A choice of candidates of what a run left.
-pub fn choice_of(alloc: Global, left: &WatchedDisk, candidates: Candidates) -> Result<Vec<u32>> {
-    choice_from(alloc, &last_candidates(left)?, candidates)
-}
-
 /// A choice of candidates, by the last one of each sector.
 pub fn choice_from(alloc: Global, last: &[u32], candidates: Candidates) -> Result<Vec<u32>> {
     let mut choice = Vec::new(alloc);
@@ -91,12 +68,6 @@ pub fn choice_from(alloc: Global, last: &[u32], candidates: Candidates) -> Resul
         })?;
     }
     Ok(choice)
-}
-
-/// An image of what a run left.
-pub fn image_left(alloc: Global, left: &WatchedDisk, candidates: Candidates) -> Result<MemDisk> {
-    let choice = choice_of(alloc, left, candidates)?;
-    image_of(alloc, &left.disk, &choice)
 }
 
 /// All bytes of a disk, as reads give them.

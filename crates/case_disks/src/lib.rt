@@ -4,5 +4,5 @@
 mod disks;
 mod watched;
 
-pub use disks::{bytes_of, choice_from, choice_of, copy_of, disk_of, image_left, image_of};
+pub use disks::{bytes_of, choice_from, copy_of, disk_of, image_of};
 pub use watched::{Seen, WatchedDisk, WatchedFile, WatchedSink, WatchedSource};

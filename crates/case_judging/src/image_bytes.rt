@@ -159,8 +159,8 @@ pub fn is_same_outside_journal(one: &[u8], other: &[u8]) -> bool {
 }
 
 /// A small image with the entries of its journal in their places, and zeros in place of the journal. This has one
-/// section, which counts only where all its sectors bear one commit number. An entry is the number of a block, the last 8 bytes of its data, and its tag; the
-/// first 504 bytes of its data stand in a sector of their own.
+/// section, which counts only where all its sectors bear one commit number. An entry is the number of a block, the
+/// last 8 bytes of its data, and its tag; the first 504 bytes of its data stand in a sector of their own.
 ///
 /// Source: Linux, drivers/md/dm-integrity.c, `struct journal_entry`, `replay_journal`, `access_journal_entry` and
 /// `access_journal_data`.

@@ -11,8 +11,8 @@ use std::alloc::Global;
 
 /// How many sectors of tags are held in memory.
 ///
-/// Own: half a mebibyte of them.
-const HELD_SECTORS: u64 = 1024;
+/// Own: 128 KiB of them.
+const HELD_SECTORS: u64 = 256;
 
 /// Where the journal begins, in sectors.
 ///

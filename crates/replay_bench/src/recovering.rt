@@ -16,7 +16,7 @@ use std::alloc::Global;
 use tag_store::{Tags, store_is_of_its_disk};
 
 /// How many sectors of tags are held in memory.
-const HELD_SECTORS: u64 = 1024;
+const HELD_SECTORS: u64 = 256;
 
 /// What the first sector of a disk tells.
 pub fn format_of<D: Disk>(disk: &mut D) -> Result<ImageFormat>
