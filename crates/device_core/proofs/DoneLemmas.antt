@@ -21,18 +21,18 @@ use Rattle.device_model.proofs.SubmissionLemmas.{get_or-blocks_in, length-blocks
 use Rattle.place_model.specs.Format.{DiskFormat, IsReadAs, format_on, tagger_of}
 use Rattle.place_model.specs.Opened.{blocks_of}
 use Rattle.place_model.specs.Kind.{placed_kind}
-use Rattle.device_laws.specs.EventLaws.{IsServed}
+use Rattle.direct_mode.specs.DeviceLawsEventLaws.{IsServed}
 use Rattle.direct_model.specs.DirectDisk.{DirectDisk}
 use Rattle.direct_model.specs.Steps.{after_flush, with_write}
-use Rattle.direct_laws.specs.CallLaws.{StandsThrough}
-use Rattle.direct_laws.specs.Device.{IsDirectDevice}
-use Rattle.direct_laws.specs.EventLaws.{after_block}
-use Rattle.direct_laws.specs.MomentLaws.{IsLeftNow}
-use Rattle.direct_laws.specs.ServeLaws.{KeepsDevice}
-use Rattle.direct_laws.proofs.CallLemmas.{any_awaiting_law, block_read_law, none_awaits_law, still_law}
-use Rattle.direct_laws.proofs.DeviceLemmas.{serving-works}
-use Rattle.direct_laws.proofs.EventLemmas.{held_law, served_law, serve_read_law, unserved_law}
-use Rattle.direct_laws.proofs.ServeLemmas.{failed_flush_law, failed_read_law, served_flush_law, served_kept_law}
+use Rattle.direct_mode.specs.CallLaws.{StandsThrough}
+use Rattle.direct_mode.specs.Device.{IsDirectDevice}
+use Rattle.direct_mode.specs.EventLaws.{after_block}
+use Rattle.direct_mode.specs.MomentLaws.{IsLeftNow}
+use Rattle.direct_mode.specs.ServeLaws.{KeepsDevice}
+use Rattle.direct_mode.proofs.CallLemmas.{any_awaiting_law, block_read_law, none_awaits_law, still_law}
+use Rattle.direct_mode.proofs.DeviceLemmas.{serving-works}
+use Rattle.direct_mode.proofs.EventLemmas.{held_law, served_law, serve_read_law, unserved_law}
+use Rattle.direct_mode.proofs.ServeLemmas.{failed_flush_law, failed_read_law, served_flush_law, served_kept_law}
 use Rattle.direct_mode.specs.Cells.{HasCells, KeepsDisk}
 use Rattle.direct_mode.specs.Serving as WriteModel
 use Rattle.direct_mode.specs.Serving.{HasFailed, HasServed, ServedWrite, WritesNext}

@@ -13,12 +13,12 @@ use Rattle.device_model.specs.Request as Asks
 use Rattle.device_model.specs.Submission as Submissions
 use Rattle.device_model.proofs.SubmissionLemmas.{result-working}
 use Rattle.place_model.specs.Opened.{device_format}
-use Rattle.direct_laws.specs.MomentLaws.{IsLeftNow, kind_of}
-use Rattle.direct_laws.specs.ServeLaws.{KeepsDevice}
-use Rattle.direct_laws.proofs.CallLemmas.{none_awaits_law}
-use Rattle.direct_laws.proofs.EventLemmas.{quiet_events_law, quiet_law, recalc_idle_law}
-use Rattle.direct_laws.proofs.ServeLemmas.{served_close_law, served_kept_law}
-use Rattle.direct_laws.specs.CallLaws.{StandsThrough}
+use Rattle.direct_mode.specs.MomentLaws.{IsLeftNow, kind_of}
+use Rattle.direct_mode.specs.ServeLaws.{KeepsDevice}
+use Rattle.direct_mode.proofs.CallLemmas.{none_awaits_law}
+use Rattle.direct_mode.proofs.EventLemmas.{quiet_events_law, quiet_law, recalc_idle_law}
+use Rattle.direct_mode.proofs.ServeLemmas.{served_close_law, served_kept_law}
+use Rattle.direct_mode.specs.CallLaws.{StandsThrough}
 use Rattle.direct_model.specs.Steps.{after_flush}
 use Rattle.direct_mode.specs.Cells.{HasCells}
 use Rattle.tag_store.specs.Store.{Store, given_tags}

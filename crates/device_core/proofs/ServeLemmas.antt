@@ -12,7 +12,7 @@ use Rattle.image_model.proofs.Regions.{blocks-low}
 use Rattle.image_model.proofs.TagLemmas.{length-tag_of}
 use Rattle.place_model.specs.Format.{tagger_of}
 use Rattle.direct_model.specs.Steps.{after_flush}
-use Rattle.direct_laws.specs.CallLaws.{StandsThrough}
+use Rattle.direct_mode.specs.CallLaws.{StandsThrough}
 use Rattle.direct_mode.specs.Cells.{HasCells, IsBlock, IsTaggedBlock, KeepsDisk}
 use Rattle.direct_mode.specs.Serving.{HasFailed, HasServed, ServedWrite, WritesNext}
 use Rattle.tag_store.specs.Store.{IsStore, given_tags}

@@ -9,7 +9,7 @@ use Rattle.device_model.specs.Progress as Model
 use Rattle.device_model.specs.Request as Asks
 use Rattle.device_model.specs.RequestLaws.{IsSerialReply}
 use Rattle.direct_model.specs.DirectDisk.{DirectDisk}
-use Rattle.direct_laws.specs.ServeLaws.{KeepsDevice}
+use Rattle.direct_mode.specs.ServeLaws.{KeepsDevice}
 use Rattle.direct_mode.specs.Places.{WritesPlaces}
 use Rattle.hmac_tag.specs.TagMaker.{TagRule}
 use Rattle.request_slots.specs.declared.reply.Reply.{Reply}

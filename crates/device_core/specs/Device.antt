@@ -8,8 +8,8 @@ use Rattle.device_model.specs.Mode.{DeviceFormat}
 use Rattle.device_model.specs.Progress as Model
 use Rattle.place_model.specs.Format.{DiskFormat, IsReadAs}
 use Rattle.direct_model.specs.DirectDisk.{DirectDisk}
-use Rattle.direct_laws.specs.Device.{IsDirectDevice}
-use Rattle.direct_laws.specs.MomentLaws.{HasBlocksOf, IsLeftNow, IsLeftThrough, kind_of}
+use Rattle.direct_mode.specs.Device.{IsDirectDevice}
+use Rattle.direct_mode.specs.MomentLaws.{HasBlocksOf, IsLeftNow, IsLeftThrough, kind_of}
 use Rattle.hmac_tag.specs.TagMaker.{TagRule}
 use Rattle.tag_store.specs.Store.{IsStore}
 use Rattle.direct_mode.specs.Cells.{HasCells}

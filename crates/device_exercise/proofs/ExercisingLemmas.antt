@@ -19,13 +19,13 @@ use Rattle.workload.proofs.RunnableLemmas.{read_runs, workload_runs}
 use Rattle.workload.proofs.WorkloadLemmas.{asks_ahead-next}
 use Rattle.device_core.specs.declared.condition.Condition.{Condition}
 use Rattle.device_core.specs.declared.condition.Condition.TheVariants as Conditions
-use Rattle.integrity_device.specs.declared.mode.DeviceParts.{DeviceParts}
-use Rattle.integrity_device.specs.declared.mode.Mode.{Mode}
-use Rattle.integrity_device.specs.declared.mode.Mode.TheVariants as Modes
-use Rattle.integrity_device.specs.Device.{IsDevice, IsReady, IsReadyIn, Standing}
+use Rattle.script_session.specs.DeviceParts.{DeviceParts}
+use Rattle.script_session.specs.Mode.{Mode}
+use Rattle.script_session.specs.Mode.TheVariants as Modes
+use Rattle.script_session.specs.Device.{IsDevice, IsReady, IsReadyIn, Standing}
 use Rattle.device_core.specs.declared.parts.Parts.{Parts}
-use Rattle.device_run.specs.Run.{HasRun, IsCutOff, standing_behind}
-use Rattle.device_run.proofs.RunLemmas.{cut_then, cut_wider, run_none, run_then}
+use Rattle.script_session.specs.Run.{HasRun, IsCutOff, standing_behind}
+use Rattle.script_session.proofs.RunLemmas.{cut_then, cut_wider, run_none, run_then}
 use Rattle.script_session.specs.declared.tickets.Tickets.{Tickets}
 use Rattle.script_session.specs.LineRun.{HasRunAsk, events_of}
 use Rattle.script_session.specs.Meaning.{ask_fault_on}

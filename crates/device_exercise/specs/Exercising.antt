@@ -10,9 +10,9 @@ use Rattle.request_slots.specs.InFlight.{as_reply}
 use Rattle.request_slots.specs.declared.reply.Reply.{Reply}
 use Rattle.workload.specs.Tally.{with_reply}
 use Rattle.device_core.specs.declared.condition.Condition.{Condition}
-use Rattle.integrity_device.specs.declared.mode.DeviceParts.{DeviceParts}
-use Rattle.integrity_device.specs.Device.{IsReady, Standing, mode_of}
-use Rattle.device_run.specs.Run.{HasRun}
+use Rattle.script_session.specs.DeviceParts.{DeviceParts}
+use Rattle.script_session.specs.Device.{IsReady, Standing, mode_of}
+use Rattle.script_session.specs.Run.{HasRun}
 use Rattle.script_session.specs.declared.tickets.Tickets.{Tickets}
 use Rattle.script_session.specs.Tickets.{AreInFlight}
 

@@ -2,13 +2,12 @@
 ghost use Rattle.std.specs.Prelude.{◌≡◌, ◌≤◌, []};
 ghost use Rattle.disk_model.specs.Identity.{IsBound};
 ghost use Rattle.device_core.specs.declared.condition.Condition.TheVariants.{Working};
-ghost use Rattle.integrity_device.specs.Device.{IsReady};
+ghost use Rattle.script_session.specs.Device.{IsReady};
 
 use crate::exercise;
 use hmac_tag::Hash;
 use image_formatting::{NewImage, Padding, Wipe, format};
-use integrity_device::{Device, OpenMode};
-use script_session::Stop;
+use script_session::{Device, OpenMode, Stop};
 use sector_disk::{Disk, MemDisk};
 use sector_pool::Region;
 use std::alloc::Global;

@@ -30,11 +30,11 @@ use Rattle.journal_model.specs.Ring.{JournalRing, entries_of, next_batch, with_c
 use Rattle.journal_ring.specs.Batch.{WritesBatch}
 use Rattle.journal_ring.specs.Places.{entry_of}
 use Rattle.tag_store.specs.Store.{HoldsTag, IsMarkedTags, IsOutForTag, Store}
-use Rattle.place_writer.specs.Moves.{WritesEntry}
-use Rattle.place_writer.specs.Placement.{placed_in}
-use Rattle.journal_mode.specs.Closing.{WritesAll, WritesEntries, entries_to_place}
-use Rattle.journal_mode.specs.Commits.{WritesBatches, after_batch_of}
-use Rattle.journal_mode.specs.Journal.{PlacedRing, after_put, sections_of}
+use Rattle.integrity_device.specs.Moves.{WritesEntry}
+use Rattle.integrity_device.specs.Placement.{placed_in}
+use Rattle.integrity_device.specs.Closing.{WritesAll, WritesEntries, entries_to_place}
+use Rattle.integrity_device.specs.Commits.{WritesBatches, after_batch_of}
+use Rattle.integrity_device.specs.Journal.{PlacedRing, after_put, sections_of}
 use Rattle.request_slots.specs.Flight.{is_in_flight, turn_of}
 use Rattle.request_slots.specs.declared.turn.Turn.{Turn}
 use Rattle.request_slots.specs.declared.turn.Turn.TheVariants as Turns
@@ -45,16 +45,16 @@ use Rattle.device_core.specs.declared.parts.Parts.{Parts}
 use Rattle.device_core.specs.Answers.{IsWrittenNext, actor_of}
 use Rattle.device_core.specs.Device as InDirect
 use Rattle.device_core.proofs.DoneLemmas.{next_of_ticket}
-use Rattle.journal_device.specs.Answers.{WritesAs, WritesFor}
-use Rattle.journal_device.specs.Device.{standing_of}
-use Rattle.journal_device.proofs.DoneLemmas.{stands_now}
-use Rattle.journal_mode.specs.Standing.{StandsAs}
+use Rattle.integrity_device.specs.JournalDeviceAnswers.{WritesAs, WritesFor}
+use Rattle.integrity_device.specs.JournalDeviceDevice.{standing_of}
+use Rattle.integrity_device.proofs.DoneLemmas.{stands_now}
+use Rattle.integrity_device.specs.Standing.{StandsAs}
 use Rattle.integrity_device.specs.declared.mode.Mode.{Mode}
 use Rattle.integrity_device.specs.declared.mode.Mode.TheVariants.{Direct, Journal}
 use Rattle.integrity_device.specs.Answers.{WritesInClose, WritesInServe, WritesInStep}
 use Rattle.integrity_device.specs.Device.{IsDeviceIn, IsJournaled, Standing, direct_standing, journal_standing}
 use Rattle.integrity_device.proofs.ModeLemmas.{own_direct, own_journaled}
-use Rattle.replay.specs.Writes.{IsOfPlacing}
+use Rattle.integrity_device.specs.Writes.{IsOfPlacing}
 use Rattle.device_run.specs.Writes.{IsAnyBlock, IsInJournal, IsOfRun, WritesOnly, WritesOnlyOf}
 use Rattle.device_run.proofs.WritesLemmas.{WritesOnly-kept, WritesOnly-left}
 

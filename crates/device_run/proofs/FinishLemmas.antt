@@ -11,9 +11,9 @@ use Rattle.device_model.proofs.EventLemmas.{IsServing-reached}
 use Rattle.device_model.proofs.FinishLemmas.{whole_finish-turn}
 use Rattle.device_model.proofs.ScriptLemmas.{answers-append, last_answer-push}
 use Rattle.device_model.proofs.SubmissionLemmas.{result-working}
-use Rattle.journal_device.specs.declared.served.Served.{Served}
-use Rattle.journal_device.specs.declared.served.Served.TheVariants as Serves
-use Rattle.journal_device.specs.Answers.{served_answer}
+use Rattle.integrity_device.specs.Served.{Served}
+use Rattle.integrity_device.specs.Served.TheVariants as Serves
+use Rattle.integrity_device.specs.JournalDeviceAnswers.{served_answer}
 
 -- ---- a turn
 

@@ -1,3 +1,4 @@
+pub use Rattle.integrity_device.proofs.ModeLemmas
 pub mod WritesLemmas
 pub mod RunLemmas
 pub mod EventWritesLemmas

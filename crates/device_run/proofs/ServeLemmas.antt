@@ -12,9 +12,9 @@ use Rattle.device_core.specs.declared.answers.StepFault.TheVariants as Faults
 use Rattle.device_core.specs.declared.condition.Condition.{Condition}
 use Rattle.device_core.specs.declared.condition.Condition.TheVariants as Conditions
 use Rattle.device_core.proofs.TurnLemmas.{IsPlaced, placed}
-use Rattle.journal_device.specs.declared.served.Served.{Served}
-use Rattle.journal_device.specs.declared.served.Served.TheVariants as Serves
-use Rattle.journal_device.specs.Answers.{served_answer}
+use Rattle.integrity_device.specs.Served.{Served}
+use Rattle.integrity_device.specs.Served.TheVariants as Serves
+use Rattle.integrity_device.specs.JournalDeviceAnswers.{served_answer}
 use Rattle.integrity_device.specs.declared.mode.DeviceParts.{DeviceParts}
 use Rattle.integrity_device.specs.Answers.{Answers, HasDone, HasServed, WritesInServe}
 use Rattle.integrity_device.specs.Device.{IsDevice, Standing}

@@ -1,3 +1,12 @@
+pub use Rattle.integrity_device.specs.Answers
+pub use Rattle.integrity_device.specs.Device
+pub use Rattle.integrity_device.specs.DirectOpeningOpening
+pub use Rattle.integrity_device.specs.JournalDeviceAnswers
+pub use Rattle.integrity_device.specs.Opening
+pub use Rattle.integrity_device.specs.Served
+pub use Rattle.integrity_device.specs.declared.mode.DeviceParts
+pub use Rattle.integrity_device.specs.declared.mode.Mode
+pub use Rattle.integrity_device.specs.declared.opening.OpenMode
 pub mod Calls
 pub mod Run
 pub mod Writes

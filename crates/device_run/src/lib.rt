@@ -8,5 +8,6 @@ mod stepping;
 #[cfg(test)]
 mod tests;
 
+pub use integrity_device::{Device, OpenMode, Refused, Served};
 pub use serving::{finish, serve, serve_with_room};
 pub use stepping::{make_room, step, step_until_idle};

@@ -6,14 +6,12 @@ ghost use Rattle.device_core.specs.Answers.{turns_left};
 ghost use Rattle.device_model.specs.Progress.{Serve, answers};
 ghost use Rattle.device_model.specs.Script.{last_answer, turn_events, whole_finish};
 ghost use Rattle.request_slots.specs.Flight.{is_in_flight};
-ghost use Rattle.journal_device.specs.Answers.{served_answer};
-ghost use Rattle.integrity_device.specs.Answers.{Answers};
+ghost use Rattle.integrity_device.specs.Answers.{Answers, served_answer};
 ghost use Rattle.integrity_device.specs.Device.{IsDevice, IsReady, Standing};
 ghost use Rattle.device_run.specs.Calls.{Runs};
 
 use crate::make_room;
-use integrity_device::Device;
-use journal_device::Served;
+use integrity_device::{Device, Served};
 use request_slots::Ticket;
 use sector_disk::{Disk, Failed};
 

@@ -1,3 +1,4 @@
+pub use Rattle.device_laws.specs.EventLaws as DeviceLawsEventLaws
 pub mod Device
 pub mod EventLaws
 pub mod ReadLaws

@@ -2,7 +2,7 @@
 use Rattle.std.proofs.Common.{ℕ, refl, arith, List, [], ◌∷◌, replicate}
 use Rattle.disk_model.specs.Disk.{Content}
 use Rattle.disk_model.proofs.DiskLemmas.{OnlyAdds-none, only_candidate}
-use Rattle.device_model.specs.History.{BlockWrite}
+use Rattle.place_model.specs.History.{BlockWrite}
 use Rattle.place_model.specs.Blocks.{IsBlockWrite}
 use Rattle.place_model.proofs.WorkedDisk.{journal_format, fresh_journal, zeros_journal, replayed_entries-fresh, OpensAs-journal, IsReadAs-zeros, HasWholeSectors-journal, HasWholeSectors-zeros}
 use Rattle.direct_model.specs.DirectDisk.{DirectDisk, StandsFor, cell_now}

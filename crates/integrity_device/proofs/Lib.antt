@@ -1,3 +1,4 @@
+pub use Rattle.journal_device.proofs.DoneLemmas
 pub mod EmptiedLemmas
 pub mod ModeLemmas
 pub mod RequestLemmas

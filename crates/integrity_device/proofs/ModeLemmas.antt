@@ -14,13 +14,13 @@ use Rattle.place_model.specs.Kind.{kind_in, placed_kind}
 use Rattle.request_slots.specs.InFlight.{IsFlightOf}
 use Rattle.place_model.proofs.FormatLemmas.{reads_tells}
 use Rattle.direct_mode.specs.Places.{IsOfPlaces}
-use Rattle.replay.specs.Emptied.{HasEmptyJournal}
+use Rattle.direct_opening.specs.Emptied.{HasEmptyJournal}
 use Rattle.device_core.specs.declared.condition.Condition.{Condition}
 use Rattle.device_core.specs.declared.condition.Condition.TheVariants.{Broken, Working}
 use Rattle.device_core.specs.declared.parts.Parts.{Parts}
 use Rattle.device_core.specs.Answers as InDirect
 use Rattle.device_core.specs.Device as DirectDevice
-use Rattle.journal_mode.specs.Journal.{PlacedRing}
+use Rattle.journal_device.specs.Journal.{PlacedRing}
 use Rattle.journal_device.specs.Answers as InJournal
 use Rattle.journal_device.specs.Device as JournalDevice
 use Rattle.integrity_device.specs.declared.mode.Mode.{Mode}

@@ -11,7 +11,7 @@ use Rattle.opening_fault.specs.declared.opening_fault.OpeningFault.{OpeningFault
 use Rattle.opening_fault.specs.declared.opening_fault.OpeningFault.TheVariants as Faults
 use Rattle.opening_fault.specs.Faults.{ByFormat, fault_in, fault_of}
 use Rattle.opening_fault.proofs.FaultsLemmas.{fault_in-err}
-use Rattle.journal_opening.specs.Opening.{IsOfOpening, OnlySyncs}
+use Rattle.journal_device.specs.JournalOpeningOpening.{IsOfOpening, OnlySyncs}
 use Rattle.device_core.specs.declared.parts.Parts.{Parts}
 use Rattle.direct_opening.specs.Opening as InDirect
 use Rattle.direct_opening.specs.Opening.{WritesEmptying}

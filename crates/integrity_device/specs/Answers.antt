@@ -23,11 +23,12 @@ use Rattle.device_core.specs.declared.condition.Condition.{Condition}
 use Rattle.device_core.specs.declared.parts.Parts.{Parts}
 use Rattle.device_core.specs.Answers.{IsTaken, IsWrittenNext, answer_by, event_by, moved_answer, submit_fault}
 use Rattle.device_core.specs.Device.{KeepsFlight}
-use Rattle.journal_mode.specs.Closing.{WritesAll}
+use Rattle.journal_device.specs.Closing.{WritesAll}
 use Rattle.journal_device.specs.declared.served.Served.{Served}
 use Rattle.journal_device.specs.declared.served.Served.TheVariants as Serves
 use Rattle.journal_device.specs.Answers as InJournal
-use Rattle.journal_device.specs.Answers.{WritesAs, WritesFor, served_answer}
+use Rattle.journal_device.specs.Answers.{WritesAs, WritesFor}
+pub use Rattle.journal_device.specs.Answers.{served_answer}
 use Rattle.integrity_device.specs.declared.mode.DeviceParts.{DeviceParts}
 use Rattle.integrity_device.specs.declared.mode.Mode.{Mode}
 use Rattle.integrity_device.specs.declared.mode.Mode.TheVariants.{Direct, Journal}

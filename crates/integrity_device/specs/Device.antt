@@ -14,8 +14,8 @@ use Rattle.request_slots.specs.Flight.{Flight}
 use Rattle.device_core.specs.declared.condition.Condition.{Condition}
 use Rattle.device_core.specs.declared.parts.Parts.{Parts}
 use Rattle.device_core.specs.Device as InDirect
-use Rattle.replay.specs.Emptied.{HasEmptyJournal}
-use Rattle.journal_mode.specs.Journal.{PlacedRing}
+use Rattle.direct_opening.specs.Emptied.{HasEmptyJournal}
+use Rattle.journal_device.specs.Journal.{PlacedRing}
 use Rattle.journal_device.specs.Device as InJournal
 use Rattle.integrity_device.specs.declared.mode.DeviceParts.{DeviceParts}
 use Rattle.integrity_device.specs.declared.mode.Mode.{Mode}

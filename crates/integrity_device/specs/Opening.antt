@@ -11,7 +11,7 @@ use Rattle.image_opening.specs.declared.open_fault.OpenFault.{OpenFault as Forma
 use Rattle.opening_fault.specs.declared.opening_fault.OpeningFault.{OpeningFault}
 use Rattle.opening_fault.specs.declared.opening_fault.OpeningFault.TheVariants as Faults
 use Rattle.opening_fault.specs.Faults.{ByFormat, fault_in, fault_of}
-use Rattle.journal_opening.specs.Opening.{IsOfOpening, KeepsRefused, OnlySyncs}
+use Rattle.journal_device.specs.JournalOpeningOpening.{IsOfOpening, KeepsRefused, OnlySyncs}
 use Rattle.direct_opening.specs.Opening.{WritesEmptying}
 use Rattle.request_slots.specs.Flight.{no_requests}
 use Rattle.device_core.specs.declared.condition.Condition.TheVariants.{Working}

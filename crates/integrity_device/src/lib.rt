@@ -17,6 +17,7 @@ mod submitting;
 mod tests;
 
 pub use device::Device;
+pub use journal_device::Served;
 pub use mode::{DeviceParts, Mode};
 pub use opening::OpenMode;
 pub use refused::Refused;

@@ -1,7 +1,7 @@
 //! What a device keeps beside its disk.
 
 use device_core::Parts;
-use journal_mode::Journal;
+use journal_device::Journal;
 
 /// What a device keeps for its mode.
 #[derive(Drop)]

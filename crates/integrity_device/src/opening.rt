@@ -8,8 +8,7 @@ ghost use Rattle.integrity_device.specs.Opening.{HasOpened, IsRefused, LeavesOpe
 use crate::{DeviceParts, Mode};
 use direct_opening::open_direct;
 use hmac_tag::Hash;
-use journal_device::{OpenedDevice, device_of, opened_journals_are_devices};
-use journal_opening::open_journal;
+use journal_device::{OpenedDevice, device_of, open_journal, opened_journals_are_devices};
 use opening_fault::OpeningFault;
 use sector_disk::Disk;
 use sector_pool::Region;

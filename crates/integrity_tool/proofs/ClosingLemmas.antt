@@ -27,13 +27,13 @@ use Rattle.device_core.specs.declared.answers.StepFault.{StepFault}
 use Rattle.device_core.specs.declared.answers.StepFault.TheVariants as faults
 use Rattle.script_session.specs.declared.tags_found.TagsFound.{TagsFound}
 use Rattle.script_session.specs.Told.{finds_fault}
-use Rattle.integrity_device.specs.declared.mode.DeviceParts.{DeviceParts}
-use Rattle.integrity_device.specs.Answers.{HasEnded, WritesInClose}
-use Rattle.integrity_device.specs.Device.{IsDevice, Standing, kind_of}
-use Rattle.device_run.specs.Run.{IsLeftWithin}
-use Rattle.device_run.specs.Writes.{WritesOnly}
-use Rattle.device_run.proofs.EventWritesLemmas.{close_writes}
-use Rattle.device_run.proofs.RunLemmas.{EachMoment-both, left-wider}
+use Rattle.script_session.specs.DeviceParts.{DeviceParts}
+use Rattle.script_session.specs.Answers.{HasEnded, WritesInClose}
+use Rattle.script_session.specs.Device.{IsDevice, Standing, kind_of}
+use Rattle.script_session.specs.Run.{IsLeftWithin}
+use Rattle.script_session.specs.Writes.{WritesOnly}
+use Rattle.script_session.proofs.EventWritesLemmas.{close_writes}
+use Rattle.script_session.proofs.RunLemmas.{EachMoment-both, left-wider}
 use Rattle.script_session.specs.LineRun.{held_with}
 use Rattle.command_ending.specs.declared.ended.Ended.{Ended}
 use Rattle.command_ending.specs.declared.ended.Ended.TheVariants as Endings

@@ -33,15 +33,15 @@ use Rattle.opening_fault.specs.FaultLaws.{OpensLaw}
 use Rattle.opening_fault.specs.Faults.{fault_in}
 use Rattle.journal_opening.proofs.MomentsLemmas.{each_from}
 use Rattle.script_text.proofs.ScriptRunLemmas.{came_into, run_is_whole}
-use Rattle.integrity_device.specs.declared.mode.DeviceParts.{DeviceParts}
-use Rattle.integrity_device.specs.declared.opening.OpenMode.TheVariants as OpenModes
-use Rattle.integrity_device.specs.Answers.{HasEnded}
-use Rattle.integrity_device.specs.Device.{Standing, kind_of}
-use Rattle.integrity_device.specs.Opening.{IsRefused, LeavesOpening}
-use Rattle.device_run.specs.Run.{HasRun, IsLeftWithin, standing_behind}
-use Rattle.device_run.specs.Writes.{IsOfRun, WritesOnly}
-use Rattle.device_run.proofs.RunLemmas.{EachMoment-both, left-behind, left-wider}
-use Rattle.device_run.proofs.WritesLemmas.{WritesOnly-left, WritesOnly-then}
+use Rattle.script_session.specs.DeviceParts.{DeviceParts}
+use Rattle.script_session.specs.OpenMode.TheVariants as OpenModes
+use Rattle.script_session.specs.Answers.{HasEnded}
+use Rattle.script_session.specs.Device.{Standing, kind_of}
+use Rattle.script_session.specs.Opening.{IsRefused, LeavesOpening}
+use Rattle.script_session.specs.Run.{HasRun, IsLeftWithin, standing_behind}
+use Rattle.script_session.specs.Writes.{IsOfRun, WritesOnly}
+use Rattle.script_session.proofs.RunLemmas.{EachMoment-both, left-behind, left-wider}
+use Rattle.script_session.proofs.WritesLemmas.{WritesOnly-left, WritesOnly-then}
 use Rattle.device_exercise.specs.Exercising.{exercise_events}
 use Rattle.script_session.specs.declared.stop.Stop.{Stop}
 use Rattle.script_session.specs.declared.stop.Stop.TheVariants as Stops

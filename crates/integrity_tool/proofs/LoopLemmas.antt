@@ -23,9 +23,9 @@ use Rattle.script_reader.specs.Lines.{FindsEnd, FindsWholeLine}
 use Rattle.script_reader.specs.Reading.{HasNoNewline, IsWithin, Reading, TakesLine, most_piece}
 use Rattle.script_reader.proofs.LinesLemmas.{is_too_long-script, lines_left-script}
 use Rattle.device_core.specs.declared.condition.Condition.TheVariants as Conditions
-use Rattle.integrity_device.specs.declared.mode.DeviceParts.{DeviceParts}
-use Rattle.integrity_device.specs.Device.{IsDevice, Standing}
-use Rattle.device_run.specs.Run.{standing_behind}
+use Rattle.script_session.specs.DeviceParts.{DeviceParts}
+use Rattle.script_session.specs.Device.{IsDevice, Standing}
+use Rattle.script_session.specs.Run.{standing_behind}
 use Rattle.script_session.specs.declared.tags_found.TagsFound.{TagsFound}
 use Rattle.script_session.specs.declared.tags_found.TagsFound.TheVariants.{Matching}
 use Rattle.request_slots.specs.Flight.{Flight, ask_of}

@@ -17,12 +17,12 @@ use Rattle.opening_fault.specs.declared.opening_fault.OpeningFault.TheVariants a
 use Rattle.opening_fault.specs.FaultLaws.{OpensLaw}
 use Rattle.opening_fault.specs.Faults.{ImageFault, fault_in, fault_of}
 use Rattle.journal_opening.proofs.MomentsLemmas.{each_from}
-use Rattle.integrity_device.specs.declared.mode.DeviceParts.{DeviceParts}
-use Rattle.integrity_device.specs.declared.opening.OpenMode.{OpenMode}
-use Rattle.integrity_device.specs.declared.opening.OpenMode.TheVariants.{Direct, Journal}
-use Rattle.integrity_device.specs.Opening.{IsRefused, LeavesOpening, WritesInOpening, asked_mode, opened_standing}
-use Rattle.device_run.specs.Writes.{IsOfRun}
-use Rattle.device_run.proofs.RunLemmas.{EachMoment-both}
+use Rattle.script_session.specs.DeviceParts.{DeviceParts}
+use Rattle.script_session.specs.OpenMode.{OpenMode}
+use Rattle.script_session.specs.OpenMode.TheVariants.{Direct, Journal}
+use Rattle.script_session.specs.Opening.{IsRefused, LeavesOpening, WritesInOpening, asked_mode, opened_standing}
+use Rattle.script_session.specs.Writes.{IsOfRun}
+use Rattle.script_session.proofs.RunLemmas.{EachMoment-both}
 use Rattle.command_ending.specs.Ended.{ending_of}
 use Rattle.command_model.specs.CommandRun.{Outset, RunsOn, IsRunAt, MayBeLeftAt}
 use Rattle.integrity_tool.specs.Opening.{HasReadIn, HasRunOn, IsMomentOn, IsOfOpeningIn, IsOpenedTo, WritesOnlyBy}

@@ -27,13 +27,13 @@ use Rattle.script_text.proofs.ScriptRunLemmas.{came_further, came_into, came_int
 use Rattle.script_text.proofs.ScriptRunLemmas.{run_is_split, run_is_whole}
 use Rattle.device_core.specs.declared.condition.Condition.{Condition}
 use Rattle.device_core.specs.declared.condition.Condition.TheVariants.{Working}
-use Rattle.integrity_device.specs.declared.mode.DeviceParts.{DeviceParts}
-use Rattle.integrity_device.specs.Device.{IsDevice, Standing, kind_of}
-use Rattle.integrity_device.proofs.ModeLemmas.{left_now}
-use Rattle.device_run.specs.Run.{IsLeftWithin, standing_behind}
-use Rattle.device_run.specs.Writes.{WritesOnly}
-use Rattle.device_run.proofs.RunLemmas.{left-behind, left-wider}
-use Rattle.device_run.proofs.WritesLemmas.{WritesOnly-left, WritesOnly-then}
+use Rattle.script_session.specs.DeviceParts.{DeviceParts}
+use Rattle.script_session.specs.Device.{IsDevice, Standing, kind_of}
+use Rattle.script_session.proofs.ModeLemmas.{left_now}
+use Rattle.script_session.specs.Run.{IsLeftWithin, standing_behind}
+use Rattle.script_session.specs.Writes.{WritesOnly}
+use Rattle.script_session.proofs.RunLemmas.{left-behind, left-wider}
+use Rattle.script_session.proofs.WritesLemmas.{WritesOnly-left, WritesOnly-then}
 use Rattle.script_session.specs.declared.tags_found.TagsFound.{TagsFound}
 use Rattle.script_session.specs.declared.line_end.LineEnd.{LineEnd}
 use Rattle.script_session.specs.declared.line_end.LineEnd.TheVariants as Ends

@@ -7,10 +7,10 @@ use Rattle.device_model.specs.Mode.{Journal}
 use Rattle.device_model.specs.ScriptRun.{ScriptRun}
 use Rattle.place_model.specs.Kind.{CanOpenIn, kind_in}
 use Rattle.direct_laws.specs.MomentLaws.{IsLeftNow}
-use Rattle.integrity_device.specs.Device.{Standing, kind_of}
-use Rattle.integrity_device.specs.Opening.{opened_standing}
-use Rattle.device_run.specs.Run.{IsLeftWithin}
-use Rattle.device_run.specs.Writes.{WritesOnly}
+use Rattle.script_session.specs.Device.{Standing, kind_of}
+use Rattle.script_session.specs.Opening.{opened_standing}
+use Rattle.script_session.specs.Run.{IsLeftWithin}
+use Rattle.script_session.specs.Writes.{WritesOnly}
 use Rattle.stream_io.specs.Stream.{AddsPrefix}
 use Rattle.script_session.specs.declared.stop.Stop.{Stop}
 use Rattle.script_session.specs.declared.stop.Stop.TheVariants as Stops

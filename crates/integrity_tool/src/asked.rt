@@ -12,7 +12,7 @@ use command_words::{
 };
 use image_check::What;
 use image_formatting::NewImage;
-use integrity_device::OpenMode;
+use script_session::OpenMode;
 use std::alloc::Global;
 
 /// What the words ask for.

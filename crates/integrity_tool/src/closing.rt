@@ -2,13 +2,12 @@
 ghost use Rattle.std.specs.Prelude.{◌≡◌, ◌≤◌, Err};
 ghost use Rattle.disk_model.specs.Causes.{Rose};
 ghost use Rattle.device_core.specs.declared.condition.Condition.TheVariants.{Working};
-ghost use Rattle.integrity_device.specs.Device.{IsDevice, IsReady, Standing};
+ghost use Rattle.script_session.specs.Device.{IsDevice, IsReady, Standing};
 ghost use Rattle.integrity_tool.specs.Closing.{HasCloseCounts, close_ending, fault_ended};
 ghost use Rattle.integrity_tool.specs.Running.{IsStopped, only_close};
 
 use command_ending::Ended;
-use integrity_device::Device;
-use script_session::TagsFound;
+use script_session::{Device, TagsFound};
 use sector_disk::Disk;
 use stream_io::{Sink, put_all};
 

@@ -7,7 +7,7 @@ ghost use Rattle.disk_model.specs.Moments.{HasNow};
 ghost use Rattle.device_model.specs.Mode.{Journal};
 ghost use Rattle.place_model.specs.Kind.{CanOpenIn};
 ghost use Rattle.device_core.specs.declared.condition.Condition.TheVariants.{Working};
-ghost use Rattle.integrity_device.specs.Device.{IsDevice, IsReady, Standing};
+ghost use Rattle.script_session.specs.Device.{IsDevice, IsReady, Standing};
 ghost use Rattle.script_session.specs.Stop.{HasStopCause};
 ghost use Rattle.script_session.specs.Told.{finds_fault};
 ghost use Rattle.command_model.specs.Exercise.{finds_faults};
@@ -28,9 +28,8 @@ use command_ending::Ended;
 use device_exercise::exercise;
 use hmac_tag::Hash;
 use image_formatting::{NewImage, Padding, Wipe, format, new_image_opens};
-use integrity_device::{Device, OpenMode};
 use opening_fault::images_that_open_have_no_fault;
-use script_session::{Stop, TagsFound};
+use script_session::{Device, OpenMode, Stop, TagsFound};
 use sector_disk::Disk;
 use sector_pool::Region;
 use std::alloc::Global;
@@ -72,7 +71,7 @@ pub(crate) fn exercise_image<D: Disk, O: Sink>(
 
     ensures identity { D.identity disk.new ≡ D.identity disk.old }
 {
-    // It can be opened.
+    // A new image can be opened.
     new_image_opens();
     match format(alloc, disk, Hash::Sha256, image()) {
         Err(fault) => Err(ended_by_format(fault)),

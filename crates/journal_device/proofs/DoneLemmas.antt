@@ -26,8 +26,8 @@ use Rattle.device_core.specs.declared.condition.Condition.{Condition}
 use Rattle.device_core.specs.declared.condition.Condition.TheVariants as Conditions
 use Rattle.device_core.specs.declared.parts.Parts.{Parts}
 use Rattle.device_core.specs.Device.{condition_of, rule_on}
-use Rattle.journal_mode.specs.Journal.{PlacedRing}
-use Rattle.journal_mode.specs.Standing.{JournalStanding, StandsAs}
+use Rattle.journal_opening.specs.Journal.{PlacedRing}
+use Rattle.journal_opening.specs.Standing.{JournalStanding, StandsAs}
 use Rattle.journal_device.specs.Device.{DeviceStanding, HasDone, IsDevice, IsDone, kind_on, standing_after, standing_of}
 use Rattle.journal_device.proofs.KindLemmas.{left_now, left_through, standing_now}
 

@@ -38,11 +38,11 @@ use Rattle.device_core.specs.declared.parts.Parts.{Parts}
 use Rattle.device_core.specs.Device.{condition_of}
 use Rattle.device_core.proofs.TurnLemmas.{placed, slot-is}
 use Rattle.device_core.specs.Answers.{moved_answer}
-use Rattle.journal_mode.specs.Closing.{HasClosed}
-use Rattle.journal_mode.specs.Commits.{CommitsAs}
-use Rattle.journal_mode.specs.Moves.{PlacesAs, SettlesAs}
-use Rattle.journal_mode.specs.Journal.{PlacedRing}
-use Rattle.journal_mode.specs.Standing.{IsLeftThrough, JournalStanding, StandsAs}
+use Rattle.journal_opening.specs.Closing.{HasClosed}
+use Rattle.journal_opening.specs.Commits.{CommitsAs}
+use Rattle.journal_opening.specs.Moves.{PlacesAs, SettlesAs}
+use Rattle.journal_opening.specs.Journal.{PlacedRing}
+use Rattle.journal_opening.specs.Standing.{IsLeftThrough, JournalStanding, StandsAs}
 use Rattle.journal_device.specs.Answers.{HasEnded, HasTaken, IsSerial, SubmitLaw, TakeLaw, moved_as}
 use Rattle.journal_device.specs.Device.{DeviceStanding, HasDone, IsDevice, IsDone, kind_on, standing_of}
 use Rattle.journal_device.proofs.DoneLemmas.{broken_done, no_bitmap, only_done, quiet_done, stands_now, working_done, working-is}

@@ -6,10 +6,10 @@ use Rattle.device_core.specs.declared.answers.Moved.TheVariants as Moves
 use Rattle.journal_model.specs.Ring.{JournalRing}
 use Rattle.journal_ring.specs.declared.ring.Moved as JournalMove
 use Rattle.journal_ring.specs.declared.ring.Moved.TheVariants as JournalMoves
-use Rattle.place_writer.specs.Moves.{HasPlaced, HasSettled}
-use Rattle.place_writer.specs.declared.placement.Placement.{Placement}
-use Rattle.journal_mode.specs.Commits.{HasCommitted}
-use Rattle.journal_mode.specs.Journal.{PlacedRing}
+use Rattle.journal_opening.specs.PlaceWriterMoves.{HasPlaced, HasSettled}
+use Rattle.journal_opening.specs.DeclaredPlacement.{Placement}
+use Rattle.journal_opening.specs.Commits.{HasCommitted}
+use Rattle.journal_opening.specs.Journal.{PlacedRing}
 use Rattle.disk_model.specs.Disk.{Content}
 use Rattle.std.specs.Prelude.{List}
 use Rattle.request_slots.specs.declared.turn.Turn.{Turn}

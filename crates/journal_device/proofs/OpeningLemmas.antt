@@ -19,7 +19,7 @@ use Rattle.place_model.specs.Left.{IsLeftInJournal}
 use Rattle.place_model.specs.Opened.{awaiting_on, device_format, opened_on}
 use Rattle.place_model.proofs.FormatLemmas.{reads_on}
 use Rattle.direct_laws.specs.MomentLaws.{IsLeftNow}
-use Rattle.journal_mode.specs.Opening.{opened_standing}
+use Rattle.journal_opening.specs.JournalModeOpening.{opened_standing}
 use Rattle.journal_opening.specs.declared.opened.OpenedJournal.{OpenedJournal}
 use Rattle.journal_opening.specs.Opening as Opening
 use Rattle.request_slots.specs.Flight.{Flight, no_requests}

@@ -43,11 +43,11 @@ use Rattle.device_core.specs.Answers.{after_read, tag_by}
 use Rattle.device_core.specs.Device as DirectDevice
 use Rattle.device_core.proofs.TurnLemmas.{answer_is}
 use Rattle.tag_store.specs.Store.{Store}
-use Rattle.journal_mode.specs.Commits.{HasFlushed}
-use Rattle.journal_mode.specs.Journal.{PlacedRing}
-use Rattle.journal_mode.specs.Puts.{HasPut, TakesWrite, after_change, sections_with}
-use Rattle.journal_mode.specs.Reads.{GivesBlock, KeepsStanding}
-use Rattle.journal_mode.specs.Standing.{IsLeftThrough, JournalStanding, StandsAs}
+use Rattle.journal_opening.specs.Commits.{HasFlushed}
+use Rattle.journal_opening.specs.Journal.{PlacedRing}
+use Rattle.journal_opening.specs.Puts.{HasPut, TakesWrite, after_change, sections_with}
+use Rattle.journal_opening.specs.Reads.{GivesBlock, KeepsStanding}
+use Rattle.journal_opening.specs.Standing.{IsLeftThrough, JournalStanding, StandsAs}
 use Rattle.journal_device.specs.declared.served.Served.TheVariants as Serves
 use Rattle.journal_device.specs.Answers.{HasFailedIn, IsServedAs, served_answer, served_by}
 use Rattle.journal_device.specs.Device.{DeviceStanding, IsDevice, standing_of}

@@ -6,14 +6,14 @@ use Rattle.journal_model.specs.Ring.{JournalRing, entries_of, next_batch, unplac
 use Rattle.journal_ring.specs.RoomLaws.{HasBounds}
 use Rattle.journal_ring.specs.declared.ring.Moved.{Moved}
 use Rattle.journal_ring.specs.declared.ring.Moved.TheVariants.{Did, Idle}
-use Rattle.place_writer.specs.Moves.{HasPlaced, HasSettled}
-use Rattle.place_writer.specs.Placement.{placed_in}
+use Rattle.journal_opening.specs.PlaceWriterMoves.{HasPlaced, HasSettled}
+use Rattle.journal_opening.specs.Placement.{placed_in}
 use Rattle.tag_store.specs.Store.{Store}
 use Rattle.device_core.specs.declared.answers.Actor.TheVariants as Actors
 use Rattle.device_core.specs.declared.answers.Moved.TheVariants as Moves
-use Rattle.journal_mode.specs.Commits.{HasCommitted}
-use Rattle.journal_mode.specs.Journal.{PlacedRing}
-use Rattle.journal_mode.proofs.MovesLemmas.{unplaced_few}
+use Rattle.journal_opening.specs.Commits.{HasCommitted}
+use Rattle.journal_opening.specs.Journal.{PlacedRing}
+use Rattle.journal_opening.proofs.MovesLemmas.{unplaced_few}
 use Rattle.journal_device.specs.Answers.{moved_as, steps_left}
 
 pub not_did : Moves.Idle ≡ Moves.Did → ⊥

@@ -32,11 +32,11 @@ use Rattle.journal_ring.specs.declared.ring.Moved as JournalMove
 use Rattle.journal_ring.specs.declared.ring.Moved.TheVariants as JournalMoves
 use Rattle.journal_model.specs.Ring.{entries_of}
 use Rattle.journal_ring.specs.Batch.{WritesBatch}
-use Rattle.place_writer.specs.Moves.{WritesNext, WritesTags}
-use Rattle.place_writer.specs.Placement.{placed_in}
-use Rattle.journal_mode.specs.Closing.{HasContent}
-use Rattle.journal_mode.specs.Commits.{WritesBatches}
-use Rattle.journal_mode.specs.Journal.{PlacedRing, after_put}
+use Rattle.journal_opening.specs.PlaceWriterMoves.{WritesNext, WritesTags}
+use Rattle.journal_opening.specs.Placement.{placed_in}
+use Rattle.journal_opening.specs.Closing.{HasContent}
+use Rattle.journal_opening.specs.Commits.{WritesBatches}
+use Rattle.journal_opening.specs.Journal.{PlacedRing, after_put}
 use Rattle.journal_device.specs.declared.served.Served.{Served}
 use Rattle.journal_device.specs.declared.served.Served.TheVariants as Serves
 use Rattle.journal_device.specs.Device.{DeviceStanding, IsDevice, IsDone, IsReady, HasDone, kind_on, standing_of}

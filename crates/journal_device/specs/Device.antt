@@ -18,8 +18,8 @@ use Rattle.device_core.specs.declared.condition.Condition.TheVariants.{Working}
 use Rattle.device_core.specs.declared.parts.Parts.{Parts}
 use Rattle.device_core.specs.Device as Direct
 use Rattle.device_core.specs.Device.{condition_of, rule_on}
-use Rattle.journal_mode.specs.Journal.{PlacedRing}
-use Rattle.journal_mode.specs.Standing.{JournalStanding, StandsAs}
+use Rattle.journal_opening.specs.Journal.{PlacedRing}
+use Rattle.journal_opening.specs.Standing.{JournalStanding, StandsAs}
 
 -- ---- what is true of each device
 

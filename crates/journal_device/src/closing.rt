@@ -4,10 +4,10 @@ ghost use Rattle.device_core.specs.Answers.{HasStepCause, answer_by, event_by};
 ghost use Rattle.device_model.specs.Progress.{Close, FailedClose, IsClosed};
 ghost use Rattle.journal_device.specs.Answers.{HasEnded, IsAllPlaced};
 ghost use Rattle.journal_device.specs.Device.{DeviceStanding, IsDevice, IsReady};
-ghost use Rattle.journal_mode.specs.Closing.{IsAllFree, WritesAll};
+ghost use Rattle.journal_opening.specs.Closing.{IsAllFree, WritesAll};
 
 use device_core::{Condition, Parts, StepFault};
-use journal_mode::Journal;
+use journal_opening::Journal;
 use sector_disk::Disk;
 
 /// Commits, places and settles all that was written. A broken device makes no call of its disk.

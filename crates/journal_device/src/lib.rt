@@ -15,6 +15,7 @@ mod tests;
 mod writing;
 
 pub use closing::close;
+pub use journal_opening::{Journal, open_journal};
 pub use laws::{opened_journals_are_devices, replies_are_taken, requests_are_submitted};
 pub use opening::{OpenedDevice, device_of};
 pub use served::Served;

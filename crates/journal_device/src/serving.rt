@@ -12,7 +12,7 @@ ghost use Rattle.journal_device.specs.Device.{DeviceStanding, IsDevice, IsReady}
 use crate::Served;
 use crate::writing::flush_if;
 use device_core::{Condition, Parts, StepFault};
-use journal_mode::Journal;
+use journal_opening::Journal;
 use request_slots::{Ticket, Turn};
 use sector_disk::{Disk, Failed};
 

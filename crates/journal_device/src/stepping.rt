@@ -8,7 +8,7 @@ ghost use Rattle.journal_device.specs.Answers.{HasNoWork, HasStepped, KeepsAll, 
 ghost use Rattle.journal_device.specs.Device.{DeviceStanding, HasDone, IsDevice, IsDone, IsReady};
 
 use device_core::{Actor, Condition, Moved, Parts, StepFault};
-use journal_mode::Journal;
+use journal_opening::Journal;
 use journal_ring::Moved as JournalMoved;
 use sector_disk::{Disk, Failed};
 

@@ -19,10 +19,10 @@ use Rattle.journal_ring.specs.declared.ring.Moved.{Moved}
 use Rattle.journal_ring.specs.declared.ring.Moved.TheVariants.{Did, Idle}
 use Rattle.place_model.specs.Format.{DiskFormat}
 use Rattle.place_model.specs.Left.{IsLeftInJournal}
-use Rattle.place_writer.specs.Moves.{HasPlaced, HasPlacedCells, HasSettled}
-use Rattle.place_writer.specs.Placement.{placed_in}
-use Rattle.place_writer.specs.declared.placement.Placement.{Placement}
-use Rattle.place_writer.proofs.PlacingLawsLemmas.{settled_cells_law}
+use Rattle.replay.specs.Moves.{HasPlaced, HasPlacedCells, HasSettled}
+use Rattle.replay.specs.Placement.{placed_in}
+use Rattle.replay.specs.DeclaredPlacement.{Placement}
+use Rattle.replay.proofs.PlacingLawsLemmas.{settled_cells_law}
 use Rattle.tag_store.specs.Store.{Store}
 use Rattle.journal_mode.specs.Closing.{HasClosed, HasContent, HasPlacedMore, IsAllFree}
 use Rattle.journal_mode.specs.Commits.{HasFlushed, after_batch_of, after_flush, after_one, with_disk}

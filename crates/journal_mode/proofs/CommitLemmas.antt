@@ -30,13 +30,13 @@ use Rattle.journal_ring.specs.Sections.{wrap}
 use Rattle.journal_ring.specs.declared.ring.Moved.{Moved}
 use Rattle.journal_ring.specs.declared.ring.Moved.TheVariants.{Did, Idle}
 use Rattle.journal_ring.proofs.WrapLemmas.{wrap-above, wrap-below}
-use Rattle.place_writer.specs.CommitLaws.{ReadsWhole}
-use Rattle.place_writer.specs.declared.placement.Placement.{Placement}
-use Rattle.place_writer.proofs.CommitLawsLemmas.{placed_commit_law}
-use Rattle.place_writer.proofs.PlacingLawsLemmas as placing
+use Rattle.replay.specs.CommitLaws.{ReadsWhole}
+use Rattle.replay.specs.DeclaredPlacement.{Placement}
+use Rattle.replay.proofs.CommitLawsLemmas.{placed_commit_law}
+use Rattle.replay.proofs.PlacingLawsLemmas as placing
 use Rattle.tag_store.specs.Store.{HoldsTag, IsStore, Store}
 use Rattle.tag_store.proofs.StoreLawsLemmas.{elsewhere_law}
-use Rattle.place_writer.specs.Placement.{IsPlacementOf}
+use Rattle.replay.specs.Placement.{IsPlacementOf}
 use Rattle.journal_mode.specs.Commits.{CommitsAs, HasBatch, HasCommitted, HasNoBatch, after_batch}
 use Rattle.journal_mode.specs.Journal.{IsJournal, PlacedRing, places_from, places_of, sections_of}
 use Rattle.journal_mode.specs.Standing.{IsLeftThrough, JournalStanding, StandsAs}

@@ -16,10 +16,10 @@ use Rattle.journal_ring.specs.Sections.{wrap}
 use Rattle.journal_ring.proofs.WrapLemmas.{wrap-above, wrap-below, wrap-differs, wrap-inside, wrap-wrap}
 use Rattle.journal_ring.specs.declared.ring.Moved.{Moved}
 use Rattle.journal_ring.specs.declared.ring.Moved.TheVariants.{Did, Idle}
-use Rattle.place_writer.specs.Moves.{HasSettled}
-use Rattle.place_writer.specs.Placement.{IsPlacementOf}
-use Rattle.place_writer.specs.declared.placement.Placement.{Placement}
-use Rattle.place_writer.proofs.PlacementLemmas.{settle-without}
+use Rattle.replay.specs.Moves.{HasSettled}
+use Rattle.replay.specs.Placement.{IsPlacementOf}
+use Rattle.replay.specs.DeclaredPlacement.{Placement}
+use Rattle.replay.proofs.PlacementLemmas.{settle-without}
 use Rattle.tag_store.specs.Store.{Store}
 use Rattle.journal_mode.specs.Freeing.{HasFreed}
 use Rattle.journal_mode.specs.Journal.{IsJournal, entries_held, places_from, places_in, places_of, sections_of}

@@ -5,7 +5,7 @@ use Rattle.image_model.specs.Geometry.{Geometry, IsGeometry, section_entries}
 use Rattle.journal_model.specs.Ring.{empty_ring}
 use Rattle.journal_overlay.specs.Kept.{Places}
 use Rattle.journal_ring.proofs.RingLemmas.{entries_few, sections_few}
-use Rattle.place_writer.proofs.PlacingLawsLemmas.{begins_law}
+use Rattle.replay.proofs.PlacingLawsLemmas.{begins_law}
 use Rattle.journal_mode.specs.Journal.{IsJournal, IsRoom}
 
 pub opened_is : (g : Geometry) (next number : ℕ) (overlay : Places) → IsRoom g overlay → next < g.sections → IsJournal (empty_ring g next number) (record { sections = 0; entries = 0 }) overlay

@@ -21,9 +21,9 @@ use Rattle.journal_model.specs.Steps.{after_settle}
 use Rattle.journal_model.proofs.HistoryLemmas.{left_law}
 use Rattle.journal_ring.specs.declared.ring.Moved.{Moved}
 use Rattle.journal_ring.specs.declared.ring.Moved.TheVariants.{Did, Idle}
-use Rattle.place_writer.specs.Moves.{HasPlaced, HasSettled, IsLeftOn, IsPlacedOn, StandsThrough, after_placing}
-use Rattle.place_writer.specs.Placement.{placed_in}
-use Rattle.place_writer.specs.declared.placement.Placement.{Placement}
+use Rattle.replay.specs.Moves.{HasPlaced, HasSettled, IsLeftOn, IsPlacedOn, StandsThrough, after_placing}
+use Rattle.replay.specs.Placement.{placed_in}
+use Rattle.replay.specs.DeclaredPlacement.{Placement}
 use Rattle.tag_store.specs.Store.{Store}
 use Rattle.journal_mode.specs.Journal.{PlacedRing}
 use Rattle.journal_mode.specs.Moves.{PlacesAs, SettlesAs}

@@ -20,7 +20,7 @@ use Rattle.journal_ring.specs.Places.{entries_at, oldest_at}
 use Rattle.journal_ring.specs.RoomLaws.{HasBounds}
 use Rattle.journal_ring.specs.Sections.{wrap}
 use Rattle.journal_ring.proofs.WrapLemmas.{wrap-above, wrap-below, wrap-inside, wrap-wrap}
-use Rattle.place_writer.specs.Placement.{IsWholeEntry, IsWholeRing}
+use Rattle.replay.specs.Placement.{IsWholeEntry, IsWholeRing}
 use Rattle.journal_mode.specs.Journal.{places_from, places_in, places_of, sections_of}
 use Rattle.journal_mode.specs.Reads.{newest_in}
 use Rattle.journal_mode.proofs.PlacesLemmas.{oldest_inside}

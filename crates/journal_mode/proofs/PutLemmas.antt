@@ -16,9 +16,9 @@ use Rattle.journal_ring.specs.Places.{next_place, oldest_at}
 use Rattle.journal_ring.specs.Ring.{with_open, with_section}
 use Rattle.journal_ring.specs.RoomLaws.{HasBounds}
 use Rattle.journal_ring.proofs.RingLemmas.{entries_some, put-steps}
-use Rattle.place_writer.specs.Placement.{IsWholeEntry}
-use Rattle.place_writer.specs.declared.placement.Placement.{Placement}
-use Rattle.place_writer.proofs.PlacingLawsLemmas.{put_law}
+use Rattle.replay.specs.Placement.{IsWholeEntry}
+use Rattle.replay.specs.DeclaredPlacement.{Placement}
+use Rattle.replay.proofs.PlacingLawsLemmas.{put_law}
 use Rattle.journal_mode.specs.Journal.{IsJournal, entries_held, places_from, places_of, sections_of}
 use Rattle.journal_mode.proofs.PlacesLemmas.{length-places_from, places_from-empty, places_of-entry}
 

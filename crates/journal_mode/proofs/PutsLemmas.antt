@@ -13,12 +13,12 @@ use Rattle.device_model.specs.Journal.{JournalCounts}
 use Rattle.device_laws.specs.Device.{IsJournalOf, block_of}
 use Rattle.device_laws.proofs.FormatLemmas.{block_size-is, blocks-is}
 use Rattle.device_laws.proofs.PutLemmas.{has_room_law, put_law}
-use Rattle.direct_mode.specs.Cells.{IsTaggedBlock, block_write}
+use Rattle.replay.specs.DirectModeCells.{IsTaggedBlock, block_write}
 use Rattle.journal_model.specs.HistoryOf.{entry_of_write}
 use Rattle.journal_model.specs.Ring.{JournalRing, has_room, with_put}
 use Rattle.journal_ring.specs.Places.{entry_of}
 use Rattle.place_model.specs.Format.{tagger_of}
-use Rattle.place_writer.specs.Placement.{IsWholeEntry}
+use Rattle.replay.specs.Placement.{IsWholeEntry}
 use Rattle.tag_store.specs.Store.{Store}
 use Rattle.journal_mode.specs.Journal.{PlacedRing, after_put}
 use Rattle.journal_mode.specs.Puts.{HasPut, TakesWrite, after_change, sections_with}

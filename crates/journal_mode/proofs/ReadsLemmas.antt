@@ -23,7 +23,7 @@ use Rattle.journal_model.proofs.PlaceLemmas.{cell_after-cells}
 use Rattle.journal_overlay.specs.Kept.{Places, newest_of}
 use Rattle.journal_overlay.specs.declared.place.Place.{Place}
 use Rattle.journal_ring.specs.Places.{entries_at}
-use Rattle.place_writer.specs.declared.placement.Placement.{Placement}
+use Rattle.replay.specs.DeclaredPlacement.{Placement}
 use Rattle.tag_store.specs.Store.{Store, given_tags}
 use Rattle.journal_mode.specs.Journal.{IsJournal, PlacedRing, sections_of}
 use Rattle.journal_mode.specs.Reads.{GivesBlock, ReadsPlaced, newest_in}

@@ -13,8 +13,8 @@ use Rattle.journal_model.specs.Ring.{JournalRing, entries_of, next_batch, with_c
 use Rattle.journal_model.proofs.JournalRingLemmas.{entries_of-append}
 use Rattle.journal_ring.specs.declared.ring.Moved.{Moved}
 use Rattle.journal_ring.specs.declared.ring.Moved.TheVariants.{Did, Idle}
-use Rattle.place_writer.specs.Moves.{HasPlaced, WritesEntry, WritesNext}
-use Rattle.place_writer.specs.Placement.{placed_in}
+use Rattle.replay.specs.Moves.{HasPlaced, WritesEntry, WritesNext}
+use Rattle.replay.specs.Placement.{placed_in}
 use Rattle.replay.specs.Writes.{IsOfPlacing}
 use Rattle.replay.proofs.WritesLemmas.{among_more, entry_adds, tags_add}
 use Rattle.tag_store.specs.Store.{IsMarkedTags, Store}

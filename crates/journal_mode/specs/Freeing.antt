@@ -2,7 +2,7 @@
 use Rattle.std.specs.Prelude.{◌≡◌, ℕ, ◌≤◌, length}
 use Rattle.journal_model.specs.Ring.{JournalRing}
 use Rattle.journal_ring.specs.RoomLaws.{HasBounds}
-use Rattle.place_writer.specs.Placement.{without}
+use Rattle.replay.specs.Placement.{without}
 
 -- So many of its committed sections were.
 pub record HasFreed (old : JournalRing) (count : ℕ) (new : JournalRing) : Type 0 where

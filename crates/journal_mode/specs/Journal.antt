@@ -10,8 +10,8 @@ use Rattle.journal_overlay.specs.declared.place.Added.{Added}
 use Rattle.journal_ring.specs.Places.{oldest_at}
 use Rattle.journal_ring.specs.RoomLaws.{HasBounds}
 use Rattle.journal_ring.specs.Sections.{wrap}
-use Rattle.place_writer.specs.Placement.{IsPlacementOf}
-use Rattle.place_writer.specs.declared.placement.Placement.{Placement}
+use Rattle.replay.specs.Placement.{IsPlacementOf}
+use Rattle.replay.specs.DeclaredPlacement.{Placement}
 
 -- The ring of a journal, and how many of its committed entries are placed.
 pub record PlacedRing : Type 0 where

@@ -1,3 +1,10 @@
+pub use Rattle.replay.specs.DeclaredPlacement
+pub use Rattle.replay.specs.Emptied
+pub use Rattle.replay.specs.Moves as PlaceWriterMoves
+pub use Rattle.replay.specs.Placement
+pub use Rattle.replay.specs.Recovery
+pub use Rattle.replay.specs.Writes
+pub use Rattle.replay.specs.declared.recovered.Recovered
 pub mod Journal
 pub mod Standing
 pub mod Puts

@@ -6,7 +6,7 @@ use Rattle.device_model.specs.Journal.{JournalCounts, place, settle}
 use Rattle.journal_model.specs.Steps.{after_place, after_settle}
 use Rattle.journal_ring.specs.declared.ring.Moved.{Moved}
 use Rattle.journal_ring.specs.declared.ring.Moved.TheVariants.{Did, Idle}
-use Rattle.place_writer.specs.Moves.{HasPlacedCells}
+use Rattle.replay.specs.Moves.{HasPlacedCells}
 use Rattle.tag_store.specs.Store.{Store}
 use Rattle.journal_mode.specs.Commits.{with_disk}
 use Rattle.journal_mode.specs.Journal.{PlacedRing}

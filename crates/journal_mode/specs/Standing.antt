@@ -8,7 +8,7 @@ use Rattle.device_model.specs.Mode.{DeviceFormat}
 use Rattle.place_model.specs.Left.{IsLeftInJournal}
 use Rattle.device_laws.specs.Device.{IsJournalOf}
 use Rattle.journal_model.specs.JournaledDisk.{JournaledDisk}
-use Rattle.place_writer.specs.Moves.{IsPlacedOn}
+use Rattle.replay.specs.Moves.{IsPlacedOn}
 use Rattle.tag_store.specs.Store.{Store}
 use Rattle.journal_mode.specs.Journal.{PlacedRing}
 

@@ -3,12 +3,12 @@ ghost use Rattle.std.specs.Prelude.{◌≡◌, ◌*◌, ◌<◌, length, slice_g
 ghost use Rattle.disk_model.specs.Causes.{HasCause};
 ghost use Rattle.disk_model.specs.Disk.{OnlyAdds};
 ghost use Rattle.disk_model.specs.Moments.{EachMoment, EachSince};
-ghost use Rattle.direct_mode.specs.Cells.{IsBlock};
+ghost use Rattle.replay.specs.DirectModeCells.{IsBlock};
 ghost use Rattle.image_model.specs.Section.{Entry};
 ghost use Rattle.journal_model.specs.JournaledDisk.{JournaledDisk, StandsFor};
 ghost use Rattle.journal_mode.specs.Reads.{ReadsPlaced};
 ghost use Rattle.journal_ring.specs.Places.{entries_at};
-ghost use Rattle.place_writer.specs.Cells.{HasCells};
+ghost use Rattle.replay.specs.Cells.{HasCells};
 ghost use Rattle.tag_store.specs.Store.{IsOutForTag, IsStore};
 
 use hmac_tag::Tag;

@@ -9,8 +9,8 @@ use Rattle.disk_model.proofs.MomentsLemmas.{EachMoment-join, EachMoment-weaker, 
 use Rattle.std.specs.List.{Contains}
 use Rattle.image_model.specs.Cells.{replayed_entries}
 use Rattle.image_model.specs.Geometry.{Geometry}
-use Rattle.replay.specs.Emptied.{KeepsResting}
-use Rattle.replay.specs.Writes.{IsOfPlacing}
+use Rattle.journal_mode.specs.Emptied.{KeepsResting}
+use Rattle.journal_mode.specs.Writes.{IsOfPlacing}
 
 -- What is told at the start is known of it.
 from_told : (o : Option Content) (P : Content → Type 0) (start : Content) → o ≡ Some start → IsSomeAnd o P → P start

@@ -22,8 +22,8 @@ use Rattle.journal_mode.specs.Opening.{opened_standing}
 use Rattle.journal_mode.specs.Standing.{StandsAs}
 use Rattle.journal_mode.proofs.OpeningLemmas.{recovered_stands_law}
 use Rattle.tag_store.specs.Store.{given_tags}
-use Rattle.replay.specs.declared.recovered.Recovered.{Recovered}
-use Rattle.replay.specs.Recovery.{LeavesRecovered}
+use Rattle.journal_mode.specs.Recovered.{Recovered}
+use Rattle.journal_mode.specs.Recovery.{LeavesRecovered}
 use Rattle.journal_opening.specs.declared.opened.OpenedJournal.{OpenedJournal}
 use Rattle.journal_opening.specs.Opening.{CanOpenRead, IsLeftOpening, IsOfOpening, IsOpenOn, KeepsImage, WritesRecovery, rule_on}
 

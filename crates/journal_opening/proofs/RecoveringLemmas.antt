@@ -14,7 +14,7 @@ use Rattle.image_opening.specs.declared.reading.ImageFormat.{ImageFormat}
 use Rattle.image_opening.specs.Format.{IsReadNow, disk_format}
 use Rattle.buffer_cache.specs.HeldSectors.{no_sectors}
 use Rattle.tag_store.specs.Store.{Store}
-use Rattle.replay.specs.Recovery.{EntersRecovery}
+use Rattle.journal_mode.specs.Recovery.{EntersRecovery}
 use Rattle.journal_opening.specs.Opening.{rule_of}
 use Rattle.journal_opening.proofs.MomentsLemmas.{each_from}
 

@@ -16,8 +16,8 @@ use Rattle.journal_model.specs.Opening.{opened_disk}
 use Rattle.buffer_cache.specs.Cache.{sectors_of}
 use Rattle.buffer_cache.specs.HeldSectors.{no_sectors}
 use Rattle.tag_store.specs.Store.{IsStore, given_tags}
-use Rattle.replay.specs.Recovery.{LeavesRecovered}
-use Rattle.replay.specs.Writes.{IsOfRecovery}
+use Rattle.journal_mode.specs.Recovery.{LeavesRecovered}
+use Rattle.journal_mode.specs.Writes.{IsOfRecovery}
 use Rattle.journal_mode.specs.Journal.{empty_journal}
 use Rattle.journal_mode.specs.Opening.{opened_standing}
 use Rattle.journal_mode.specs.Standing.{StandsAs}

@@ -12,6 +12,7 @@ mod room;
 #[cfg(test)]
 mod tests;
 
+pub use journal_mode::Journal;
 pub use opened::OpenedJournal;
 pub use opening::{open_format, open_journal};
 pub use recovering::{RecoveredImage, recover_image};

@@ -1,3 +1,4 @@
+pub use Rattle.device_model.proofs.HistoryLemmas
 pub mod FormatLemmas
 pub mod TagsLemmas
 pub mod PlacedLemmas

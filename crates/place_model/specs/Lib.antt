@@ -1,3 +1,6 @@
+pub use Rattle.device_model.specs.Cut
+pub use Rattle.device_model.specs.History
+pub use Rattle.device_model.specs.Regions
 pub mod Format
 pub mod Tags
 pub mod Blocks

@@ -1,3 +1,4 @@
+pub use Rattle.direct_mode.proofs.StoreCalls
 pub mod WritingLemmas
 pub mod EntryLemmas
 pub mod PlacementLemmas

@@ -11,8 +11,8 @@ use Rattle.image_model.specs.Geometry.{Geometry, data_at}
 use Rattle.image_model.specs.Section.{Entry}
 use Rattle.place_model.specs.Tags.{IsOfCell, IsOfTags, KeepsOthers, with_block_tag}
 use Rattle.buffer_cache.proofs.CachedLemmas.{changed_now, told_at_end}
-use Rattle.direct_laws.specs.CallLaws.{AddsTags, GivesTags, KeepsOthersNow, ReadsImage, ReadsTagsNow}
-use Rattle.direct_laws.specs.ServeLaws.{PutsTag, WritesBack}
+use Rattle.direct_mode.specs.CallLaws.{AddsTags, GivesTags, KeepsOthersNow, ReadsImage, ReadsTagsNow}
+use Rattle.direct_mode.specs.ServeLaws.{PutsTag, WritesBack}
 use Rattle.journal_model.specs.Entries.{cell_of}
 use Rattle.journal_model.specs.JournaledDisk.{JournaledDisk, IsSound, StandsFor}
 use Rattle.journal_model.specs.Steps.{KeepsCells, IsNextEntry, after_place, after_settle}

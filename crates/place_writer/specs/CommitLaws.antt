@@ -5,7 +5,7 @@ use Rattle.disk_model.specs.Identity.{DiskIdentity}
 use Rattle.disk_model.specs.Moments.{HasNow, IsChangedBy}
 use Rattle.image_model.specs.Geometry.{section_at}
 use Rattle.device_laws.specs.Device.{IsJournalRing}
-use Rattle.direct_laws.specs.CallLaws.{ReadsImage}
+use Rattle.direct_mode.specs.CallLaws.{ReadsImage}
 use Rattle.journal_model.specs.JournaledDisk.{JournaledDisk, Rests}
 use Rattle.journal_model.specs.Ring.{JournalRing, next_batch, with_commit}
 use Rattle.journal_model.specs.Steps.{IsBatch, after_commit}

@@ -1,3 +1,4 @@
+pub use Rattle.direct_mode.specs.Cells as DirectModeCells
 pub mod Cells
 pub mod Placement
 pub mod Moves

@@ -13,7 +13,7 @@ use Rattle.buffer_cache.specs.declared.held.Held.{Held}
 use Rattle.buffer_cache.specs.Cached.{held_or}
 use Rattle.buffer_cache.specs.HeldSectors.{held_in}
 use Rattle.buffer_cache.proofs.CachedLemmas.{changed_now}
-use Rattle.direct_mode.proofs.StoreCalls.{ReadsWhole}
+use Rattle.place_writer.proofs.StoreCalls.{ReadsWhole}
 use Rattle.journal_model.specs.Erasing.{after_erasure}
 use Rattle.journal_model.specs.JournaledDisk.{JournaledDisk, cell_at}
 use Rattle.journal_model.specs.Steps.{KeepsCells}

@@ -1,3 +1,8 @@
+pub use Rattle.place_writer.proofs.CommitLawsLemmas
+pub use Rattle.place_writer.proofs.PlacementLemmas
+pub use Rattle.place_writer.proofs.PlacingLawsLemmas
+pub use Rattle.place_writer.proofs.StoreCalls
+pub use Rattle.place_writer.proofs.WritingLemmas
 pub mod ReplayingLemmas
 pub mod EntriesLemmas
 pub mod RecoveryLemmas

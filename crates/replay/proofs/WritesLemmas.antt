@@ -9,7 +9,7 @@ use Rattle.image_model.specs.Cells.{replayed_entries}
 use Rattle.image_model.specs.Geometry.{Geometry, IsGeometry, data_at, section_at}
 use Rattle.image_model.specs.Grid.{walk_of}
 use Rattle.image_model.specs.Section.{Entry}
-use Rattle.direct_mode.specs.Cells.{IsOfBlockOrTags}
+use Rattle.place_writer.specs.DirectModeCells.{IsOfBlockOrTags}
 use Rattle.journal_erasure.specs.EmptySections.{AreEmptySections}
 use Rattle.journal_reading.specs.Journal.{HasJournal, journal_image}
 use Rattle.journal_reading.proofs.JournalLemmas.{replayed_entries-journal}

@@ -30,18 +30,18 @@ use Rattle.request_slots.specs.declared.slot.Outcome.TheVariants.{Unfinished, Fi
 use Rattle.request_slots.specs.declared.slot.Slot.{Slot}
 use Rattle.request_slots.specs.declared.submit_fault.SubmitFault.{SubmitFault}
 use Rattle.request_slots.specs.declared.submit_fault.SubmitFault.TheVariants as Faults
-use Rattle.journal_device.specs.declared.served.Served.{Served}
-use Rattle.journal_device.specs.declared.served.Served.TheVariants as Serves
-use Rattle.journal_device.specs.Answers.{served_answer}
+use Rattle.device_run.specs.Served.{Served}
+use Rattle.device_run.specs.Served.TheVariants as Serves
+use Rattle.device_run.specs.JournalDeviceAnswers.{served_answer}
 use Rattle.device_core.specs.declared.answers.Moved.{Moved}
 use Rattle.device_core.specs.declared.answers.Moved.TheVariants as Moves
 use Rattle.device_core.specs.Answers.{moved_answer}
 use Rattle.device_core.specs.declared.condition.Condition.{Condition}
 use Rattle.device_core.specs.declared.condition.Condition.TheVariants as Conditions
-use Rattle.integrity_device.specs.declared.mode.DeviceParts.{DeviceParts}
-use Rattle.integrity_device.specs.Answers.{Answers, HasDone, HasTaken, IsDone, KeepsParts}
-use Rattle.integrity_device.specs.Device.{IsDevice, IsReady, Standing, mode_of, with_slots}
-use Rattle.integrity_device.proofs.ModeLemmas.{condition_now, flight_now}
+use Rattle.device_run.specs.DeviceParts.{DeviceParts}
+use Rattle.device_run.specs.Answers.{Answers, HasDone, HasTaken, IsDone, KeepsParts}
+use Rattle.device_run.specs.Device.{IsDevice, IsReady, Standing, mode_of, with_slots}
+use Rattle.device_run.proofs.ModeLemmas.{condition_now, flight_now}
 use Rattle.device_run.specs.Run.{HasBegun, HasFailed, HasRun, standing_behind}
 use Rattle.device_run.proofs.RunLemmas.{failed_then, failed_wider, run_one, run_then}
 use Rattle.device_run.proofs.WritesLemmas.{WritesOnly-kept}

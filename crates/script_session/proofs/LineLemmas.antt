@@ -4,9 +4,9 @@ use Rattle.disk_model.specs.Disk.{Content}
 use Rattle.device_model.specs.Progress.{Event}
 use Rattle.device_model.specs.Script.{MeaningFault, ScriptLine, meaning_fault}
 use Rattle.device_core.specs.declared.condition.Condition.TheVariants as Conditions
-use Rattle.integrity_device.specs.declared.mode.DeviceParts.{DeviceParts}
-use Rattle.integrity_device.specs.Device.{IsDevice, Standing}
-use Rattle.integrity_device.proofs.ModeLemmas.{flight_now}
+use Rattle.device_run.specs.DeviceParts.{DeviceParts}
+use Rattle.device_run.specs.Device.{IsDevice, Standing}
+use Rattle.device_run.proofs.ModeLemmas.{flight_now}
 use Rattle.device_run.specs.Run.{HasBegun, HasFailed, HasRun, IsCutOff}
 use Rattle.device_run.proofs.RunLemmas.{cut_run}
 use Rattle.script_session.specs.declared.line_answer.LineAnswer.{LineAnswer}

@@ -6,8 +6,8 @@ use Rattle.range_lock.specs.Asks.{ask_for}
 use Rattle.range_lock.specs.declared.ask.Ask.{Ask}
 use Rattle.request_slots.specs.Flight.{Flight, ask_of}
 use Rattle.device_core.specs.declared.condition.Condition.{Condition}
-use Rattle.integrity_device.specs.declared.mode.DeviceParts.{DeviceParts}
-use Rattle.integrity_device.specs.Device.{IsReady, mode_of}
+use Rattle.device_run.specs.DeviceParts.{DeviceParts}
+use Rattle.device_run.specs.Device.{IsReady, mode_of}
 use Rattle.script_session.specs.declared.tickets.Tickets.{Tickets}
 use Rattle.script_session.specs.declared.tickets.Waiting.{Waiting}
 

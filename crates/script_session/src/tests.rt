@@ -2,9 +2,9 @@
 ghost use Rattle.disk_model.specs.Identity.{IsBound};
 
 use crate::{LineEnd, MeaningFault, TagsFound, Tickets, run_line};
+use device_run::{Device, OpenMode};
 use hmac_tag::Hash;
 use image_formatting::{NewImage, Padding, Wipe, format};
-use integrity_device::{Device, OpenMode};
 use script_text::{Actor, Ask, Line};
 use sector_disk::{Disk, MemDisk};
 use sector_pool::Region;

@@ -3,7 +3,7 @@ use Rattle.std.specs.List.{range_with_len}
 use Rattle.command_model.specs.Exercise.{read_all}
 use Rattle.device_core.specs.declared.condition.Condition.TheVariants.{Working}
 use Rattle.device_model.specs.Script.{Read}
-use Rattle.integrity_device.specs.Device.{IsDevice, Standing}
+use Rattle.script_session.specs.Device.{IsDevice, Standing}
 use Rattle.device_exercise.specs.Exercising.{StaysWithin}
 use Rattle.device_exercise.proofs.ExercisingLemmas.{IsAmong}
 use Rattle.device_exercise.proofs.exercising.read_blocks.Given as goal

@@ -2,8 +2,8 @@ use Rattle.std.proofs.Common.{◌≡◌, Some, inl, inr, ap, subst, ◌∙◌}
 use Rattle.std.proofs.lemmas.Result.{err_from_is_err_and}
 use Rattle.device_model.specs.Progress.{answers}
 use Rattle.device_model.specs.Script.{last_answer, turn_events}
-use Rattle.journal_device.specs.declared.served.Served.{Served}
-use Rattle.journal_device.specs.Answers.{served_answer}
+use Rattle.integrity_device.specs.Served.{Served}
+use Rattle.integrity_device.specs.JournalDeviceAnswers.{served_answer}
 use Rattle.device_run.specs.Run.{standing_behind}
 use Rattle.device_run.proofs.CallLemmas.{kept_then, runs_failed}
 use Rattle.device_run.proofs.FinishLemmas.{more_by}

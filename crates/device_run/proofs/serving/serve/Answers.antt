@@ -1,7 +1,7 @@
 use Rattle.std.proofs.Common.{Err, ap, ◌∙◌}
 use Rattle.device_core.specs.declared.answers.StepFault.{StepFault}
 use Rattle.device_core.specs.Answers.{condition_by}
-use Rattle.journal_device.specs.declared.served.Served.{Served}
+use Rattle.integrity_device.specs.Served.{Served}
 use Rattle.device_run.proofs.CallLemmas.{device_works, fault_is_disk}
 use Rattle.device_run.proofs.ServeLemmas.{served_failed, served_run}
 use Rattle.device_run.proofs.serving.serve.Goals as goal

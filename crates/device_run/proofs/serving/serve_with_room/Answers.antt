@@ -2,8 +2,8 @@ use Rattle.std.proofs.Common.{subst}
 use Rattle.std.proofs.lemmas.Result.{err_from_is_err_and}
 use Rattle.device_model.specs.Progress.{Serve}
 use Rattle.device_model.specs.Script.{turn_events}
-use Rattle.journal_device.specs.declared.served.Served.{Served}
-use Rattle.journal_device.specs.Answers.{served_answer}
+use Rattle.integrity_device.specs.Served.{Served}
+use Rattle.integrity_device.specs.JournalDeviceAnswers.{served_answer}
 use Rattle.integrity_device.specs.Answers.{Answers}
 use Rattle.device_run.proofs.CallLemmas.{if_ok_each, kept_then, runs_behind, runs_failed}
 use Rattle.device_run.proofs.FinishLemmas.{answer-with_room}

@@ -1,7 +1,7 @@
 use Rattle.std.proofs.Common.{refl}
 use Rattle.std.proofs.lemmas.Result.{err_from_is_err_and}
 use Rattle.hmac_tag.specs.TagMaker.{key_of}
-use Rattle.journal_opening.specs.declared.opened.OpenedJournal.{OpenedJournal}
+use Rattle.journal_device.specs.OpenedJournal.{OpenedJournal}
 use Rattle.integrity_device.proofs.OpeningLemmas.{opened_journal, refused}
 use Rattle.integrity_device.proofs.opening.open_in_journal.Goals as goal
 

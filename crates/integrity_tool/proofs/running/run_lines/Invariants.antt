@@ -2,7 +2,7 @@ use Rattle.std.proofs.Common.{◌≡◌, ℕ, ◌+◌, ◌-◌, ◌≤◌, List,
 use Rattle.std.specs.Option.{IsSomeAnd}
 use Rattle.device_model.specs.ScriptRun.{ScriptRun, IsRunOf}
 use Rattle.device_core.specs.declared.condition.Condition.TheVariants.{Working}
-use Rattle.integrity_device.specs.Device.{IsDevice, IsReady, Standing}
+use Rattle.script_session.specs.Device.{IsDevice, IsReady, Standing}
 use Rattle.script_session.specs.Tickets.{AreInFlight}
 use Rattle.integrity_tool.specs.Running.{IsAt, read_by}
 use Rattle.integrity_tool.proofs.running.run_lines.Given as goal

@@ -9,7 +9,7 @@ use Rattle.device_core.specs.Answers.{after_read, turns_left}
 use Rattle.device_core.specs.Device.{KeepsFlight}
 use Rattle.device_core.proofs.LeftLemmas.{fewer_read}
 use Rattle.device_core.proofs.ServeLemmas.{block-is, keeps_read, ready_read, sector-low}
-use Rattle.journal_mode.specs.Reads.{GivesBlock}
+use Rattle.journal_opening.specs.Reads.{GivesBlock}
 use Rattle.journal_device.specs.declared.served.Served.{Served}
 use Rattle.journal_device.specs.Answers.{IsServedAs, waits}
 use Rattle.journal_device.specs.Device.{IsReady, standing_of}

@@ -12,7 +12,7 @@ use Rattle.device_core.proofs.LeftLemmas.{fewer_written}
 use Rattle.device_core.proofs.ServeLemmas.{keeps_flight, ready_read, sector-low, tagged-is}
 use Rattle.request_slots.specs.declared.turn.Turn.{Turn}
 use Rattle.journal_model.specs.Ring.{has_room}
-use Rattle.journal_mode.specs.Journal.{PlacedRing}
+use Rattle.journal_opening.specs.Journal.{PlacedRing}
 use Rattle.journal_device.specs.declared.served.Served.{Served}
 use Rattle.journal_device.specs.declared.served.Served.TheVariants as Serves
 use Rattle.journal_device.specs.Answers.{IsServedAs, WritesFor, waits}

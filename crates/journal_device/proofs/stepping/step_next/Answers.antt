@@ -2,8 +2,8 @@ use Rattle.std.proofs.Common.{inr, refl, ◌∙◌, sym, ap, subst}
 use Rattle.device_core.specs.declared.answers.Actor.{Actor}
 use Rattle.device_core.specs.Answers.{actor_of}
 use Rattle.direct_mode.proofs.ServingLemmas.{on_err_always}
-use Rattle.journal_mode.proofs.FlushLemmas.{one_is}
-use Rattle.journal_mode.proofs.ClosingLemmas.{batch_geometry}
+use Rattle.journal_opening.proofs.FlushLemmas.{one_is}
+use Rattle.journal_opening.proofs.ClosingLemmas.{batch_geometry}
 use Rattle.journal_device.specs.Answers.{HasNoWork}
 use Rattle.journal_device.specs.Device.{standing_of}
 use Rattle.journal_device.proofs.DoneLemmas.{stands_now}

@@ -2,10 +2,10 @@ use Rattle.std.proofs.Common.{sym, subst, List}
 use Rattle.disk_model.specs.Disk.{Content, OnlyAdds}
 use Rattle.disk_model.specs.Moments.{EachMoment, EachSince}
 use Rattle.disk_model.proofs.MomentsLemmas.{EachMoment-kept}
-use Rattle.direct_mode.proofs.StoreCalls.{gets_tag, reads_whole}
+use Rattle.replay.proofs.StoreCalls.{gets_tag, reads_whole}
 use Rattle.journal_model.specs.JournaledDisk.{StandsFor}
-use Rattle.place_writer.specs.Cells.{HasCells}
-use Rattle.place_writer.proofs.WritingLemmas.{back_in, written_in}
+use Rattle.replay.specs.Cells.{HasCells}
+use Rattle.replay.proofs.WritingLemmas.{back_in, written_in}
 use Rattle.tag_store.specs.Store.{IsOutForTag}
 use Rattle.journal_mode.proofs.reading.read_placed.Goals as goal
 

@@ -9,7 +9,7 @@ use Rattle.image_model.specs.Openable.{journal_fault_of}
 use Rattle.image_opening.specs.Format.{disk_format}
 use Rattle.buffer_cache.specs.declared.held.HeldSectors.{HeldSectors}
 use Rattle.tag_store.specs.Store.{Store}
-use Rattle.replay.specs.Writes.{IsOfRecovery}
+use Rattle.journal_mode.specs.Writes.{IsOfRecovery}
 use Rattle.opening_fault.proofs.FaultsLemmas.{same_fault}
 use Rattle.journal_opening.specs.Opening.{OnlySyncs}
 use Rattle.journal_opening.proofs.MomentsLemmas.{rests_then, settles_then, sync_rests, sync_settles, told_synced}

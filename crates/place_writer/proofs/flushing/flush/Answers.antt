@@ -6,7 +6,7 @@ use Rattle.disk_model.proofs.MomentsLemmas.{EachMoment-then, adds_then, sync_add
 use Rattle.image_model.specs.Geometry.{Geometry}
 use Rattle.buffer_cache.proofs.CachedLemmas.{changed_now, write_back_adds}
 use Rattle.disk_model.specs.Moments.{content_now}
-use Rattle.direct_laws.specs.CallLaws.{ReadsTagsNow}
+use Rattle.direct_mode.specs.CallLaws.{ReadsTagsNow}
 use Rattle.tag_store.specs.Store.{IsMarkedTags, given_tags}
 use Rattle.tag_store.proofs.StoreLemmas.{marked_adds}
 use Rattle.direct_mode.proofs.StoreCalls.{adds_back, gives_synced, reads_tags, reads_whole, writes_back}

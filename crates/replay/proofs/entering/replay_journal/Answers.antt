@@ -8,7 +8,7 @@ use Rattle.disk_model.specs.Moments.{EachSince}
 use Rattle.disk_model.proofs.MomentsLemmas.{EachMoment-kept}
 use Rattle.image_model.specs.Cells.{replayed_entries}
 use Rattle.image_model.specs.Geometry.{Geometry, IsGeometry}
-use Rattle.direct_mode.proofs.StoreCalls.{reads_whole}
+use Rattle.place_writer.proofs.StoreCalls.{reads_whole}
 use Rattle.journal_model.specs.Opening.{opened_disk}
 use Rattle.journal_reading.specs.Journal.{journal_image}
 use Rattle.tag_store.specs.Store.{IsStore}

@@ -2,7 +2,7 @@ use Rattle.std.proofs.Common.{◌≡◌, ◌*◌, length, refl, sym, ap, ◌∙�
 use Rattle.disk_model.specs.Identity.{DiskIdentity}
 use Rattle.disk_model.specs.Moments.{HasNow, IsChangedBy}
 use Rattle.image_model.specs.Geometry.{Geometry, IsGeometry, journal_sectors}
-use Rattle.direct_mode.proofs.StoreCalls.{ReadsWhole, reads_whole}
+use Rattle.place_writer.proofs.StoreCalls.{ReadsWhole, reads_whole}
 use Rattle.journal_erasure.specs.EmptySections.{empty_image}
 use Rattle.journal_erasure.specs.Erased.{IsErased}
 use Rattle.journal_erasure.specs.Erasing.{with_empty_journal}

@@ -3,7 +3,7 @@ use Rattle.std.specs.Result.{is_ok}
 use Rattle.std.proofs.lemmas.Option.{none-some}
 use Rattle.disk_model.specs.Disk.{last_image}
 use Rattle.disk_model.proofs.MomentsLemmas.{EachMoment-then}
-use Rattle.direct_mode.proofs.StoreCalls.{reads_whole}
+use Rattle.place_writer.proofs.StoreCalls.{reads_whole}
 use Rattle.journal_model.specs.Opening.{opened_disk}
 use Rattle.journal_reading.proofs.JournalLemmas.{walk_of-journal}
 use Rattle.place_model.specs.Opened.{next_after_walk}

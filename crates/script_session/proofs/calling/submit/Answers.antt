@@ -7,7 +7,7 @@ use Rattle.request_slots.specs.Submitting.{answer_by}
 use Rattle.device_core.specs.declared.condition.Condition.{Condition}
 use Rattle.device_core.specs.declared.condition.Condition.TheVariants.{Working}
 use Rattle.device_core.specs.Answers.{submit_fault}
-use Rattle.integrity_device.specs.Answers.{HasSubmitted}
+use Rattle.device_run.specs.Answers.{HasSubmitted}
 use Rattle.device_run.proofs.CallLemmas.{device_works}
 use Rattle.script_session.specs.declared.line_answer.LineAnswer.TheVariants as Lines
 use Rattle.script_session.proofs.CallLemmas.{submit_err, submit_ok, submit_told, submitted_ticket}

@@ -4,8 +4,8 @@ use Rattle.request_slots.specs.Flight.{Flight, slot_of}
 use Rattle.request_slots.specs.Taking.{without}
 use Rattle.disk_model.specs.Disk.{Content}
 use Rattle.script_session.specs.declared.line_answer.LineAnswer.TheVariants as Lines
-use Rattle.integrity_device.specs.Device.{with_slots}
-use Rattle.integrity_device.proofs.ModeLemmas.{flight_now}
+use Rattle.device_run.specs.Device.{with_slots}
+use Rattle.device_run.proofs.ModeLemmas.{flight_now}
 use Rattle.device_core.specs.declared.condition.Condition.TheVariants.{Working}
 use Rattle.device_run.proofs.CallLemmas.{device_works}
 use Rattle.script_session.specs.LineRun.{HasAnswered}

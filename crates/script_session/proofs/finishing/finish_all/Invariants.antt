@@ -1,7 +1,7 @@
 use Rattle.std.proofs.Common.{◌≡◌, map, take}
 use Rattle.device_core.specs.declared.condition.Condition.TheVariants.{Working}
-use Rattle.integrity_device.specs.Answers.{KeepsParts}
-use Rattle.integrity_device.specs.Device.{IsDevice, Standing}
+use Rattle.device_run.specs.Answers.{KeepsParts}
+use Rattle.device_run.specs.Device.{IsDevice, Standing}
 use Rattle.device_run.specs.Run.{HasRun}
 use Rattle.script_session.proofs.AllLemmas.{finish_each}
 use Rattle.script_session.proofs.finishing.finish_all.Given as goal

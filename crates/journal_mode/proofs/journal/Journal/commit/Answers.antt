@@ -1,8 +1,8 @@
 use Rattle.std.proofs.Common.{sym, ◌∙◌, ap, subst}
 use Rattle.disk_model.specs.Identity.{DiskIdentity}
-use Rattle.direct_mode.proofs.StoreCalls.{reads_whole}
+use Rattle.replay.proofs.StoreCalls.{reads_whole}
 use Rattle.journal_model.specs.Ring.{JournalRing}
-use Rattle.place_writer.specs.CommitLaws.{ReadsWhole}
+use Rattle.replay.specs.CommitLaws.{ReadsWhole}
 use Rattle.tag_store.specs.Store.{IsStore}
 use Rattle.journal_mode.specs.Commits.{CommitsAs}
 use Rattle.journal_mode.specs.Journal.{IsJournal, PlacedRing}

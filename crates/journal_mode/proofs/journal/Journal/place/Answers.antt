@@ -2,7 +2,7 @@ use Rattle.std.proofs.Common.{sym, ◌∙◌, ap, subst}
 use Rattle.std.specs.Prelude.{IfOk}
 use Rattle.journal_model.specs.JournaledDisk.{JournaledDisk}
 use Rattle.journal_model.specs.Steps.{after_place}
-use Rattle.place_writer.specs.Moves.{HasPlaced, IsPlacedOn, WritesNext, after_placing}
+use Rattle.replay.specs.Moves.{HasPlaced, IsPlacedOn, WritesNext, after_placing}
 use Rattle.journal_mode.specs.Journal.{PlacedRing}
 use Rattle.journal_mode.specs.Moves.{PlacesAs}
 use Rattle.journal_mode.specs.Standing.{JournalStanding, StandsAs}

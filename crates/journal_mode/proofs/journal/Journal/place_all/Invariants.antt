@@ -1,6 +1,6 @@
 use Rattle.std.proofs.Common.{◌≡◌, ◌-◌, ◌≤◌, length}
 use Rattle.journal_model.specs.Ring.{entries_of}
-use Rattle.place_writer.specs.Placement.{placed_in}
+use Rattle.replay.specs.Placement.{placed_in}
 use Rattle.tag_store.specs.Store.{IsStore}
 use Rattle.journal_mode.specs.Closing.{HasPlacedMore, WritesEntries, committed_to_place}
 use Rattle.journal_mode.specs.Standing.{IsLeftThrough, JournalStanding, StandsAs}

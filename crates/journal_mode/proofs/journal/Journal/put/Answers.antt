@@ -1,6 +1,6 @@
 use Rattle.std.proofs.Common.{◌≡◌, ◌↔◌, ◌^◌, ◌∷◌, ◌++◌, [], true, refl, rules, sym, ◌∙◌, ap, subst}
 use Rattle.std.specs.Prelude.{IsOk}
-use Rattle.direct_mode.specs.Cells.{IsTaggedBlock, block_write}
+use Rattle.replay.specs.DirectModeCells.{IsTaggedBlock, block_write}
 use Rattle.journal_model.specs.Ring.{JournalRing, has_room}
 use Rattle.journal_overlay.specs.Kept.{Places, added}
 use Rattle.journal_ring.specs.Places.{entry_of}

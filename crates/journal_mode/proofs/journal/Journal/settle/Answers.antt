@@ -1,7 +1,7 @@
 use Rattle.std.proofs.Common.{sym, subst}
 use Rattle.journal_model.specs.Ring.{JournalRing}
-use Rattle.place_writer.specs.Moves.{HasSettled}
-use Rattle.place_writer.specs.declared.placement.Placement.{Placement}
+use Rattle.replay.specs.Moves.{HasSettled}
+use Rattle.replay.specs.DeclaredPlacement.{Placement}
 use Rattle.journal_mode.specs.Journal.{IsJournal, PlacedRing}
 use Rattle.journal_mode.specs.Standing.{StandsAs}
 use Rattle.journal_mode.proofs.FreeingLemmas.{freed_by, freed_is}
