@@ -10,8 +10,6 @@ mod cache;
 mod copying;
 mod held;
 mod scratch;
-#[cfg(test)]
-mod tests;
 mod write_out;
 mod written_back;
 

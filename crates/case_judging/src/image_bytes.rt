@@ -55,6 +55,15 @@ pub fn data_of(bytes: &[u8], block: u64) -> &[u8] {
     run_at(bytes, data_at(block), 512)
 }
 
+/// The data of all blocks, one behind the other.
+pub fn data_of_all(alloc: Global, bytes: &[u8]) -> Result<Vec<u8>, AllocError> {
+    let mut data = Vec::new(alloc);
+    for block in 0..BLOCKS {
+        data.extend_from_slice(data_of(bytes, block))?;
+    }
+    Ok(data)
+}
+
 /// The tag that stands for a block.
 pub fn tag_of(bytes: &[u8], block: u64) -> &[u8] {
     run_at(bytes, tag_at(block), 32)

@@ -16,5 +16,5 @@ pub use image_bytes::{
 pub use images::{Images, judge_left};
 pub use journaled::Writes;
 pub use judging::{Met, Told, judge_made, judge_text};
-pub use reading::{Known, judge_reads, reads};
+pub use reading::{Known, judge_read_of_all, judge_reads, read_of_all, reads};
 pub use wrong::Wrong;

@@ -1,6 +1,6 @@
-//! Reads of all blocks of what is left, and what they are to print.
+//! Reads of all blocks of what is left, each alone or all by one line, and what they are to print.
 use crate::Wrong;
-use crate::image_bytes::{BLOCKS, data_of, digest_of, is_small, tag_of};
+use crate::image_bytes::{BLOCKS, data_of, data_of_all, digest_of, is_small, tag_of};
 use crate::judging::Told;
 use std::alloc::{AllocError, Global};
 
@@ -14,12 +14,21 @@ pub fn reads(alloc: Global) -> Result<Vec<u8>, AllocError> {
     Ok(script)
 }
 
+/// A script that reads all blocks by one line.
+pub fn read_of_all(alloc: Global) -> Result<Vec<u8>, AllocError> {
+    let line = format!(in alloc; "read 0 {BLOCKS}\n")?;
+    Vec::from_slice(alloc, line.as_bytes())
+}
+
 /// The bytes of a disk, and of each block the tag that its data have, and what a read prints that finds this tag.
 #[derive(Drop)]
 pub struct Known {
     bytes: Vec<u8>,
     digests: Vec<[u8; 32]>,
     replies: Vec<String>,
+    /// The data of all blocks, and what a run prints that reads them by one line.
+    data: Vec<u8>,
+    reply_of_all: String,
 }
 
 impl Known {
@@ -32,16 +41,31 @@ impl Known {
             digests.push(digest_of(block, data))?;
             replies.push(reply_of(alloc, block, data)?)?;
         }
+        let data = data_of_all(alloc, &bytes)?;
+        let reply_of_all = reply_of_all(alloc, &data)?;
         Ok(Known {
             bytes,
             digests,
             replies,
+            data,
+            reply_of_all,
         })
     }
 
     /// The bytes of the disk.
     pub fn bytes(&self) -> &[u8] {
         &self.bytes
+    }
+
+    /// Whether these are the bytes of a small image whose blocks all have the tags of their data.
+    pub fn is_whole(&self, left: &[u8]) -> bool {
+        is_small(left) && (0..BLOCKS).all(|block| self.has_its_tag(left, block))
+    }
+
+    /// Whether a block of another disk has the tag of its data.
+    fn has_its_tag(&self, left: &[u8], block: u64) -> bool {
+        let (digest, _) = self.digest_of(block, data_of(left, block));
+        tag_of(left, block) == digest.as_slice()
     }
 
     /// The tag that a block of another disk has by its data, and whether these are the disk's own.
@@ -77,6 +101,25 @@ pub fn judge_reads(alloc: Global, base: &Known, left: &[u8], told: Told<'_>) -> 
     }
     if told.status != status || !told.text.ends_with("\nclosed\n") {
         return Err(Wrong::Run("reads of what is left do not come to their end"));
+    }
+    Ok(())
+}
+
+/// Looks at what the read of all blocks by one line has told of what is left, where each has the tag of its data.
+pub fn judge_read_of_all(
+    alloc: Global,
+    base: &Known,
+    left: &[u8],
+    told: Told<'_>,
+) -> Result<(), Wrong> {
+    let data = data_of_all(alloc, left)?;
+    let is_right = if data == base.data {
+        told.text == base.reply_of_all.as_str()
+    } else {
+        told.text == reply_of_all(alloc, &data)?.as_str()
+    };
+    if told.status != 0 || !is_right {
+        return Err(Wrong::Run("a read of all blocks does not give what is left"));
     }
     Ok(())
 }
@@ -126,6 +169,12 @@ fn is_reply(
 fn reply_of(alloc: Global, block: u64, data: &[u8]) -> Result<String, AllocError> {
     let stretches = stretches_of(alloc, data)?;
     format!(in alloc; "ok read {block} 1 {stretches}\n")
+}
+
+/// What a run prints that reads all blocks by one line and finds the right tags.
+fn reply_of_all(alloc: Global, data: &[u8]) -> Result<String, AllocError> {
+    let stretches = stretches_of(alloc, data)?;
+    format!(in alloc; "ok read 0 {BLOCKS} {stretches}\nclosed\n")
 }
 
 /// The stretches of like bytes.

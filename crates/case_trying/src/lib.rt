@@ -4,6 +4,7 @@
 #![tactic(auto)]
 
 mod input;
+mod reads;
 mod recovering;
 mod session;
 mod starting;

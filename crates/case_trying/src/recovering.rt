@@ -1,14 +1,14 @@
 //! Looks at what a run has left whose journal plays a part: by the blocks of each image with its journal, and by what
 //! later runs on the image read and leave.
+use crate::reads::Reads;
 use crate::trying::Counts;
 use anyhow::{Result, bail};
 use case_judging::{
-    Images, Known, Told, Writes, has_empty_journal, is_same_outside_journal, is_small, judge_left,
-    judge_reads, reads, with_journal_placed,
+    Images, Known, Writes, has_empty_journal, is_same_outside_journal, is_small, judge_left,
+    with_journal_placed,
 };
-use case_running::{Command, Ended, is_journaled, run};
-use case_text::{Case, Fails};
-use cut_disk::CutDisk;
+use case_running::{Command, Ended, is_journaled};
+use case_text::Case;
 use std::alloc::Global;
 
 /// What runs of a case are judged by whose journal plays a part.
@@ -18,8 +18,8 @@ pub struct Recovered {
     base: Known,
     judged: Judged,
     /// Reads of all blocks, in journal mode and in direct mode.
-    journaled: Case,
-    direct: Case,
+    journaled: Reads,
+    direct: Reads,
 }
 
 /// What is to be left of the blocks.
@@ -46,9 +46,8 @@ pub fn recovered_by<C: Command>(
     if !is_small(base) || (!is_journaled(case) && has_empty_journal(base)) {
         return Ok(None);
     }
-    let journaled = reads_in(alloc, "J")?;
-    let disk = CutDisk::new(alloc, base)?;
-    let opened = run(alloc, command, &journaled, Fails::NONE, disk)?;
+    let journaled = Reads::in_mode(alloc, "J")?;
+    let opened = journaled.run_alone(alloc, command, base)?;
     let base = with_journal_placed(alloc, base)?;
     let judged = if is_refused(&opened) {
         Judged::Refused
@@ -59,7 +58,7 @@ pub fn recovered_by<C: Command>(
         base: Known::new(alloc, base)?,
         judged,
         journaled,
-        direct: reads_in(alloc, "D")?,
+        direct: Reads::in_mode(alloc, "D")?,
     }))
 }
 
@@ -74,15 +73,6 @@ fn judged_by(alloc: Global, case: &Case, base: &[u8], script: &str, text: &str) 
 /// Whether a run has told that its image is refused.
 fn is_refused(ended: &Ended) -> bool {
     ended.status == 3 && ended.text.as_str().starts_with("fault image ")
-}
-
-/// Reads of all blocks in a mode.
-fn reads_in(alloc: Global, mode: &str) -> Result<Case> {
-    let mut case = Case::new(alloc, reads(alloc)?)?;
-    if let Some(word) = case.words.last_mut() {
-        *word = mode.to_string(alloc)?;
-    }
-    Ok(case)
 }
 
 /// Looks at an image of what a run left that has printed a text. Its blocks, with the entries of its journal in their
@@ -109,8 +99,8 @@ pub fn judge_recovered<C: Command>(
         Judged::Direct(images) => judge_left(images.left_by(text), &blocks)?,
     }
     if counts.images % 4 != 0 {
-        let case = &recovered.journaled;
-        read_again(alloc, command, counts, recovered, case, left, &blocks)?;
+        let reads = &recovered.journaled;
+        read_again(alloc, command, counts, recovered, reads, left, &blocks)?;
         return Ok(());
     }
     judge_both(alloc, command, counts, recovered, left, &blocks)
@@ -125,10 +115,10 @@ fn judge_both<C: Command>(
     left: &[u8],
     blocks: &[u8],
 ) -> Result<()> {
-    let case = &recovered.journaled;
-    read_again(alloc, command, counts, recovered, case, left, blocks)?;
-    let case = &recovered.direct;
-    let after = read_again(alloc, command, counts, recovered, case, left, blocks)?;
+    let reads = &recovered.journaled;
+    read_again(alloc, command, counts, recovered, reads, left, blocks)?;
+    let reads = &recovered.direct;
+    let after = read_again(alloc, command, counts, recovered, reads, left, blocks)?;
     if !has_empty_journal(after.disk.bytes()) {
         bail!("direct mode has not emptied the journal");
     }
@@ -148,8 +138,7 @@ fn judge_refused<C: Command>(
         bail!("an image that is refused has changed");
     }
     counts.runs = counts.runs.saturating_add(1);
-    let disk = CutDisk::new(alloc, left)?;
-    let again = run(alloc, command, &recovered.journaled, Fails::NONE, disk)?;
+    let again = recovered.journaled.run_alone(alloc, command, left)?;
     if !is_refused(&again) {
         bail!("an image that was refused is opened");
     }
@@ -162,18 +151,12 @@ fn read_again<C: Command>(
     command: &C,
     counts: &mut Counts,
     recovered: &Recovered,
-    case: &Case,
+    reads: &Reads,
     image: &[u8],
     blocks: &[u8],
 ) -> Result<Ended> {
     counts.runs = counts.runs.saturating_add(1);
-    let disk = CutDisk::new(alloc, image)?;
-    let again = run(alloc, command, case, Fails::NONE, disk)?;
-    let told = Told {
-        status: again.status,
-        text: again.text.as_str(),
-    };
-    judge_reads(alloc, &recovered.base, blocks, told)?;
+    let again = reads.judge(alloc, command, &recovered.base, image, blocks)?;
     if !is_same_outside_journal(again.disk.bytes(), blocks) {
         bail!("a run on what is left does not bring it to its places");
     }

@@ -1,10 +1,9 @@
 //! Tries a case with each failure of a kind, until a run meets none.
+use crate::reads::Reads;
 use crate::recovering::{Recovered, judge_recovered, recovered_by};
 use anyhow::{Result, bail};
 use case_disks::choice_from;
-use case_judging::{
-    Images, Known, Met, Told, judge_left, judge_made, judge_reads, judge_text, reads,
-};
+use case_judging::{Images, Known, Met, Told, judge_left, judge_made, judge_text};
 use case_running::{Command, Ended, is_keyed, outcome_of, run};
 use case_text::{CHOICES, Case, Fails, Kind, name_of, with_failure};
 use cut_disk::CutDisk;
@@ -32,7 +31,7 @@ pub struct Trial {
     base: Known,
     /// The images of its script on it.
     images: Images,
-    reads: Case,
+    reads: Reads,
     is_keyed: bool,
     /// The bytes of the image that the case makes, if it makes one.
     made: Option<Vec<u8>>,
@@ -59,7 +58,7 @@ impl Trial {
         Ok(Trial {
             images: Images::of_script(alloc, &base, script)?,
             base: Known::new(alloc, base)?,
-            reads: Case::new(alloc, reads(alloc)?)?,
+            reads: Reads::in_mode(alloc, "D")?,
             is_keyed: is_keyed(case),
             made: made_by(alloc, case, undisturbed)?,
             recovered,
@@ -209,9 +208,9 @@ fn judge_choice<C: Command>(
     }
     judge_left(trial.images.left_by(text), &left)?;
     counts.runs = counts.runs.saturating_add(1);
-    let disk = CutDisk::new(alloc, &left)?;
-    let again = run(alloc, command, &trial.reads, Fails::NONE, disk)?;
-    judge_reads(alloc, &trial.base, &left, told_by(&again))?;
+    trial
+        .reads
+        .judge(alloc, command, &trial.base, &left, &left)?;
     Ok(())
 }
 

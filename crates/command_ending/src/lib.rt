@@ -13,8 +13,6 @@ mod line_refusal;
 mod line_texts;
 mod pieces;
 mod tag_text;
-#[cfg(test)]
-mod tests;
 
 pub use ended::{Ended, end_without_memory};
 pub use form_fault::FormFault;

@@ -14,8 +14,6 @@ mod numbers;
 mod parsing;
 mod plain_law;
 mod table;
-#[cfg(test)]
-mod tests;
 mod values;
 mod words_fault;
 

@@ -12,8 +12,6 @@ mod scanning;
 mod shape;
 mod spread;
 mod tally;
-#[cfg(test)]
-mod tests;
 
 pub use grid::Grid;
 pub use ids::{id, number_of};

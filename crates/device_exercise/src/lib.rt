@@ -5,7 +5,5 @@
 #![tactic(auto)]
 
 mod exercising;
-#[cfg(test)]
-mod tests;
 
 pub use exercising::exercise;

@@ -5,8 +5,6 @@
 
 mod serving;
 mod stepping;
-#[cfg(test)]
-mod tests;
 
 pub use integrity_device::{Device, OpenMode, Refused, Served};
 pub use serving::{finish, serve, serve_with_room};

@@ -5,8 +5,6 @@ mod flushing;
 mod opening;
 mod reading;
 mod serving;
-#[cfg(test)]
-mod tests;
 mod writing;
 
 pub use flushing::flush;

@@ -17,13 +17,13 @@ use Rattle.tag_store.specs.Store.{HoldsTag, given_tags}
 use Rattle.replay.specs.Emptied.{HasEmptyJournal, IsEmptyJournal}
 use Rattle.replay.specs.Recovery.{LeavesRecovered}
 use Rattle.journal_opening.specs.declared.recovering.RecoveredImage.{RecoveredImage}
+use Rattle.journal_opening.specs.declared.room.TheConstants.{HELD_SECTORS}
 use Rattle.journal_opening.specs.Opening.{IsOfOpening}
 use Rattle.request_slots.specs.Flight.{no_requests}
 use Rattle.device_core.specs.declared.condition.Condition.TheVariants.{Working}
 use Rattle.device_core.specs.declared.parts.Parts.{Parts}
 use Rattle.device_core.specs.Device.{IsDevice, IsReady, Standing}
 use Rattle.direct_opening.specs.declared.room.DirectRoom.{DirectRoom}
-use Rattle.direct_opening.specs.declared.room.TheConstants.{HELD_SECTORS}
 
 -- ---- memory
 

@@ -3,16 +3,12 @@ ghost use Rattle.std.specs.Prelude.{IfOk};
 ghost use Rattle.direct_opening.specs.Opening.{IsRoomFor};
 
 use buffer_cache::Cache;
+use journal_opening::HELD_SECTORS;
 use layout::Geometry;
 use request_slots::Slots;
 use sector_disk::Memory;
 use sector_pool::{Region, Run};
 use std::alloc::Global;
-
-/// How many sectors of tags are held in memory.
-///
-/// Own: 128 KiB of them.
-const HELD_SECTORS: u64 = 256;
 
 /// Where the journal begins, in sectors.
 ///

@@ -10,8 +10,6 @@ mod file_disk;
 mod opening;
 mod sector_file;
 mod std_file;
-#[cfg(test)]
-mod tests;
 mod transfer;
 
 pub use calls::Calls;

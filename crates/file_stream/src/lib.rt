@@ -10,8 +10,6 @@ mod line_sink;
 mod open_source;
 mod std_stream;
 mod stream_file;
-#[cfg(test)]
-mod tests;
 mod transfer;
 
 pub use file_source::FileSource;

@@ -10,8 +10,6 @@ mod key;
 mod padding;
 mod tag;
 mod tag_maker;
-#[cfg(test)]
-mod tests;
 
 pub use key::{Hash, Key, KeyFault};
 pub use tag::Tag;

@@ -11,8 +11,6 @@ mod index;
 mod judging;
 mod opening;
 mod report;
-#[cfg(test)]
-mod tests;
 
 pub use bad::{Bad, What};
 pub use checked_image::CheckedImage;

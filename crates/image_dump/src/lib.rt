@@ -12,8 +12,6 @@ mod journal_grid;
 mod laws;
 mod pieces;
 mod shown;
-#[cfg(test)]
-mod tests;
 mod texts;
 
 pub use dump_fault::DumpFault;

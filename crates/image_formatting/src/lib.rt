@@ -18,8 +18,6 @@ mod new_image;
 mod planning;
 mod room;
 mod tagging;
-#[cfg(test)]
-mod tests;
 mod wiping;
 mod zeroing;
 

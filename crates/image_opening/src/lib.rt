@@ -8,8 +8,6 @@
 mod laws;
 mod open_fault;
 mod reading;
-#[cfg(test)]
-mod tests;
 
 pub use laws::images_that_open_are_told;
 pub use open_fault::OpenFault;

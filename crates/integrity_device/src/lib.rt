@@ -13,8 +13,6 @@ mod refused;
 mod serving;
 mod stepping;
 mod submitting;
-#[cfg(test)]
-mod tests;
 
 pub use device::Device;
 pub use journal_device::Served;

@@ -79,8 +79,8 @@ pub(crate) fn exercise_image<D: Disk, O: Sink>(
     }
 }
 
-/// The image that is exercised: areas of eight sectors, a journal of four sections, and else what `format` makes without
-/// an option.
+/// The image that is exercised: areas of eight sectors, a journal of four sections, and else what `format` makes
+/// without an option.
 fn image() -> NewImage
     ensures { result ≡ Exercising.exercise_image }
 {

@@ -82,8 +82,8 @@ pub(crate) fn run_image<D: Disk, S: Source, O: Sink>(
     ended
 }
 
-/// Does that with a reader that has read nothing, and with memory for the journal's sectors, none at first. It gives the
-/// disk back, and tells in `ended` how the run ended.
+/// Does that with a reader that has read nothing, and with memory for the journal's sectors, none at first. It gives
+/// the disk back, and tells in `ended` how the run ended.
 ///
 /// # Errors
 ///

@@ -10,8 +10,6 @@ mod opening;
 mod served;
 mod serving;
 mod stepping;
-#[cfg(test)]
-mod tests;
 mod writing;
 
 pub use closing::close;

@@ -13,8 +13,6 @@ mod laws;
 mod newest;
 mod part;
 mod runs;
-#[cfg(test)]
-mod tests;
 
 pub use erasing::erase;
 pub use erasure::Erasure;

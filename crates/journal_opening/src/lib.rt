@@ -9,11 +9,9 @@ mod opened;
 mod opening;
 mod recovering;
 mod room;
-#[cfg(test)]
-mod tests;
 
 pub use journal_mode::Journal;
 pub use opened::OpenedJournal;
 pub use opening::{open_format, open_journal};
 pub use recovering::{RecoveredImage, recover_image};
-pub use room::OpeningRoom;
+pub use room::{HELD_SECTORS, OpeningRoom};

@@ -10,10 +10,10 @@ use sector_disk::Memory;
 use sector_pool::{Region, Run};
 use std::alloc::Global;
 
-/// How many sectors of tags are held in memory.
+/// How many sectors of tags a device holds in memory, in both modes.
 ///
 /// Own: 128 KiB of them.
-const HELD_SECTORS: u64 = 256;
+pub const HELD_SECTORS: u64 = 256;
 
 /// Where the journal begins, in sectors.
 ///

@@ -9,8 +9,6 @@ mod overlay;
 mod place;
 mod place_log;
 mod table;
-#[cfg(test)]
-mod tests;
 
 pub use overlay::{Memory, Overlay};
 pub use place::Place;

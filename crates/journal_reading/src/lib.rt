@@ -11,8 +11,6 @@ mod grid;
 mod judging;
 mod places;
 mod reading;
-#[cfg(test)]
-mod tests;
 
 pub use entries::read_entry;
 pub use faults::{JournalFault, ReplayFault};

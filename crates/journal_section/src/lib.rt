@@ -13,8 +13,6 @@ mod places;
 mod sealing;
 mod section_laws;
 mod sectors;
-#[cfg(test)]
-mod tests;
 
 pub use blocks::block_bytes;
 pub use clearing::clear;

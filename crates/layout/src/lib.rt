@@ -10,8 +10,6 @@ mod geometry;
 mod layout;
 mod providing;
 mod regions;
-#[cfg(test)]
-mod tests;
 
 pub use geometry::Geometry;
 pub use image_model::GeomFault;

@@ -6,8 +6,6 @@
 
 mod laws;
 mod opening_fault;
-#[cfg(test)]
-mod tests;
 
 pub use laws::images_that_open_have_no_fault;
 pub use opening_fault::OpeningFault;

@@ -7,8 +7,6 @@
 
 mod ask;
 mod ranges;
-#[cfg(test)]
-mod tests;
 
 pub use ask::Asked;
 pub use ranges::{Memory, Ranges};

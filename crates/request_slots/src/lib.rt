@@ -12,8 +12,6 @@ mod request;
 mod slot;
 mod slots;
 mod submit_fault;
-#[cfg(test)]
-mod tests;
 mod ticket;
 mod turn;
 

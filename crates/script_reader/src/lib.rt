@@ -8,8 +8,6 @@
 mod line_reader;
 mod next_line;
 mod piece;
-#[cfg(test)]
-mod tests;
 
 pub use line_reader::{LineReader, MOST_LINE, MOST_SCRIPT};
 pub use next_line::NextLine;

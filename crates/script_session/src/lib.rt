@@ -16,8 +16,6 @@ mod running;
 mod stop;
 mod tags_found;
 mod telling;
-#[cfg(test)]
-mod tests;
 mod tickets;
 
 pub use asking_whole::run_ask;

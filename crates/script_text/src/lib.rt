@@ -14,8 +14,6 @@ mod reply;
 mod run_laws;
 mod runs;
 mod stretches;
-#[cfg(test)]
-mod tests;
 mod told;
 mod values;
 mod verb;

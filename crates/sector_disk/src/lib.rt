@@ -11,8 +11,6 @@ mod latest;
 mod mem_disk;
 mod record;
 mod stop;
-#[cfg(test)]
-mod tests;
 
 pub use disk::{Counted, Disk, Failed, Memory, Named};
 pub use fault_plan::{FaultPlan, MOST_FAILING};

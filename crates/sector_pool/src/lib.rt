@@ -8,8 +8,6 @@
 mod pieces;
 mod region;
 mod run;
-#[cfg(test)]
-mod tests;
 
 pub use region::{Memory, Region};
 pub use run::Run;

@@ -4,8 +4,6 @@
 //! disk these are what reads of it give. Nothing is written.
 #![tactic(auto)]
 
-#[cfg(test)]
-mod tests;
 mod window;
 
 pub use window::SectorWindow;

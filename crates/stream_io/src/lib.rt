@@ -10,8 +10,6 @@ mod mem_source;
 mod putting;
 mod reading;
 mod stream;
-#[cfg(test)]
-mod tests;
 
 pub use mem_file::MemFile;
 pub use mem_sink::MemSink;

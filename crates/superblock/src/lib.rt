@@ -6,8 +6,6 @@
 
 mod magic;
 mod reading;
-#[cfg(test)]
-mod tests;
 mod writing;
 
 pub use image_model::{MOST_SECTORS, Super, SuperFault};

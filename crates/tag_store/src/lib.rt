@@ -9,8 +9,6 @@
 mod laws;
 mod spans;
 mod tags;
-#[cfg(test)]
-mod tests;
 
 pub use laws::{reads_give_what_is_given, store_is_of_its_disk, tag_is_put, tags_are_written};
 pub use tags::Tags;

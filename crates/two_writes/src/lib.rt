@@ -7,8 +7,6 @@
 
 mod list;
 mod pair;
-#[cfg(test)]
-mod tests;
 
 pub use list::write_pairs;
 pub use pair::{Pair, write_pair};

@@ -8,8 +8,6 @@
 mod generator;
 mod laws;
 mod tally;
-#[cfg(test)]
-mod tests;
 
 pub use generator::Workload;
 pub use laws::tallies_go_on;

@@ -1,0 +1,220 @@
+//! Words and the commands that they are.
+
+use command_words::{BlockSize, Command, Interleave, TagSize, WordsFault, parse};
+use std::alloc::{AllocError, Global};
+use std::test::Fail;
+
+/// Words that are a command, parted by `|`, and a part of what is shown of it.
+///
+/// Source: what clap 4 makes of such words without settings of its own, and the ends of the values.
+static TAKEN: [(&str, &str); 30] = [
+    (
+        "run|I|--mode|D",
+        "Run(Run { image: FileName { name: \"I\" }, mode: Direct, hash: Sha256 })",
+    ),
+    ("run|--mode=J|I", "mode: Journal, hash: Sha256 })"),
+    (
+        "run|I|--mode|J|--integrity|hmac-sha256|--integrity-key-file|K",
+        "hash: HmacSha256 { key_file: FileName { name: \"K\" } }",
+    ),
+    (
+        "run|I|--mode|J|--integrity=hmac-sha256|--integrity-key-file=",
+        "hash: HmacSha256 { key_file: FileName { name: \"\" } }",
+    ),
+    (
+        "run|I|--mode|J|--integrity=hmac-sha256|--integrity-key-file=-K",
+        "name: \"-K\"",
+    ),
+    ("run|I|--mode|J|--integrity|sha256", "hash: Sha256"),
+    ("dump|I", "Dump(Dump { image: FileName { name: \"I\" } })"),
+    ("dump|-", "name: \"-\""),
+    ("dump|", "name: \"\""),
+    ("dump|a b\u{1}", "name: \"a b\\u{1}\""),
+    ("dump|help", "name: \"help\""),
+    ("dump|--|-I", "name: \"-I\""),
+    ("dump|--|--", "name: \"--\""),
+    ("dump|I|--", "name: \"I\""),
+    (
+        "check|I",
+        "Check(Check { image: FileName { name: \"I\" }, hash: Sha256, checked: Cells })",
+    ),
+    ("check|--placed|I", "checked: Placed"),
+    (
+        "exercise|I|0|0",
+        "Exercise(Exercise { image: FileName { name: \"I\" }, seed: 0, count: Within { number: 0 } })",
+    ),
+    (
+        "exercise|I|18446744073709551615|1000000",
+        "seed: 18446744073709551615, count: Within { number: 1000000 }",
+    ),
+    (
+        "format|I",
+        "tag_size: Within { number: 32 }, block_size: Bytes512",
+    ),
+    (
+        "format|I",
+        "interleave: Interleave { sectors: 32768 }, sections: Within { number: 4 }",
+    ),
+    (
+        "format|I",
+        "number: 15 }, salt: None, padding: Fixed, wipe: Zeros })",
+    ),
+    (
+        "format|I|--tag-size|1|--sections|1|--log2-blocks-per-bit|0",
+        "tag_size: Within { number: 1 }",
+    ),
+    (
+        "format|I|--tag-size|1|--sections|1|--log2-blocks-per-bit|0",
+        "sections: Within { number: 1 }, log2_blocks_per_bit: Within { number: 0 }",
+    ),
+    (
+        "format|I|--tag-size=32|--sections=1048576|--log2-blocks-per-bit=47",
+        "sections: Within { number: 1048576 }, log2_blocks_per_bit: Within { number: 47 }",
+    ),
+    (
+        "format|I|--interleave-sectors|8|--sector-size|512",
+        "block_size: Bytes512, interleave: Interleave { sectors: 8 }",
+    ),
+    (
+        "format|I|--interleave-sectors|2147483648|--sector-size|1024",
+        "block_size: Bytes1024, interleave: Interleave { sectors: 2147483648 }",
+    ),
+    ("format|--sector-size|2048|I", "block_size: Bytes2048"),
+    (
+        "format|--sector-size|4096|I|--no-wipe|--integrity-legacy-padding",
+        "block_size: Bytes4096",
+    ),
+    (
+        "format|I|--no-wipe|--integrity-legacy-padding",
+        "padding: Legacy, wipe: Nothing }",
+    ),
+    (
+        "format|I|--salt|000102030405060708090a0b0c0d0eFF",
+        "salt: Some([0, 1, 2, 3, 4, 5, 6, 7, 8, 9, 10, 11, 12, 13, 14, 255])",
+    ),
+];
+
+/// Words that are no command: one beyond each end, and what clap 4 refuses.
+static REFUSED: [&str; 60] = [
+    "run|I|--mode|X",
+    "run|I|--mode|",
+    "run|I|--mode",
+    "run|I",
+    "run|I|--mode|D|--mode|D",
+    "run|I|--mode|D|K",
+    "run|--mode|D",
+    "--mode|D|run|I",
+    "RUN|I|--mode|D",
+    "ru|I|--mode|D",
+    "run|I|--mod|D",
+    "run|I|-m|D",
+    "run|I|--mode|-D",
+    "run|I|--mode|B",
+    "run|I|--mode|D|--integrity|sha1",
+    "run|I|--mode|D|--integrity|hmac-sha256",
+    "run|I|--mode|D|--integrity-key-file|K",
+    "run|I|--mode|D|--integrity|sha256|--integrity-key-file|K",
+    "run|I|--mode|-h",
+    "dump|--|-h",
+    "dump|I|--help",
+    "dump|-V",
+    "dump|--|--version",
+    "dump|-h|I",
+    "help",
+    "help|dump",
+    "dump",
+    "dump|-I",
+    "dump|I|J",
+    "dump|I|--placed",
+    "check|I|--placed=1",
+    "check|I|--placed|--placed",
+    "check|I|--frob",
+    "exercise|I|0",
+    "exercise|I|0|1|2",
+    "exercise|I|01|0",
+    "exercise|I|+1|0",
+    "exercise|I|-1|0",
+    "exercise|I||0",
+    "exercise|I|18446744073709551616|0",
+    "exercise|I|0|1000001",
+    "format|I|--tag-size|0",
+    "format|I|--tag-size|33",
+    "format|I|--sections|0",
+    "format|I|--sections|1048577",
+    "format|I|--log2-blocks-per-bit|48",
+    "format|I|--sector-size|256",
+    "format|I|--sector-size|8192",
+    "format|I|--interleave-sectors|4",
+    "format|I|--interleave-sectors|24",
+    "format|I|--interleave-sectors|4294967296",
+    "format|I|--salt|000102030405060708090a0b0c0d0e0",
+    "format|I|--salt|000102030405060708090a0b0c0d0e0g",
+    "format|I|--salt|",
+    "format|I|--mode|J",
+    "format|I|--recalculate",
+    "salvage|I",
+    "frob",
+    "",
+    "-",
+];
+
+/// The program's name, and these words.
+fn words_of(alloc: Global, words: &str) -> Result<Vec<String>, AllocError> {
+    let mut all = Vec::new(alloc);
+    all.push(String::from_str(alloc, "integrity")?)?;
+    for word in words.split('|') {
+        all.push(String::from_str(alloc, word)?)?;
+    }
+    Ok(all)
+}
+
+/// What `Debug` shows of the command that these words are. Nothing where they are none.
+fn shown(alloc: Global, words: &str) -> Result<Option<String>, Fail> {
+    let words = words_of(alloc, words)?;
+    match parse(alloc, words.as_slice()) {
+        Ok(command) => Ok(Some(format!(in alloc; "{command:?}")?)),
+        Err(WordsFault::Refused) => Ok(None),
+        Err(fault) => Err(fault)?,
+    }
+}
+
+#[test]
+fn words_are_their_command(rt: HostRuntime) -> Result<(), Fail> {
+    for (words, part) in &TAKEN {
+        let shown = shown(rt.alloc(), words)?.ok_or("words of the table are refused")?;
+        assert!(rt; shown.as_str().contains(*part), "{words}: {shown}");
+    }
+    for words in &REFUSED {
+        assert!(rt; shown(rt.alloc(), words)?.is_none(), "{words}");
+    }
+    Ok(())
+}
+
+#[test]
+fn no_words_are_no_command(rt: HostRuntime) -> Result<(), Fail> {
+    let none = Vec::new(rt.alloc());
+    assert!(rt; parse(rt.alloc(), none.as_slice()).is_err());
+    Ok(())
+}
+
+#[test]
+fn an_image_has_the_name_of_its_word(rt: HostRuntime) -> Result<(), Fail> {
+    let words = words_of(rt.alloc(), "dump|I")?;
+    let command = parse(rt.alloc(), words.as_slice())?;
+    match &command {
+        Command::Dump(dump) => assert!(rt; dump.image.as_str() == "I"),
+        _ => Err("the words of a dump are none")?,
+    }
+    Ok(())
+}
+
+#[test]
+fn values_are_what_they_are_made_of(rt: HostRuntime) -> Result<(), Fail> {
+    assert!(rt; matches!(TagSize::new(4), Some(size) if size.number() == 4));
+    assert!(rt;
+        matches!(Interleave::new(16), Some(interleave) if interleave.sectors() == 16 && interleave.log2() == 4)
+    );
+    assert!(rt; BlockSize::Bytes4096.log2_sectors() == 3);
+    assert!(rt; TagSize::new(33).is_none() && Interleave::new(24).is_none());
+    Ok(())
+}

@@ -1,0 +1,152 @@
+//! Journals of the small image, read and judged.
+ghost use Rattle.std.specs.Prelude.{◌≡◌, ◌≤◌, IfOk, length};
+ghost use Rattle.image_model.specs.Geometry.{IsGeometry, journal_sectors};
+
+use commit_id::{Plan, ScanFault, State, id};
+use hmac_tag::{Hash, TagMaker};
+use journal_reading::{JournalFault, JudgedJournal, ReplayFault, read_judged};
+use layout::Geometry;
+use sector_disk::{Disk, MemDisk};
+use std::alloc::Global;
+use std::test::Fail;
+use superblock::{Super, judge};
+
+/// The fields of the small image: 256 sectors with one section.
+///
+/// By the formulas of the layout an entry has 48 bytes, a metadata sector 10 of them, and a section 88 sectors.
+const FIELDS: Super = Super {
+    version: 4,
+    log2_interleave: 3,
+    tag_size: 32,
+    sections: 1,
+    provided: 80,
+    flags: 0x8,
+    log2_spb: 0,
+    log2_region: 15,
+    recalc_sector: 0,
+    salt: [0; 16],
+};
+
+const SECTORS: u64 = 256;
+
+/// The sectors of its journal.
+const JOURNAL: u64 = 88;
+
+/// The SHA-256 of the number 5 in 8 bytes, the lowest first, and 512 bytes aa: by Python's `hashlib`.
+const TAG: [u8; 32] = [
+    0xb5, 0x55, 0xb8, 0x33, 0x71, 0xaf, 0x21, 0x41, 0xdf, 0x2f, 0xad, 0xe2, 0xf5, 0xa7, 0x98, 0x9d,
+    0x66, 0x72, 0xa4, 0x90, 0x11, 0x86, 0x4e, 0x3f, 0x7a, 0x98, 0x42, 0x75, 0xeb, 0xb7, 0x4b, 0xd0,
+];
+
+/// Sector `j` of a section with one entry, of block 5 with 512 bytes aa, under the number 1. The bytes follow from
+/// the format.
+fn journal_sector(j: u64) -> [u8; 512] {
+    let mut bytes = [0; 512];
+    if j < 8 {
+        for n in 0..10 {
+            bytes[48 * n + 4..48 * n + 8].fill(0xff);
+        }
+    }
+    if j == 0 {
+        bytes[..8].copy_from_slice(&[5, 0, 0, 0, 0, 0, 0, 0]);
+        bytes[8..16].fill(0xaa);
+        bytes[16..48].copy_from_slice(&TAG);
+    }
+    if j == 8 {
+        bytes[..504].fill(0xaa);
+    }
+    if j < JOURNAL {
+        bytes[504..].copy_from_slice(&id(0, j, 1).to_le_bytes());
+    }
+    bytes
+}
+
+/// A disk whose journal is that, with other bytes at some places of some sectors.
+fn disk_with(alloc: Global, changes: &[(u64, usize, u8)]) -> Result<MemDisk, Fail> {
+    let mut disk = MemDisk::new(alloc, SECTORS, JOURNAL)?;
+    for j in 0..JOURNAL {
+        let mut bytes = journal_sector(j);
+        for (sector, at, byte) in changes {
+            if *sector == j {
+                if let Some(place) = bytes.get_mut(*at) {
+                    *place = *byte;
+                }
+            }
+        }
+        if disk.sectors() == SECTORS {
+            disk.write_run(8 + j, &bytes)?;
+        }
+    }
+    Ok(disk)
+}
+
+/// What a disk's journal is judged to be.
+fn judged(alloc: Global, disk: &mut MemDisk) -> Result<Result<JudgedJournal, ReplayFault>, Fail> {
+    judge(&FIELDS)?;
+    let geometry = Geometry::new(&FIELDS, disk.sectors())?;
+    let maker = TagMaker::new(Hash::Sha256, None, 32);
+    let mut bytes = vec![in alloc; 0; 512 * JOURNAL as usize]?;
+    if geometry.initial() != 8 + JOURNAL || geometry.shape().tag != 32 {
+        return Err(Fail::from("geometry"));
+    }
+    Ok(read_judged(alloc, disk, &geometry, &maker, &mut bytes))
+}
+
+#[test]
+fn an_entry_with_its_own_tag_may_be_replayed(rt: HostRuntime) -> Result<(), Fail> {
+    let mut disk = disk_with(rt.alloc(), &[])?;
+    let Ok(journal) = judged(rt.alloc(), &mut disk)? else {
+        return Err(Fail::from("refused"));
+    };
+    let state = State::Rest { next: 0, number: 2 };
+    let walk = [(0, 0), (0, 1)];
+    assert_eq!(rt; journal.plan, Plan { state, walk });
+    Ok(())
+}
+
+#[test]
+fn the_first_fault_is_told(rt: HostRuntime) -> Result<(), Fail> {
+    // A bit of the data, of the sector's number and of the tag; a block behind the last; and a commit id.
+    for changes in [[(8, 0, 0xab)], [(0, 0, 4)], [(0, 16, 0)]] {
+        let mut disk = disk_with(rt.alloc(), &changes)?;
+        let refused = judged(rt.alloc(), &mut disk)?;
+        assert!(rt;
+            matches!(
+                refused,
+                Err(ReplayFault::Journal(JournalFault::JournalTag {
+                    section: 0,
+                    entry: 0,
+                    ..
+                }))
+            )
+        );
+    }
+    let mut disk = disk_with(rt.alloc(), &[(0, 0, 80), (8, 0, 0)])?;
+    let refused = judged(rt.alloc(), &mut disk)?;
+    assert!(rt;
+        matches!(
+            refused,
+            Err(ReplayFault::Journal(JournalFault::JournalBlock {
+                section: 0,
+                entry: 0,
+                sector: 80
+            }))
+        )
+    );
+    let mut disk = disk_with(rt.alloc(), &[(0, 0, 80), (87, 511, 0)])?;
+    let refused = judged(rt.alloc(), &mut disk)?;
+    assert!(rt;
+        matches!(
+            refused,
+            Err(ReplayFault::Journal(JournalFault::Scan(ScanFault::NoNumber {
+                section: 0,
+                sector: 87,
+                ..
+            })))
+        )
+    );
+    disk.fail_at(&[90]);
+    let refused = judged(rt.alloc(), &mut disk)?;
+    assert!(rt; matches!(refused, Err(ReplayFault::Disk)));
+    Ok(())
+}

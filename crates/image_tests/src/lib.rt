@@ -1,0 +1,15 @@
+//! Tests of whole images: formatting, opening, dump and check.
+#![tactic(auto)]
+
+#[cfg(test)]
+mod image_check_tests;
+#[cfg(test)]
+mod image_dump_tests;
+#[cfg(test)]
+mod image_formatting_tests;
+#[cfg(test)]
+mod image_opening_tests;
+#[cfg(test)]
+mod journal_reading_tests;
+#[cfg(test)]
+mod opening_fault_tests;
