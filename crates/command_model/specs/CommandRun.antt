@@ -25,15 +25,25 @@ pub record Exercising : Type 1 where
   pub count : ℕ
   pub seed : ℕ
 
+-- A way to change an image: what is printed once it is changed; what stands while it is changed; what it is then; and what may
+-- be written meanwhile.
+pub record Changing : Type 1 where
+  pub text : List ℕ
+  pub MayBeLeft : (start later : Content) → Type 0
+  pub IsChanged : (start later : Content) → Type 0
+  pub IsWritten : (start later : Content) → Type 0
+
 -- What a command starts on: it is refused before any line; its script runs on a device that opens an image; it prints what
--- the image tells, text by text, and whether a block's stored tag differs; it makes an image; or it makes one and exercises
--- a device on it.
+-- the image tells, text by text, and whether a block's stored tag differs; it makes an image; it makes one and exercises
+-- a device on it; its script runs on a device that opens an image and writes nothing; or it changes an image.
 pub data Outset : Type 1 where
   RefusedBy : (ending : Ending) → Outset
   RunsOn : (kind : DeviceKind) → (image : Image) → Outset
   Prints : (texts : List (List ℕ)) → (found_fault : Bool) → Outset
   Makes : (making : Making) → Outset
   Exercises : (exercising : Exercising) → Outset
+  ReadsOn : (kind : DeviceKind) → (image : Image) → Outset
+  Changes : (changing : Changing) → Outset
 
 -- The step of a run that prints a text, and does nothing else.
 abbrev pub printing_step : List ℕ → ScriptStep
@@ -83,6 +93,8 @@ IsRunAt (RunsOn kind image) script run = IsRunOf (kind.format image) (kind.opene
 IsRunAt (Prints texts found_fault) script run = run ≡ only_prints texts found_fault
 IsRunAt (Makes making) script run = run ≡ only_prints (making.text ∷ []) false
 IsRunAt (Exercises exercising) script run = IsExerciseOf exercising run ⊎ IsUnmade run
+IsRunAt (ReadsOn kind image) script run = IsRunOf (kind.format image) (kind.opened image) script run
+IsRunAt (Changes changing) script run = run ≡ only_prints (changing.text ∷ []) false
 
 -- ---- how far it came
 
@@ -141,6 +153,8 @@ IsLeftAt (Prints texts found_fault) start changes later = later ≡ start
 IsLeftAt (Makes making) start changes later = making.MayBeLeft start later
 IsLeftAt (Exercises exercising) start changes later =
     ((changes ≡ []) × exercising.MayBeLeft start later) ⊎ IsLeftOfNew exercising start changes later
+IsLeftAt (ReadsOn kind image) start changes later = later ≡ start
+IsLeftAt (Changes changing) start changes later = changing.MayBeLeft start later
 
 -- What is left where the making of an image ended so: the image, where it came to its end or only could not be told; all as it
 -- was, where something ended it before; and what may stand at some moment, where the disk failed.
@@ -156,6 +170,21 @@ IsLeftOfMaking making start KeyFailed later = later ≡ start
 IsLeftOfMaking making start ScriptFailed later = later ≡ start
 IsLeftOfMaking making start SinkFailed later = making.IsMade start later
 IsLeftOfMaking making start NoMemory later = later ≡ start
+
+-- What is left where the change of an image ended so: the changed one, where it came to its end or only could not be told; an
+-- image that is synced at most, where there was no memory; and what may stand at some moment, where the disk failed.
+abbrev pub IsLeftOfChanging : Changing → (start : Content) → Ending → (later : Content) → Type 0
+IsLeftOfChanging changing start (Complete found_fault) later = changing.IsChanged start later
+IsLeftOfChanging changing start RefusedWords later = later ≡ start
+IsLeftOfChanging changing start (RefusedKey refusal) later = later ≡ start
+IsLeftOfChanging changing start (RefusedLine number fault) later = later ≡ start
+IsLeftOfChanging changing start RefusedLength later = later ≡ start
+IsLeftOfChanging changing start (RefusedImage fault) later = IsUntouched start later
+IsLeftOfChanging changing start DiskFailed later = changing.MayBeLeft start later
+IsLeftOfChanging changing start KeyFailed later = later ≡ start
+IsLeftOfChanging changing start ScriptFailed later = later ≡ start
+IsLeftOfChanging changing start SinkFailed later = changing.IsChanged start later
+IsLeftOfChanging changing start NoMemory later = IsUntouched start later
 
 -- What is left where an exercise made these changes and ended so: of the device on the new image what they leave, where it
 -- came to its end or only could not be told; where the disk failed maybe what stands while the image is made; and where
@@ -184,6 +213,8 @@ IsLeftAfter (Prints texts found_fault) start changes ending later =
 IsLeftAfter (Makes making) start changes ending later = IsLeftOfMaking making start ending later
 IsLeftAfter (Exercises exercising) start changes ending later =
     IsLeftOfExercise exercising start changes ending later
+IsLeftAfter (ReadsOn kind image) start changes ending later = IsLeftAt (ReadsOn kind image) start changes later
+IsLeftAfter (Changes changing) start changes ending later = IsLeftOfChanging changing start ending later
 
 -- What stands at a moment of the command: what some of the first changes of its run leave.
 pub record MayBeLeftAt (outset : Outset) (start : Content) (script : List ℕ) (later : Content) : Type 0 where

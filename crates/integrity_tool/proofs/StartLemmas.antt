@@ -46,7 +46,7 @@ use Rattle.integrity_tool.specs.Words.{asked_of, key_file_of, key_file_of_asked}
 use Rattle.integrity_tool.specs.KeyFile.{HasFile, HasHash, IsKeyRefused, IsKeyed}
 use Rattle.integrity_tool.specs.Top.{Given, HasMomentsIn, IsGiven, IsKeyRefusal, IsRefusedByKey, outset_in}
 use Rattle.script_reader.specs.Reading.{most_piece}
-use Rattle.command_model.specs.CommandRun.{Exercising, Making, Outset, RefusedBy, RunsOn, Prints, Makes, Exercises, IsComplete, IsFromOutside, IsEndedShort, IsLeftAt, IsLeftOfExercise, IsLeftOfMaking, IsRunAt, IsUntouched, MayBeLeftAt, only_prints}
+use Rattle.command_model.specs.CommandRun.{Exercising, Making, Outset, RefusedBy, RunsOn, Prints, Makes, Exercises, ReadsOn, Changes, Changing, IsLeftOfChanging, IsComplete, IsFromOutside, IsEndedShort, IsLeftAt, IsLeftOfExercise, IsLeftOfMaking, IsRunAt, IsUntouched, MayBeLeftAt, only_prints}
 use Rattle.integrity_tool.specs.Opening.{HasReadIn, HasRunOn, IsMomentOf}
 use Rattle.integrity_tool.specs.Order.{HasMomentsAt, IsInOrderAt, IsInOrderFor, IsInOrderUnder}
 use Rattle.integrity_tool.specs.Running.{HasReadTo, HoldsText}
@@ -66,6 +66,8 @@ IsFine (RunsOn kind image) = Unit {0}
 IsFine (Prints texts found) = BeginsText texts
 IsFine (Makes making) = (0 < length making.text) × ((start : Content) → making.MayBeLeft start start)
 IsFine (Exercises exercising) = (start : Content) → exercising.MayBeLeft start start
+IsFine (ReadsOn kind image) = Unit {0}
+IsFine (Changes changing) = (0 < length changing.text) × ((start : Content) → changing.MayBeLeft start start)
 
 abbrev is_complete_type : Ending → Type 0
 is_complete_type (Complete found) = Unit {0}
@@ -171,6 +173,8 @@ IsOfRun (RunsOn kind image) = Unit {0}
 IsOfRun (Prints texts found) = ⊥
 IsOfRun (Makes making) = ⊥
 IsOfRun (Exercises exercising) = ⊥
+IsOfRun (ReadsOn kind image) = Unit {0}
+IsOfRun (Changes changing) = ⊥
 
 of_run_by : (mode : OpenMode) (key : Option (List ℕ)) (sectors : ℕ) (image : Image) (refusal : Option ImageFault) → IsOfRun (outset_by mode key sectors image refusal)
 of_run_by mode key sectors image None = tt
@@ -207,6 +211,8 @@ IsAsBefore (RunsOn kind image) start later = IsLeftAt (RunsOn kind image) start 
 IsAsBefore (Prints texts found) start later = later ≡ start
 IsAsBefore (Makes making) start later = later ≡ start
 IsAsBefore (Exercises exercising) start later = later ≡ start
+IsAsBefore (ReadsOn kind image) start later = later ≡ start
+IsAsBefore (Changes changing) start later = later ≡ start
 
 pub as_same : (outset : Outset) (start later : Content) → later ≡ start → IsAsBefore outset start later
 as_same (RefusedBy ending) start later same = inl same
@@ -214,6 +220,8 @@ as_same (RunsOn kind image) start later same = inl (refl, inl same)
 as_same (Prints texts found) start later same = same
 as_same (Makes making) start later same = same
 as_same (Exercises exercising) start later same = same
+as_same (ReadsOn kind image) start later same = same
+as_same (Changes changing) start later same = same
 
 -- So it is where the moments are.
 pub before_kept : (outset : Outset) {a b : List Content} (start : Content) → content_now a ≡ Some start → b ≡ a → HasNow (IsAsBefore outset start) b
@@ -233,6 +241,8 @@ some_run (RunsOn kind image) script = run_on kind image script
 some_run (Prints texts found) script = (only_prints texts found, refl)
 some_run (Makes making) script = (only_prints (making.text ∷ []) false, refl)
 some_run (Exercises exercising) script = (only_ends NoMemory, inr (record { ending = NoMemory; outside = tt; is = refl }))
+some_run (ReadsOn kind image) script = run_on kind image script
+some_run (Changes changing) script = (only_prints (changing.text ∷ []) false, refl)
 
 pub before_may_be_left : (outset : Outset) → IsOfRun outset → (start : Content) (script : List ℕ) (later : Content) → IsAsBefore outset start later → MayBeLeftAt outset start script later
 before_may_be_left (RefusedBy ending) of start script later before = record { run = only_ends ending; is_run = refl; made = 0; left = before }
@@ -241,6 +251,9 @@ before_may_be_left (RunsOn kind image) of start script later before =
 before_may_be_left (Prints texts found) of start script later before = absurd of
 before_may_be_left (Makes making) of start script later before = absurd of
 before_may_be_left (Exercises exercising) of start script later before = absurd of
+before_may_be_left (ReadsOn kind image) of start script later before =
+    let r = run_on kind image script in record { run = r.0; is_run = r.1; made = 0; left = before }
+before_may_be_left (Changes changing) of start script later before = absurd of
 
 short_of : (f : DeviceFormat) (s : DeviceState) (script : List ℕ) (run : ScriptRun) (ending : Ending) → IsRunOf f s script run → IsFromOutside ending → IsEndedShort run [] [] ending
 short_of f s script run ending is outside = record {
@@ -290,6 +303,20 @@ left_unmade making fine start later KeyFailed early same = same
 left_unmade making fine start later ScriptFailed early same = absurd early
 left_unmade making fine start later SinkFailed early same = absurd early
 left_unmade making fine start later NoMemory early same = same
+
+left_unchanged : (changing : Changing) → IsFine (Changes changing) → (start later : Content) (ending : Ending) → IsEarly ending → later ≡ start → IsLeftOfChanging changing start ending later
+left_unchanged changing fine start later (Complete found_fault) early same = absurd early
+left_unchanged changing fine start later RefusedWords early same = absurd early
+left_unchanged changing fine start later (RefusedKey refusal) early same = absurd early
+left_unchanged changing fine start later (RefusedLine number fault) early same = absurd early
+left_unchanged changing fine start later RefusedLength early same = absurd early
+left_unchanged changing fine start later (RefusedImage fault) early same = absurd early
+left_unchanged changing fine start later DiskFailed early same =
+    subst (λ (c : Content). changing.MayBeLeft start c) (sym same) (fine.1 start)
+left_unchanged changing fine start later KeyFailed early same = same
+left_unchanged changing fine start later ScriptFailed early same = absurd early
+left_unchanged changing fine start later SinkFailed early same = absurd early
+left_unchanged changing fine start later NoMemory early same = inl same
 
 left_unexercised : (e : Exercising) → IsFine (Exercises e) → (start later : Content) (ending : Ending) → IsEarly ending → later ≡ start → IsLeftOfExercise e start [] ending later
 left_unexercised e fine start later (Complete found_fault) early same = absurd early
@@ -358,6 +385,25 @@ nothing_run (Exercises exercising) fine start script ending outside after untouc
   ended = inl (record { whole = record { is_text = refl; is_changes = refl }; is = refl });
   told = same ∙ told_nothing held_before;
   left = λ c told. left_unexercised exercising fine start c ending outside (untouched c told);
+}
+nothing_run (ReadsOn kind image) fine start script ending outside after untouched held_before held same =
+    let r = run_on kind image script in record {
+      run = r.0;
+      is_run = r.1;
+      text = [];
+      changes = [];
+      ended = inr (short_of (kind.format image) (kind.opened image) script r.0 ending r.1 (early_outside ending outside));
+      told = same ∙ told_nothing held_before;
+      left = untouched;
+    }
+nothing_run (Changes changing) fine start script ending outside after untouched held_before held same = record {
+  run = only_prints (changing.text ∷ []) false;
+  is_run = refl;
+  text = [];
+  changes = [];
+  ended = inr (none_short (changing.text ∷ []) false ending fine.0 (early_outside ending outside));
+  told = same ∙ told_nothing held_before;
+  left = λ c told. left_unchanged changing fine start c ending outside (untouched c told);
 }
 
 -- It was refused.

@@ -2,7 +2,7 @@
 use Rattle.std.specs.Prelude.{◌≡◌, ◌⊎◌, ℕ, List, Option}
 use Rattle.disk_model.specs.Disk.{Content, OnlyAdds, last_image}
 use Rattle.disk_model.specs.Moments.{HasNow}
-use Rattle.command_model.specs.CommandRun.{Exercising, Outset, RefusedBy, RunsOn, Prints, Makes, Exercises, IsEndedBy, IsLeftAfter, IsRunAt, IsUntouched, MayBeLeftAt}
+use Rattle.command_model.specs.CommandRun.{Exercising, Outset, RefusedBy, RunsOn, Prints, Makes, Exercises, ReadsOn, Changes, IsEndedBy, IsLeftAfter, IsRunAt, IsUntouched, MayBeLeftAt}
 use Rattle.device_model.specs.Ending.{Ending}
 use Rattle.device_model.specs.History.{Change}
 use Rattle.device_model.specs.Mode.{Mode, Direct, Journal}
@@ -63,6 +63,8 @@ WritesOnlyBy (Prints texts found) g run start later = later ≡ start
 WritesOnlyBy (Makes making) g run start later = making.MayBeLeft start later
 WritesOnlyBy (Exercises exercising) g run start later =
     exercising.MayBeLeft start later ⊎ IsWrittenByExercise exercising run start later
+WritesOnlyBy (ReadsOn kind image) g run start later = later ≡ start
+WritesOnlyBy (Changes changing) g run start later = changing.IsWritten start later
 
 -- No other sector was written.
 pub record IsOnlyWritten (outset : Outset) (g : Geometry) (start : Content) (script : List ℕ) (later : Content)

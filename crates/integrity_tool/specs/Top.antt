@@ -9,7 +9,7 @@ use Rattle.command_ending.specs.declared.ended.Ended.TheVariants as Endings
 use Rattle.integrity_tool.specs.Words.{asked_of, key_file_of_asked}
 use Rattle.device_model.specs.Ending.{Ending, Complete, RefusedWords, RefusedKey, RefusedLine, RefusedLength, RefusedImage}
 use Rattle.device_model.specs.Ending.{DiskFailed, KeyFailed, ScriptFailed, SinkFailed, NoMemory}
-use Rattle.command_model.specs.CommandRun.{Outset, RefusedBy, RunsOn, Prints, Makes, Exercises}
+use Rattle.command_model.specs.CommandRun.{Outset, RefusedBy, RunsOn, Prints, Makes, Exercises, ReadsOn, Changes}
 use Rattle.integrity_tool.specs.KeyFile.{HasFile}
 use Rattle.integrity_tool.specs.Opening.{IsMomentOf}
 use Rattle.integrity_tool.specs.Order.{IsInOrderFor}
@@ -107,3 +107,5 @@ IsRefusedByKey (RunsOn kind image) = ⊥
 IsRefusedByKey (Prints texts found) = ⊥
 IsRefusedByKey (Makes making) = ⊥
 IsRefusedByKey (Exercises exercising) = ⊥
+IsRefusedByKey (ReadsOn kind image) = ⊥
+IsRefusedByKey (Changes changing) = ⊥
