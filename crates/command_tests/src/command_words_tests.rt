@@ -1,6 +1,6 @@
 //! Words and the commands that they are.
 
-use command_words::{BlockSize, Command, Interleave, TagSize, WordsFault, parse};
+use command_words::{BlockSize, Interleave, TagSize, WordsFault, parse};
 use std::alloc::{AllocError, Global};
 use std::test::Fail;
 
@@ -186,24 +186,6 @@ fn words_are_their_command(rt: HostRuntime) -> Result<(), Fail> {
     }
     for words in &REFUSED {
         assert!(rt; shown(rt.alloc(), words)?.is_none(), "{words}");
-    }
-    Ok(())
-}
-
-#[test]
-fn no_words_are_no_command(rt: HostRuntime) -> Result<(), Fail> {
-    let none = Vec::new(rt.alloc());
-    assert!(rt; parse(rt.alloc(), none.as_slice()).is_err());
-    Ok(())
-}
-
-#[test]
-fn an_image_has_the_name_of_its_word(rt: HostRuntime) -> Result<(), Fail> {
-    let words = words_of(rt.alloc(), "dump|I")?;
-    let command = parse(rt.alloc(), words.as_slice())?;
-    match &command {
-        Command::Dump(dump) => assert!(rt; dump.image.as_str() == "I"),
-        _ => Err("the words of a dump are none")?,
     }
     Ok(())
 }

@@ -1,5 +1,5 @@
 //! A device on new images in memory, in each mode: what it replies, and what it leaves for the next one.
-ghost use Rattle.std.specs.Prelude.{◌≡◌, ◌≤◌, IfSome};
+ghost use Rattle.std.specs.Prelude.{◌≡◌, IfSome};
 ghost use Rattle.disk_model.specs.Identity.{IsBound};
 ghost use Rattle.integrity_device.specs.Device.{IsReady};
 
@@ -25,11 +25,6 @@ const SMALL: NewImage = NewImage {
     padding: Padding::Fixed,
     wipe: Wipe::Kept,
 };
-
-/// How an empty journal begins: with an entry that is not used.
-///
-/// Source: Linux, `drivers/md/dm-integrity.c`, `journal_entry_set_unused`.
-const UNUSED: [u8; 8] = [0, 0, 0, 0, 0xff, 0xff, 0xff, 0xff];
 
 /// A disk with a new image.
 fn new_disk(alloc: Global) -> Result<MemDisk, Fail> {
@@ -167,66 +162,6 @@ fn read_alone<D: Disk>(
     Ok(byte)
 }
 
-/// Writes a block and flushes it in journal mode, where its device is not closed: an entry of the journal stands for
-/// it.
-fn write_to_journal<D: Disk>(alloc: Global, disk: &mut D) -> Result<bool, AllocError>
-    requires { IsBound (D.identity disk.old).name }
-{
-    let write = write_of(alloc, 0xaa)?;
-    let mut region = Region::new();
-    let Some(mut device) = open_device(alloc, disk, &mut region, OpenMode::Journal) else {
-        return Ok(false);
-    };
-    let written = reply_to(&mut device, write);
-    let _ = device.give_back();
-    Ok(matches!(written, Some(Reply::Written { .. })))
-}
-
-/// Writes a block and flushes it in journal mode. Whether that was done, and the close behind it fails.
-fn close_fails<D: Disk>(
-    alloc: Global,
-    disk: &mut D,
-    region: &mut Region,
-) -> Result<bool, AllocError>
-    requires { IsBound (D.identity disk.old).name }
-{
-    let write = write_of(alloc, 0xaa)?;
-    let Some(mut device) = open_device(alloc, disk, region, OpenMode::Journal) else {
-        return Ok(false);
-    };
-    let written = reply_to(&mut device, write);
-    let (closed, _) = device.close();
-    Ok(matches!(written, Some(Reply::Written { .. })) && closed.is_err())
-}
-
-/// So many sectors from sector 8 on, by the oldest candidates of a disk of 512 sectors.
-fn oldest_from_8(alloc: Global, disk: &MemDisk, sectors: usize) -> Result<Vec<u8>, Fail>
-    requires low { 1 ≤ sectors }
-    requires high { sectors ≤ 504 }
-{
-    let choice = vec![in alloc; 0u32; 512]?;
-    if !disk.has(&choice) {
-        return Err(Fail::from("candidate"));
-    }
-    let mut image = disk.image(alloc, &choice)?;
-    if image.sectors() < 512 {
-        return Err(Fail::from("sectors"));
-    }
-    let mut bytes = vec![in alloc; 0; sectors * 512]?;
-    image.read_run(8, &mut bytes)?;
-    Ok(bytes)
-}
-
-/// Whether the journal begins with an entry that is not used.
-fn begins_unused(disk: &mut MemDisk) -> Result<bool, Fail> {
-    let mut first = [0; 512];
-    if disk.sectors() < 9 {
-        return Err(Fail::from("sectors"));
-    }
-    disk.read_run(8, &mut first)?;
-    Ok(first.starts_with(&UNUSED))
-}
-
 #[test]
 fn in_journal_mode_a_write_is_placed_by_a_step(rt: HostRuntime) -> Result<(), Fail> {
     let byte = Some(0xaa);
@@ -239,45 +174,5 @@ fn in_journal_mode_a_write_is_placed_by_a_step(rt: HostRuntime) -> Result<(), Fa
     // A close has brought all to its place, where direct mode looks.
     let in_direct_mode = read_alone(rt.alloc(), &mut disk, OpenMode::Direct)?;
     assert_eq!(rt; in_direct_mode, byte);
-    Ok(())
-}
-
-#[test]
-fn in_direct_mode_a_write_goes_to_its_place_at_once(rt: HostRuntime) -> Result<(), Fail> {
-    let byte = Some(0xaa);
-    let placed = Some(Moved::Idle);
-    let mut disk = new_disk(rt.alloc())?;
-    let written = write_and_read(rt.alloc(), &mut disk, OpenMode::Direct)?;
-    assert_eq!(rt; written, Some(Written { byte, placed }));
-    let in_direct_mode = read_alone(rt.alloc(), &mut disk, OpenMode::Direct)?;
-    assert_eq!(rt; in_direct_mode, byte);
-    Ok(())
-}
-
-#[test]
-fn in_direct_mode_the_journal_is_read_and_emptied(rt: HostRuntime) -> Result<(), Fail> {
-    let mut disk = new_disk(rt.alloc())?;
-    assert!(rt; begins_unused(&mut disk)?);
-    assert!(rt; write_to_journal(rt.alloc(), &mut disk)?);
-    assert!(rt; !begins_unused(&mut disk)?);
-    let byte = read_alone(rt.alloc(), &mut disk, OpenMode::Direct)?;
-    assert_eq!(rt; byte, Some(0xaa));
-    assert!(rt; begins_unused(&mut disk)?);
-    // The next one finds an empty journal, and the block in its place.
-    let again = read_alone(rt.alloc(), &mut disk, OpenMode::Direct)?;
-    assert_eq!(rt; again, Some(0xaa));
-    assert!(rt; begins_unused(&mut disk)?);
-    Ok(())
-}
-
-#[test]
-fn a_close_that_the_disk_stops_leaves_the_journal_in_memory(rt: HostRuntime) -> Result<(), Fail> {
-    let mut disk = new_disk(rt.alloc())?;
-    // The commit writes the 88 sectors of the journal, and a place one.
-    disk.stop_after(89);
-    let mut region = Region::new();
-    assert!(rt; close_fails(rt.alloc(), &mut disk, &mut region)?);
-    let journal = oldest_from_8(rt.alloc(), &disk, 88)?;
-    assert!(rt; region.whole().bytes() == journal.as_slice());
     Ok(())
 }

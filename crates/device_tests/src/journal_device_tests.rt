@@ -1,15 +1,15 @@
-//! A device in journal mode on new images in memory: what it replies, when its journal is full, and what it leaves.
+//! A device in journal mode on new images in memory: what it replies, and what it leaves.
 ghost use Rattle.std.specs.Prelude.{IfSome};
 ghost use Rattle.disk_model.specs.Identity.{IsBound};
 ghost use Rattle.device_core.specs.declared.condition.Condition.TheVariants.{Working};
 ghost use Rattle.journal_device.specs.Device.{IsReady};
 
-use device_core::{Actor, Condition, Moved};
+use device_core::Condition;
 use hmac_tag::Hash;
 use image_formatting::{NewImage, Padding, Wipe, format};
 use journal_device::{
     OpenedDevice, Served, close, device_of, opened_journals_are_devices, replies_are_taken,
-    requests_are_submitted, serve, step,
+    requests_are_submitted, serve,
 };
 use journal_opening::open_journal;
 use request_slots::{Bytes, Reply, Request, Ticket};
@@ -145,36 +145,6 @@ fn serve_on<D: Disk>(
     (None, 0)
 }
 
-/// Lets an actor do its steps until it is idle, and tells how many it did, if it comes to that.
-fn step_on<D: Disk>(
-    disk: &mut D,
-    device: &mut OpenedDevice<'_>,
-    condition: &mut Condition,
-    actor: Actor,
-) -> Option<u64>
-    requires { IsReady condition.old device.old.parts device.old.journal
-        (D.identity disk.old) (D.moments disk.old) }
-
-    ensures { IsReady condition.new device.new.parts device.new.journal
-        (D.identity disk.new) (D.moments disk.new) }
-{
-    for count in 0..2 * ENTRIES {
-        let moved = step(
-            disk,
-            &mut device.parts,
-            &mut device.journal,
-            condition,
-            actor,
-        );
-        match moved {
-            Ok(Moved::Did) => {}
-            Ok(Moved::Idle) => return Some(count),
-            Err(_) => return None,
-        }
-    }
-    None
-}
-
 /// The reply to a request, if it gets one.
 fn reply_to<D: Disk>(
     disk: &mut D,
@@ -255,77 +225,6 @@ fn read_alone<D: Disk>(alloc: Global, disk: &mut D) -> Result<Option<u8>, AllocE
     Ok(byte_of(reply_to(disk, &mut device, &mut condition, read)))
 }
 
-/// What is done of a write that is longer than the journal.
-#[derive(Drop)]
-struct LongWrite {
-    /// What the write did, and after how many blocks.
-    first: (Option<Served>, u64),
-    /// How many steps made room then: commits, places and settles.
-    steps: [Option<u64>; 3],
-    /// What the write did with that room, and after how many blocks.
-    last: (Option<Served>, u64),
-}
-
-/// Serves a write of so many blocks until it finds no room, makes room, and serves the rest of it.
-fn write_long<D: Disk>(
-    alloc: Global,
-    disk: &mut D,
-    count: u16,
-) -> Result<Option<LongWrite>, AllocError>
-    requires { IsBound (D.identity disk.old).name }
-{
-    let write = write_of(alloc, count, 0xbb, false)?;
-    let mut region = Region::new();
-    let Some(mut device) = open_device(alloc, disk, &mut region) else {
-        return Ok(None);
-    };
-    let mut condition = Condition::Working;
-    let Some(ticket) = submit(disk, &mut device, condition, write) else {
-        return Ok(None);
-    };
-    let first = serve_on(disk, &mut device, &mut condition, &ticket);
-    let committed = step_on(disk, &mut device, &mut condition, Actor::Commit);
-    let placed = step_on(disk, &mut device, &mut condition, Actor::Place);
-    let settled = step_on(disk, &mut device, &mut condition, Actor::Settle);
-    let last = serve_on(disk, &mut device, &mut condition, &ticket);
-    Ok(Some(LongWrite {
-        first,
-        steps: [committed, placed, settled],
-        last,
-    }))
-}
-
-/// What a read of a block does before a write of it is served, what that does, and the read behind it; all where a
-/// flush is replied to then.
-fn read_behind_write<D: Disk>(
-    alloc: Global,
-    disk: &mut D,
-) -> Result<Option<(Option<Served>, Option<Served>, Option<Served>)>, AllocError>
-    requires { IsBound (D.identity disk.old).name }
-{
-    let write = write_of(alloc, 1, 0xcc, false)?;
-    let read = read_of(alloc)?;
-    let mut region = Region::new();
-    let Some(mut device) = open_device(alloc, disk, &mut region) else {
-        return Ok(None);
-    };
-    let mut condition = Condition::Working;
-    let Some(written) = submit(disk, &mut device, condition, write) else {
-        return Ok(None);
-    };
-    let Some(behind) = submit(disk, &mut device, condition, read) else {
-        return Ok(None);
-    };
-    let first = serve_once(disk, &mut device, &mut condition, &behind);
-    let second = serve_once(disk, &mut device, &mut condition, &written);
-    let third = serve_once(disk, &mut device, &mut condition, &behind);
-    let flushed = reply_to(disk, &mut device, &mut condition, Request::Flush);
-    Ok(match flushed {
-        Some(Reply::Flushed) => Some((first, second, third)),
-        _ => None,
-    })
-}
-
 #[test]
 fn what_is_written_is_read_from_the_journal_and_then_from_its_place(
     rt: HostRuntime,
@@ -333,27 +232,5 @@ fn what_is_written_is_read_from_the_journal_and_then_from_its_place(
     let mut disk = new_disk(rt.alloc())?;
     assert_eq!(rt; write_and_read(rt.alloc(), &mut disk)?, Some(0xaa));
     assert_eq!(rt; read_alone(rt.alloc(), &mut disk)?, Some(0xaa));
-    Ok(())
-}
-
-#[test]
-fn a_full_journal_has_room_again_once_it_is_settled(rt: HostRuntime) -> Result<(), Fail> {
-    let mut disk = new_disk(rt.alloc())?;
-    let Some(write) = write_long(rt.alloc(), &mut disk, 100)? else {
-        return Err(Fail::from("open"));
-    };
-    assert_eq!(rt; write.first, (Some(Served::NoRoom), ENTRIES));
-    // One batch is committed, each entry placed, and one section freed.
-    assert_eq!(rt; write.steps, [Some(1), Some(ENTRIES), Some(1)]);
-    assert_eq!(rt; write.last, (Some(Served::Done), 99 - ENTRIES));
-    Ok(())
-}
-
-#[test]
-fn a_read_waits_for_the_write_before_it(rt: HostRuntime) -> Result<(), Fail> {
-    let mut disk = new_disk(rt.alloc())?;
-    let served = read_behind_write(rt.alloc(), &mut disk)?;
-    let done = Some(Served::Done);
-    assert_eq!(rt; served, Some((Some(Served::Held { by: 1 }), done, done)));
     Ok(())
 }

@@ -1,17 +1,14 @@
-//! A journal on new images in memory: what is committed is read by the next device, and which disks are refused.
+//! A journal on new images in memory: what is committed is read by the next device.
 ghost use Rattle.disk_model.specs.Identity.{IsBound};
 ghost use Rattle.journal_opening.specs.Opening.{IsReady};
 
 use hmac_tag::Hash;
 use image_formatting::{NewImage, Padding, Wipe, format};
-use journal_mode::JournalFault;
 use journal_opening::{OpenedJournal, open_journal};
-use opening_fault::OpeningFault;
 use sector_disk::{Disk, MemDisk};
 use sector_pool::Region;
 use std::alloc::Global;
 use std::test::Fail;
-use superblock::SuperFault;
 
 /// What the image is to be: a journal of two sections, each of 8 metadata sectors and 80 entries of one sector.
 const SMALL: NewImage = NewImage {
@@ -106,14 +103,6 @@ fn read_block<D: Disk>(alloc: Global, disk: &mut D, block: u64) -> Option<u8>
     }
 }
 
-/// The fault of an opening, if it is refused.
-fn fault_of<D: Disk>(alloc: Global, disk: &mut D) -> Option<OpeningFault>
-    requires { IsBound (D.identity disk.old).name }
-{
-    let mut region = Region::new();
-    open_journal(alloc, disk, Hash::Sha256, &mut region).err()
-}
-
 #[test]
 fn what_is_flushed_is_read_by_the_next_device(rt: HostRuntime) -> Result<(), Fail> {
     let mut disk = new_disk(rt.alloc())?;
@@ -122,41 +111,5 @@ fn what_is_flushed_is_read_by_the_next_device(rt: HostRuntime) -> Result<(), Fai
     assert!(rt; write_block(rt.alloc(), &mut disk, 5, 0xbb));
     assert_eq!(rt; read_block(rt.alloc(), &mut disk, 5), Some(0xbb));
     assert_eq!(rt; read_block(rt.alloc(), &mut disk, 6), None);
-    Ok(())
-}
-
-#[test]
-fn a_disk_of_zeros_has_no_magic(rt: HostRuntime) -> Result<(), Fail> {
-    let mut disk = MemDisk::new(rt.alloc(), SECTORS, 20)?;
-    let fault = fault_of(rt.alloc(), &mut disk);
-    assert!(rt; matches!(fault, Some(OpeningFault::Super(SuperFault::Magic))));
-    Ok(())
-}
-
-#[test]
-fn a_journal_of_zeros_is_refused(rt: HostRuntime) -> Result<(), Fail> {
-    let mut disk = new_disk(rt.alloc())?;
-    if disk.sectors() < 9 {
-        return Err(Fail::from("sectors"));
-    }
-    disk.write_run(8, &[0; 512])?;
-    let fault = fault_of(rt.alloc(), &mut disk);
-    assert!(rt; matches!(fault, Some(OpeningFault::Journal(JournalFault::Scan(_)))));
-    Ok(())
-}
-
-#[test]
-fn a_bitmap_is_refused(rt: HostRuntime) -> Result<(), Fail> {
-    let mut disk = new_disk(rt.alloc())?;
-    let mut first = [0; 512];
-    if disk.sectors() == 0 {
-        return Err(Fail::from("sectors"));
-    }
-    disk.read_run(0, &mut first)?;
-    // Flag 0x4 of the flags, which begin at byte 24.
-    first[24] |= 4;
-    disk.write_run(0, &first)?;
-    let fault = fault_of(rt.alloc(), &mut disk);
-    assert!(rt; matches!(fault, Some(OpeningFault::Mode { .. })));
     Ok(())
 }

@@ -57,13 +57,3 @@ fn a_run_is_read_once(rt: HostRuntime) -> Result<(), Fail> {
     assert_eq!(rt; ends_of_two(&mut window, &mut disk, 10)?, (10, 11));
     Ok(())
 }
-
-#[test]
-fn the_last_run_is_as_long_as_the_disk(rt: HostRuntime) -> Result<(), Fail> {
-    let mut disk = numbered(rt.alloc())?;
-    let mut window = SectorWindow::new(rt.alloc(), 8)?;
-    assert_eq!(rt; ends_of_two(&mut window, &mut disk, 38)?, (38, 39));
-    assert!(rt; !window.shows(38, 3));
-    assert!(rt; ends_of_two(&mut window, &mut disk, 39).is_err());
-    Ok(())
-}

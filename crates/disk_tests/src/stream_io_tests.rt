@@ -40,17 +40,6 @@ fn what_has_a_name_is_read_up_to_a_bound(rt: HostRuntime) -> Result<(), Fail> {
 }
 
 #[test]
-fn each_fault_has_its_text(rt: HostRuntime) -> Result<(), Fail> {
-    for (fault, text) in [
-        (ReadFault::Failed, "the source has failed"),
-        (ReadFault::Memory, "there is no memory for the bytes"),
-    ] {
-        assert_eq!(rt; format!(in rt.alloc(); "{fault}")?.as_str(), text);
-    }
-    Ok(())
-}
-
-#[test]
 fn a_sink_takes_what_it_has_room_for(rt: HostRuntime) -> Result<(), Fail> {
     let mut sink = MemSink::new(rt.alloc(), 5)?;
     assert_eq!(rt; sink.write(b"abc")?, 3);
@@ -58,44 +47,6 @@ fn a_sink_takes_what_it_has_room_for(rt: HostRuntime) -> Result<(), Fail> {
     assert_eq!(rt; sink.write(b"f"), Err(Failed), "there is no room");
     assert_eq!(rt; sink.write(b"")?, 0, "nothing needs no room");
     assert_eq!(rt; sink.bytes(), b"abcde".as_slice());
-    Ok(())
-}
-
-#[test]
-fn the_calls_that_were_set_fail(rt: HostRuntime) -> Result<(), Fail> {
-    // The calls that are set before the first call, those that are set before the third, and whether each of
-    // five calls is to succeed.
-    let cases = [
-        ([0, 0], [0, 0], [true, true, true, true, true]),
-        ([1, 4], [1, 4], [false, true, true, false, true]),
-        ([2, 3], [5, 5], [true, false, true, true, false]),
-        ([2, 4], [1, 2], [true, false, true, true, true]),
-    ];
-    for (first, then, wanted) in cases {
-        let mut source = MemSource::new(b"abcdefghij");
-        let mut sink = MemSink::new(rt.alloc(), 10)?;
-        let mut buffer = [0; 2];
-        source.fail_at(&first);
-        sink.fail_at(&first);
-        for (i, is_ok) in wanted.into_iter().enumerate() {
-            if i == 2 {
-                source.fail_at(&then);
-                sink.fail_at(&then);
-            }
-            assert_eq!(rt;
-                source.read(&mut buffer).is_ok(),
-                is_ok,
-                "read {i} under {first:?}"
-            );
-            assert_eq!(rt;
-                sink.write(b"xy").is_ok(),
-                is_ok,
-                "write {i} under {first:?}"
-            );
-        }
-        let succeeded = wanted.iter().filter(|is_ok| **is_ok).count();
-        assert_eq!(rt; sink.bytes().len(), 2 * succeeded, "held under {first:?}");
-    }
     Ok(())
 }
 

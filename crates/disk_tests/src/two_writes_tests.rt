@@ -105,14 +105,3 @@ fn a_cut_leaves_each_sector_old_or_new(rt: HostRuntime) -> Result<(), Fail> {
     }
     Ok(())
 }
-
-#[test]
-fn nothing_is_pending_behind_the_sync(rt: HostRuntime) -> Result<(), Fail> {
-    let alloc = rt.alloc();
-    let mut disk = MemDisk::new(alloc, 3, 10)?;
-    write(&mut disk, &[pair_of(alloc, b"abc", 7)?])?;
-    assert!(rt; disk.has(&[0, 0, 0]));
-    assert!(rt; !disk.has(&[0, 1, 0]));
-    assert!(rt; !disk.has(&[0, 0, 1]));
-    Ok(())
-}

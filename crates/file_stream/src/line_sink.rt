@@ -49,13 +49,6 @@ impl<F: OutputFile + Drop> LineSink<F> {
         }
     }
 
-    /// The file that it writes to.
-    pub fn file(&self) -> &F
-        ensures { result.now ≡ self.now.file }
-    {
-        &self.file
-    }
-
     /// Counts a fault that is told.
     fn tell(&mut self) -> Failed
         ensures faults { Rose self.old.faults self.new.faults }

@@ -1,6 +1,6 @@
 //! Tags that others have computed: the standards, OpenSSL and the Linux kernel.
 
-use hmac_tag::{Hash, Key, KeyFault, Tag, TagMaker};
+use hmac_tag::{Hash, Key, Tag, TagMaker};
 use sha2::{Digest, Sha256};
 use std::alloc::Global;
 use std::test::Fail;
@@ -45,22 +45,6 @@ fn counted(alloc: Global, len: usize) -> Result<Vec<u8>, Fail> {
         key.push((i % 251) as u8)?;
     }
     Ok(key)
-}
-
-#[test]
-fn a_key_has_1_to_4096_bytes(rt: HostRuntime) -> Result<(), Fail> {
-    let rows = [
-        (0, Some(KeyFault::Empty)),
-        (1, None),
-        (4096, None),
-        (4097, Some(KeyFault::TooLong { len: 4097 })),
-    ];
-    for (len, fault) in rows {
-        let bytes = counted(rt.alloc(), len)?;
-        let key = Key::from_bytes(rt.alloc(), &bytes);
-        assert_eq!(rt; key.err(), fault, "at {len}");
-    }
-    Ok(())
 }
 
 #[test]
@@ -162,15 +146,6 @@ fn a_key_above_64_bytes_is_replaced_by_its_digest(rt: HostRuntime) -> Result<(),
         assert_eq!(rt; same, len > 64, "the digest of a key of {len} bytes");
     }
     Ok(())
-}
-
-// NIST's examples for FIPS 180-4, the message of 56 bytes.
-#[test]
-fn the_salt_stands_before_the_sector(rt: HostRuntime) {
-    let maker = TagMaker::new(Hash::Sha256, Some(*b"abcdbcdecdefdefg"), 5);
-    let sector = u64::from_le_bytes(*b"efghfghi");
-    let tag = maker.tag(sector, b"ghijhijkijkljklmklmnlmnomnopnopq");
-    assert!(rt; has_digits(tag.bytes(), b"248d6a61d2"));
 }
 
 /// The key of the images below: the shorter keys are its first bytes.

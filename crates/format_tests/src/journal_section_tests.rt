@@ -86,36 +86,6 @@ fn bears(shape: Shape, bytes: &[u8], i: u64, commit_number: u8) -> bool
     true
 }
 
-// The format: an entry of 48 bytes is the sector's number, the last 8 bytes of the block's one sector, and
-// the tag. The id of section 0, sector 8, number 1 is 0x2222222222222222 with its lowest byte turned by 8.
-#[test]
-fn an_entry_stands_where_the_format_has_it(rt: HostRuntime) -> Result<(), Fail> {
-    let shape = Shape::of(0, 32);
-    let mut bytes = section(rt.alloc(), shape)?;
-    clear(shape, 0, 0, &mut bytes);
-    let tag = Tag::from_bytes(&[0x7e; 32]);
-    put(shape, &mut bytes, 0, 5, &[0xaa; 512], &tag)?;
-    seal(shape, 0, 1, &mut bytes);
-
-    let rows: [(usize, &str); 9] = [
-        (0, "0500000000000000aaaaaaaaaaaaaaaa7e7e7e7e7e7e7e7e"),
-        (24, "7e7e7e7e7e7e7e7e7e7e7e7e7e7e7e7e7e7e7e7e7e7e7e7e"),
-        (48, "00000000ffffffff00000000000000000000000000000000"),
-        (480, "000000000000000000000000000000000000000000000000"),
-        (504, "222222222222222200000000ffffffff0000000000000000"),
-        (4064, "000000000000000000000000000000000000000000000000"),
-        (4088, "2522222222222222aaaaaaaaaaaaaaaaaaaaaaaaaaaaaaaa"),
-        (4584, "aaaaaaaaaaaaaaaaaaaaaaaaaaaaaaaa2a22222222222222"),
-        (4608, "000000000000000000000000000000000000000000000000"),
-    ];
-    for (from, hex) in rows {
-        let want = <[u8; 24] as FromHex>::from_hex(hex)?;
-        let found = bytes.get(from..from.wrapping_add(24)).ok_or("short")?;
-        assert!(rt; found == want.as_slice(), "at {from}");
-    }
-    Ok(())
-}
-
 #[test]
 fn what_was_put_is_read_back(rt: HostRuntime) -> Result<(), Fail> {
     for log2_spb in 0..4 {

@@ -1,4 +1,4 @@
-//! Where all lies, by the format's formulas and where the kernel put it, and each refusal.
+//! Where all lies, by the format's formulas and where the kernel put it.
 use layout::{GeomFault, Geometry, best_provided};
 use std::process::Abort;
 use std::test::Fail;
@@ -368,104 +368,6 @@ fn lies_as_told(rt: &impl Abort, row: &Row) -> Result<(), Fail> {
 }
 
 #[test]
-fn each_refusal_names_what_is_there_and_what_is_needed(rt: HostRuntime) -> Result<(), Fail> {
-    let bitmap = Super {
-        flags: 0xc,
-        log2_region: 0,
-        provided: 360_456,
-        ..SMALL
-    };
-    let rows = [
-        (
-            SMALL,
-            (1 << 48) + 1,
-            GeomFault::DeviceTooLarge {
-                have: (1 << 48) + 1,
-            },
-        ),
-        (
-            Super {
-                sections: 11916,
-                ..SMALL
-            },
-            256,
-            GeomFault::JournalTooLarge { sectors: 1_048_608 },
-        ),
-        (
-            Super {
-                sections: u32::MAX,
-                ..SMALL
-            },
-            256,
-            GeomFault::JournalTooLarge {
-                sectors: 377_957_121_960,
-            },
-        ),
-        (
-            Super {
-                sections: 11915,
-                ..SMALL
-            },
-            256,
-            GeomFault::TooSmall {
-                have: 256,
-                need: 1_048_688,
-            },
-        ),
-        (
-            Super {
-                provided: 88,
-                ..SMALL
-            },
-            256,
-            GeomFault::TooSmall {
-                have: 256,
-                need: 272,
-            },
-        ),
-        (
-            SMALL,
-            255,
-            GeomFault::TooSmall {
-                have: 255,
-                need: 256,
-            },
-        ),
-        (SMALL, 0, GeomFault::TooSmall { have: 0, need: 256 }),
-        (
-            Super {
-                provided: 1 << 48,
-                flags: 0,
-                ..SMALL
-            },
-            1 << 48,
-            GeomFault::TooSmall {
-                have: 1 << 48,
-                need: 9_288_674_231_451_744,
-            },
-        ),
-        (
-            bitmap,
-            721_008,
-            GeomFault::BitmapTooLarge { need: 96, have: 88 },
-        ),
-        (
-            bitmap,
-            721_007,
-            GeomFault::TooSmall {
-                have: 721_007,
-                need: 721_008,
-            },
-        ),
-    ];
-    for (fields, sectors, fault) in rows {
-        judge(&fields)?;
-        assert_eq!(rt; Geometry::new(&fields, sectors).err(), Some(fault));
-    }
-    Ok(())
-}
-
-#[test]
 fn a_disk_without_room_for_eight_sectors_provides_none(rt: HostRuntime) -> Result<(), Fail> {
     let rows = [
         (SMALL, 512, Ok(208)),
@@ -535,34 +437,6 @@ fn regions_have_a_bitmap_that_fits_the_journal(rt: HostRuntime) -> Result<(), Fa
         assert_eq!(rt; g.regions(), regions);
         assert_eq!(rt; g.bitmap_sectors(), bitmap_sectors);
         assert_eq!(rt; g.fitting_log2_region(), fitting);
-    }
-    Ok(())
-}
-
-#[test]
-fn each_fault_has_its_text(rt: HostRuntime) -> Result<(), Fail> {
-    for (fault, text) in [
-        (
-            GeomFault::DeviceTooLarge { have: 300 },
-            "a disk of 300 sectors is too large",
-        ),
-        (
-            GeomFault::JournalTooLarge { sectors: 301 },
-            "a journal of 301 sectors is too large",
-        ),
-        (
-            GeomFault::TooSmall {
-                have: 255,
-                need: 256,
-            },
-            "a disk of 255 sectors is too small, 256 are needed",
-        ),
-        (
-            GeomFault::BitmapTooLarge { need: 9, have: 8 },
-            "a bitmap of 9 sectors is too large for a journal of 8",
-        ),
-    ] {
-        assert_eq!(rt; format!(in rt.alloc(); "{fault}")?.as_str(), text);
     }
     Ok(())
 }

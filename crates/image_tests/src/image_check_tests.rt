@@ -1,12 +1,10 @@
-//! Checks of the small image, with bad blocks in place, in the journal and behind it, and of a disk that fails.
+//! Checks of the small image, with bad blocks in place, in the journal and behind it.
 ghost use Rattle.std.specs.Prelude.{◌≡◌};
 ghost use Rattle.disk_model.specs.Identity.{IsBound};
 
 use commit_id::id;
 use hmac_tag::Hash;
 use image_check::{Bad, CheckedImage, Report, What, check};
-use journal_reading::JournalFault;
-use opening_fault::OpeningFault;
 use sector_disk::{Disk, Failed, MemDisk};
 use sha2::{Digest, Sha256};
 use std::alloc::Global;
@@ -146,18 +144,6 @@ fn first_bad<D: Disk>(
 }
 
 #[test]
-fn a_whole_image_has_no_bad_block(rt: HostRuntime) -> Result<(), Fail> {
-    let mut disk = disk_with(rt.alloc(), &[])?;
-    for what in [What::Cells, What::Placed] {
-        let report = check(rt.alloc(), &mut disk, Hash::Sha256, what)?;
-        assert_eq!(rt; report.blocks, 80);
-        assert_eq!(rt; report.awaiting, 0);
-        assert_eq!(rt; report.bad.len(), 0);
-    }
-    Ok(())
-}
-
-#[test]
 fn bad_blocks_are_told_in_order(rt: HostRuntime) -> Result<(), Fail> {
     let mut disk = disk_with(rt.alloc(), &BAD_PLACES)?;
     let report = check(rt.alloc(), &mut disk, Hash::Sha256, What::Placed)?;
@@ -195,36 +181,5 @@ fn the_next_bad_block_is_told(rt: HostRuntime) -> Result<(), Fail> {
     };
     assert_eq!(rt; bad.block, 79);
     assert_eq!(rt; bad.stored.bytes(), [7; 32].as_slice());
-    Ok(())
-}
-
-#[test]
-fn an_image_is_refused_by_its_bytes(rt: HostRuntime) -> Result<(), Fail> {
-    // A sector of the journal without a commit id.
-    let mut disk = disk_with(rt.alloc(), &[(16, 0)])?;
-    let refused = check(rt.alloc(), &mut disk, Hash::Sha256, What::Cells);
-    assert!(rt; matches!(refused, Err(OpeningFault::Journal(JournalFault::Scan(_)))));
-    assert!(rt; check(rt.alloc(), &mut disk, Hash::Sha256, What::Placed).is_ok());
-    let mut disk = disk_with(rt.alloc(), &[(0, 0)])?;
-    let refused = check(rt.alloc(), &mut disk, Hash::Sha256, What::Placed);
-    assert!(rt; matches!(refused, Err(OpeningFault::Super(_))));
-    let mut bytes = small_sector(0);
-    bytes[24] = 0xc;
-    write(&mut disk, 0, &bytes)?;
-    let refused = check(rt.alloc(), &mut disk, Hash::Sha256, What::Placed);
-    assert!(rt; matches!(refused, Err(OpeningFault::Mode { flags: 0xc })));
-    Ok(())
-}
-
-#[test]
-fn a_disk_that_fails_gives_no_report(rt: HostRuntime) -> Result<(), Fail> {
-    // The image is written by 256 calls. Those of the check are of the first sector, the journal, tags and blocks.
-    for call in 257..261 {
-        let mut disk = disk_with(rt.alloc(), &[])?;
-        disk.fail_at(&[call]);
-        let refused = check(rt.alloc(), &mut disk, Hash::Sha256, What::Cells);
-        assert!(rt; matches!(refused, Err(OpeningFault::Disk)));
-        assert!(rt; check(rt.alloc(), &mut disk, Hash::Sha256, What::Cells).is_ok());
-    }
     Ok(())
 }

@@ -1,12 +1,11 @@
-//! What disks in memory tell, each fault, and a disk that fails at the read.
+//! What the small image tells, and the same with a bitmap.
 ghost use Rattle.std.specs.Prelude.{◌≤◌};
 
 use image_opening::{ImageFormat, OpenFault, read_direct_format, read_format};
-use layout::GeomFault;
 use sector_disk::{Disk, MemDisk};
 use std::alloc::Global;
 use std::test::Fail;
-use superblock::{Super, SuperFault};
+use superblock::Super;
 
 /// The fields of the small image: 256 sectors, interleave 8, one section.
 const SMALL: Super = Super {
@@ -78,73 +77,5 @@ fn an_image_with_a_bitmap_is_read_but_not_in_direct_mode(rt: HostRuntime) -> Res
     );
     let refused = fault_of(read_direct_format(&mut disk));
     assert_eq!(rt; refused, Some(OpenFault::Mode { flags: 0xc }));
-    Ok(())
-}
-
-#[test]
-fn each_fault_is_told_in_its_order(rt: HostRuntime) -> Result<(), Fail> {
-    let no_magic = OpenFault::Super(SuperFault::Magic);
-    let version = OpenFault::Super(SuperFault::Version { v: 6 });
-    let too_small = |have| OpenFault::Geom(GeomFault::TooSmall { have, need: 256 });
-    // 65537 sections have 88 sectors each.
-    let journal = OpenFault::Geom(GeomFault::JournalTooLarge { sectors: 5767256 });
-    let rows: [(u64, &[(usize, u8)], OpenFault); 8] = [
-        (256, &[(0, b'I')], no_magic),
-        (256, &[(8, 6)], version),
-        (255, &[], too_small(255)),
-        (1, &[], too_small(1)),
-        (256, &[(14, 1)], journal),
-        (256, &[(24, 0xc)], OpenFault::Mode { flags: 0xc }),
-        (255, &[(8, 6), (24, 0xc)], version),
-        (255, &[(24, 0xc)], too_small(255)),
-    ];
-    for (row, (sectors, changes, fault)) in rows.iter().enumerate() {
-        if *sectors == 0 {
-            continue;
-        }
-        let mut disk = small_disk(rt.alloc(), *sectors, changes)?;
-        let refused = fault_of(read_direct_format(&mut disk));
-        assert_eq!(rt; refused, Some(*fault), "row {row}");
-    }
-    Ok(())
-}
-
-#[test]
-fn a_disk_without_a_sector_has_no_magic(rt: HostRuntime) -> Result<(), Fail> {
-    let mut disk = MemDisk::new(rt.alloc(), 0, 0)?;
-    let refused = fault_of(read_format(&mut disk));
-    assert_eq!(rt; refused, Some(OpenFault::Super(SuperFault::Magic)));
-    Ok(())
-}
-
-#[test]
-fn a_disk_that_fails_at_the_read_is_told(rt: HostRuntime) -> Result<(), Fail> {
-    let mut disk = small_disk(rt.alloc(), 256, &[])?;
-    // Its first call was the write.
-    disk.fail_at(&[2]);
-    let refused = fault_of(read_direct_format(&mut disk));
-    assert_eq!(rt; refused, Some(OpenFault::Disk));
-    assert_eq!(rt; read_direct_format(&mut disk)?.fields, SMALL);
-    Ok(())
-}
-
-#[test]
-fn each_fault_has_its_text(rt: HostRuntime) -> Result<(), Fail> {
-    let too_large = GeomFault::DeviceTooLarge { have: 0 };
-    for (fault, text) in [
-        (OpenFault::Memory, "out of memory"),
-        (OpenFault::Disk, "the disk has failed"),
-        (
-            OpenFault::Super(SuperFault::Magic),
-            "the superblock is refused",
-        ),
-        (OpenFault::Geom(too_large), "the geometry is refused"),
-        (
-            OpenFault::Mode { flags: 0xc },
-            "the mode does not fit the flags",
-        ),
-    ] {
-        assert_eq!(rt; format!(in rt.alloc(); "{fault}")?.as_str(), text);
-    }
     Ok(())
 }

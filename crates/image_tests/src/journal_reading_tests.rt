@@ -2,9 +2,9 @@
 ghost use Rattle.std.specs.Prelude.{◌≡◌, ◌≤◌, IfOk, length};
 ghost use Rattle.image_model.specs.Geometry.{IsGeometry, journal_sectors};
 
-use commit_id::{Plan, ScanFault, State, id};
+use commit_id::{Plan, State, id};
 use hmac_tag::{Hash, TagMaker};
-use journal_reading::{JournalFault, JudgedJournal, ReplayFault, read_judged};
+use journal_reading::{JudgedJournal, ReplayFault, read_judged};
 use layout::Geometry;
 use sector_disk::{Disk, MemDisk};
 use std::alloc::Global;
@@ -101,52 +101,5 @@ fn an_entry_with_its_own_tag_may_be_replayed(rt: HostRuntime) -> Result<(), Fail
     let state = State::Rest { next: 0, number: 2 };
     let walk = [(0, 0), (0, 1)];
     assert_eq!(rt; journal.plan, Plan { state, walk });
-    Ok(())
-}
-
-#[test]
-fn the_first_fault_is_told(rt: HostRuntime) -> Result<(), Fail> {
-    // A bit of the data, of the sector's number and of the tag; a block behind the last; and a commit id.
-    for changes in [[(8, 0, 0xab)], [(0, 0, 4)], [(0, 16, 0)]] {
-        let mut disk = disk_with(rt.alloc(), &changes)?;
-        let refused = judged(rt.alloc(), &mut disk)?;
-        assert!(rt;
-            matches!(
-                refused,
-                Err(ReplayFault::Journal(JournalFault::JournalTag {
-                    section: 0,
-                    entry: 0,
-                    ..
-                }))
-            )
-        );
-    }
-    let mut disk = disk_with(rt.alloc(), &[(0, 0, 80), (8, 0, 0)])?;
-    let refused = judged(rt.alloc(), &mut disk)?;
-    assert!(rt;
-        matches!(
-            refused,
-            Err(ReplayFault::Journal(JournalFault::JournalBlock {
-                section: 0,
-                entry: 0,
-                sector: 80
-            }))
-        )
-    );
-    let mut disk = disk_with(rt.alloc(), &[(0, 0, 80), (87, 511, 0)])?;
-    let refused = judged(rt.alloc(), &mut disk)?;
-    assert!(rt;
-        matches!(
-            refused,
-            Err(ReplayFault::Journal(JournalFault::Scan(ScanFault::NoNumber {
-                section: 0,
-                sector: 87,
-                ..
-            })))
-        )
-    );
-    disk.fail_at(&[90]);
-    let refused = judged(rt.alloc(), &mut disk)?;
-    assert!(rt; matches!(refused, Err(ReplayFault::Disk)));
     Ok(())
 }

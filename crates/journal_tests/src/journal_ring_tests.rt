@@ -216,32 +216,6 @@ fn entries_are_read_as_they_were_put(rt: HostRuntime) -> Result<(), Fail> {
 }
 
 #[test]
-fn there_is_room_until_every_section_is_full(rt: HostRuntime) -> Result<(), Fail> {
-    let alloc = rt.alloc();
-    let geometry = geometry()?;
-    let mut disk = MemDisk::new(alloc, SECTORS, 1000)?;
-    let mut region = Region::new();
-    let mut ring = ring_at(alloc, &mut region, geometry, 4, 1)?;
-    assert!(rt; put_many(&mut ring, 0, 5 * ENTRIES)?);
-    assert!(rt; put(&mut ring, 0, b'x')?.is_none());
-    assert!(rt; commit(&mut ring, geometry, &mut disk)? == Moved::Did);
-    assert!(rt; commit(&mut ring, geometry, &mut disk)? == Moved::Did);
-    assert!(rt; commit(&mut ring, geometry, &mut disk)? == Moved::Idle);
-    assert!(rt; put(&mut ring, 0, b'x')?.is_none());
-    assert!(rt; ring.oldest() == Some(4) && free_oldest(&mut ring));
-    let place = put(&mut ring, 7, b'x')?.ok_or("no room")?;
-    assert!(rt;
-        place
-            == Place {
-                section: 4,
-                entry: 0
-            }
-    );
-    assert!(rt; holds(&ring, place, 7, b'x') && ring.oldest() == Some(0));
-    Ok(())
-}
-
-#[test]
 fn a_batch_ends_where_the_journal_does(rt: HostRuntime) -> Result<(), Fail> {
     let alloc = rt.alloc();
     let geometry = geometry()?;
@@ -268,81 +242,6 @@ fn a_batch_ends_where_the_journal_does(rt: HostRuntime) -> Result<(), Fail> {
     assert!(rt; number_on(alloc, &mut disk, geometry, 1)? == Some(0));
     assert!(rt; number_on(alloc, &mut disk, geometry, 2)?.is_none());
     assert!(rt; holds(&ring, place, 5, b'y') && is_committed(&ring, place));
-    Ok(())
-}
-
-#[test]
-fn a_commit_that_fails_can_be_made_again(rt: HostRuntime) -> Result<(), Fail> {
-    let alloc = rt.alloc();
-    let geometry = geometry()?;
-    for call in 1..=2 {
-        let mut disk = MemDisk::new(alloc, SECTORS, 1000)?;
-        disk.fail_at(&[call]);
-        let mut region = Region::new();
-        let mut ring = ring_at(alloc, &mut region, geometry, 0, 0)?;
-        let place = put(&mut ring, 9, b'z')?.ok_or("no room")?;
-        assert!(rt;
-            commit(&mut ring, geometry, &mut disk) == Err(Failed),
-            "call {call} fails"
-        );
-        assert!(rt; holds(&ring, place, 9, b'z') && !is_committed(&ring, place));
-        assert!(rt; commit(&mut ring, geometry, &mut disk) == Ok(Moved::Did));
-        assert!(rt;
-            number_on(alloc, &mut disk, geometry, 0)? == Some(0) && is_committed(&ring, place)
-        );
-    }
-    Ok(())
-}
-
-/// The disk that is left where the first `whole` sectors of the journal were written, and no other.
-fn left_by(alloc: Global, disk: &MemDisk, whole: u64) -> Result<MemDisk, Fail> {
-    let mut choice = vec![in alloc; 0u32; SECTORS as usize]?;
-    for (sector, index) in choice.iter_mut().enumerate() {
-        if sector >= 8 && (sector as u64 - 8) < whole {
-            *index = 1;
-        }
-    }
-    if !disk.has(&choice) {
-        return Err(Fail::from("candidate"));
-    }
-    Ok(disk.image(alloc, &choice)?)
-}
-
-#[test]
-fn a_commit_that_is_cut_leaves_its_first_sections(rt: HostRuntime) -> Result<(), Fail> {
-    let alloc = rt.alloc();
-    let geometry = geometry()?;
-    for k in [0, 1, 87, 88, 89, 175, 176] {
-        let mut disk = MemDisk::new(alloc, SECTORS, 1000)?;
-        disk.stop_after(k);
-        let mut region = Region::new();
-        let mut ring = ring_at(alloc, &mut region, geometry, 0, 1)?;
-        assert!(rt; put_many(&mut ring, 0, ENTRIES + 1)?);
-        assert!(rt;
-            commit(&mut ring, geometry, &mut disk) == Err(Failed),
-            "{k} sectors"
-        );
-        assert!(rt;
-            !is_committed(
-                &ring,
-                Place {
-                    section: 0,
-                    entry: 0
-                }
-            ),
-            "{k} sectors"
-        );
-        let mut left = left_by(alloc, &disk, k)?;
-        let first = number_on(alloc, &mut left, geometry, 0)?;
-        let second = number_on(alloc, &mut left, geometry, 1)?;
-        assert!(rt;
-            first == (if k < 88 { None } else { Some(1) }),
-            "{k} sectors"
-        );
-        assert!(rt;
-            second == (if k < 176 { None } else { Some(1) }),
-            "{k} sectors"
-        );
-    }
+    assert!(rt; free_oldest(&mut ring) && ring.oldest() == Some(4));
     Ok(())
 }

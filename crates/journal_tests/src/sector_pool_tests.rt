@@ -1,4 +1,4 @@
-//! Runs of a small region, split and joined.
+//! Runs of a small region, split, written and joined.
 use sector_pool::{Region, Run};
 use std::process::Abort;
 use std::test::Fail;
@@ -6,43 +6,6 @@ use std::test::Fail;
 /// Whether a run begins at `place` and has `len` sectors.
 fn is_at(run: &Run<'_>, place: u64, len: u64) -> bool {
     run.place() == place && run.len() == len && run.bytes().len() as u64 == len * 512
-}
-
-#[test]
-fn a_run_is_split_and_joined_in_order_only(rt: HostRuntime) -> Result<(), Fail> {
-    let mut region = Region::new();
-    region.reserve(rt.alloc(), 88)?;
-    let whole = region.whole();
-    assert!(rt; is_at(&whole, 0, 88));
-    let (head, data) = whole.split(8);
-    assert!(rt; is_at(&head, 0, 8));
-    assert!(rt; is_at(&data, 8, 80));
-    // The other order.
-    let (data, head) = data.join(head).err().ok_or("joined")?;
-    assert!(rt; is_at(&head, 0, 8));
-    assert!(rt; is_at(&data, 8, 80));
-    let whole = head.join(data).ok().ok_or("not joined")?;
-    assert!(rt; is_at(&whole, 0, 88));
-    Ok(())
-}
-
-#[test]
-fn a_run_is_split_at_its_ends(rt: HostRuntime) -> Result<(), Fail> {
-    let mut region = Region::new();
-    region.reserve(rt.alloc(), 88)?;
-    let (none, all) = region.whole().split(0);
-    assert!(rt; is_at(&none, 0, 0));
-    assert!(rt; is_at(&all, 0, 88));
-    let Ok(whole) = none.join(all) else {
-        return Err("not joined".into());
-    };
-    assert!(rt; is_at(&whole, 0, 88));
-    let (all, none) = whole.split(88);
-    assert!(rt; is_at(&all, 0, 88));
-    assert!(rt; is_at(&none, 88, 0));
-    let whole = all.join(none).ok().ok_or("not joined")?;
-    assert!(rt; is_at(&whole, 0, 88));
-    Ok(())
 }
 
 #[test]

@@ -4,7 +4,7 @@ ghost use Rattle.disk_model.specs.Identity.{IsBound};
 use device_run::{Device, OpenMode};
 use hmac_tag::Hash;
 use image_formatting::{NewImage, Padding, Wipe, format};
-use script_session::{LineEnd, MeaningFault, TagsFound, Tickets, run_line};
+use script_session::{LineEnd, TagsFound, Tickets, run_line};
 use script_text::{Actor, Ask, Line};
 use sector_disk::{Disk, MemDisk};
 use sector_pool::Region;
@@ -95,33 +95,6 @@ fn a_request_in_flight_is_told_when_it_is_taken(rt: HostRuntime) -> Result<(), F
     assert_eq!(rt; ended, Some(Ok(TagsFound::Matching)));
     let told = "ok write 5 1\nticket 2\nnot done\ndone\nok read 5 1 aa*512\n";
     assert_eq!(rt; out.bytes(), told.as_bytes());
-    Ok(())
-}
-
-#[test]
-fn a_line_of_no_such_block_is_refused(rt: HostRuntime) -> Result<(), Fail> {
-    let mut disk = new_disk(rt.alloc())?;
-    let mut out = MemSink::new(rt.alloc(), 200)?;
-    let lines = [
-        Line::Ask {
-            start: false,
-            ask: Ask::Read { first: 6, count: 1 },
-        },
-        Line::Ask {
-            start: false,
-            ask: Ask::Read {
-                first: 79,
-                count: 2,
-            },
-        },
-    ];
-    let ended = run_lines(rt.alloc(), &mut disk, OpenMode::Direct, &lines, &mut out);
-    let fault = MeaningFault::Range {
-        first: 79,
-        count: 2,
-    };
-    assert_eq!(rt; ended, Some(Err(LineEnd::Refused(fault))));
-    assert!(rt; out.bytes().starts_with(b"fault block 6 stored 00"));
     Ok(())
 }
 

@@ -1,5 +1,4 @@
-use script_text::{Actor, Ask, Line, LineFault, MOST_LINE, Told, read_line, reply_text};
-use std::alloc::{AllocError, Global};
+use script_text::{Actor, Ask, Line, LineFault, Told, read_line, reply_text};
 use std::test::Fail;
 
 const MOST: u64 = 18446744073709551615;
@@ -146,27 +145,6 @@ fn the_first_fault_is_told(rt: HostRuntime) {
     for (line, wanted) in faults {
         assert_eq!(rt; read_line(line.as_bytes()), Err(wanted), "{line}");
     }
-}
-
-fn bytes_of_line(alloc: Global, len: usize, last: u8) -> Result<Vec<u8>, AllocError> {
-    let mut line = Vec::new(alloc);
-    for _ in 0..len {
-        line.push(b' ')?;
-    }
-    line.push(last)?;
-    Ok(line)
-}
-
-// Own: a line has at most 65536 bytes, and that is judged before its text.
-#[test]
-fn a_line_has_at_most_65536_bytes(rt: HostRuntime) -> Result<(), Fail> {
-    let short = bytes_of_line(rt.alloc(), MOST_LINE - 2, b' ')?;
-    assert_eq!(rt; read_line(&short), Ok(Line::Skip));
-    let most = bytes_of_line(rt.alloc(), MOST_LINE - 1, b' ')?;
-    assert_eq!(rt; read_line(&most), Ok(Line::Skip));
-    let long = bytes_of_line(rt.alloc(), MOST_LINE, b'\t')?;
-    assert_eq!(rt; read_line(&long), Err(LineFault::TooLong));
-    Ok(())
 }
 
 // Own: runs, and their sum, which has more than 64 bits.

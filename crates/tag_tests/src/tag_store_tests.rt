@@ -1,4 +1,4 @@
-//! Tests of the store over a disk in memory: where blocks and tags come to lie, and each call failing in turn.
+//! The store over a disk in memory: where blocks and tags come to lie, and how often the disk is read.
 ghost use Rattle.std.specs.Prelude.{◌≡◌, ◌≤◌, IfOk, OnOk};
 ghost use Rattle.disk_model.specs.Identity.{IsBound};
 ghost use Rattle.image_model.specs.Geometry.{IsGeometry};
@@ -233,64 +233,5 @@ fn tags_of_neighbours_cost_one_read(rt: HostRuntime) -> Result<(), Fail> {
         Err(Failed),
         "this is the second call of the disk"
     );
-    Ok(())
-}
-
-/// Writes blocks 24, 25 and 26, each once more where it fails.
-fn write_three<D: Disk>(tags: &mut Tags, geometry: Geometry, disk: &mut D) -> Result<(), Failed>
-    requires geometry { tags.old.geometry ≡ geometry }
-    requires store { IsStore tags.old (D.identity disk.old) (D.moments disk.old) }
-
-    ensures store { IsStore tags.new (D.identity disk.new) (D.moments disk.new) }
-    ensures geometry { tags.new.geometry ≡ tags.old.geometry }
-    ensures identity { D.identity disk.new ≡ D.identity disk.old }
-{
-    for (block, byte) in [(24, b'x'), (25, b'y'), (26, b'z')] {
-        let tag = Tag::from_bytes(&[byte; 20]);
-        if write(tags, geometry, disk, block, byte, &tag).is_err() {
-            write(tags, geometry, disk, block, byte, &tag)?;
-        }
-    }
-    Ok(())
-}
-
-/// Whether blocks 23 to 27 read as they were written.
-fn reads_three<D: Disk>(tags: &mut Tags, geometry: Geometry, disk: &mut D) -> Result<bool, Failed>
-    requires geometry { tags.old.geometry ≡ geometry }
-    requires store { IsStore tags.old (D.identity disk.old) (D.moments disk.old) }
-{
-    for (block, byte) in [(23, 0), (24, b'x'), (25, b'y'), (26, b'z'), (27, 0)] {
-        let (first, tag) = read(tags, geometry, disk, block)?;
-        if first != byte || tag.bytes() != &[byte; 20][..] {
-            return Ok(false);
-        }
-    }
-    Ok(true)
-}
-
-#[test]
-fn a_call_that_fails_can_be_made_again(rt: HostRuntime) -> Result<(), Fail> {
-    let alloc = rt.alloc();
-    for call in 1..=20 {
-        let mut disk = MemDisk::new(alloc, SECTORS, 40)?;
-        disk.fail_at(&[call]);
-        let (mut tags, geometry) = store_over(alloc, &disk, 1)?;
-        write_three(&mut tags, geometry, &mut disk)?;
-        if tags.write_back(&mut disk).is_err() {
-            tags.write_back(&mut disk)?;
-        }
-        let mut record = [0; 512];
-        if disk.read_run(112, &mut record).is_err() {
-            disk.read_run(112, &mut record)?;
-        }
-        assert!(rt; record[480..500] == [b'x'; 20][..], "call {call} fails");
-        assert!(rt; record[500..] == [b'y'; 12][..], "call {call} fails");
-        disk.fail_at(&[]);
-        let (mut fresh, geometry) = store_over(alloc, &disk, 1)?;
-        assert!(rt;
-            reads_three(&mut fresh, geometry, &mut disk)?,
-            "call {call} fails"
-        );
-    }
     Ok(())
 }
