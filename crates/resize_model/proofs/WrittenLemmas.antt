@@ -34,8 +34,7 @@ pub head_bytes_law : HeadBytesLaw
 head_bytes_law d provided old grown fits size =
     let s = with_provided provided d.superblock in
     let fits_then : FitsBytes s = record { sections = fits.sections; flags = fits.flags; log2_region = fits.log2_region; recalc_sector = fits.recalc_sector; salt = fits.salt } in
-    let first = length-superblock_bytes s fits_then in
-    (
+    let first = length-superblock_bytes s fits_then in (
       length-append (superblock_bytes s) (drop 64 old) ∙ (let rest = length-drop 64 old in omega (arith, first, rest, size)),
       superblock_of-superblock_bytes s (drop 64 old) grown.accepted fits_then,
       drop-append-drop 64 old (superblock_bytes s) 64 (omega arith) first,
