@@ -1,17 +1,75 @@
 -- What a resize writes.
-use Rattle.std.proofs.Common.{◌≡◌, inl, ℕ, ◌<◌, ◌++◌, List, drop, length, refl, ◌∙◌, length-append, arith}
+use Rattle.std.proofs.Common.{◌≡◌, ◌≢◌, inl, ⊎_elim, ℕ, ◌+◌, ◌<◌, ◌++◌, List, drop, length, refl, sym, ◌∙◌, ap, length-append, arith}
+use Rattle.std.proofs.lemmas.Bool.{true≢false}
 use Rattle.std.proofs.lemmas.List.{length-drop}
 use Rattle.std.proofs.lemmas.Slice.{drop-append-drop}
 use Rattle.disk_model.specs.Disk.{Content, OnlyAdds}
 use Rattle.disk_model.proofs.DiskLemmas.{OnlyAdds-wider}
+use Rattle.image_model.specs.Geometry.{data_at}
 use Rattle.image_model.specs.Superblock.{superblock_bytes}
 use Rattle.image_model.specs.SuperblockLaws.{FitsBytes}
 use Rattle.image_model.proofs.SuperblockLemmas.{superblock_of-superblock_bytes, length-superblock_bytes}
 use Rattle.place_model.specs.FirstSync.{IsOfOpening}
 use Rattle.place_model.specs.Format.{DiskFormat}
+use Rattle.place_model.proofs.JournalLemmas.{journal-before}
+use Rattle.place_model.proofs.TagsLemmas.{data_once, tag_byte-no_data}
+use Rattle.resize_model.specs.Growth.{Growth, IsFormed, IsOfNewBits, IsOfNewData, IsOfNewTags, geometry_then}
 use Rattle.resize_model.specs.Resized.{resized_provided, with_provided}
-use Rattle.resize_model.specs.Written.{IsBeforeGrowth, IsOfHead, IsToGrow, IsWrittenByResize, Recovering, Growing, Telling, UngrownWritesLaw, UngrownBitmapLaw, HeadBytesLaw, GrowingLeftLaw, TellingLeftLaw}
-use Rattle.resize_model.proofs.StepLemmas.{founding_law, growing_law, standing_law}
+use Rattle.resize_model.specs.Written.{BesideOldLaw, IsBeforeGrowth, IsBesideOld, IsOfHead, IsToGrow, IsWrittenByResize, Recovering, Growing, Telling, UngrownWritesLaw, UngrownBitmapLaw, HeadBytesLaw, GrowingLeftLaw, TellingLeftLaw}
+use Rattle.resize_model.proofs.GrowthLemmas.{bit-before, data-behind, same_data, same_tag_byte, tags-behind}
+use Rattle.resize_model.proofs.StepLemmas.{founding_law, growing_law, old_block, standing_law}
+
+-- ---- beside the old blocks
+
+module _ (w : Growth) (formed : IsFormed w) (sector : ℕ) (x : List ℕ) where
+  -- The same place in the new geometry,
+  same_place : (b k : ℕ) → data_at w.geometry b + k ≡ data_at (geometry_then w) b + k
+  same_place b k = ap (λ (n : ℕ). n + k) (sym (same_data w.geometry (geometry_then w).blocks b))
+
+  beside_data : IsOfNewData w sector x → IsBesideOld w sector x
+  beside_data of =
+      let late = data-behind w formed of.block of.is_new.low in
+      let there = of.is in
+      record {
+        behind = omega arith;
+        journal = λ clear on. let before = journal-before w.geometry sector on in omega arith;
+        old = λ b k low k_low at.
+            let same = data_once (geometry_then w) w.sectors b of.block k of.place formed.grown.is_grown k_low of.narrow
+            (sym (same_place b k) ∙ sym at ∙ of.is ∙ same_place of.block of.place) in
+            let new = of.is_new.new in omega (arith, same.0);
+        new = λ b k is_new k_low at. of.zeros;
+      }
+
+  -- where no byte of a tag is one of data.
+  beside_tags : IsOfNewTags w sector x → IsBesideOld w sector x
+  beside_tags of =
+      let late = tags-behind w formed of.block of.byte of.low in
+      let there = of.is in
+      let apart : (b k : ℕ) → k < w.geometry.shape.spb → sector ≢ data_at w.geometry b + k = λ b k k_low at.
+      tag_byte-no_data (geometry_then w) w.sectors of.block b of.byte k formed.grown.is_grown of.narrow k_low
+      (ap (λ (place : ℕ × ℕ). place.0) (same_tag_byte w.geometry (geometry_then w).blocks of.block of.byte) ∙ sym of.is ∙ at ∙ same_place b k) in
+      record {
+        behind = omega arith;
+        journal = λ clear on. let before = journal-before w.geometry sector on in omega arith;
+        old = λ b k low k_low. apart b k k_low;
+        new = λ b k is_new k_low at. absurd (apart b k k_low at);
+      }
+
+  beside_bits : IsOfNewBits w sector x → IsBesideOld w sector x
+  beside_bits of =
+      let before = bit-before w formed of.has_bitmap of.new of.is_new.low in
+      let there = of.is in
+      record {
+        behind = omega arith;
+        journal = λ clear on. true≢false (sym of.has_bitmap ∙ clear);
+        old = λ b k low k_low at. let late = data-behind w formed b (old_block w formed sector x b low) in omega arith;
+        new = λ b k is_new k_low at. absurd (let late = data-behind w formed b is_new.low in omega arith);
+      }
+
+pub beside_old_law : BesideOldLaw
+beside_old_law w sector x formed of = ⊎_elim (beside_data w formed sector x) (λ more. ⊎_elim (beside_tags w formed sector x) (beside_bits w formed sector x) more) of
+
+-- ---- what is written
 
 -- Nothing grows where no more is provided.
 none_grows : {P : Type 0} (Recovers : (start c : Content) → Type 0) (d : DiskFormat) (start first : Content) → resized_provided d.superblock d.sectors ≡ d.superblock.provided → IsToGrow Recovers d start first → P

@@ -1,16 +1,19 @@
 -- What a resize writes up to each of its moments: what a recovery may, then what is written for the new blocks, and last the
 -- first sector that tells of them.
 -- Own: all that is written for the new blocks is synced before the first sector is written.
-use Rattle.std.specs.Prelude.{◌≡◌, ◌⊎◌, ℕ, ◌<◌, true, false, Ok, List, length, drop}
+use Rattle.std.specs.Prelude.{◌≡◌, ◌≢◌, ◌⊎◌, ℕ, ◌+◌, ◌<◌, ◌≤◌, true, false, Ok, List, length, drop}
 use Rattle.disk_model.specs.Disk.{Content, EachImage, HasNothingPending, OnlyAdds, last_image, newest_only}
 use Rattle.image_model.specs.declared.flags.TheConstants.{DIRTY_BITMAP}
 use Rattle.image_model.specs.Cells.{Cell}
+use Rattle.image_model.specs.Geometry.{data_at}
+use Rattle.image_model.specs.Sectors.{zero_bytes}
 use Rattle.image_model.specs.Superblock.{has_flag, superblock_of}
 use Rattle.image_model.specs.SuperblockLaws.{FitsBytes}
 use Rattle.command_model.specs.CommandRun.{IsUntouched}
 use Rattle.place_model.specs.FirstSync.{IsOfOpening}
 use Rattle.place_model.specs.Format.{DiskFormat}
-use Rattle.resize_model.specs.Growth.{Growth, HasNewBlocks, IsCutOf, IsOfGrowth, StandsFor}
+use Rattle.place_model.specs.Journal.{IsOfJournal}
+use Rattle.resize_model.specs.Growth.{Growth, HasNewBlocks, IsCutOf, IsFormed, IsNewBlock, IsOfGrowth, StandsFor}
 use Rattle.resize_model.specs.PlacesLaws.{IsGrown}
 use Rattle.resize_model.specs.Resized.{resized_fields, resized_head, resized_provided, with_provided}
 use Rattle.resize_model.specs.StepLaws.{resizing}
@@ -59,6 +62,18 @@ pub data IsWrittenByResize (Recovers : (start c : Content) → Type 0) (d : Disk
       → OnlyAdds (IsOfHead (head_then d (last_image start 0))) grown c → IsWrittenByResize Recovers d start c
 
 -- ---- laws
+
+-- No sector of the superblock, of an old block's data, or of a journal; and in a sector of a new block's data zeros.
+pub record IsBesideOld (w : Growth) (sector : ℕ) (x : List ℕ) : Type 0 where
+  pub behind : 8 ≤ sector
+  pub journal : has_flag DIRTY_BITMAP w.superblock.flags ≡ false → IsOfJournal w.geometry sector → ⊥
+  pub old : (b k : ℕ) → b < w.geometry.blocks → k < w.geometry.shape.spb → sector ≢ data_at w.geometry b + k
+  pub new : (b k : ℕ) → IsNewBlock w b → k < w.geometry.shape.spb → sector ≡ data_at w.geometry b + k
+      → x ≡ zero_bytes 512
+
+-- What is written for the new blocks is so.
+abbrev pub BesideOldLaw : Type 0
+BesideOldLaw = (w : Growth) (sector : ℕ) (x : List ℕ) → IsFormed w → IsOfGrowth w sector x → IsBesideOld w sector x
 
 -- Where no more is provided nothing more is written than by a recovery, of which each image has these cells.
 abbrev pub UngrownWritesLaw : Type 0
