@@ -1,6 +1,6 @@
 -- A disk of eight blocks with a bit for each, of which that of block 3 is set, on 128 sectors: eight blocks are added to it. The
 -- bits of no region are set at the start, and clear in the sector that is written.
-use Rattle.std.proofs.Common.{◌≡◌, ◌≢◌, ◌↔◌, inl, inr, ℕ, ◌+◌, ◌-◌, ◌/◌, ◌%◌, ◌<◌, ◌≤◌, ◌==◌, if◌then◌else◌, suc, true, false, Ok, None, List, [], ◌∷◌, length, slice_index, replicate, refl, sym, ap, ◌∙◌, subst, arith}
+use Rattle.std.proofs.Common.{◌≡◌, ◌≢◌, ◌↔◌, inl, inr, ℕ, ◌+◌, ◌-◌, ◌/◌, ◌%◌, ◌<◌, ◌≤◌, ◌==◌, if◌then◌else◌, suc, true, false, Ok, None, List, [], ◌∷◌, length, slice_index, replicate, refl, ap, ◌∙◌, subst, arith}
 use Rattle.std.proofs.lemmas.Bool.{cases_eq, cases_lt, eq-eqb, le-ltb, ne_eqb}
 use Rattle.std.proofs.lemmas.List.{get_or-replicate}
 use Rattle.std.proofs.lemmas.Nat.Bits.{bit_at-zero}
@@ -12,7 +12,7 @@ use Rattle.image_model.specs.Bitmap.{is_bit_set, is_dirty}
 use Rattle.image_model.specs.Cells.{placed_cells_of}
 use Rattle.image_model.specs.Geometry.{best_provided, best_provided_of, bitmap_sectors_for, entries_per_sector, entry_size, geometry_of, layout_of, regions, regions_for, section_entries, section_sectors, sector_at, tag_run_of}
 use Rattle.image_model.specs.Superblock.{Superblock, fields_in, superblock_of}
-use Rattle.bitmap_model.specs.BitmapDisk.{bit_sector, bit_in}
+use Rattle.bitmap_model.specs.BitmapDisk.{bit_in}
 use Rattle.place_model.specs.Format.{DiskFormat, HasWholeSectors, OpensAs}
 use Rattle.place_model.proofs.WorkedDisk.{bitmap_format, fresh_bitmap, HasWholeSectors-bitmap}
 use Rattle.resize_model.specs.CallLaws.{AreNewBits, HasFilledNow, StandsThrough}

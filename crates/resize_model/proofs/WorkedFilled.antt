@@ -1,10 +1,10 @@
 -- The worked disk once eight blocks are added: their zeros and tags are written and synced, and the first sector tells of them.
 -- So no law of what is written speaks of nothing. The tags are by Python's `hashlib`.
-use Rattle.std.proofs.Common.{◌≡◌, inl, inr, ⊎_elim, ℕ, ◌+◌, ◌*◌, ◌/◌, ◌<◌, ◌≤◌, ◌==◌, if◌then◌else◌, true, false, Some, List, [], ◌∷◌, ◌++◌, length, slice_index, replicate, refl, sym, ap, ◌∙◌, subst, arith}
+use Rattle.std.proofs.Common.{◌≡◌, inl, inr, ℕ, ◌+◌, ◌<◌, ◌≤◌, ◌==◌, if◌then◌else◌, true, false, List, [], ◌∷◌, ◌++◌, slice_index, replicate, refl, sym, ap, ◌∙◌, subst, arith}
 use Rattle.std.specs.List.{Contains}
 use Rattle.std.proofs.lemmas.Bool.{cases_eq, cases_lt, eq-eqb, le-ltb, ne_eqb}
 use Rattle.sha2.specs.Sha256.{compress, digest_bytes, first_words, hash_after, rounds, schedule, sha256}
-use Rattle.disk_model.specs.Disk.{Content, HasNothingPending, Image, OnlyAdds, last_image, newest_only, with_run}
+use Rattle.disk_model.specs.Disk.{Content, HasNothingPending, Image, OnlyAdds}
 use Rattle.disk_model.proofs.DiskLemmas.{newest_only-last, only_candidate}
 use Rattle.image_model.specs.Cells.{placed_cells_of}
 use Rattle.image_model.specs.Geometry.{best_provided, best_provided_of, data_at, entries_per_sector, entry_size, section_entries, section_sectors, sector_at, tag_at, tag_offset, tag_run_of}
@@ -63,14 +63,35 @@ settled-filled = record { only = λ sector x has. only_candidate (filled_journal
 -- P of each of them.
 eight_blocks : (P : ℕ → Type 0) → P 8 → P 9 → P 10 → P 11 → P 12 → P 13 → P 14 → P 15 → (b : ℕ) → 8 ≤ b → b < 16 → P b
 eight_blocks P p8 p9 p10 p11 p12 p13 p14 p15 b above low =
-    elim (cases_lt b 9) [ inl u ↦ (let e : 8 ≡ b = omega arith in subst P e p8) | inr u9 ↦
-    elim (cases_lt b 10) [ inl u ↦ (let e : 9 ≡ b = omega arith in subst P e p9) | inr u10 ↦
-    elim (cases_lt b 11) [ inl u ↦ (let e : 10 ≡ b = omega arith in subst P e p10) | inr u11 ↦
-    elim (cases_lt b 12) [ inl u ↦ (let e : 11 ≡ b = omega arith in subst P e p11) | inr u12 ↦
-    elim (cases_lt b 13) [ inl u ↦ (let e : 12 ≡ b = omega arith in subst P e p12) | inr u13 ↦
-    elim (cases_lt b 14) [ inl u ↦ (let e : 13 ≡ b = omega arith in subst P e p13) | inr u14 ↦
-    elim (cases_lt b 15) [ inl u ↦ (let e : 14 ≡ b = omega arith in subst P e p14) | inr u15 ↦
-    (let e : 15 ≡ b = omega arith in subst P e p15) ] ] ] ] ] ] ]
+    elim (cases_lt b 9) [
+      | inl u ↦ (let e : 8 ≡ b = omega arith in subst P e p8)
+      | inr u9 ↦
+          elim (cases_lt b 10) [
+            | inl u ↦ (let e : 9 ≡ b = omega arith in subst P e p9)
+            | inr u10 ↦
+                elim (cases_lt b 11) [
+                  | inl u ↦ (let e : 10 ≡ b = omega arith in subst P e p10)
+                  | inr u11 ↦
+                      elim (cases_lt b 12) [
+                        | inl u ↦ (let e : 11 ≡ b = omega arith in subst P e p11)
+                        | inr u12 ↦
+                            elim (cases_lt b 13) [
+                              | inl u ↦ (let e : 12 ≡ b = omega arith in subst P e p12)
+                              | inr u13 ↦
+                                  elim (cases_lt b 14) [
+                                    | inl u ↦ (let e : 13 ≡ b = omega arith in subst P e p13)
+                                    | inr u14 ↦
+                                        elim (cases_lt b 15) [
+                                          | inl u ↦ (let e : 14 ≡ b = omega arith in subst P e p14)
+                                          | inr u15 ↦
+                                              (let e : 15 ≡ b = omega arith in subst P e p15)
+                                        ]
+                                  ]
+                            ]
+                      ]
+                ]
+          ]
+    ]
 
 -- There are eight of them.
 pub new_low : (b : ℕ) → IsNewBlock w b → b < 16

@@ -1,35 +1,34 @@
 -- The calls that add the blocks to the worked disk, and what they leave: it is resized, and can be opened.
 -- The tags are told by what is to be in place: a store holds them in memory until they are written back.
-use Rattle.std.proofs.Common.{◌≡◌, inl, inr, ℕ, ◌+◌, ◌-◌, ◌*◌, ◌/◌, ◌<◌, ◌≤◌, true, false, None, Ok, Some, List, [], ◌∷◌, drop, length, slice_index, replicate, refl, sym, ap, ◌∙◌, subst, arith}
+use Rattle.std.proofs.Common.{◌≡◌, inr, ℕ, ◌+◌, ◌<◌, ◌≤◌, true, false, None, Ok, List, [], ◌∷◌, drop, length, refl, sym, ap, ◌∙◌, subst, arith}
 use Rattle.std.proofs.lemmas.Option.{same_Some}
-use Rattle.disk_model.specs.Disk.{Content, EachImage, HasNothingPending, Image, IsImage, last_image, newest_only, with_run}
+use Rattle.disk_model.specs.Disk.{Content, HasNothingPending, Image, IsImage, last_image, newest_only, with_run}
 use Rattle.disk_model.specs.Moments.{HasNow}
 use Rattle.disk_model.proofs.DiskLemmas.{AddsSome-all, newest_only-last}
 use Rattle.image_model.specs.Cells.{Cell, placed_cells_of}
 use Rattle.image_model.specs.Geometry.{best_provided, best_provided_of, data_at, entries_per_sector, entry_size, section_entries, regions_for, section_sectors, sector_at, tag_at, tag_offset, tag_run_of}
-use Rattle.image_model.specs.Sectors.{zero_bytes}
 use Rattle.image_model.specs.SuperblockLaws.{FitsBytes}
 use Rattle.image_model.specs.Superblock.{superblock_of}
 use Rattle.journal_model.proofs.OpeningLemmas.{state_law}
-use Rattle.place_model.specs.Format.{DiskFormat, HasPlaced, IsReadAs, cells_on, format_on}
-use Rattle.place_model.specs.Tags.{ReadsTags, tag_byte_at, with_block_tag}
+use Rattle.place_model.specs.Format.{cells_on, format_on}
+use Rattle.place_model.specs.Tags.{ReadsTags, with_block_tag}
 use Rattle.place_model.proofs.FormatLemmas.{opens_tells, reads_from}
 use Rattle.place_model.proofs.PlacedLemmas.{placed_tag-byte}
 use Rattle.place_model.proofs.ReplayLemmas.{placed_cells_law}
 use Rattle.place_model.proofs.WorkedDisk.{fresh_journal, replayed_entries-fresh, walk_of-fresh}
 use Rattle.direct_laws.specs.CallLaws.{ReadsImage, ReadsTagsNow}
-use Rattle.direct_laws.specs.ServeLaws.{PutsTag, Syncs, WritesBack, WritesData}
+use Rattle.direct_laws.specs.ServeLaws.{PutsTag, Syncs, WritesData}
 use Rattle.resize_model.specs.AllPlaced.{IsAllPlaced}
 use Rattle.resize_model.specs.CallLaws.{HasFilled, HasFilledNow, IsFounded, IsToBeFounded, StandsThrough, new_tag, new_write}
 use Rattle.resize_model.specs.Growth.{HasNewBlocks, IsNewRegion, MayStand, cells_before, geometry_then}
-use Rattle.resize_model.specs.Left.{IsInResizeOrder, IsResizedContent, IsResizedInOrder}
+use Rattle.resize_model.specs.Left.{IsResizedContent}
 use Rattle.resize_model.specs.Resized.{grown_cells, resized_format, resized_head, with_provided}
 use Rattle.resize_model.proofs.GrowthLemmas.{placed_kept}
 use Rattle.resize_model.proofs.CallLemmas.{back_done_law, block_filled_law, filling_law, head_done_law, ready_law, sync_done_law}
 use Rattle.resize_model.proofs.LeftLemmas.{growth_done_law, reopens_law, resized_reopens_law}
 use Rattle.resize_model.proofs.WrittenLemmas.{head_bytes_law}
 use Rattle.resize_model.proofs.WorkedGrowth.{longer, content, OpensAs-longer, StandsFor-fresh}
-use Rattle.resize_model.proofs.WorkedFilled.{w, filled, filled_journal, HasNewBlocks-filled, HasWholeSectors-filled, StandsFor-filled, data_late, low_new, new_low, settled-filled, tag_is}
+use Rattle.resize_model.proofs.WorkedFilled.{w, filled, filled_journal, HasNewBlocks-filled, HasWholeSectors-filled, StandsFor-filled, low_new, new_low, tag_is}
 
 -- What stands now, where the disk tells it.
 now_is : (P : Content → Type 0) (c : Content) (before : List Content) → P c → HasNow P (c ∷ before)
@@ -142,10 +141,10 @@ new-synced = ready_law w 8 0 tags synced blocks_most
 FitsBytes-longer : FitsBytes longer.superblock
 FitsBytes-longer = record { sections = omega arith; flags = omega arith; log2_region = omega arith; recalc_sector = omega arith; salt = refl }
 
-abbrev head : List ℕ
+abbrev pub head : List ℕ
 head = resized_head (with_provided w.provided longer.superblock) (fresh_journal 0)
 
-head-tells : (length head ≡ 512) × (superblock_of head ≡ Ok (with_provided w.provided longer.superblock)) × (drop 64 head ≡ drop 64 (fresh_journal 0))
+pub head-tells : (length head ≡ 512) × (superblock_of head ≡ Ok (with_provided w.provided longer.superblock)) × (drop 64 head ≡ drop 64 (fresh_journal 0))
 head-tells = head_bytes_law longer w.provided (fresh_journal 0) StandsFor-fresh.formed.grown FitsBytes-longer refl
 
 ready : IsToBeFounded w head synced

@@ -1,9 +1,9 @@
 -- What a resize writes.
-use Rattle.std.proofs.Common.{◌≡◌, ◌≢◌, inl, ⊎_elim, ℕ, ◌+◌, ◌<◌, ◌++◌, List, drop, length, refl, sym, ◌∙◌, ap, length-append, arith}
+use Rattle.std.proofs.Common.{◌≡◌, ◌≢◌, inl, ⊎_elim, ℕ, ◌+◌, ◌<◌, List, drop, sym, ◌∙◌, ap, length-append, arith}
 use Rattle.std.proofs.lemmas.Bool.{true≢false}
 use Rattle.std.proofs.lemmas.List.{length-drop}
 use Rattle.std.proofs.lemmas.Slice.{drop-append-drop}
-use Rattle.disk_model.specs.Disk.{Content, OnlyAdds}
+use Rattle.disk_model.specs.Disk.{Content}
 use Rattle.disk_model.proofs.DiskLemmas.{OnlyAdds-wider}
 use Rattle.image_model.specs.Geometry.{data_at}
 use Rattle.image_model.specs.Superblock.{superblock_bytes}
