@@ -2,7 +2,7 @@
 -- The tags are told by what is to be in place: a store holds them in memory until they are written back.
 use Rattle.std.proofs.Common.{◌≡◌, inr, ℕ, ◌+◌, ◌<◌, ◌≤◌, true, false, None, Ok, List, [], ◌∷◌, drop, length, refl, sym, ap, ◌∙◌, subst, arith}
 use Rattle.std.proofs.lemmas.Option.{same_Some}
-use Rattle.disk_model.specs.Disk.{Content, HasNothingPending, Image, IsImage, last_image, newest_only, with_run}
+use Rattle.disk_model.specs.Disk.{Content, EachImage, HasNothingPending, Image, IsImage, last_image, newest_only, with_run}
 use Rattle.disk_model.specs.Moments.{HasNow}
 use Rattle.disk_model.proofs.DiskLemmas.{AddsSome-all, newest_only-last}
 use Rattle.image_model.specs.Cells.{Cell, placed_cells_of}
@@ -18,14 +18,14 @@ use Rattle.place_model.proofs.ReplayLemmas.{placed_cells_law}
 use Rattle.place_model.proofs.WorkedDisk.{fresh_journal, replayed_entries-fresh, walk_of-fresh}
 use Rattle.direct_laws.specs.CallLaws.{ReadsImage, ReadsTagsNow}
 use Rattle.direct_laws.specs.ServeLaws.{PutsTag, Syncs, WritesData}
-use Rattle.resize_model.specs.AllPlaced.{IsAllPlaced}
+use Rattle.resize_model.specs.AllPlaced.{IsAllPlaced, KeepsStored}
 use Rattle.resize_model.specs.CallLaws.{HasFilled, HasFilledNow, IsFounded, IsToBeFounded, StandsThrough, new_tag, new_write}
 use Rattle.resize_model.specs.Growth.{HasNewBlocks, IsNewRegion, MayStand, cells_before, geometry_then}
 use Rattle.resize_model.specs.Left.{IsResizedContent}
 use Rattle.resize_model.specs.Resized.{grown_cells, resized_format, resized_head, with_provided}
 use Rattle.resize_model.proofs.GrowthLemmas.{placed_kept}
 use Rattle.resize_model.proofs.CallLemmas.{back_done_law, block_filled_law, filling_law, head_done_law, ready_law, sync_done_law}
-use Rattle.resize_model.proofs.LeftLemmas.{growth_done_law, reopens_law, resized_reopens_law}
+use Rattle.resize_model.proofs.LeftLemmas.{growth_done_law, reopens_law, resized_reopens_law, stored_law}
 use Rattle.resize_model.proofs.WrittenLemmas.{head_bytes_law}
 use Rattle.resize_model.proofs.WorkedGrowth.{longer, content, OpensAs-longer, StandsFor-fresh}
 use Rattle.resize_model.proofs.WorkedFilled.{w, filled, filled_journal, HasNewBlocks-filled, HasWholeSectors-filled, StandsFor-filled, low_new, new_low, tag_is}
@@ -175,14 +175,16 @@ all-placed =
         reads = reads_from longer fresh_journal (record { head = told.head; has_geometry = told.has_geometry; is_geometry = told.is_geometry });
         each = λ b low. placed_cells_law longer fresh_journal b refl replayed_entries-fresh;
       };
-      next = 0;
-      number = 1;
-      rests = (state_law longer.geometry 128 fresh_journal _ told.is_geometry walk_of-fresh).rest 0 1 refl;
+      rests = record { next = 0; number = 1; at = (state_law longer.geometry 128 fresh_journal _ told.is_geometry walk_of-fresh).rest 0 1 refl };
     }
 
 -- The disk is resized.
 resized : IsResizedContent longer (cells_before w) (newest_only headed)
 resized = growth_done_law longer (cells_before w) fresh_journal (newest_only headed) (λ b low. refl) (λ clear. all-placed) founded
+
+-- What stood there besides the cells is kept.
+stored : EachImage (KeepsStored longer fresh_journal) (newest_only headed)
+stored = stored_law longer fresh_journal fresh_journal (newest_only headed) (record { rest = λ clear rests sector on. refl; awaiting = λ b low none waits. refl }) founded
 
 -- Its image opens by its own fields, which are the resized ones, with sixteen blocks.
 abbrev image : Image

@@ -137,9 +137,7 @@ all-placed =
         reads = reads_from journal_format fresh_journal (record { head = told.head; has_geometry = told.has_geometry; is_geometry = told.is_geometry });
         each = λ b low. placed_cells_law journal_format fresh_journal b refl replayed_entries-fresh;
       };
-      next = 0;
-      number = 1;
-      rests = (state_law journal_format.geometry 112 fresh_journal _ told.is_geometry walk_of-fresh).rest 0 1 refl;
+      rests = record { next = 0; number = 1; at = (state_law journal_format.geometry 112 fresh_journal _ told.is_geometry walk_of-fresh).rest 0 1 refl };
     }
 
 -- Its only image is that one.
