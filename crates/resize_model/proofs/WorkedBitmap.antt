@@ -4,9 +4,7 @@ use Rattle.std.proofs.Common.{◌≡◌, ◌≢◌, ◌↔◌, inl, inr, ℕ, �
 use Rattle.std.proofs.lemmas.Bool.{cases_eq, cases_lt, eq-eqb, le-ltb, ne_eqb}
 use Rattle.std.proofs.lemmas.List.{get_or-replicate}
 use Rattle.std.proofs.lemmas.Nat.Bits.{bit_at-zero}
-use Rattle.std.proofs.lemmas.Option.{same_Some}
 use Rattle.disk_model.specs.Disk.{Content, HasNothingPending, Image, sector_in, with_run}
-use Rattle.disk_model.specs.Moments.{HasNow}
 use Rattle.disk_model.proofs.DiskLemmas.{AddsSome-all, only_candidate}
 use Rattle.image_model.specs.Bitmap.{is_bit_set, is_dirty}
 use Rattle.image_model.specs.Cells.{placed_cells_of}
@@ -22,6 +20,7 @@ use Rattle.resize_model.specs.StepLaws.{resizing}
 use Rattle.resize_model.proofs.CallLemmas.{bits_done_law, bits_law, filling_law}
 use Rattle.resize_model.proofs.PlacesLemmas.{same_bits_law}
 use Rattle.resize_model.proofs.StepLemmas.{begins_law}
+use Rattle.resize_model.proofs.WorkedGrowth.{now_is}
 
 -- ---- the disk
 
@@ -152,9 +151,6 @@ unfolding is_bit_set
 lost-bit is = let wrong : false ≡ true = is.stay 3 ((old_regions 3).0 (omega arith)) refl in cc
 
 -- ---- the calls
-
-now_is : (P : Content → Type 0) (c : Content) (before : List Content) → P c → HasNow P (c ∷ before)
-now_is P c before p now told = subst P (same_Some c now told) p
 
 abbrev tags : Content → ℕ → List ℕ
 tags c b = (placed_cells_of dotted.geometry dotted_bitmap b).tag

@@ -1,6 +1,6 @@
 -- The calls that add the blocks to the worked disk, and what they leave: it is resized, and can be opened.
 -- The tags are told by what is to be in place: a store holds them in memory until they are written back.
-use Rattle.std.proofs.Common.{◌≡◌, inr, ℕ, ◌+◌, ◌<◌, ◌≤◌, true, false, None, Ok, List, [], ◌∷◌, drop, length, refl, sym, ap, ◌∙◌, subst, arith}
+use Rattle.std.proofs.Common.{◌≡◌, inr, ℕ, ◌+◌, ◌<◌, ◌≤◌, true, false, None, Ok, List, [], ◌∷◌, drop, length, refl, sym, ap, ◌∙◌, arith}
 use Rattle.std.proofs.lemmas.Option.{same_Some}
 use Rattle.disk_model.specs.Disk.{Content, EachImage, HasNothingPending, Image, IsImage, last_image, newest_only, with_run}
 use Rattle.disk_model.specs.Moments.{HasNow}
@@ -27,12 +27,8 @@ use Rattle.resize_model.proofs.GrowthLemmas.{placed_kept}
 use Rattle.resize_model.proofs.CallLemmas.{back_done_law, block_filled_law, filling_law, head_done_law, ready_law, sync_done_law}
 use Rattle.resize_model.proofs.LeftLemmas.{growth_done_law, reopens_law, resized_reopens_law, stored_law}
 use Rattle.resize_model.proofs.WrittenLemmas.{head_bytes_law}
-use Rattle.resize_model.proofs.WorkedGrowth.{longer, content, OpensAs-longer, StandsFor-fresh}
+use Rattle.resize_model.proofs.WorkedGrowth.{longer, content, now_is, OpensAs-longer, StandsFor-fresh}
 use Rattle.resize_model.proofs.WorkedFilled.{w, filled, filled_journal, HasNewBlocks-filled, HasWholeSectors-filled, StandsFor-filled, low_new, new_low, tag_is}
-
--- What stands now, where the disk tells it.
-now_is : (P : Content → Type 0) (c : Content) (before : List Content) → P c → HasNow P (c ∷ before)
-now_is P c before p now told = subst P (same_Some c now told) p
 
 -- ---- the first new block
 

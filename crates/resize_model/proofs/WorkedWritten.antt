@@ -2,9 +2,8 @@
 -- nothing is added. So no law of what is written and left speaks of nothing.
 use Rattle.std.proofs.Common.{◌≡◌, inl, ℕ, ◌<◌, true, false, None, List, [], ◌∷◌, refl, sym, subst, arith}
 use Rattle.std.proofs.Math.Path.{fun_ext}
-use Rattle.std.proofs.lemmas.Option.{same_Some}
 use Rattle.disk_model.specs.Disk.{Content, EachImage, Image, IsOfRun, OnlyAdds, newest_only, with_run}
-use Rattle.disk_model.specs.Moments.{EachSince, HasNow}
+use Rattle.disk_model.specs.Moments.{EachSince}
 use Rattle.disk_model.proofs.DiskLemmas.{AddsSome-adds, AddsSome-all, IsOfRun-one, OnlyAdds-wider, newest_only-image, newest_only-last}
 use Rattle.image_model.specs.Cells.{Cell}
 use Rattle.image_model.specs.Geometry.{best_provided, best_provided_of, entries_per_sector, entry_size, section_entries, section_sectors, tag_run_of}
@@ -26,7 +25,7 @@ use Rattle.resize_model.specs.Written.{IsBeforeGrowth, IsOfHead, IsToGrow, IsToT
 use Rattle.resize_model.proofs.LeftLemmas.{each_law, in_order_law, order_law, own_format, refused_law, ungrown_done_law}
 use Rattle.resize_model.proofs.RefusalLemmas.{resizes_law}
 use Rattle.resize_model.proofs.WrittenLemmas.{growing_left_law, telling_left_law, ungrown_writes_law}
-use Rattle.resize_model.proofs.WorkedGrowth.{longer, content, settled, OpensAs-longer, StandsFor-fresh}
+use Rattle.resize_model.proofs.WorkedGrowth.{longer, content, now_is, settled, OpensAs-longer, StandsFor-fresh}
 use Rattle.resize_model.proofs.WorkedFilled.{w, filled, HasNewBlocks-filled, OnlyAdds-filled, settled-filled}
 use Rattle.resize_model.proofs.WorkedFounded.{head-tells}
 
@@ -74,9 +73,6 @@ telling-left : EachImage (IsCutOf w) (with_run 0 head filled)
 telling-left = telling_left_law w head content filled (with_run 0 head filled) StandsFor-fresh to-tell head-tells.0 head-tells.1 OnlyAdds-head
 
 -- ---- the order
-
-now_is : (P : Content → Type 0) (c : Content) (before : List Content) → P c → HasNow P (c ∷ before)
-now_is P c before p now told = subst P (same_Some c now told) p
 
 abbrev start : List Content
 start = content ∷ []
