@@ -1,8 +1,11 @@
 -- A device in recovery mode over a disk whose journal has no walk, with a read and a flush: no law speaks of nothing.
-use Rattle.std.proofs.Common.{◌≡◌, true, false, [], ◌∷◌, None, Some, replicate, refl}
+use Rattle.std.proofs.Common.{◌≡◌, false, [], ◌∷◌, None, replicate, refl}
 use Rattle.disk_model.specs.Disk.{Content, HasNothingPending, EachImage}
 use Rattle.disk_model.specs.Moments.{EachSince}
 use Rattle.disk_model.proofs.DiskLemmas.{only_candidate}
+use Rattle.image_model.specs.Geometry.{bitmap_sectors_for, entries_per_sector, entry_size, geometry_of, regions_for, section_entries, section_sectors, sector_at, tag_run_of}
+use Rattle.image_model.specs.Superblock.{fields_in, superblock_of}
+use Rattle.command_model.specs.CommandRun.{ReadsOn}
 use Rattle.device_model.specs.Mode.{DeviceFormat, Recovery}
 use Rattle.device_model.specs.History.{opened}
 use Rattle.device_model.specs.Progress.{DeviceState, Submit, Serve, Did, Done, ReadOnly, after_event, event_result, only_answers}
@@ -15,6 +18,7 @@ use Rattle.place_model.specs.Kind.{kind_in}
 use Rattle.place_model.specs.Opened.{device_format, opened_on}
 use Rattle.place_model.proofs.WorkedDisk.{journal_format, zeros_journal, IsReadAs-zeros}
 use Rattle.recovery_laws.specs.Device.{IsRecoveryDevice}
+use Rattle.recovery_laws.specs.Refusals.{recovery_outset}
 use Rattle.recovery_laws.specs.MomentLaws.{ChangesNothing}
 use Rattle.recovery_laws.proofs.EventLemmas.{opening_law, event_law, read_law, flush_law, write_law}
 use Rattle.recovery_laws.proofs.MomentLemmas.{kept_law, left_law, run_law}
@@ -80,3 +84,8 @@ IsRunOf-empty = record { lines = []; read = tt; is = refl }
 
 changes-nothing : ChangesNothing fresh run
 changes-nothing = run_law format fresh journal_format zeros_journal [] run IsRecoveryDevice-fresh IsRunOf-empty
+
+-- A run starts on that device, whatever the journal says.
+recovery_outset-zeros : let outset = recovery_outset None 112 zeros_journal in outset ≡ ReadsOn (kind_in Recovery None 112) zeros_journal
+unfolding superblock_of fields_in geometry_of sector_at tag_run_of bitmap_sectors_for regions_for entry_size entries_per_sector section_entries section_sectors
+recovery_outset-zeros = refl

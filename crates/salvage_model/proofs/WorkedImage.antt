@@ -1,6 +1,6 @@
 -- A salvage of the fresh disk of eight blocks whose journal has no walk, with one bit of block 7 turned over: each block has its
 -- line, in order, and the status is 1. An image that cannot be read is refused.
-use Rattle.std.proofs.Common.{◌≡◌, ℕ, ◌==◌, if◌then◌else◌, true, false, refl, List, [], ◌∷◌, replicate}
+use Rattle.std.proofs.Common.{◌≡◌, ℕ, ◌==◌, if◌then◌else◌, true, refl, [], ◌∷◌, replicate}
 use Rattle.std.specs.Prelude.{codes, None}
 use Rattle.std.specs.Fmt.{digits}
 use Rattle.hex.specs.Hex.{encode_with}
