@@ -1,21 +1,26 @@
 -- What a resize writes.
-use Rattle.std.proofs.Common.{◌≡◌, ◌≢◌, inl, ⊎_elim, ℕ, ◌+◌, ◌<◌, List, drop, sym, ◌∙◌, ap, length-append, arith}
+use Rattle.std.proofs.Common.{◌≡◌, ◌≢◌, inl, ⊎_elim, ℕ, ◌+◌, ◌<◌, List, Some, drop, sym, subst, ◌∙◌, ap, length-append, arith}
 use Rattle.std.proofs.lemmas.Bool.{true≢false}
 use Rattle.std.proofs.lemmas.List.{length-drop}
 use Rattle.std.proofs.lemmas.Slice.{drop-append-drop}
-use Rattle.disk_model.specs.Disk.{Content}
+use Rattle.std.proofs.lemmas.Option.{same_Some}
+use Rattle.disk_model.specs.Disk.{Content, OnlyAdds, last_image}
+use Rattle.disk_model.specs.Moments.{content_now, EachMoment, EachSince}
 use Rattle.disk_model.proofs.DiskLemmas.{OnlyAdds-wider}
 use Rattle.image_model.specs.Geometry.{data_at}
 use Rattle.image_model.specs.Superblock.{superblock_bytes}
 use Rattle.image_model.specs.SuperblockLaws.{FitsBytes}
 use Rattle.image_model.proofs.SuperblockLemmas.{superblock_of-superblock_bytes, length-superblock_bytes}
+use Rattle.direct_laws.proofs.CallLemmas.{each_from}
 use Rattle.place_model.specs.FirstSync.{IsOfOpening}
 use Rattle.place_model.specs.Format.{DiskFormat}
 use Rattle.place_model.proofs.JournalLemmas.{journal-before}
 use Rattle.place_model.proofs.TagsLemmas.{data_once, tag_byte-no_data}
-use Rattle.resize_model.specs.Growth.{Growth, IsFormed, IsOfNewBits, IsOfNewData, IsOfNewTags, geometry_then}
+use Rattle.resize_model.specs.CallLaws.{StandsThrough}
+use Rattle.resize_model.specs.StepLaws.{resizing}
+use Rattle.resize_model.specs.Growth.{Growth, IsFormed, IsOfGrowth, IsOfNewBits, IsOfNewData, IsOfNewTags, geometry_then}
 use Rattle.resize_model.specs.Resized.{resized_provided, with_provided}
-use Rattle.resize_model.specs.Written.{BesideOldLaw, IsBeforeGrowth, IsBesideOld, IsOfHead, IsToGrow, IsWrittenByResize, Recovering, Growing, Telling, UngrownWritesLaw, UngrownBitmapLaw, HeadBytesLaw, GrowingLeftLaw, TellingLeftLaw}
+use Rattle.resize_model.specs.Written.{BesideOldLaw, IsBeforeGrowth, IsBesideOld, IsOfHead, IsToGrow, IsToTell, IsWrittenByResize, head_then, Recovering, Growing, Telling, UngrownWritesLaw, UngrownBitmapLaw, HeadBytesLaw, GrowingLeftLaw, TellingLeftLaw}
 use Rattle.resize_model.proofs.GrowthLemmas.{bit-before, data-behind, same_data, same_tag_byte, tags-behind}
 use Rattle.resize_model.proofs.StepLemmas.{founding_law, growing_law, old_block, standing_law}
 
@@ -105,3 +110,21 @@ pub telling_left_law : TellingLeftLaw
 telling_left_law w head first grown c stands tells size told adds =
     founding_law w head grown c (growing_law w first grown stands tells.written) tells.settled tells.new size told
     (OnlyAdds-wider (IsOfHead head) (λ s x. (s ≡ 0) × (x ≡ head)) (λ s x of. (of.first, of.is)) grown c adds)
+
+-- ---- for callers
+
+-- Calls that fill the new blocks, from the content on to which they are added, write what a resize does.
+pub growing_writes : {a b : List Content} (Recovers : (start c : Content) → Type 0) (d : DiskFormat) (start first : Content) → content_now a ≡ Some first → IsToGrow Recovers d start first
+    → StandsThrough (resizing d (last_image first)) a b → EachMoment a b (IsWrittenByResize Recovers d start)
+growing_writes Recovers d start first told grows through =
+    let W = IsOfGrowth (resizing d (last_image first)) in
+    each_from (OnlyAdds W) (IsWrittenByResize Recovers d start)
+    (λ s s_told c adds. Growing first grows (subst (λ (y : Content). OnlyAdds W y c) (same_Some s first (sym s_told ∙ told)) adds)) through.adds
+
+-- So do calls that write its first sector then, and sync it.
+pub telling_writes : {a b : List Content} (Recovers : (start c : Content) → Type 0) (d : DiskFormat) (start first grown : Content) → content_now a ≡ Some grown → IsToGrow Recovers d start first
+    → IsToTell (resizing d (last_image first)) first grown → EachSince (OnlyAdds (IsOfHead (head_then d (last_image start 0)))) a b → EachMoment a b (IsWrittenByResize Recovers d start)
+telling_writes Recovers d start first grown told grows tells adds =
+    let W = IsOfHead (head_then d (last_image start 0)) in
+    each_from (OnlyAdds W) (IsWrittenByResize Recovers d start)
+    (λ s s_told c adds. Telling first grown grows tells (subst (λ (y : Content). OnlyAdds W y c) (same_Some s grown (sym s_told ∙ told)) adds)) adds
