@@ -1,8 +1,9 @@
 -- The moments of the worked disk's resize: while blocks are added, and while its first sector is written; and of a disk to which
 -- nothing is added. So no law of what is written and left speaks of nothing.
-use Rattle.std.proofs.Common.{◌≡◌, inl, ℕ, ◌<◌, true, false, None, List, [], ◌∷◌, refl, sym, subst, arith}
+use Rattle.std.proofs.Common.{◌≡◌, ◌∙◌, ap, inl, ℕ, ◌<◌, true, false, None, List, [], ◌∷◌, refl, sym, subst, arith}
 use Rattle.std.proofs.Math.Path.{fun_ext}
-use Rattle.disk_model.specs.Disk.{Content, EachImage, Image, IsOfRun, OnlyAdds, newest_only, with_run}
+use Rattle.std.proofs.lemmas.Option.{none-some, same_Some}
+use Rattle.disk_model.specs.Disk.{Content, EachImage, Image, IsOfRun, OnlyAdds, last_image, newest_only, with_run}
 use Rattle.disk_model.specs.Moments.{EachSince}
 use Rattle.disk_model.proofs.DiskLemmas.{AddsSome-adds, AddsSome-all, IsOfRun-one, OnlyAdds-wider, newest_only-image, newest_only-last}
 use Rattle.image_model.specs.Cells.{Cell}
@@ -15,7 +16,7 @@ use Rattle.place_model.specs.FirstSync.{IsOfOpening}
 use Rattle.place_model.specs.Format.{DiskFormat, HasCells, OpensAs, cells_on}
 use Rattle.place_model.proofs.FormatLemmas.{opens_tells, reads_from}
 use Rattle.place_model.proofs.ReplayLemmas.{placed_cells_law}
-use Rattle.place_model.proofs.WorkedDisk.{journal_format, fresh_journal, OpensAs-journal, replayed_entries-fresh, walk_of-fresh}
+use Rattle.place_model.proofs.WorkedDisk.{journal_format, fresh_journal, OpensAs-journal, replayed_entries-fresh, walk_of-fresh, zeros_journal}
 use Rattle.resize_model.specs.AllPlaced.{IsAllPlaced}
 use Rattle.resize_model.specs.Growth.{IsCutOf, cells_before}
 use Rattle.resize_model.specs.Left.{CanOpenNow, IsInResizeOrder, IsLeftByResize, IsResizedContent, IsResizedInOrder}
@@ -27,6 +28,7 @@ use Rattle.resize_model.proofs.RefusalLemmas.{resizes_law}
 use Rattle.resize_model.proofs.WrittenLemmas.{growing_left_law, telling_left_law, ungrown_writes_law}
 use Rattle.resize_model.proofs.WorkedGrowth.{longer, content, now_is, settled, OpensAs-longer, StandsFor-fresh}
 use Rattle.resize_model.proofs.WorkedFilled.{w, filled, HasNewBlocks-filled, OnlyAdds-filled, settled-filled}
+use Rattle.resize_model.proofs.Worked.{resize_fault_of-journal}
 use Rattle.resize_model.proofs.WorkedFounded.{head-tells}
 
 -- ---- what is written
@@ -108,6 +110,18 @@ in-resize-order = in_order_law None 128 start synced
 -- A disk that is synced at most has no sector written.
 untouched : EachSince IsUntouched start synced
 untouched = refused_law start synced (record { since = newest_only content ∷ []; grows = refl; each = (refl, tt) })
+
+-- An image that is refused is in order where it is synced at most, also where the disk fails.
+abbrev refused : Content
+refused sector = zeros_journal sector ∷ []
+
+refused-order : IsInResizeOrder None 128 (refused ∷ []) (newest_only refused ∷ refused ∷ [])
+refused-order = in_order_law None 128 (refused ∷ []) (newest_only refused ∷ refused ∷ [])
+    (λ first told fault is. record { since = newest_only refused ∷ []; grows = refl; each = (refl, tt) })
+    (λ first told can.
+    let none = (resizes_law None 128 (last_image first)).1 can in
+    let some = ap (λ (c : Content). resize_fault_of None 128 (last_image c)) (sym (same_Some refused first told)) ∙ resize_fault_of-journal in
+    absurd (none-some _ (sym none ∙ some)))
 
 -- ---- nothing is added
 

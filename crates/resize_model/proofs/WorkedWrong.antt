@@ -1,11 +1,14 @@
 -- What a resize of the worked disk does not do: each of these runs is refused by the words of `specs/Written.antt`.
-use Rattle.std.proofs.Common.{◌≡◌, ⊎_elim, ℕ, ◌+◌, List, ◌∷◌, slice_index, replicate, refl, sym, ap, ◌∙◌, arith}
+use Rattle.std.proofs.Common.{◌≡◌, inl, inr, false, [], ⊎_elim, ℕ, ◌+◌, List, ◌∷◌, slice_index, replicate, refl, sym, ap, ◌∙◌, arith}
+use Rattle.std.specs.Fmt.{digits}
+use Rattle.command_model.specs.CommandRun.{IsEndedBy, only_prints}
+use Rattle.device_model.specs.Ending.{Complete, DiskFailed}
 use Rattle.image_model.specs.Geometry.{data_at, entries_per_sector, entry_size, section_entries, section_sectors, sector_at, tag_at, tag_offset, tag_run_of}
 use Rattle.place_model.specs.Format.{tagger_of}
 use Rattle.place_model.specs.Tags.{tag_byte_at}
 use Rattle.place_model.proofs.WorkedDisk.{fresh_journal}
 use Rattle.resize_model.specs.Growth.{IsOfGrowth, IsOfNewTags}
-use Rattle.resize_model.specs.Resized.{zero_block}
+use Rattle.resize_model.specs.Resized.{resized_text, zero_block}
 use Rattle.resize_model.specs.Written.{IsOfHead, IsToTell, head_then}
 use Rattle.resize_model.proofs.WrittenLemmas.{beside_old_law}
 use Rattle.resize_model.proofs.WorkedGrowth.{longer, content, StandsFor-fresh}
@@ -77,3 +80,11 @@ told-early tells =
 -- and not with other bytes.
 other-head : (x : List ℕ) → IsOfHead (head_then longer (fresh_journal 0)) 0 x → x ≡ head_then longer (fresh_journal 0)
 other-head x is = is.is
+
+-- ---- the text
+
+-- A disk that fails behind the text ends no resize: the text is told once all is done.
+told-first : IsEndedBy (only_prints (resized_text 80 208 ∷ []) false) (resized_text 80 208) [] DiskFailed → ⊥
+unfolding digits
+told-first (inl whole) = let wrong : DiskFailed ≡ Complete false = whole.is in cc
+told-first (inr ended) = let less = ended.short (false, refl) in omega (arith, less)
