@@ -1,14 +1,15 @@
 -- A device in recovery mode over a disk whose journal has no walk, with a read and a flush: no law speaks of nothing.
-use Rattle.std.proofs.Common.{◌≡◌, false, [], ◌∷◌, None, replicate, refl}
-use Rattle.disk_model.specs.Disk.{Content, HasNothingPending, EachImage}
+use Rattle.std.proofs.Common.{◌≡◌, ℕ, ◌+◌, false, [], ◌∷◌, None, List, replicate, refl, subst, arith}
+use Rattle.disk_model.specs.Disk.{Content, HasNothingPending, EachImage, Reads, last_image, sector_in}
 use Rattle.disk_model.specs.Moments.{EachSince}
 use Rattle.disk_model.proofs.DiskLemmas.{only_candidate}
-use Rattle.image_model.specs.Geometry.{bitmap_sectors_for, entries_per_sector, entry_size, geometry_of, regions_for, section_entries, section_sectors, sector_at, tag_run_of}
+use Rattle.image_model.specs.Cells.{placed_cells_of}
+use Rattle.image_model.specs.Geometry.{bitmap_sectors_for, data_at, entries_per_sector, entry_size, geometry_of, regions_for, section_entries, section_sectors, sector_at, tag_run_of}
 use Rattle.image_model.specs.Superblock.{fields_in, superblock_of}
 use Rattle.command_model.specs.CommandRun.{ReadsOn}
 use Rattle.device_model.specs.Mode.{DeviceFormat, Recovery}
 use Rattle.device_model.specs.History.{opened}
-use Rattle.device_model.specs.Progress.{DeviceState, Submit, Serve, Did, Done, ReadOnly, after_event, event_result, only_answers}
+use Rattle.device_model.specs.Progress.{DeviceState, Submit, Serve, Close, IsClosed, Did, Done, ReadOnly, after_event, event_result, only_answers}
 use Rattle.device_model.specs.Request.{Request, Asked, newly_asked}
 use Rattle.device_model.specs.ScriptBytes.{is_too_long}
 use Rattle.device_model.specs.ScriptRun.{ScriptRun, IsRunOf, run_from}
@@ -20,7 +21,7 @@ use Rattle.place_model.proofs.WorkedDisk.{journal_format, zeros_journal, IsReadA
 use Rattle.recovery_laws.specs.Device.{IsRecoveryDevice}
 use Rattle.recovery_laws.specs.Refusals.{recovery_outset}
 use Rattle.recovery_laws.specs.MomentLaws.{ChangesNothing}
-use Rattle.recovery_laws.proofs.EventLemmas.{opening_law, event_law, read_law, flush_law, write_law}
+use Rattle.recovery_laws.proofs.EventLemmas.{close_law, opening_law, event_law, read_law, flush_law, placed_law, write_law}
 use Rattle.recovery_laws.proofs.MomentLemmas.{kept_law, left_law, run_law}
 
 abbrev format : DeviceFormat
@@ -89,3 +90,18 @@ changes-nothing = run_law format fresh journal_format zeros_journal [] run IsRec
 recovery_outset-zeros : let outset = recovery_outset None 112 zeros_journal in outset ≡ ReadsOn (kind_in Recovery None 112) zeros_journal
 unfolding superblock_of fields_in geometry_of sector_at tag_run_of bitmap_sectors_for regions_for entry_size entries_per_sector section_entries section_sectors
 recovery_outset-zeros = refl
+
+-- What is read of the disk in the place of block 0 is its bytes.
+abbrev zeros : List ℕ
+zeros = replicate 512 0
+
+Reads-zero : Reads (data_at journal_format.geometry 0) zeros content
+unfolding data_at sector_at tag_run_of entry_size entries_per_sector section_entries section_sectors
+Reads-zero k low = let first : 0 ≡ k = omega arith in subst (λ (n : ℕ). sector_in zeros n ≡ last_image content (data_at journal_format.geometry 0 + n)) first refl
+
+placed-zero : zeros ≡ (placed_cells_of journal_format.geometry zeros_journal 0).bytes
+placed-zero = placed_law journal_format content 0 zeros refl Reads-zero
+
+-- A close answers well.
+closed : (event_result format asking Close).answer ≡ IsClosed
+closed = (close_law format asking journal_format zeros_journal IsRecoveryDevice-asking refl).0

@@ -1,8 +1,8 @@
 -- The worked disk once eight blocks are added: their zeros and tags are written and synced, and the first sector tells of them.
 -- So no law of what is written speaks of nothing. The tags are by Python's `hashlib`.
-use Rattle.std.proofs.Common.{◌≡◌, inl, inr, ℕ, ◌+◌, ◌<◌, ◌≤◌, ◌==◌, if◌then◌else◌, true, false, List, [], ◌∷◌, ◌++◌, slice_index, replicate, refl, sym, ap, ◌∙◌, subst, arith}
+use Rattle.std.proofs.Common.{◌≡◌, nat_lt, inl, inr, ℕ, ◌+◌, ◌<◌, ◌≤◌, ◌==◌, if◌then◌else◌, true, false, List, [], ◌∷◌, ◌++◌, slice_index, replicate, refl, sym, ap, ◌∙◌, subst, arith}
 use Rattle.std.specs.List.{Contains}
-use Rattle.std.proofs.lemmas.Bool.{cases_eq, cases_lt, eq-eqb, le-ltb, ne_eqb}
+use Rattle.std.proofs.lemmas.Bool.{cases_eq, cases_lt, eq-eqb, le-ltb, lt-ltb, ne_eqb}
 use Rattle.sha2.specs.Sha256.{compress, digest_bytes, first_words, hash_after, rounds, schedule, sha256}
 use Rattle.disk_model.specs.Disk.{Content, HasNothingPending, Image, OnlyAdds}
 use Rattle.disk_model.proofs.DiskLemmas.{newest_only-last, only_candidate}
@@ -10,13 +10,13 @@ use Rattle.image_model.specs.Cells.{placed_cells_of}
 use Rattle.image_model.specs.Geometry.{best_provided, best_provided_of, data_at, entries_per_sector, entry_size, section_entries, section_sectors, sector_at, tag_at, tag_offset, tag_run_of}
 use Rattle.image_model.specs.Tag.{tag_message, tag_of}
 use Rattle.place_model.specs.Format.{HasWholeSectors, tagger_of}
-use Rattle.place_model.specs.Tags.{tag_byte_at}
+use Rattle.place_model.specs.Tags.{IsOfTags, tag_byte_at}
 use Rattle.place_model.proofs.PlacedLemmas.{placed_tag-byte}
 use Rattle.place_model.proofs.WorkedDisk.{fresh_journal}
-use Rattle.resize_model.specs.Growth.{Growth, HasNewBlocks, IsNewBlock, IsOfGrowth, IsOfNewTags, StandsFor, geometry_then}
+use Rattle.resize_model.specs.Growth.{AreGrowing, Growth, HasNewBlocks, IsNewBlock, IsOfGrowth, IsOfNewTags, StandsFor, geometry_then}
 use Rattle.resize_model.specs.Resized.{zero_block}
 use Rattle.resize_model.specs.StepLaws.{resizing}
-use Rattle.resize_model.proofs.StepLemmas.{growing_law}
+use Rattle.resize_model.proofs.StepLemmas.{growing_law, new_tags_law}
 use Rattle.resize_model.proofs.WorkedGrowth.{longer, content, HasWholeSectors-longer, StandsFor-fresh}
 
 abbrev pub w : Growth
@@ -158,19 +158,45 @@ first_there : 112 ≡ (tag_byte_at longer.geometry 8 0).0
 unfolding tag_byte_at tag_at tag_offset tag_run_of entry_size entries_per_sector section_entries section_sectors
 first_there = refl
 
--- So it may be written,
-pub IsOfNewTags-filled : IsOfNewTags w 112 (new_tags ++ replicate 256 0)
-IsOfNewTags-filled = record {
+-- The tags in place in an image,
+abbrev tags_on : Image → ℕ → List ℕ
+tags_on image b = (placed_cells_of longer.geometry image b).tag
+
+-- and those that come: old blocks have theirs, and new ones that of zeros. Both may be there meanwhile.
+tags_then : ℕ → List ℕ
+tags_then b = if nat_lt b 8 then tags_on fresh_journal b else tagger_of longer b (zero_block longer.geometry)
+
+AreGrowing-then : AreGrowing w tags_then
+unfolding tags_then
+AreGrowing-then = record {
+  old = λ b low. rw (lt-ltb b 8 low) refl;
+  new = λ b is_new. inr (rw (le-ltb b 8 is_new.new) refl);
+}
+
+AreGrowing-fresh : AreGrowing w (tags_on fresh_journal)
+AreGrowing-fresh = record { old = λ b low. refl; new = λ b is_new. inl refl }
+
+-- So the sector may be written,
+IsOfTags-filled : IsOfTags (geometry_then w) (tags_on fresh_journal) tags_then 112 (new_tags ++ replicate 256 0)
+unfolding tags_then tag_byte_at tag_at tag_offset
+IsOfTags-filled = record {
   whole = refl;
   block = 8;
   byte = 0;
-  low = (low_new 8 (omega arith) (omega arith)).low;
-  narrow = omega arith;
+  block_low = (low_new 8 (omega arith) (omega arith)).low;
+  byte_low = omega arith;
   is = first_there;
-  stay = λ b i low i_low there. absurd (old_apart b i low i_low there);
-  come = λ b i is_new i_low there. inr (
-      ap (λ (n : ℕ). slice_index (filled_journal n) (tag_byte_at longer.geometry b i).1) there ∙ tag_byte b i is_new i_low);
+  each = λ b i low i_low there. elim (cases_lt b 8) [
+    | inl old ↦ absurd (old_apart b i old i_low there)
+    | inr above ↦ inr (
+        ap (λ (n : ℕ). slice_index (filled_journal n) (tag_byte_at longer.geometry b i).1) there
+        ∙ tag_byte b i (record { new = above; low = low }) i_low
+        ∙ ap (λ (tag : List ℕ). slice_index tag i) (rw (le-ltb b 8 above) refl))
+  ];
 }
+
+pub IsOfNewTags-filled : IsOfNewTags w 112 (new_tags ++ replicate 256 0)
+IsOfNewTags-filled = new_tags_law w (tags_on fresh_journal) tags_then 112 (new_tags ++ replicate 256 0) StandsFor-fresh.formed AreGrowing-fresh AreGrowing-then IsOfTags-filled
 
 -- and the disk stands for the same.
 pub OnlyAdds-filled : OnlyAdds (IsOfGrowth w) content filled

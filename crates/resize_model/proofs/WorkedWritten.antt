@@ -1,6 +1,6 @@
 -- The moments of the worked disk's resize: while blocks are added, and while its first sector is written; and of a disk to which
 -- nothing is added. So no law of what is written and left speaks of nothing.
-use Rattle.std.proofs.Common.{◌≡◌, ◌∙◌, ap, inl, ℕ, ◌<◌, true, false, None, List, [], ◌∷◌, refl, sym, subst, arith}
+use Rattle.std.proofs.Common.{◌≡◌, ◌∙◌, ap, inl, inr, ℕ, ◌<◌, true, false, None, List, [], ◌∷◌, refl, sym, subst, arith}
 use Rattle.std.proofs.Math.Path.{fun_ext}
 use Rattle.std.proofs.lemmas.Option.{none-some, same_Some}
 use Rattle.disk_model.specs.Disk.{Content, EachImage, Image, IsOfRun, OnlyAdds, last_image, newest_only, with_run}
@@ -16,16 +16,16 @@ use Rattle.place_model.specs.FirstSync.{IsOfOpening}
 use Rattle.place_model.specs.Format.{DiskFormat, HasCells, OpensAs, cells_on}
 use Rattle.place_model.proofs.FormatLemmas.{opens_tells, reads_from}
 use Rattle.place_model.proofs.ReplayLemmas.{placed_cells_law}
-use Rattle.place_model.proofs.WorkedDisk.{journal_format, fresh_journal, OpensAs-journal, replayed_entries-fresh, walk_of-fresh, zeros_journal}
+use Rattle.place_model.proofs.WorkedDisk.{journal_format, fresh_journal, OpensAs-journal, replayed_entries-fresh, walk_of-fresh, zeros_journal, bitmap_format, fresh_bitmap}
 use Rattle.resize_model.specs.AllPlaced.{IsAllPlaced}
 use Rattle.resize_model.specs.Growth.{IsCutOf, cells_before}
-use Rattle.resize_model.specs.Left.{CanOpenNow, IsInResizeOrder, IsLeftByResize, IsResizedContent, IsResizedInOrder}
+use Rattle.resize_model.specs.Left.{CanOpenNow, IsInResizeOrder, IsLeftByResize, IsResizedContent, IsResizedInOrder, IsResizedOrNot}
 use Rattle.resize_model.specs.Refusals.{CanResize, resize_fault_of}
 use Rattle.resize_model.specs.Resized.{resized_provided}
 use Rattle.resize_model.specs.Written.{IsBeforeGrowth, IsOfHead, IsToGrow, IsToTell, IsWrittenByResize, Growing, Recovering, Telling, head_then}
-use Rattle.resize_model.proofs.LeftLemmas.{each_law, in_order_law, order_law, own_format, refused_law, ungrown_done_law}
+use Rattle.resize_model.proofs.LeftLemmas.{each_law, growth_left_law, in_order_law, order_law, own_format, refused_law, ungrown_done_law}
 use Rattle.resize_model.proofs.RefusalLemmas.{resizes_law}
-use Rattle.resize_model.proofs.WrittenLemmas.{growing_left_law, telling_left_law, ungrown_writes_law}
+use Rattle.resize_model.proofs.WrittenLemmas.{growing_left_law, telling_left_law, ungrown_bitmap_law, ungrown_writes_law}
 use Rattle.resize_model.proofs.WorkedGrowth.{longer, content, now_is, settled, OpensAs-longer, StandsFor-fresh}
 use Rattle.resize_model.proofs.WorkedFilled.{w, filled, HasNewBlocks-filled, OnlyAdds-filled, settled-filled}
 use Rattle.resize_model.proofs.Worked.{resize_fault_of-journal}
@@ -73,6 +73,10 @@ telling = Telling content filled to-grow to-tell OnlyAdds-head
 
 telling-left : EachImage (IsCutOf w) (with_run 0 head filled)
 telling-left = telling_left_law w head content filled (with_run 0 head filled) StandsFor-fresh to-tell head-tells.0 head-tells.1 OnlyAdds-head
+
+-- Each image is then one or the other.
+left : EachImage (IsResizedOrNot longer (cells_before w)) (with_run 0 head filled)
+left = growth_left_law longer (cells_before w) fresh_journal (with_run 0 head filled) (λ b low. refl) telling-left
 
 -- ---- the order
 
@@ -160,3 +164,15 @@ HasCells-own = record { opens = OpensAs-journal; each = λ b low. refl }
 resized-own : IsResizedContent journal_format own_cells content
 resized-own = ungrown_done_law journal_format own_cells content settled (only_image (HasCells journal_format own_cells) HasCells-own)
     (λ clear. only_image (IsAllPlaced journal_format own_cells) all-placed) provided-same
+
+-- With a bitmap it is synced at most.
+provided-bitmap : resized_provided bitmap_format.superblock 112 ≡ 8
+unfolding best_provided_of best_provided tag_run_of entry_size entries_per_sector section_entries section_sectors
+provided-bitmap = refl
+
+abbrev with_bitmap : Content
+with_bitmap sector = fresh_bitmap sector ∷ []
+
+untouched-bitmap : IsUntouched with_bitmap (newest_only with_bitmap)
+untouched-bitmap = ungrown_bitmap_law bitmap_format (cells_on bitmap_format fresh_bitmap) with_bitmap (newest_only with_bitmap) provided-bitmap refl
+    (Recovering (record { bitmap = λ set. inr refl; journal = λ clear. absurd (let wrong : true ≡ false = clear in cc) }))
