@@ -68,7 +68,7 @@ zero_image sector = replicate 512 0
 abbrev head_image : List ℕ → Image
 head_image head sector = head
 
-on_journal : (sector : ℕ) → 8 ≤ sector → sector < 96 → IsOfJournal journal_format.geometry sector
+pub on_journal : (sector : ℕ) → 8 ≤ sector → sector < 96 → IsOfJournal journal_format.geometry sector
 on_journal sector above under = let wide = sectors-is in record { section = 0; place = sector - 8; inside = omega arith; narrow = omega (arith, wide); is = omega arith }
 
 module _ (head : List ℕ) (size : length head ≡ 512) (first : Content) (image : IsImage first (last_image first)) where
