@@ -1,28 +1,32 @@
 -- A fresh disk of eight blocks whose tags are to be recalculated from block 3 on: in journal mode and in direct mode a step may
 -- begin on it, once the flag that says so is one of the known ones. So no law of a step speaks of nothing.
-use Rattle.std.proofs.Common.{◌≡◌, ℕ, ◌==◌, Bool, true, false, if◌then◌else◌, refl, sym, ap, subst, arith, Ok, Some, List, [], ◌∷◌, length, replicate}
-use Rattle.disk_model.specs.Disk.{Content, EachImage, Image, newest_only}
+use Rattle.std.proofs.Common.{◌≡◌, ℕ, zero, suc, ◌<◌, ◌==◌, ◌&&◌, Bool, true, false, if◌then◌else◌, refl, sym, ◌∙◌, ap, subst, arith, Ok, Some, List, [], ◌∷◌, length, slice_index, replicate}
+use Rattle.sha2.specs.Sha256.{sha256, first_words, schedule, rounds, compress, hash_after, digest_bytes}
+use Rattle.disk_model.specs.Disk.{Content, EachImage, Image, IsImage, last_image, newest_only, with_run}
 use Rattle.disk_model.proofs.DiskLemmas.{OnlyAdds-none, newest_only-last, only_candidate}
-use Rattle.image_model.specs.Bitmap.{awaits, region_awaits}
+use Rattle.image_model.specs.Bitmap.{awaits, is_to_recalculate, region_awaits}
 use Rattle.image_model.specs.Cells.{last_entry, placed_cells_of, replayed_entries}
 use Rattle.image_model.specs.CommitId.{number_of, id_in}
-use Rattle.image_model.specs.Geometry.{bitmap_sectors_for, entries_per_sector, entry_size, fitting_log2_region, geometry_of, regions, regions_for, section_entries, section_sectors, sector_at, tag_run_of}
+use Rattle.image_model.specs.Geometry.{data_at, tag_at, tag_offset, bitmap_sectors_for, entries_per_sector, entry_size, fitting_log2_region, geometry_of, region_of, regions, regions_for, section_entries, section_sectors, sector_at, tag_run_of}
 use Rattle.image_model.specs.Grid.{blank_bound, grid_with, walk_of}
 use Rattle.image_model.specs.Scan.{walk_of_grid}
 use Rattle.image_model.specs.Section.{Entry, entry_at, is_used}
 use Rattle.image_model.specs.Superblock.{Superblock, superblock_of, IsAccepted}
+use Rattle.image_model.specs.Tag.{tag_message, tag_of}
 use Rattle.image_model.specs.Walk.{plan_of}
 use Rattle.image_model.specs.declared.journal_plan.State.TheVariants.{Rest}
 use Rattle.image_model.proofs.OpenableLemmas.{IsReadable-accepted}
 use Rattle.device_model.specs.Mode.{Direct, Journal}
-use Rattle.device_model.specs.Progress.{DeviceState, opened_device}
+use Rattle.device_model.specs.Progress.{DeviceState, Step, Recalc, opened_device, after_event}
 use Rattle.device_model.specs.Regions.{least_region}
-use Rattle.place_model.specs.Format.{DiskFormat, HasWholeSectors, OpensAs}
+use Rattle.place_model.specs.Format.{DiskFormat, HasWholeSectors, OpensAs, tagger_of}
 use Rattle.place_model.specs.Journal.{entries_in}
 use Rattle.place_model.specs.Kind.{CanOpenIn, MayBeLeftIn}
 use Rattle.place_model.specs.Opened.{awaiting_on, blocks_of, device_format, opened_on}
 use Rattle.place_model.proofs.FormatLemmas.{format_on-is, opens_tells}
+use Rattle.place_model.specs.Tags.{tag_byte_at}
 use Rattle.place_model.proofs.JournalLemmas.{replayed_entries-plan}
+use Rattle.place_model.proofs.PlacedLemmas.{placed_tag-byte}
 use Rattle.place_model.proofs.WorkedDisk.{fresh_journal, journal_format, HasWholeSectors-journal}
 use Rattle.journal_model.specs.JournaledDisk.{JournaledDisk, StandsFor}
 use Rattle.journal_model.specs.Opening.{opened_disk}
@@ -32,16 +36,20 @@ use Rattle.journal_model.proofs.EntriesLemmas.{cell_after-none}
 use Rattle.journal_model.proofs.OpeningLemmas.{opened_law, state_law}
 use Rattle.device_laws.proofs.StepLemmas as Begins
 use Rattle.direct_model.specs.Opening
+use Rattle.direct_model.specs.Steps.{with_fields}
+use Rattle.direct_laws.specs.Device.{IsDirectDevice}
 use Rattle.direct_laws.proofs.DeviceLemmas.{opening_law}
 use Rattle.direct_laws.proofs.ReadLemmas.{keeps_opened}
 use Rattle.change_model.proofs.BeginLemmas.{opened_keeps_law}
 use Rattle.recalculate_laws.specs.DirectStep.{EntersDirect}
-use Rattle.recalculate_laws.specs.Moments.{Making, fields_then}
+use Rattle.recalculate_laws.specs.Moments.{Making, HasRegionTags, awaiting_then, fields_then, head_then, tags_then}
+use Rattle.recalculate_laws.specs.JournalDisk
+use Rattle.recalculate_laws.specs.Recalculating.{KeepsAwaiting}
 use Rattle.recalculate_laws.specs.Position.{HasPosition, IsSamePosition}
 use Rattle.recalculate_laws.specs.Step.{EntersRecalc}
 use Rattle.recalculate_laws.proofs.DeviceLemmas.{opened_awaits}
-use Rattle.recalculate_laws.proofs.DirectStepLemmas.{direct_moments_law}
-use Rattle.recalculate_laws.proofs.StepLemmas.{recalc_moments_law}
+use Rattle.recalculate_laws.proofs.DirectStepLemmas.{direct_moments_law, direct_done_law}
+use Rattle.recalculate_laws.proofs.StepLemmas.{recalc_moments_law, recalc_done_law}
 
 -- ---- the disk
 
@@ -105,6 +113,29 @@ moves-direct same = differ (fields_then format 0 (awaiting_on Direct format imag
     differ : (n : ℕ) → n ≡ 8 → n ≡ 3 → ⊥
     differ n one other = omega arith
 
+-- The tags that are in place are those of the bytes.
+tag-same : (b : ℕ) → b < 8 → tagger_of format b (placed_cells_of format.geometry image b).bytes ≡ tags b
+unfolding first_words schedule rounds compress hash_after digest_bytes sha256 tag_message tag_of placed_cells_of data_at tag_at tag_offset sector_at section_sectors section_entries entries_per_sector entry_size tag_run_of
+tag-same zero low = refl
+tag-same (suc zero) low = refl
+tag-same (suc (suc zero)) low = refl
+tag-same (suc (suc (suc zero))) low = refl
+tag-same (suc (suc (suc (suc zero)))) low = refl
+tag-same (suc (suc (suc (suc (suc zero))))) low = refl
+tag-same (suc (suc (suc (suc (suc (suc zero)))))) low = refl
+tag-same (suc (suc (suc (suc (suc (suc (suc zero))))))) low = refl
+tag-same (suc (suc (suc (suc (suc (suc (suc (suc b)))))))) low = absurd (omega arith)
+
+-- So the recalculated tags are those, whatever is read of the same image.
+then_same : (c : Content) → last_image c ≡ image → (b : ℕ) → b < 8 → tags_then format 0 c tags b ≡ tags b
+then_same c same b low =
+    ap (λ (read : Image). if region_of format.geometry b == 0 && is_to_recalculate fields format.geometry b then tagger_of format b (placed_cells_of format.geometry read b).bytes else tags b) same
+    ∙ by_bool (region_of format.geometry b == 0 && is_to_recalculate fields format.geometry b)
+  where
+    by_bool : (t : Bool) → (if t then tagger_of format b (placed_cells_of format.geometry image b).bytes else tags b) ≡ tags b
+    by_bool true = tag-same b low
+    by_bool false = refl
+
 -- ---- once the flag is known
 
 module _ (known : superblock_of head ≡ Ok fields) where
@@ -126,6 +157,20 @@ module _ (known : superblock_of head ≡ Ok fields) where
     set = refl;
   }
 
+  -- The tags of the region are written back as they are.
+  HasRegionTags-image : (c : Content) → last_image c ≡ image → IsImage c (last_image c) → HasRegionTags format 0 tags c c
+  HasRegionTags-image c same reads = record {
+    adds = OnlyAdds-none _ c;
+    others = record { each = λ sector none. refl };
+    reads = reads;
+    back = record {
+      each = λ b i low i_low.
+          ap (λ (read : Image). slice_index (read (tag_byte_at format.geometry b i).0) (tag_byte_at format.geometry b i).1) same
+          ∙ sym (placed_tag-byte format.geometry 112 (opens_tells format image opens).is_geometry image HasWholeSectors-image b low (placed_cells_of format.geometry image b) i i_low)
+          ∙ ap (λ (tag : List ℕ). slice_index tag i) (sym (then_same c same b low));
+    };
+  }
+
   -- In direct mode,
   pub EntersDirect-image : EntersDirect (device_format Direct format) (opened_on Direct format image) (Opening.opened_disk format image) 0 tags (newest_only content)
   EntersDirect-image =
@@ -144,6 +189,12 @@ module _ (known : superblock_of head ≡ Ok fields) where
   pub left-direct : EachImage (λ left. CanOpenIn Direct format.key format.sectors left × MayBeLeftIn Direct format.key format.sectors image (opened_on Direct format image).history left) (newest_only content)
   left-direct = (direct_moments_law (device_format Direct format) (opened_on Direct format image) (Opening.opened_disk format image) 0 tags image (newest_only content) (newest_only content) EntersDirect-image
       (ap blocks_of (sym (format_on-is format image opens))) (Making (OnlyAdds-none _ (newest_only content)))).0
+
+  -- At its end the device is one under the moved fields.
+  pub done-direct : IsDirectDevice (device_format Direct format) (after_event (device_format Direct format) (opened_on Direct format image) (Step Recalc))
+      (with_fields (Opening.opened_disk format image) (fields_then format 0 (awaiting_on Direct format image)))
+  done-direct = (direct_done_law (device_format Direct format) (opened_on Direct format image) (Opening.opened_disk format image) 0 tags (newest_only content) (newest_only content) EntersDirect-image
+      (HasRegionTags-image (newest_only content) refl (newest_only-last content))).0
 
   -- In journal mode, as writing goes on in its journal,
   abbrev journaled : JournaledDisk
@@ -202,3 +253,9 @@ module _ (known : superblock_of head ≡ Ok fields) where
   pub left-journal : EachImage (λ left. CanOpenIn Journal format.key format.sectors left × MayBeLeftIn Journal format.key format.sectors image at_start.history left) content
   left-journal = (recalc_moments_law (device_format Journal format) at_start journaled (empty_ring format.geometry 0 1) 0 tags image content content EntersRecalc-image
       (ap blocks_of (sym (format_on-is format image opens))) (Making (OnlyAdds-none _ content))).0
+
+  -- At its end no block awaits, and each tag is that of its placed cell.
+  pub done-journal : KeepsAwaiting (JournalDisk.with_fields journaled (fields_then format 0 (awaiting_on Journal format image))) (awaiting_then 0 (awaiting_on Journal format image)) (tags_then format 0 content tags)
+      (newest_only (with_run 0 (head_then format 0 (awaiting_on Journal format image) content) (newest_only content)))
+  done-journal = (recalc_done_law (device_format Journal format) at_start journaled (empty_ring format.geometry 0 1) 0 tags content content EntersRecalc-image
+      (HasRegionTags-image content refl (newest_only-last content))).1
