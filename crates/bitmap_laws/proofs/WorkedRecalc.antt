@@ -1,6 +1,6 @@
 -- The fresh disk, left with its bit set, is opened again: its region awaits, and is recalculated by a step, by a read, and by the
 -- loop over its blocks. No law of these speaks of nothing.
-use Rattle.std.proofs.Common.{◌≡◌, ℕ, ◌+◌, ◌==◌, Bool, true, if◌then◌else◌, refl, sym, ◌∙◌, ap, subst, arith, Some, List, [], ◌∷◌, length, replicate}
+use Rattle.std.proofs.Common.{◌≡◌, ℕ, ◌+◌, ◌==◌, Bool, true, if◌then◌else◌, refl, sym, ◌∙◌, ap, subst, arith, None, Some, List, [], ◌∷◌, length, replicate}
 use Rattle.std.proofs.lemmas.Bool.{eqb-true}
 use Rattle.std.proofs.lemmas.Option.{same_Some}
 use Rattle.disk_model.specs.Disk.{Content, Image, IsImage, Reads, last_image, newest_only, sector_in}
@@ -18,7 +18,8 @@ use Rattle.device_model.specs.Reply.{block_reply}
 use Rattle.device_model.specs.Request.{Request, Asked, newly_asked}
 use Rattle.device_model.specs.Serial.{readable_cells}
 use Rattle.device_model.specs.Submission.{Submission}
-use Rattle.place_model.specs.Format.{HasWholeSectors, tagger_of}
+use Rattle.place_model.specs.Format.{HasWholeSectors, format_on, tagger_of}
+use Rattle.place_model.specs.Kind.{CanOpenIn}
 use Rattle.place_model.specs.Opened.{blocks_of, opened_on}
 use Rattle.place_model.specs.Tags.{with_block_tag}
 use Rattle.place_model.proofs.FormatLemmas.{format_on-is, opens_tells}
@@ -34,14 +35,16 @@ use Rattle.bitmap_model.proofs.WorkedDisk.{fresh, regions-one, KeepsCells-dirty}
 use Rattle.bitmap_laws.specs.CallLaws.{KeepsNow, StandsThrough, every_block, region_tags}
 use Rattle.bitmap_laws.specs.Device.{IsBitmapDevice}
 use Rattle.bitmap_laws.specs.EventLaws.{after_read}
-use Rattle.bitmap_laws.specs.MomentLaws.{HasBlocksOf}
+use Rattle.bitmap_laws.specs.MomentLaws.{CanOpenNow, HasBlocksOf, IsOpenedOn}
 use Rattle.bitmap_laws.specs.OwnTags.{KeepsDisk}
 use Rattle.bitmap_laws.specs.RecalcLaws.{TakesBelow}
 use Rattle.bitmap_laws.specs.ServeLaws.{KeepsDevice, Recalculates}
 use Rattle.bitmap_laws.proofs.CallLemmas.{block_read_law, kept_stands_law, still_law}
 use Rattle.bitmap_laws.proofs.DeviceLemmas.{opening_law}
 use Rattle.bitmap_laws.proofs.EventLemmas.{quiet_events_law}
+use Rattle.bitmap_laws.proofs.MomentLemmas.{opening_done_law}
 use Rattle.bitmap_laws.proofs.OwnTagLemmas.{own_tags_begin}
+use Rattle.bitmap_laws.proofs.PromiseLemmas.{reopens_law}
 use Rattle.bitmap_laws.proofs.RecalcLemmas.{take_begins_law, take_ends_law, take_skips_law, take_turn_law}
 use Rattle.bitmap_laws.proofs.ServeLemmas.{region_taken_law, recalculated_law, served_read_law}
 use Rattle.bitmap_laws.proofs.WorkedServe.{format, marked_dirty}
@@ -97,6 +100,18 @@ IsBitmapDevice-left = opening_law bitmap_format entry refl
 
 HasBlocksOf-left : HasBlocksOf entry waiting
 HasBlocksOf-left = ap blocks_of (sym (format_on-is bitmap_format entry cut.opens))
+
+-- An opening of it syncs, and the device is open then.
+abbrev found_tags : Content → ℕ → List ℕ
+found_tags c n = (placed_cells_of (format_on None 112 (last_image c)).geometry (last_image c) n).tag
+
+CanOpenNow-left : CanOpenNow None 112 start
+CanOpenNow-left c told = subst (λ (x : Content). CanOpenIn Bitmap None 112 (last_image x) × HasWholeSectors (format_on None 112 (last_image x)) (last_image x)) (same_Some left c told)
+    (reopens_law (with_dirty fresh 0) left KeepsCells-dirty.stands entry (newest_only-last marked_dirty), HasWholeSectors-left)
+
+pub IsOpenedOn-left : HasNow (λ c. IsOpenedOn None 112 (last_image c) found_tags (newest_only left ∷ start)) start
+IsOpenedOn-left = opening_done_law None 112 found_tags start (newest_only left ∷ start) (λ c told. subst (λ (x : Content). IsImage x (last_image x)) (same_Some left c told) (newest_only-last marked_dirty)) CanOpenNow-left refl
+    (λ c told n low. refl)
 
 -- ---- its region is recalculated: all tags stay in memory
 
