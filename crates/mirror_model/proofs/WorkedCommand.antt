@@ -10,7 +10,8 @@ use Rattle.device_model.specs.History.{Flushed}
 use Rattle.device_model.specs.Mode.{Journal}
 use Rattle.device_model.specs.Progress.{opened_device}
 use Rattle.mirror_model.specs.Calls.{LevelCall, call_changes}
-use Rattle.mirror_model.specs.Command.{MirrorKind, RefusedBefore, RefusedOpen, RefusedLegs, Mirrors, mirror_outset, mirror_format, opened_mirror, unequal_in, changes_on_first, changes_on_second}
+use Rattle.mirror_model.specs.Command.{MirrorKind, RefusedBefore, RefusedOpen, RefusedLegs, Mirrors, mirror_outset, mirror_format, opened_mirror, unequal_in}
+use Rattle.mirror_model.specs.Mirror.{changes_on_first, changes_on_second}
 use Rattle.mirror_model.specs.Ending.{Ends, RefusedSecond, mirror_status, mirror_fault_text}
 
 -- A device of so many blocks of 512 bytes, all of whose cells are empty.
