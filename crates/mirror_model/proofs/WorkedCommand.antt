@@ -1,8 +1,8 @@
 -- What a command of a mirror starts on and leaves, at small values: devices of 80 and of 208 blocks.
-use Rattle.std.proofs.Common.{◌≡◌, ℕ, false, [], ◌∷◌, None, Some, refl}
+use Rattle.std.proofs.Common.{◌≡◌, ◌≢◌, inl, inr, List, ℕ, false, [], ◌∷◌, None, Some, refl}
 use Rattle.std.specs.Prelude.{codes}
 use Rattle.std.specs.Fmt.{digits}
-use Rattle.disk_model.specs.Disk.{Image}
+use Rattle.disk_model.specs.Disk.{Content, Image}
 use Rattle.image_model.specs.declared.super_fields.SuperFault.TheVariants.{Magic, Version}
 use Rattle.device_model.specs.Device.{DeviceKind}
 use Rattle.device_model.specs.Ending.{BySuperblock, RefusedImage}
@@ -10,9 +10,10 @@ use Rattle.device_model.specs.History.{Flushed}
 use Rattle.device_model.specs.Mode.{Journal}
 use Rattle.device_model.specs.Progress.{opened_device}
 use Rattle.mirror_model.specs.Calls.{LevelCall, call_changes}
-use Rattle.mirror_model.specs.Command.{MirrorKind, RefusedBefore, RefusedOpen, RefusedLegs, Mirrors, mirror_outset, mirror_format, opened_mirror, unequal_in}
-use Rattle.mirror_model.specs.Mirror.{changes_on_first, changes_on_second}
-use Rattle.mirror_model.specs.Ending.{Ends, RefusedSecond, mirror_status, mirror_fault_text}
+use Rattle.command_model.specs.CommandRun.{IsLeftBy, IsUntouched}
+use Rattle.mirror_model.specs.Command.{MirrorKind, RefusedBefore, RefusedOpen, RefusedLegs, Mirrors, mirror_outset, mirror_format, opened_mirror, unequal_in, AreLegsLeft, IsMirrorLeftAfter}
+use Rattle.mirror_model.specs.Mirror.{MirrorChange, changes_on_first, changes_on_second}
+use Rattle.mirror_model.specs.Ending.{MirrorEnding, Ends, RefusedSecond, mirror_status, mirror_fault_text}
 
 -- A device of so many blocks of 512 bytes, all of whose cells are empty.
 abbrev device_of : ℕ → DeviceKind
@@ -79,3 +80,23 @@ statuses = (refl, refl, refl)
 changes-level : let changes = call_changes (record (mirror_format equal image image) { blocks = 0 }) (opened_mirror equal image image) LevelCall in
     (changes_on_first changes ≡ Flushed ∷ []) × (changes_on_second changes ≡ Flushed ∷ [])
 changes-level = (refl, refl)
+
+-- ---- what is left
+
+-- So no such run leaves a disk as it was at the start.
+left-once_levelled : (start second_start later second_later : Content) (ending : MirrorEnding) (changes : List MirrorChange) → changes ≢ []
+    → IsMirrorLeftAfter (Mirrors equal image image) start second_start changes ending later second_later → AreLegsLeft equal image image changes later second_later
+left-once_levelled start second_start later second_later ending changes some (inl opening) = absurd (some opening.0)
+left-once_levelled start second_start later second_later ending changes some (inr left) = left
+
+-- By the refusal of the second image the first is open and keeps its cells, and the second is not written.
+left-second_refused : (start second_start later second_later : Content)
+    → IsMirrorLeftAfter (RefusedOpen unequal image (BySuperblock Magic)) start second_start [] (RefusedSecond (BySuperblock Magic)) later second_later
+    → IsLeftBy unequal.first image [] later × IsUntouched second_start second_later
+left-second_refused start second_start later second_later left = left
+
+-- By unequal legs both are, and keep theirs.
+left-unequal : (start second_start later second_later : Content)
+    → IsMirrorLeftAfter (RefusedLegs unequal image image) start second_start [] (unequal_in unequal image image) later second_later
+    → IsLeftBy unequal.first image [] later × IsLeftBy unequal.second image [] second_later
+left-unequal start second_start later second_later left = (left.on_first, left.on_second)
