@@ -104,6 +104,10 @@ ended-by_source = record { between = between; count = 1; done = refl; unended = 
 not_by_disk-torn : (cut : AreCutByDisk tiny device Ended deeds (take 5 reply) []) → cut.cut.came.whole ≡ 3 → ⊥
 not_by_disk-torn cut three = subst (λ (n : ℕ). IsCall (slice_get deeds n)) three cut.call
 
+-- A request is handed in, and its reply taken, without the disk.
+not_by_disk-taken : (cut : AreCutByDisk tiny device Ended deeds [] []) → cut.cut.came.whole ≡ 2 → ⊥
+not_by_disk-taken cut two = subst (λ (n : ℕ). IsCall (slice_get deeds n)) two cut.call
+
 -- No call is left half done where the sink failed.
 not_by_sink-call : (cut : AreCutBySink tiny device Ended deeds [] []) → cut.cut.came.whole ≡ 1 → ⊥
 not_by_sink-call cut one = subst (λ (n : ℕ). IsReplying (slice_get deeds n)) one cut.reply
