@@ -22,7 +22,7 @@ use Rattle.nbd_model.proofs.RoundLemmas.{Keeps, Stands, in_flight-le}
 module _ (f : DeviceFormat) (base : ℕ → Cell) (all : List Message) where
   -- ---- a request of the stream
 
-  pub slice_get-front : (s : DeviceState) (t : List Asked) (y : Asked) (i : ℕ) (x : Asked) → t ≡ s.progress.requests ++ y ∷ [] → slice_get s.progress.requests i ≡ Some x → slice_get t i ≡ Some x
+  slice_get-front : (s : DeviceState) (t : List Asked) (y : Asked) (i : ℕ) (x : Asked) → t ≡ s.progress.requests ++ y ∷ [] → slice_get s.progress.requests i ≡ Some x → slice_get t i ≡ Some x
   slice_get-front s t y i x is there = ap (λ (l : List Asked). slice_get l i) is ∙ front s.progress.requests y i x there
     where
       front : (xs : List Asked) (y : Asked) (i : ℕ) (x : Asked) → slice_get xs i ≡ Some x → slice_get (xs ++ y ∷ []) i ≡ Some x
@@ -31,7 +31,7 @@ module _ (f : DeviceFormat) (base : ℕ → Cell) (all : List Message) where
       front (z ∷ xs) y (suc i) x there = front xs y i x there
 
   -- The requests in flight, with the last one that was submitted.
-  pub AreFlying-push : (s t : DeviceState) (y : Asked) (r : Flying) (low : ℕ) (flying : List Flying) → t.progress.requests ≡ s.progress.requests ++ y ∷ []
+  AreFlying-push : (s t : DeviceState) (y : Asked) (r : Flying) (low : ℕ) (flying : List Flying) → t.progress.requests ≡ s.progress.requests ++ y ∷ []
       → r.ticket ≡ suc (length s.progress.requests) → IsFlying f all t r → low ≤ r.ticket → AreFlying f all s low flying → AreFlying f all t low (flying ++ r ∷ [])
   AreFlying-push s t y r low [] is ticket new high are = (high, new, tt)
   AreFlying-push s t y r low (q ∷ flying) is ticket new high are =

@@ -32,6 +32,7 @@ module _ (f : DeviceFormat) (all : List Message) where
     pub before : ServesAll f → AreWhole all → take place (requests_of s.progress.requests) ≡ asked_by f (take number all)
     pub unfinished : is_unfinished asked.state ≡ true
 
+  -- It stands there in a later state, too, where its request is the same and it is unfinished,
   pub at_on : (s t : DeviceState) (number cookie place : ℕ) (at : IsAt s number cookie place) (b : Asked)
       → take place (requests_of t.progress.requests) ≡ take place (requests_of s.progress.requests) → slice_get t.progress.requests place ≡ Some b
       → b.request ≡ at.asked.request → is_unfinished b.state ≡ true → IsAt t number cookie place
@@ -48,6 +49,7 @@ module _ (f : DeviceFormat) (all : List Message) where
     unfinished = more;
   }
 
+  -- A request in flight stands at the place of its ticket.
   pub record IsFlying (s : DeviceState) (r : Flying) : Type 0 where
     pub place : ℕ
     pub ticket : r.ticket ≡ suc place
@@ -58,9 +60,10 @@ module _ (f : DeviceFormat) (all : List Message) where
   AreFlying s low [] = Unit {0}
   AreFlying s low (r ∷ flying) = (low ≤ r.ticket) × IsFlying s r × AreFlying s (suc r.ticket) flying
 
-  pub IsFlying-same : (s t : DeviceState) (r : Flying) (is : IsFlying s r) → requests_of t.progress.requests ≡ requests_of s.progress.requests → slice_get t.progress.requests is.place ≡ slice_get s.progress.requests is.place → IsFlying t r
+  IsFlying-same : (s t : DeviceState) (r : Flying) (is : IsFlying s r) → requests_of t.progress.requests ≡ requests_of s.progress.requests → slice_get t.progress.requests is.place ≡ slice_get s.progress.requests is.place → IsFlying t r
   IsFlying-same s t r is listed same = record { place = is.place; ticket = is.ticket; at = at_on s t r.number r.cookie is.place is.at is.at.asked (ap (λ (l : List Request). take is.place l) listed) (same ∙ is.at.there) refl is.at.unfinished }
 
+  -- So do all whose places are untouched.
   pub AreFlying-same : (s t : DeviceState) (low : ℕ) (flying : List Flying) → requests_of t.progress.requests ≡ requests_of s.progress.requests → ((i : ℕ) → low ≤ suc i → slice_get t.progress.requests i ≡ slice_get s.progress.requests i)
       → AreFlying s low flying → AreFlying t low flying
   AreFlying-same s t low [] listed same are = tt
@@ -72,6 +75,7 @@ module _ (f : DeviceFormat) (all : List Message) where
         AreFlying-same s t (suc r.ticket) flying listed (λ i high. same i (omega (arith, high, are.0))) are.2,
       )
 
+  -- A lower bound of their tickets may be lower.
   pub AreFlying-low : (s : DeviceState) (high low : ℕ) (flying : List Flying) → low ≤ high → AreFlying s high flying → AreFlying s low flying
   AreFlying-low s high low [] less are = tt
   AreFlying-low s high low (r ∷ flying) less are = (omega (arith, less, are.0), are.1, are.2)
@@ -83,15 +87,18 @@ module _ (f : DeviceFormat) (all : List Message) where
   Holds i [] = ⊥
   Holds i (r ∷ flying) = (r.ticket ≡ suc i) ⊎ Holds i flying
 
+  -- What is among some requests is among more,
   pub Holds-front : (i : ℕ) (flying : List Flying) (r : Flying) → Holds i flying → Holds i (flying ++ r ∷ [])
   Holds-front i [] r holds = absurd holds
   Holds-front i (q ∷ flying) r (inl same) = inl same
   Holds-front i (q ∷ flying) r (inr more) = inr (Holds-front i flying r more)
 
+  -- and the last is among them.
   pub Holds-last : (i : ℕ) (flying : List Flying) (r : Flying) → r.ticket ≡ suc i → Holds i (flying ++ r ∷ [])
   Holds-last i [] r same = inl same
   Holds-last i (q ∷ flying) r same = inr (Holds-last i flying r same)
 
+  -- One among them has no lower place than the first.
   pub Holds-high : (s : DeviceState) (low i : ℕ) (flying : List Flying) → AreFlying s low flying → Holds i flying → low ≤ suc i
   Holds-high s low i [] are holds = absurd holds
   Holds-high s low i (r ∷ flying) are (inl same) = omega (arith, are.0, same)
@@ -103,10 +110,12 @@ module _ (f : DeviceFormat) (all : List Message) where
   abbrev pub Covers : DeviceState → ℕ → List Flying → Type 0
   Covers s low flying = (i : ℕ) (a : Asked) → low ≤ suc i → slice_get s.progress.requests i ≡ Some a → is_over a.state ≡ false → Holds i flying
 
+  -- How many turns these take at most.
   abbrev pub turns_in : DeviceState → List Flying → ℕ
   turns_in s [] = 0
   turns_in s (r ∷ flying) = turns_left (asked_of s.progress.requests r.ticket) + turns_in s flying
 
+  -- As many as before where their places are untouched.
   pub turns_in-same : (s t : DeviceState) (low : ℕ) (flying : List Flying) → ((i : ℕ) → low ≤ suc i → slice_get t.progress.requests i ≡ slice_get s.progress.requests i)
       → AreFlying s low flying → turns_in t flying ≡ turns_in s flying
   turns_in-same s t low [] same are = refl
@@ -124,6 +133,7 @@ module _ (f : DeviceFormat) (all : List Message) where
   IsFree s [] = ⊥
   IsFree s (r ∷ flying) = (k : ℕ) (a : Asked) → r.ticket ≡ suc k → slice_get s.progress.requests k ≡ Some a → held_by s.progress.requests k a.request ≡ None
 
+  -- So it is where all that is left to serve is among them.
   pub first_is_free : (s : DeviceState) (r : Flying) (flying : List Flying) → AreFlying s 0 (r ∷ flying) → Covers s 0 (r ∷ flying) → IsFree s (r ∷ flying)
   first_is_free s r flying are covers k a ticket there =
       (unheld_law s.progress.requests k a.request).1 (λ i x below is. elim (cases_Bool (is_unfinished x.state)) [
@@ -136,12 +146,14 @@ module _ (f : DeviceFormat) (all : List Message) where
 
   -- ---- a slot is left
 
+  -- The requests in flight behind one of them.
   pub record Behind (low i : ℕ) (s : DeviceState) (flying : List Flying) : Type 0 where
     pub after : List Flying
     pub shorter : length after < length flying
     pub are : AreFlying s (suc (suc i)) after
     pub later : (j : ℕ) → i < j → Holds j flying → Holds j after
 
+  -- They are fewer, and have all that come later.
   pub behind : (s : DeviceState) (low i : ℕ) (flying : List Flying) → AreFlying s low flying → Holds i flying → Behind low i s flying
   behind s low i [] are holds = absurd holds
   behind s low i (r ∷ flying) are (inl same) = record {
@@ -166,9 +178,11 @@ module _ (f : DeviceFormat) (all : List Message) where
         ];
       }
 
+  -- A request counts once where it is not over.
   abbrev pub counted : Bool → ℕ
   counted b = cond (not b) 1 0
 
+  -- There are no more requests in flight on the device's list than are among these.
   pub count-le : (s : DeviceState) (low t : ℕ) (l : List Asked) (flying : List Flying) → AreFlying s low flying
       → ((i : ℕ) (a : Asked) → slice_get l i ≡ Some a → is_over a.state ≡ false → Holds (t + i) flying)
       → count_by (λ (a : Asked). not (is_over a.state)) l ≤ length flying

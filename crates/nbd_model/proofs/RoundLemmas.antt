@@ -30,6 +30,7 @@ module _ (f : DeviceFormat) (base : ℕ → Cell) (all : List Message) where
   abbrev pub Listed : Moment → Type 0
   Listed m = ServesAll f → AreWhole all → requests_of m.state.progress.requests ≡ asked_by f (take m.taken all)
 
+  -- What is true behind a part of a session that begins at this moment.
   pub record Keeps (m : Moment) (p : Part) : Type 0 where
     pub works : p.behind.state.condition ≡ Working
     pub serving : IsServing f base p.behind.state
@@ -40,6 +41,7 @@ module _ (f : DeviceFormat) (base : ℕ → Cell) (all : List Message) where
     pub covers : Covers f all p.behind.state 0 p.behind.flying
     pub listed : Listed p.behind
 
+  -- What is true at a moment.
   pub record Stands (m : Moment) : Type 0 where
     pub works : m.state.condition ≡ Working
     pub serving : IsServing f base m.state
@@ -47,12 +49,15 @@ module _ (f : DeviceFormat) (base : ℕ → Cell) (all : List Message) where
     pub covers : Covers f all m.state 0 m.flying
     pub listed : Listed m
 
+  -- What a part keeps is true behind it.
   pub Stands-behind : (m : Moment) (p : Part) → Keeps m p → Stands p.behind
   Stands-behind m p k = record { works = k.works; serving = k.serving; flying = k.flying; covers = k.covers; listed = k.listed }
 
+  -- No deeds keep all,
   pub Keeps-none : (m : Moment) → Stands m → Keeps m (no_deeds m)
   Keeps-none m st = record { works = st.works; serving = st.serving; flying = st.flying; state = refl; replies = tt; once = λ n. omega arith; covers = st.covers; listed = st.listed }
 
+  -- and so do two parts, one behind the other.
   pub Keeps-both : (m : Moment) (p q : Part) → Keeps m p → Keeps p.behind q → Keeps m (with_deeds p.deeds q)
   Keeps-both m p q one other = record {
     works = other.works;
@@ -71,6 +76,7 @@ module _ (f : DeviceFormat) (base : ℕ → Cell) (all : List Message) where
 
   -- ---- a round
 
+  -- What is true behind a service of each of some requests in flight, those from a ticket on.
   pub record Served (s : DeviceState) (low taken : ℕ) (flying : List Flying) (p : Part) : Type 0 where
     pub works : p.behind.state.condition ≡ Working
     pub serving : IsServing f base p.behind.state
@@ -270,6 +276,7 @@ module _ (f : DeviceFormat) (base : ℕ → Cell) (all : List Message) where
             (λ i other. ap (λ (l : List Asked). slice_get l i) same ∙ slice_get-set_other s.progress.requests place i b other)
             (ap requests_of same ∙ requests_of-set s.progress.requests place at.asked b at.there request))
 
+  -- So it is behind the service of each.
   pub serve_all : (taken : ℕ) (s : DeviceState) (low : ℕ) (flying : List Flying) → s.condition ≡ Working → IsServing f base s → AreFlying f all s low flying
       → Served s low taken flying (serve_each f taken s flying)
   serve_all taken s low [] works serving are = record {
@@ -294,6 +301,7 @@ module _ (f : DeviceFormat) (base : ℕ → Cell) (all : List Message) where
       (serve_one taken s low r.number r.cookie is.place flying works serving (subst (λ (t : ℕ). low ≤ t) is.ticket are.0) is.at later
       (λ t w sv fl. serve_all taken t (suc (suc is.place)) flying w sv fl))
 
+  -- A round keeps all,
   pub round-keeps : (m : Moment) → Stands m → Keeps m (round f m)
   round-keeps m st =
       let is = serve_all m.taken m.state 0 m.flying st.works st.serving st.flying in
@@ -311,6 +319,7 @@ module _ (f : DeviceFormat) (base : ℕ → Cell) (all : List Message) where
         listed = λ serves whole. is.order ∙ st.listed serves whole ∙ ap (λ (k : ℕ). asked_by f (take k all)) (sym is.taken_is);
       }
 
+  -- and so do some.
   pub rounds-keep : (most n : ℕ) (m : Moment) → Stands m → Keeps m (rounds f most n m)
   rounds-keep most zero m st = Keeps-none m st
   rounds-keep most (suc n) m st =
@@ -326,6 +335,7 @@ module _ (f : DeviceFormat) (base : ℕ → Cell) (all : List Message) where
 
   -- ---- how many are taken
 
+  -- Rounds take no request of the stream.
   pub taken-rounds : (most n : ℕ) (m : Moment) → (rounds f most n m).behind.taken ≡ m.taken
   taken-rounds most zero m = refl
   taken-rounds most (suc n) m = by (leb (length m.flying) most) (taken-rounds most n (round f m).behind ∙ taken-each m.taken m.state m.flying)
@@ -354,7 +364,7 @@ module _ (f : DeviceFormat) (base : ℕ → Cell) (all : List Message) where
 
   -- ---- rounds come to their end
 
-  pub length-turns : (s : DeviceState) (low : ℕ) (flying : List Flying) → AreFlying f all s low flying → length flying ≤ turns_in f all s flying
+  length-turns : (s : DeviceState) (low : ℕ) (flying : List Flying) → AreFlying f all s low flying → length flying ≤ turns_in f all s flying
   length-turns s low [] are = omega arith
   length-turns s low (r ∷ flying) are =
       let is = are.1 in
@@ -363,15 +373,15 @@ module _ (f : DeviceFormat) (base : ℕ → Cell) (all : List Message) where
       let rest = length-turns s (suc r.ticket) flying are.2 in
       omega (arith, some, rest)
 
-  pub free_of : (s : DeviceState) (flying : List Flying) → 0 < length flying → AreFlying f all s 0 flying → Covers f all s 0 flying → IsFree f all s flying
+  free_of : (s : DeviceState) (flying : List Flying) → 0 < length flying → AreFlying f all s 0 flying → Covers f all s 0 flying → IsFree f all s flying
   free_of s [] some are covers = absurd (omega (arith, some))
   free_of s (r ∷ flying) some are covers = first_is_free f all s r flying are covers
 
-  pub turns-of : (s : DeviceState) (flying : List Flying) → sum_by (λ (r : Flying). turns_left (asked_of s.progress.requests r.ticket)) flying ≡ turns_in f all s flying
+  turns-of : (s : DeviceState) (flying : List Flying) → sum_by (λ (r : Flying). turns_left (asked_of s.progress.requests r.ticket)) flying ≡ turns_in f all s flying
   turns-of s [] = refl
   turns-of s (r ∷ flying) = sum_by-cons (λ (q : Flying). turns_left (asked_of s.progress.requests q.ticket)) r flying ∙ ap (λ (n : ℕ). turns_left (asked_of s.progress.requests r.ticket) + n) (turns-of s flying)
 
-  pub rounds-end : 1 ≤ f.sections → (most n : ℕ) (m : Moment) → Stands m → turns_in f all m.state m.flying ≤ n → length (rounds f most n m).behind.flying ≤ most
+  rounds-end : 1 ≤ f.sections → (most n : ℕ) (m : Moment) → Stands m → turns_in f all m.state m.flying ≤ n → length (rounds f most n m).behind.flying ≤ most
   rounds-end some most zero m st low =
       let size = length-turns m.state 0 m.flying st.flying in
       omega (arith, size, low)
@@ -388,9 +398,11 @@ module _ (f : DeviceFormat) (base : ℕ → Cell) (all : List Message) where
           let fewer = one.fewer some (free_of m.state m.flying there st.flying st.covers) in
           again (omega (arith, fewer, low))
 
+  -- with as few in flight as is asked.
   pub until-ends : 1 ≤ f.sections → (most : ℕ) (m : Moment) → Stands m → length (until f most m).behind.flying ≤ most
   until-ends some most m st = rounds-end some most (turns_of m) m st (let same = turns-of m.state m.flying in omega (arith, same))
 
+  -- There are no more in flight on the device's list than in the session.
   pub in_flight-le : (m : Moment) → Stands m → in_flight m.state.progress.requests ≤ length m.flying
   in_flight-le m st = count-le f all m.state 0 0 m.state.progress.requests m.flying st.flying (λ i a there open_. subst (λ (k : ℕ). Holds f all k m.flying) (zero_first i) (st.covers i a (omega arith) there open_))
     where

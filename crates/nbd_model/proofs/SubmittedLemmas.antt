@@ -25,9 +25,11 @@ use Rattle.nbd_model.specs.SessionLaws.{numbers_of, ServesAll, AreWhole, asked_b
 
 -- ---- the numbers of requests that were taken
 
+-- How often a request is counted that was taken.
 abbrev pub fresh : ℕ → ℕ → ℕ
 fresh taken n = if ltb n taken then 1 else 0
 
+-- One request more is taken,
 pub fresh-suc : (taken n : ℕ) → fresh (suc taken) n ≡ fresh taken n + (if nat_eq taken n then 1 else 0)
 fresh-suc taken n = elim (cases_lt n taken) [
   | inl low ↦ rw (lt-ltb n taken low, lt-ltb n (suc taken) (omega arith), ne_eqb taken n (omega arith)) refl
@@ -37,15 +39,18 @@ fresh-suc taken n = elim (cases_lt n taken) [
   ]
 ]
 
+-- and none at the start.
 pub fresh-zero : (n : ℕ) → fresh 0 n ≡ 0
 fresh-zero n = rw (le-ltb n 0 (omega arith)) refl
 
+-- A request that is unfinished is in flight.
 pub unfinished_not_over : (state : RequestState) → is_unfinished state ≡ true → is_over state ≡ false
 unfinished_not_over Unfinished more = refl
 unfinished_not_over Finished more = refl
 unfinished_not_over Taken more = absurd (false≢true more)
 unfinished_not_over Dropped more = absurd (false≢true more)
 
+-- What is served of a request changes no request.
 pub requests_of-set : (l : List Asked) (k : ℕ) (a b : Asked) → slice_get l k ≡ Some a → b.request ≡ a.request → requests_of (set l k b) ≡ requests_of l
 requests_of-set [] k a b there same = absurd (none-some a there)
 requests_of-set (x ∷ l) zero a b there same = ap (λ (r : Request). r ∷ requests_of l) (same ∙ ap (λ (y : Asked). y.request) (sym (same_Some x a there)))
@@ -53,54 +58,61 @@ requests_of-set (x ∷ l) (suc k) a b there same = ap (λ (rest : List Request).
 
 -- ---- a submission that is refused
 
+-- The answer gives no ticket.
 abbrev pub IsNoTicket : Answer → Type 0
 IsNoTicket (Ticket ticket) = ⊥
 IsNoTicket answer = Unit {0}
 
+-- Nor does a refusal, if there is one.
 abbrev pub NoTicket : Option Answer → Type 0
 NoTicket None = Unit {0}
 NoTicket (Some answer) = IsNoTicket answer
 
-pub if-no_ticket : (t : Bool) (x y : Option Answer) → NoTicket x → NoTicket y → NoTicket (if t then x else y)
+if-no_ticket : (t : Bool) (x y : Option Answer) → NoTicket x → NoTicket y → NoTicket (if t then x else y)
 if-no_ticket true x y one other = one
 if-no_ticket false x y one other = other
 
-pub blocks-no_ticket : (b : BlockFormat) (first count : ℕ) (bytes : List ℕ) → NoTicket (blocks_refusal b first count bytes)
+blocks-no_ticket : (b : BlockFormat) (first count : ℕ) (bytes : List ℕ) → NoTicket (blocks_refusal b first count bytes)
 blocks-no_ticket b first count bytes =
     let length_ : Option Answer = Some (Length (length bytes) (count * b.block_size)) in
     let fits = length bytes == count * b.block_size in
     if-no_ticket ((count == 0) || ltb b.blocks (first + count)) (Some (Range first count b.blocks)) (if fits then None else length_) tt
     (if-no_ticket fits None length_ tt tt)
 
-pub form-no_ticket : (f : DeviceFormat) (s : Submission) → NoTicket (form_refusal f s)
+form-no_ticket : (f : DeviceFormat) (s : Submission) → NoTicket (form_refusal f s)
 form-no_ticket f (submission.Read first count buffer) = blocks-no_ticket f.blocks first count buffer
 form-no_ticket f (submission.Write first count bytes fua) =
     if-no_ticket (is_recovery f.mode) (Some ReadOnly) (blocks_refusal f.blocks first count bytes) tt (blocks-no_ticket f.blocks first count bytes)
 form-no_ticket f submission.Flush = tt
 
-pub or-no_ticket : (x y : Option Answer) → NoTicket x → NoTicket y → NoTicket (option_or x y)
+or-no_ticket : (x y : Option Answer) → NoTicket x → NoTicket y → NoTicket (option_or x y)
 or-no_ticket None y one other = other
 or-no_ticket (Some answer) y one other = one
 
+-- A submission that is refused gets no ticket,
 pub refusal-no_ticket : (f : DeviceFormat) (p : Progress) (s : Submission) → NoTicket (refusal f p s)
 refusal-no_ticket f p s =
     or-no_ticket (form_refusal f s) (slots_refusal f p.requests) (form-no_ticket f s) (if-no_ticket (leb f.slots (in_flight p.requests)) (Some SlotsFull) None tt tt)
 
+-- and is not in flight.
 pub flying-same : (m : Moment) (number cookie : ℕ) (answer : Answer) → IsNoTicket answer → flying_with m number cookie answer ≡ m.flying
 flying-same m number cookie (Ticket ticket) refused = absurd refused
 flying-same m number cookie answer refused = refl
 
 -- ---- a submission that is accepted
 
+-- Messages are whole that are some of whole ones: the first,
 pub whole_left : (a b : List Message) → AreWhole (a ++ b) → AreWhole a
 whole_left [] b whole i m there = absurd (none-some m there)
 whole_left (x ∷ a) b whole zero m there = whole zero m there
 whole_left (x ∷ a) b whole (suc i) m there = whole_left a b (λ j n is. whole (suc j) n is) i m there
 
+-- and the last.
 pub whole_right : (a b : List Message) → AreWhole (a ++ b) → AreWhole b
 whole_right [] b whole = whole
 whole_right (x ∷ a) b whole = whole_right a b (λ j n is. whole (suc j) n is)
 
+-- One that gets a ticket stands last on the device's list.
 pub accepted : (f : DeviceFormat) (s : DeviceState) (submission : Submission) → s.condition ≡ Working
     → (event_result f s (Submit submission)).answer ≡ Ticket (suc (length s.progress.requests))
     → (after_event f s (Submit submission)).progress.requests ≡ s.progress.requests ++ newly_asked (request_in f.blocks.block_size submission) (bytes_in submission) ∷ []
@@ -114,19 +126,20 @@ accepted f s submission works told = by (refusal f s.progress submission) refl (
     by None why none =
         ap (λ (x : EventResult). x.progress.requests) (result-working f s (Submit submission) works ∙ ap (submit_by f s.progress submission) why)
 
-pub kind_is_write : (a b c d : Bool) → (if a then Read else if b then Write else if c then Disconnect else if d then Flush else Unknown) ≡ Write → b ≡ true
+kind_is_write : (a b c d : Bool) → (if a then Read else if b then Write else if c then Disconnect else if d then Flush else Unknown) ≡ Write → b ≡ true
 kind_is_write true b c d is = absurd (cc)
 kind_is_write false true c d is = refl
 kind_is_write false false true d is = absurd (cc)
 kind_is_write false false false true is = absurd (cc)
 kind_is_write false false false false is = absurd (cc)
 
+-- What a range that is not refused is.
 pub record Range_is (b : BlockFormat) (r : NbdRequest) : Type 0 where
   pub some : 1 ≤ r.length / b.block_size
   pub whole : r.length / b.block_size * b.block_size ≡ r.length
   pub there : r.offset / b.block_size + r.length / b.block_size ≤ b.blocks
 
-pub range_is : (b : BlockFormat) (r : NbdRequest) → is_bad_range b r ≡ false → Range_is b r
+range_is : (b : BlockFormat) (r : NbdRequest) → is_bad_range b r ≡ false → Range_is b r
 range_is b r good =
     let size = b.block_size in
     let five = or_parts _ (ltb b.blocks (r.offset / size + r.length / size)) good in
@@ -146,6 +159,7 @@ range_is b r good =
       there = ltb-false b.blocks (r.offset / size + r.length / size) five.1;
     }
 
+-- What a whole message asks fits the device, where it is not refused.
 pub fitting : (f : DeviceFormat) → ServesAll f → (m : Message) (s : Submission) → is_whole m ≡ true → submission_of f.blocks m ≡ Some s → IsFitting f s
 fitting f serves m s whole asks = elim (cases_Bool (is_refused f.blocks m.request)) [
   | inl refused ↦ absurd (none-some s (sym (ap (λ (b : Bool). if b then None else submission_for f.blocks m (kind_of m.request)) refused) ∙ asks))
@@ -177,12 +191,14 @@ fitting f serves m s whole asks = elim (cases_Bool (is_refused f.blocks m.reques
     by Flush is fits handed = subst (IsFitting f) (same_Some submission.Flush s handed) tt
     by Unknown is fits handed = absurd (none-some s handed)
 
+-- One request more is in flight.
 pub numbers_of-push : (flying : List Flying) (r : Flying) (n : ℕ) → numbers_of (flying ++ r ∷ []) n ≡ numbers_of flying n + (if nat_eq r.number n then 1 else 0)
 numbers_of-push [] r n = omega arith
 numbers_of-push (q ∷ flying) r n = let rest = numbers_of-push flying r n in omega (arith, rest)
 
 -- ---- what some of the messages ask
 
+-- What messages ask stands in their order.
 pub asked_by-append : (f : DeviceFormat) (a b : List Message) → asked_by f (a ++ b) ≡ asked_by f a ++ asked_by f b
 asked_by-append f [] b = refl
 asked_by-append f (x ∷ a) b =
@@ -203,11 +219,13 @@ asked_by-next f (x ∷ all) (suc k) m there o is =
 
 -- ---- one request more on the device's list
 
+-- The requests before it are those before,
 pub take-push : (l : List Asked) (y : Asked) (k : ℕ) → k ≤ length l → take k (requests_of (l ++ y ∷ [])) ≡ take k (requests_of l)
 take-push l y zero low = refl
 take-push [] y (suc k) low = absurd (omega (arith, low))
 take-push (x ∷ l) y (suc k) low = ap (λ (rest : List Request). x.request ∷ rest) (take-push l y k (omega (arith, low)))
 
+-- and all before the last are all that were there.
 pub take-listed : (l : List Asked) → take (length l) (requests_of l) ≡ requests_of l
 take-listed [] = refl
 take-listed (x ∷ l) = ap (λ (rest : List Request). x.request ∷ rest) (take-listed l)
