@@ -33,6 +33,7 @@ changes_on_first-append (Does First change ∷ xs) ys = ap (λ (l : List Change)
 changes_on_first-append (Does Second change ∷ xs) ys = changes_on_first-append xs ys
 changes_on_first-append (Keeps ∷ xs) ys = changes_on_first-append xs ys
 
+-- So do those of the second.
 pub changes_on_second-append : (xs ys : List MirrorChange) → changes_on_second (xs ++ ys) ≡ changes_on_second xs ++ changes_on_second ys
 changes_on_second-append [] ys = refl
 changes_on_second-append (Asks write ∷ xs) ys = changes_on_second-append xs ys
