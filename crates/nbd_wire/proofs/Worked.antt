@@ -1,10 +1,9 @@
 -- What a splitter tells of a small stream that comes in three pieces, computed: a write of two bytes, and a wrong magic behind it.
 use Rattle.std.proofs.Common.{◌≡◌, ℕ, List, [], ◌∷◌, map, Some, refl}
 use Rattle.nbd_model.specs.declared.nbd_request.NbdRequest.{NbdRequest}
-use Rattle.nbd_model.specs.Stream.{Message, Stream, front_of, stream_from, stream_of}
-use Rattle.nbd_wire.specs.declared.event.Event.{Event}
+use Rattle.nbd_model.specs.Stream.{front_of, stream_from}
 use Rattle.nbd_wire.specs.declared.event.Event.TheVariants.{More, Ask, Bytes, Wrong}
-use Rattle.nbd_wire.specs.CuttingLaws.{Told, tell_all, joined}
+use Rattle.nbd_wire.specs.CuttingLaws.{Told, tell_all, joined, groups_told}
 use Rattle.nbd_wire.specs.Splitting.{InHead, AtWrong}
 
 abbrev pieces : List (List ℕ)
@@ -28,3 +27,8 @@ tell_all-place = refl
 joined-pieces : joined (tell_all (InHead []) pieces).told ≡ record { messages = record { request = write; bytes = 0xaa ∷ 0xbb ∷ [] } ∷ []; wrong = Some 0x2560_9514 }
 unfolding front_of stream_from
 joined-pieces = refl
+
+-- The request ends in the third piece.
+groups_told-pieces : groups_told [] (InHead []) 0 pieces ≡ [] ∷ [] ∷ (record { request = write; bytes = 0xaa ∷ 0xbb ∷ [] } ∷ []) ∷ []
+unfolding front_of stream_from
+groups_told-pieces = refl
