@@ -1,6 +1,6 @@
 //! The images that the lines of a script give, and what a cut of its run leaves of them.
 use crate::Wrong;
-use crate::image_bytes::{BLOCKS, data_of, digest_of, is_same_outside_blocks, put_block, tag_of};
+use crate::form::{Form, form_of, run_at};
 use crate::judging::{is_skipped, told_lines, written_by};
 use std::alloc::{AllocError, Global};
 
@@ -18,6 +18,7 @@ struct Reach {
 /// The image that the runs of a script begin with, and behind it what each write gives.
 #[derive(Drop)]
 pub struct Images {
+    form: Form,
     images: Vec<Vec<u8>>,
     /// Of each number of lines that are told: the next one may have begun.
     reaches: Vec<Reach>,
@@ -30,6 +31,7 @@ impl Images {
     /// before it is done, and so nothing is settled. That a `fua` settles a write is not judged.
     pub fn of_script(alloc: Global, base: &[u8], script: &str) -> Result<Images, AllocError> {
         let mut all = Images {
+            form: form_of(base),
             images: Vec::new(alloc),
             reaches: Vec::new(alloc),
         };
@@ -54,7 +56,7 @@ impl Images {
             Some(started) => (started, true),
             None => (line, before.has_started),
         };
-        add_write(alloc, &mut self.images, line)?;
+        add_write(alloc, &self.form, &mut self.images, line)?;
         let end = self.images.len();
         let settled = before.settled;
         self.reaches.push(Reach {
@@ -77,7 +79,7 @@ impl Images {
     /// The images of which a cut leaves each block's data and tag from any, where a run has printed this text: what
     /// the last flush has settled that it tells, and behind it what each later write gives, up to the one that may
     /// have begun.
-    pub fn left_by(&self, text: &str) -> &[Vec<u8>] {
+    fn left_by(&self, text: &str) -> &[Vec<u8>] {
         let reach = match (self.reaches.get(told_lines(text)), self.reaches.last()) {
             (Some(reach), _) => *reach,
             (None, Some(reach)) => *reach,
@@ -96,48 +98,58 @@ impl Images {
 }
 
 /// Adds the last image with what a line writes, if it is a `fill` or a `write`.
-fn add_write(alloc: Global, images: &mut Vec<Vec<u8>>, line: &str) -> Result<(), AllocError> {
-    let Some((first, bytes)) = written_by(alloc, line)? else {
+fn add_write(
+    alloc: Global,
+    form: &Form,
+    images: &mut Vec<Vec<u8>>,
+    line: &str,
+) -> Result<(), AllocError> {
+    let Some((first, bytes)) = written_by(alloc, form, line)? else {
         return Ok(());
     };
     if let Some(last) = images.last() {
         let mut image = Vec::from_slice(alloc, last)?;
-        write_image(&mut image, first, &bytes);
+        for (k, block) in (first..form.blocks).enumerate() {
+            let data = run_at(&bytes, k.saturating_mul(form.size()), form.size());
+            if data.is_empty() {
+                break;
+            }
+            let digest = form.digest_of(block, data);
+            form.put_block(&mut image, block, data, form.tag_in(&digest));
+        }
         images.push(image)?;
     }
     Ok(())
 }
 
-/// Puts bytes and their tags in the places of the blocks from one on.
-fn write_image(image: &mut [u8], first: u64, bytes: &[u8]) {
-    for (data, block) in bytes.chunks(512).zip(first..BLOCKS) {
-        put_block(image, block, data, &digest_of(block, data));
-    }
-}
-
-/// Looks at the bytes of what is left: the data of each block, and its tag, are those of one of the
-/// images, and all else is as in the first of them.
-pub fn judge_left(images: &[Vec<u8>], left: &[u8]) -> Result<(), Wrong> {
+/// Looks at the bytes of what is left of a run that has printed a text: the data of each block, and its tag, are those
+/// of one of the images, and all else is as in the first of them.
+pub fn judge_left(alloc: Global, images: &Images, left: &[u8], text: &str) -> Result<(), Wrong> {
+    let form = &images.form;
+    let images = images.left_by(text);
     let Some(settled) = images.first() else {
         return Ok(());
     };
-    for block in 0..BLOCKS {
-        judge_block(images, left, block)?;
+    let mut rest = Vec::from_slice(alloc, left)?;
+    for block in 0..form.blocks {
+        judge_block(form, images, left, block)?;
+        let (data, tag) = (form.data_of(settled, block), form.tag_of(settled, block));
+        form.put_block(&mut rest, block, data, tag);
     }
-    if !is_same_outside_blocks(left, settled) {
+    if rest != *settled {
         return Err(Wrong::Run("a sector has changed where no block and no tag stands"));
     }
     Ok(())
 }
 
 /// Looks at the data of a block that is left, and at its tag.
-fn judge_block(images: &[Vec<u8>], left: &[u8], block: u64) -> Result<(), Wrong> {
-    let (data, tag) = (data_of(left, block), tag_of(left, block));
+fn judge_block(form: &Form, images: &[Vec<u8>], left: &[u8], block: u64) -> Result<(), Wrong> {
+    let (data, tag) = (form.data_of(left, block), form.tag_of(left, block));
     let mut has_data = false;
     let mut has_tag = false;
     for image in images {
-        has_data = has_data || data_of(image, block) == data;
-        has_tag = has_tag || tag_of(image, block) == tag;
+        has_data = has_data || form.data_of(image, block) == data;
+        has_tag = has_tag || form.tag_of(image, block) == tag;
     }
     if !has_data {
         return Err(Wrong::Block {

@@ -1,15 +1,16 @@
 //! The writes of a script block by block, and what a cut of its run leaves of them: those of some prefix.
 use crate::Wrong;
-use crate::image_bytes::{BLOCKS, data_of, digest_of, is_same_outside_journal, put_block, tag_of};
+use crate::form::{Form, run_at};
+use crate::journal::is_same_outside_journal;
 use crate::judging::{is_skipped, told_lines, written_by};
 use std::alloc::{AllocError, Global};
 
-/// A block as a script writes it, with its tag.
+/// A block as a script writes it, with the digest that its tag is a part of.
 #[derive(Drop)]
 struct Written {
     block: u64,
     data: Vec<u8>,
-    tag: [u8; 32],
+    digest: [u8; 32],
 }
 
 /// A request that a script has started.
@@ -41,6 +42,7 @@ struct Span {
 /// The writes of a script, in the order in which its lines serve them, one for each block.
 #[derive(Drop)]
 pub struct Writes {
+    form: Form,
     writes: Vec<Written>,
     /// Of each number of lines that are told whole: the next one may have begun.
     spans: Vec<Span>,
@@ -50,12 +52,18 @@ pub struct Writes {
 }
 
 impl Writes {
-    /// The writes of a script whose undisturbed run has printed this text.
+    /// The writes of a script whose undisturbed run, on an image of a form, has printed this text.
     ///
     /// A line without `start` serves all that is in flight, in the order of tickets, and then itself. What a `serve`
     /// has done, its text tells.
-    pub fn of_script(alloc: Global, script: &str, text: &str) -> Result<Writes, AllocError> {
+    pub fn of_script(
+        alloc: Global,
+        form: Form,
+        script: &str,
+        text: &str,
+    ) -> Result<Writes, AllocError> {
         let mut all = Writes {
+            form,
             writes: Vec::new(alloc),
             spans: Vec::new(alloc),
             flushed: 0,
@@ -120,7 +128,7 @@ impl Writes {
             return Ok(());
         }
         self.submitted = self.submitted.saturating_add(1);
-        let mut flight = flight_of(alloc, self.submitted, line)?;
+        let mut flight = flight_of(alloc, &self.form, self.submitted, line)?;
         self.flushed = serve_all(&mut flight, &mut self.writes, self.flushed)?;
         Ok(())
     }
@@ -130,7 +138,8 @@ impl Writes {
         match reply {
             Some(text) if text.starts_with("ticket ") => {
                 self.submitted = self.submitted.saturating_add(1);
-                self.flights.push(flight_of(alloc, self.submitted, line)?)?;
+                self.flights
+                    .push(flight_of(alloc, &self.form, self.submitted, line)?)?;
                 Ok(())
             }
             _ => Ok(()),
@@ -156,21 +165,23 @@ impl Writes {
     /// Looks at the blocks of what is left, with those of its journal in their places: they are those that the run
     /// began with after the first of its writes, so many that the text tells what is flushed and what may have begun.
     pub fn judge(&self, alloc: Global, base: &[u8], left: &[u8], text: &str) -> Result<(), Wrong> {
+        let form = &self.form;
         let Span { flushed, begun } = self.span_of(text);
         let mut image = Vec::from_slice(alloc, base)?;
-        let mut differing = differing_blocks(&image, left);
+        let mut differing = differing_blocks(form, &image, left);
         for (k, written) in self.writes.iter().enumerate() {
             if k >= begun || (k >= flushed && differing == 0) {
                 break;
             }
-            differing = differing.saturating_sub(differing_at(&image, left, written.block));
-            put_block(&mut image, written.block, &written.data, &written.tag);
-            differing = differing.saturating_add(differing_at(&image, left, written.block));
+            differing = differing.saturating_sub(differing_at(form, &image, left, written.block));
+            let tag = form.tag_in(&written.digest);
+            form.put_block(&mut image, written.block, &written.data, tag);
+            differing = differing.saturating_add(differing_at(form, &image, left, written.block));
         }
         if differing > 0 {
             return Err(Wrong::Prefix { flushed, begun });
         }
-        if !is_same_outside_journal(&image, left) {
+        if !is_same_outside_journal(form, &image, left) {
             return Err(Wrong::Run("a sector has changed where no block and no tag stands"));
         }
         Ok(())
@@ -194,14 +205,18 @@ impl Writes {
 }
 
 /// The request of a line, of which nothing is done.
-fn flight_of(alloc: Global, ticket: u64, line: &str) -> Result<Flight, AllocError> {
+fn flight_of(alloc: Global, form: &Form, ticket: u64, line: &str) -> Result<Flight, AllocError> {
     let mut ahead = Vec::new(alloc);
-    if let Some((first, bytes)) = written_by(alloc, line)? {
-        for (data, block) in bytes.chunks(512).zip(first..BLOCKS) {
+    if let Some((first, bytes)) = written_by(alloc, form, line)? {
+        for (k, block) in (first..form.blocks).enumerate() {
+            let data = run_at(&bytes, k.saturating_mul(form.size()), form.size());
+            if data.is_empty() {
+                break;
+            }
             ahead.push(Written {
                 block,
                 data: Vec::from_slice(alloc, data)?,
-                tag: digest_of(block, data),
+                digest: form.digest_of(block, data),
             })?;
         }
     }
@@ -241,24 +256,24 @@ fn serve_all(
     mut flushed: usize,
 ) -> Result<usize, AllocError> {
     // Each serve but the last one writes a block.
-    for _ in 0..BLOCKS {
+    for _ in 0..flight.ahead.len().saturating_add(1) {
         flushed = serve_next(flight, writes, flushed)?;
     }
     Ok(flushed)
 }
 
 /// Whether a block of two images differs in its data or its tag, as a number.
-fn differing_at(one: &[u8], other: &[u8], block: u64) -> usize {
-    let is_same = data_of(one, block) == data_of(other, block)
-        && tag_of(one, block) == tag_of(other, block);
+fn differing_at(form: &Form, one: &[u8], other: &[u8], block: u64) -> usize {
+    let is_same = form.data_of(one, block) == form.data_of(other, block)
+        && form.tag_of(one, block) == form.tag_of(other, block);
     if is_same { 0 } else { 1 }
 }
 
 /// How many blocks of two images differ.
-fn differing_blocks(one: &[u8], other: &[u8]) -> usize {
+fn differing_blocks(form: &Form, one: &[u8], other: &[u8]) -> usize {
     let mut count = 0usize;
-    for block in 0..BLOCKS {
-        count = count.saturating_add(differing_at(one, other, block));
+    for block in 0..form.blocks {
+        count = count.saturating_add(differing_at(form, one, other, block));
     }
     count
 }

@@ -2,7 +2,7 @@
 ghost use Rattle.std.specs.Prelude.{◌≡◌};
 
 use crate::Wrong;
-use crate::image_bytes::BLOCKS;
+use crate::form::Form;
 use std::alloc::{AllocError, Global};
 
 /// The failure that a run met.
@@ -124,7 +124,11 @@ pub(crate) fn is_skipped(line: &str) -> bool {
 }
 
 /// The first block that a line writes, and the bytes from there on.
-pub(crate) fn written_by(alloc: Global, line: &str) -> Result<Option<(u64, Vec<u8>)>, AllocError> {
+pub(crate) fn written_by(
+    alloc: Global,
+    form: &Form,
+    line: &str,
+) -> Result<Option<(u64, Vec<u8>)>, AllocError> {
     let mut words = line.split(' ');
     let name = words.next();
     let (Some(first), Some(third)) = (words.next(), words.next()) else {
@@ -134,9 +138,12 @@ pub(crate) fn written_by(alloc: Global, line: &str) -> Result<Option<(u64, Vec<u
         return Ok(None);
     };
     let bytes = match name {
-        Some("write") => bytes_of_runs(alloc, third)?,
+        Some("write") => bytes_of_runs(alloc, form, third)?,
         Some("fill") => match (third.parse::<u64>(), words.next()) {
-            (Ok(count), Some(byte)) => bytes_of_run(alloc, byte, count.saturating_mul(512))?,
+            (Ok(count), Some(byte)) => {
+                let count = count.saturating_mul(form.size() as u64);
+                bytes_of_run(alloc, form, byte, count)?
+            }
             _ => return Ok(None),
         },
         _ => return Ok(None),
@@ -145,23 +152,23 @@ pub(crate) fn written_by(alloc: Global, line: &str) -> Result<Option<(u64, Vec<u
 }
 
 /// The bytes of runs that are joined by commas, each a byte and how often it comes.
-fn bytes_of_runs(alloc: Global, runs: &str) -> Result<Vec<u8>, AllocError> {
+fn bytes_of_runs(alloc: Global, form: &Form, runs: &str) -> Result<Vec<u8>, AllocError> {
     let mut bytes = Vec::new(alloc);
     for run in runs.split(',') {
         if let Some((byte, count)) = run.split_once('*')
             && let Ok(count) = count.parse::<u64>()
         {
-            bytes.extend_from_slice(&bytes_of_run(alloc, byte, count)?)?;
+            bytes.extend_from_slice(&bytes_of_run(alloc, form, byte, count)?)?;
         }
     }
     Ok(bytes)
 }
 
 /// A byte that comes so often. The image has room for no more than its own bytes.
-fn bytes_of_run(alloc: Global, byte: &str, count: u64) -> Result<Vec<u8>, AllocError> {
-    let count = (count % (BLOCKS * 512 + 1)) as usize;
+fn bytes_of_run(alloc: Global, form: &Form, byte: &str, count: u64) -> Result<Vec<u8>, AllocError> {
+    let most = form.blocks.saturating_mul(form.size() as u64);
     match u8::from_str_radix(byte, 16) {
-        Ok(byte) => vec![in alloc; byte; count],
+        Ok(byte) => vec![in alloc; byte; count.min(most) as usize],
         Err(_) => Ok(Vec::new(alloc)),
     }
 }

@@ -1,20 +1,25 @@
-//! What must hold of a run of the program in which a call failed, and of what it left on the small image.
+//! What must hold of a run of the program in which a call failed, and of what it left on an image.
 //!
 //! All is computed from the run's script and from the disk that it began with, by none of the program's code.
 #![tactic(auto)]
 
-mod image_bytes;
+mod form;
 mod images;
+mod journal;
 mod journaled;
 mod judging;
 mod reading;
+mod small;
 mod wrong;
 
-pub use image_bytes::{
-    has_empty_journal, is_same_outside_journal, is_small, small_image, with_journal_placed,
-};
+pub use form::{Form, form_of, put_at};
 pub use images::{Images, judge_left};
+pub use journal::{
+    behind_journal, count_used, has_empty_journal, is_same_outside_journal, numbers_of, put_empty,
+    put_fresh, put_sector, with_journal_placed,
+};
 pub use journaled::Writes;
 pub use judging::{Met, Told, judge_made, judge_text};
 pub use reading::{Known, judge_read_of_all, judge_reads, read_of_all, reads};
+pub use small::small_image;
 pub use wrong::Wrong;

@@ -1,13 +1,13 @@
 //! Reads of all blocks of what is left, each alone or all by one line, and what they are to print.
 use crate::Wrong;
-use crate::image_bytes::{BLOCKS, data_of, data_of_all, digest_of, is_small, tag_of};
+use crate::form::{Form, form_of, run_at};
 use crate::judging::Told;
 use std::alloc::{AllocError, Global};
 
 /// A script that reads each block alone.
-pub fn reads(alloc: Global) -> Result<Vec<u8>, AllocError> {
+pub fn reads(alloc: Global, form: &Form) -> Result<Vec<u8>, AllocError> {
     let mut script = Vec::new(alloc);
-    for block in 0..BLOCKS {
+    for block in 0..form.blocks {
         let line = format!(in alloc; "read {block} 1\n")?;
         script.extend_from_slice(line.as_bytes())?;
     }
@@ -15,14 +15,16 @@ pub fn reads(alloc: Global) -> Result<Vec<u8>, AllocError> {
 }
 
 /// A script that reads all blocks by one line.
-pub fn read_of_all(alloc: Global) -> Result<Vec<u8>, AllocError> {
-    let line = format!(in alloc; "read 0 {BLOCKS}\n")?;
+pub fn read_of_all(alloc: Global, form: &Form) -> Result<Vec<u8>, AllocError> {
+    let blocks = form.blocks;
+    let line = format!(in alloc; "read 0 {blocks}\n")?;
     Vec::from_slice(alloc, line.as_bytes())
 }
 
 /// The bytes of a disk, and of each block the tag that its data have, and what a read prints that finds this tag.
 #[derive(Drop)]
 pub struct Known {
+    pub form: Form,
     bytes: Vec<u8>,
     digests: Vec<[u8; 32]>,
     replies: Vec<String>,
@@ -32,18 +34,20 @@ pub struct Known {
 }
 
 impl Known {
-    /// Computes these of a disk with these bytes. Of one that is no small image they are of no use.
+    /// Computes these of a disk with these bytes. Of one that is no image they are of no use.
     pub fn new(alloc: Global, bytes: Vec<u8>) -> Result<Known, AllocError> {
+        let form = form_of(&bytes);
         let mut digests = Vec::new(alloc);
         let mut replies = Vec::new(alloc);
-        for block in 0..BLOCKS {
-            let data = data_of(&bytes, block);
-            digests.push(digest_of(block, data))?;
+        for block in 0..form.blocks {
+            let data = form.data_of(&bytes, block);
+            digests.push(form.digest_of(block, data))?;
             replies.push(reply_of(alloc, block, data)?)?;
         }
-        let data = data_of_all(alloc, &bytes)?;
-        let reply_of_all = reply_of_all(alloc, &data)?;
+        let data = form.data_of_all(alloc, &bytes)?;
+        let reply_of_all = reply_of_all(alloc, &form, &data)?;
         Ok(Known {
+            form,
             bytes,
             digests,
             replies,
@@ -57,22 +61,25 @@ impl Known {
         &self.bytes
     }
 
-    /// Whether these are the bytes of a small image whose blocks all have the tags of their data.
+    /// Whether these are the bytes of an image of the same form whose blocks all have the tags of their data.
     pub fn is_whole(&self, left: &[u8]) -> bool {
-        is_small(left) && (0..BLOCKS).all(|block| self.has_its_tag(left, block))
+        let form = &self.form;
+        form.blocks > 0
+            && run_at(left, 0, 64) == run_at(&self.bytes, 0, 64)
+            && (0..form.blocks).all(|block| self.has_its_tag(left, block))
     }
 
     /// Whether a block of another disk has the tag of its data.
     fn has_its_tag(&self, left: &[u8], block: u64) -> bool {
-        let (digest, _) = self.digest_of(block, data_of(left, block));
-        tag_of(left, block) == digest.as_slice()
+        let (digest, _) = self.digest_of(block, self.form.data_of(left, block));
+        self.form.tag_of(left, block) == self.form.tag_in(&digest)
     }
 
-    /// The tag that a block of another disk has by its data, and whether these are the disk's own.
+    /// The digest that a block of another disk has by its data, and whether these are the disk's own.
     fn digest_of(&self, block: u64, data: &[u8]) -> ([u8; 32], bool) {
         match self.digests.get(block as usize) {
-            Some(digest) if data == data_of(&self.bytes, block) => (*digest, true),
-            _ => (digest_of(block, data), false),
+            Some(digest) if data == self.form.data_of(&self.bytes, block) => (*digest, true),
+            _ => (self.form.digest_of(block, data), false),
         }
     }
 
@@ -87,14 +94,14 @@ impl Known {
 
 /// Looks at what the reads of all blocks have told of what is left, beside its bytes.
 pub fn judge_reads(alloc: Global, base: &Known, left: &[u8], told: Told<'_>) -> Result<(), Wrong> {
-    if !is_small(left) {
+    if form_of(left).blocks == 0 {
         if told.status != 3 || !told.text.starts_with("fault image ") {
             return Err(Wrong::Run("what is left is no image, and is read"));
         }
         return Ok(());
     }
     let mut status = 0;
-    for (line, block) in told.text.split_inclusive('\n').zip(0..BLOCKS) {
+    for (line, block) in told.text.split_inclusive('\n').zip(0..base.form.blocks) {
         if !judge_read(alloc, base, left, block, line)? {
             status = 1;
         }
@@ -112,11 +119,11 @@ pub fn judge_read_of_all(
     left: &[u8],
     told: Told<'_>,
 ) -> Result<(), Wrong> {
-    let data = data_of_all(alloc, left)?;
+    let data = base.form.data_of_all(alloc, left)?;
     let is_right = if data == base.data {
         told.text == base.reply_of_all.as_str()
     } else {
-        told.text == reply_of_all(alloc, &data)?.as_str()
+        told.text == reply_of_all(alloc, &base.form, &data)?.as_str()
     };
     if told.status != 0 || !is_right {
         return Err(Wrong::Run("a read of all blocks does not give what is left"));
@@ -132,12 +139,13 @@ fn judge_read(
     block: u64,
     line: &str,
 ) -> Result<bool, Wrong> {
-    let (digest, is_known) = base.digest_of(block, data_of(left, block));
-    let is_right = tag_of(left, block) == digest.as_slice();
+    let form = &base.form;
+    let (digest, is_known) = base.digest_of(block, form.data_of(left, block));
+    let is_right = form.tag_of(left, block) == form.tag_in(&digest);
     if is_right && is_known && base.is_reply(block, line) {
         return Ok(true);
     }
-    if !is_reply(alloc, left, block, &digest, line)? {
+    if !is_reply(alloc, form, left, block, &digest, line)? {
         return Err(Wrong::Block {
             block,
             what: "a read does not give what is left",
@@ -149,17 +157,19 @@ fn judge_read(
 /// Whether a line is what a read of a block prints, where its data have this tag.
 fn is_reply(
     alloc: Global,
+    form: &Form,
     image: &[u8],
     block: u64,
     digest: &[u8; 32],
     line: &str,
 ) -> Result<bool, AllocError> {
-    let stored = tag_of(image, block);
-    let wanted = if stored == digest.as_slice() {
-        reply_of(alloc, block, data_of(image, block))?
+    let stored = form.tag_of(image, block);
+    let computed = form.tag_in(digest);
+    let wanted = if stored == computed {
+        reply_of(alloc, block, form.data_of(image, block))?
     } else {
         let stored = hex::encode(alloc, stored)?;
-        let computed = hex::encode(alloc, digest)?;
+        let computed = hex::encode(alloc, computed)?;
         format!(in alloc; "fault block {block} stored {stored} computed {computed}\n")?
     };
     Ok(line == wanted.as_str())
@@ -172,9 +182,10 @@ fn reply_of(alloc: Global, block: u64, data: &[u8]) -> Result<String, AllocError
 }
 
 /// What a run prints that reads all blocks by one line and finds the right tags.
-fn reply_of_all(alloc: Global, data: &[u8]) -> Result<String, AllocError> {
+fn reply_of_all(alloc: Global, form: &Form, data: &[u8]) -> Result<String, AllocError> {
+    let blocks = form.blocks;
     let stretches = stretches_of(alloc, data)?;
-    format!(in alloc; "ok read 0 {BLOCKS} {stretches}\nclosed\n")
+    format!(in alloc; "ok read 0 {blocks} {stretches}\nclosed\n")
 }
 
 /// The stretches of like bytes.

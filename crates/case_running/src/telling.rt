@@ -2,6 +2,7 @@
 use crate::running::{Command, Ended, run};
 use anyhow::{Result, bail};
 use case_disks::choice_from;
+use case_judging::{behind_journal, count_used, form_of, numbers_of};
 use case_text::{Candidates, Case, Fails, Piece, Show};
 use cut_disk::CutDisk;
 use sha2::{Digest, Sha256};
@@ -123,7 +124,13 @@ pub fn told_of<C: Command>(
     case: &Case,
     ended: &Ended,
 ) -> Result<String> {
-    let mut told = outcome_of(alloc, ended)?;
+    let hides_text = case.shows.iter().any(|show| matches!(show, Show::Text));
+    let mut told = if hides_text {
+        let status = ended.status;
+        format!(in alloc; "{status}")?
+    } else {
+        outcome_of(alloc, ended)?
+    };
     if ended.key_calls > 0 && !is_keyed(case) {
         told.push_str("\nthe key was touched")?;
     }
@@ -138,7 +145,10 @@ pub fn told_of<C: Command>(
 /// What is shown of a run.
 fn shown<C: Command>(alloc: Global, command: &C, show: &Show, ended: &Ended) -> Result<String> {
     match show {
-        Show::Digest => digest_told(alloc, ended.disk.bytes()),
+        Show::Digest => digest_told(alloc, "digest", ended.disk.bytes()),
+        Show::Text => digest_told(alloc, "digest of the text", ended.text.as_str().as_bytes()),
+        Show::Outside => outside_told(alloc, ended.disk.bytes()),
+        Show::Numbers => numbers_told(alloc, ended.disk.bytes()),
         Show::Bytes(piece) => piece_told(alloc, ended.disk.bytes(), *piece),
         Show::Writes => {
             let (writes, syncs) = (ended.disk.seen.writes, ended.disk.seen.syncs);
@@ -154,10 +164,35 @@ fn shown<C: Command>(alloc: Global, command: &C, show: &Show, ended: &Ended) -> 
     }
 }
 
-/// The SHA-256 of the bytes of a disk.
-fn digest_told(alloc: Global, bytes: &[u8]) -> Result<String> {
+/// The SHA-256 of bytes, behind what these are.
+fn digest_told(alloc: Global, name: &str, bytes: &[u8]) -> Result<String> {
     let digest = hex::encode(alloc, Sha256::digest(bytes))?;
-    Ok(format!(in alloc; "digest {digest}")?)
+    Ok(format!(in alloc; "{name} {digest}")?)
+}
+
+/// The SHA-256 of the sectors of an image that stand before its journal and behind it.
+fn outside_told(alloc: Global, image: &[u8]) -> Result<String> {
+    let mut bytes = Vec::from_slice(alloc, image.get(..4096).unwrap_or(&[]))?;
+    bytes.extend_from_slice(behind_journal(&form_of(image), image))?;
+    digest_told(alloc, "digest outside", &bytes)
+}
+
+/// The commit numbers of the journal's sectors, each with how many have it in a row, and how many entries are used.
+fn numbers_told(alloc: Global, image: &[u8]) -> Result<String> {
+    let form = form_of(image);
+    let mut runs = Vec::new(alloc);
+    for number in &numbers_of(alloc, &form, image)? {
+        let number = format!(in alloc; "{number}")?;
+        add(alloc, &mut runs, "", number.as_str())?;
+    }
+    let mut told = "numbers".to_string(alloc)?;
+    for run in &runs {
+        let (number, count) = (run.text.as_str(), run.count);
+        told.push_str(format!(in alloc; " {number}*{count}")?.as_str())?;
+    }
+    let used = count_used(&form, image);
+    told.push_str(format!(in alloc; ", {used} entries used")?.as_str())?;
+    Ok(told)
 }
 
 /// Some bytes of a disk, or none where it does not have so many.

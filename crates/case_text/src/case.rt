@@ -41,14 +41,37 @@ pub const CHOICES: [Candidates; 6] = [
 ];
 
 /// A change of the disk before the run.
-#[derive(Clone, Copy)]
+#[derive(Drop)]
 pub enum Edit {
-    /// A byte of a sector is set.
-    Set { at: u64, byte: u64, value: u64 },
+    /// Bytes are put in the place of others, from a byte of a sector on.
+    Put {
+        at: u64,
+        byte: u64,
+        bytes: Vec<u8>,
+    },
     /// A bit of a byte of a sector is flipped, 0 being the lowest.
-    Flip { at: u64, byte: u64, bit: u64 },
+    Flip {
+        at: u64,
+        byte: u64,
+        bit: u64,
+    },
     /// So many sectors of a journal that have commit number 0 get another one, from 0 to 3.
-    Number { at: u64, count: u64, number: u64 },
+    Number {
+        at: u64,
+        count: u64,
+        number: u64,
+    },
+    /// So many sectors of a section of the journal, from one on, get these bytes and zeros behind them, and the id of a
+    /// commit number. Without bytes they have no used entry.
+    Journal {
+        section: u64,
+        sector: u64,
+        count: u64,
+        number: u64,
+        bytes: Vec<u8>,
+    },
+    /// The journal becomes an empty one of commit number 0, and each block gets the tag of its data.
+    Fresh,
 }
 
 /// So many bytes of a sector, from one on.
@@ -81,6 +104,12 @@ pub enum Kind {
 pub enum Show {
     /// The SHA-256 of all sectors, as reads give them.
     Digest,
+    /// That of the sectors outside of the journal.
+    Outside,
+    /// That of the text, which is not shown itself.
+    Text,
+    /// The commit numbers of the journal, and how many of its entries are used.
+    Numbers,
     /// Some bytes, as reads give them.
     Bytes(Piece),
     /// How many sectors were written, and how many syncs were made.

@@ -7,6 +7,7 @@ mod blocks;
 mod case;
 mod fails;
 mod reading;
+mod runs;
 
 pub use blocks::{Block, Line, blocks_of, case_of, table_of};
 pub use case::{CHOICES, Candidates, Case, Edit, Kind, Piece, Show, Start, kind_of, name_of};

@@ -1,4 +1,5 @@
 //! Reads what the lines of a case say.
+use crate::runs::bytes_of_runs;
 use crate::{Candidates, Case, Edit, Piece, Show, Start, kind_of, with_failure};
 use anyhow::{Result, bail};
 use std::alloc::Global;
@@ -23,6 +24,7 @@ pub fn apply(alloc: Global, case: &mut Case, line: &str) -> Result<()> {
         "first" => put_reopened(alloc, case, Candidates::First, text)?,
         "last" => put_reopened(alloc, case, Candidates::Last, text)?,
         "expect" => put_expected(alloc, &mut case.expected, text)?,
+        "sector" | "put" | "part" => apply_bytes(alloc, case, word, text)?,
         _ => apply_numbers(alloc, case, line)?,
     }
     Ok(())
@@ -52,9 +54,52 @@ fn apply_numbers(alloc: Global, case: &mut Case, line: &str) -> Result<()> {
     match numbers.as_slice() {
         [] => apply_words(case, words.as_str()),
         [number] => apply_number(case, words.as_str(), *number),
-        [at, first, last] => apply_three(case, words.as_str(), *at, *first, *last),
+        [at, first, last] => apply_three(alloc, case, words.as_str(), *at, *first, *last),
+        [section, sector, count, number] if words.as_str() == "empty" => {
+            case.edits.push(Edit::Journal {
+                section: *section,
+                sector: *sector,
+                count: *count,
+                number: *number,
+                bytes: Vec::new(alloc),
+            })?;
+            Ok(())
+        }
         _ => bail!("so many numbers stand behind no word"),
     }
+}
+
+/// Adds what a word says with numbers behind it and then bytes.
+fn apply_bytes(alloc: Global, case: &mut Case, word: &str, text: &str) -> Result<()> {
+    let Some((places, runs)) = text.rsplit_once(' ') else {
+        bail!("it has no bytes");
+    };
+    let bytes = bytes_of_runs(alloc, runs)?;
+    let mut numbers: Vec<u64> = Vec::new(alloc);
+    for place in places.split(' ') {
+        numbers.push(place.parse::<u64>()?)?;
+    }
+    case.edits.push(match (word, numbers.as_slice()) {
+        ("sector", [at]) => Edit::Put {
+            at: *at,
+            byte: 0,
+            bytes,
+        },
+        ("put", [at, byte]) => Edit::Put {
+            at: *at,
+            byte: *byte,
+            bytes,
+        },
+        ("part", [section, sector, number]) => Edit::Journal {
+            section: *section,
+            sector: *sector,
+            count: 1,
+            number: *number,
+            bytes,
+        },
+        _ => bail!("it is no line of a case with bytes"),
+    })?;
+    Ok(())
 }
 
 /// Adds what words alone say.
@@ -70,7 +115,12 @@ fn apply_words(case: &mut Case, words: &str) -> Result<()> {
         "disk left" => case.start = Start::Left,
         "disk first" => case.start = Start::ImageOfLeft(Candidates::First),
         "disk last" => case.start = Start::ImageOfLeft(Candidates::Last),
+        "disk mixed" => case.start = Start::ImageOfLeft(Candidates::Alternate),
+        "fresh" => case.edits.push(Edit::Fresh)?,
         "show digest" => case.shows.push(Show::Digest)?,
+        "show digest outside" => case.shows.push(Show::Outside)?,
+        "show digest text" => case.shows.push(Show::Text)?,
+        "show numbers" => case.shows.push(Show::Numbers)?,
         "show writes" => case.shows.push(Show::Writes)?,
         _ => bail!("it is no line of a case"),
     }
@@ -97,17 +147,24 @@ fn apply_number(case: &mut Case, words: &str, number: u64) -> Result<()> {
 }
 
 /// Adds what words with three numbers say.
-fn apply_three(case: &mut Case, words: &str, at: u64, first: u64, last: u64) -> Result<()> {
+fn apply_three(
+    alloc: Global,
+    case: &mut Case,
+    words: &str,
+    at: u64,
+    first: u64,
+    last: u64,
+) -> Result<()> {
     let piece = Piece {
         at,
         first,
         count: last,
     };
     match words {
-        "set" => case.edits.push(Edit::Set {
+        "set" => case.edits.push(Edit::Put {
             at,
             byte: first,
-            value: last,
+            bytes: Vec::from_slice(alloc, &[(last % 256) as u8])?,
         })?,
         "flip" => case.edits.push(Edit::Flip {
             at,

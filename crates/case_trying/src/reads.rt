@@ -1,6 +1,6 @@
 //! Runs that read all blocks of what another run has left.
 use anyhow::Result;
-use case_judging::{Known, Told, judge_read_of_all, judge_reads, read_of_all, reads};
+use case_judging::{Form, Known, Told, judge_read_of_all, judge_reads, read_of_all, reads};
 use case_running::{Command, Ended, run};
 use case_text::{Case, Fails};
 use cut_disk::CutDisk;
@@ -14,11 +14,11 @@ pub struct Reads {
 }
 
 impl Reads {
-    /// These reads in a mode, `D` or `J`.
-    pub fn in_mode(alloc: Global, mode: &str) -> Result<Reads> {
+    /// These reads of an image of a form in a mode, `D` or `J`.
+    pub fn in_mode(alloc: Global, form: &Form, mode: &str) -> Result<Reads> {
         Ok(Reads {
-            at_once: case_in(alloc, read_of_all(alloc)?, mode)?,
-            alone: case_in(alloc, reads(alloc)?, mode)?,
+            at_once: case_in(alloc, read_of_all(alloc, form)?, mode)?,
+            alone: case_in(alloc, reads(alloc, form)?, mode)?,
         })
     }
 

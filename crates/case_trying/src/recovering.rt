@@ -4,7 +4,7 @@ use crate::reads::Reads;
 use crate::trying::Counts;
 use anyhow::{Result, bail};
 use case_judging::{
-    Images, Known, Writes, has_empty_journal, is_same_outside_journal, is_small, judge_left,
+    Form, Images, Known, Writes, form_of, has_empty_journal, is_same_outside_journal, judge_left,
     with_journal_placed,
 };
 use case_running::{Command, Ended, is_journaled};
@@ -43,29 +43,39 @@ pub fn recovered_by<C: Command>(
     script: &str,
     text: &str,
 ) -> Result<Option<Recovered>> {
-    if !is_small(base) || (!is_journaled(case) && has_empty_journal(base)) {
+    let form = form_of(base);
+    let is_direct = !is_journaled(case);
+    if form.blocks == 0 || (is_direct && has_empty_journal(alloc, &form, base)?) {
         return Ok(None);
     }
-    let journaled = Reads::in_mode(alloc, "J")?;
+    let journaled = Reads::in_mode(alloc, &form, "J")?;
     let opened = journaled.run_alone(alloc, command, base)?;
-    let base = with_journal_placed(alloc, base)?;
+    let base = with_journal_placed(alloc, &form, base)?;
     let judged = if is_refused(&opened) {
         Judged::Refused
     } else {
-        judged_by(alloc, case, &base, script, text)?
+        judged_by(alloc, case, form, &base, script, text)?
     };
     Ok(Some(Recovered {
         base: Known::new(alloc, base)?,
         judged,
         journaled,
-        direct: Reads::in_mode(alloc, "D")?,
+        direct: Reads::in_mode(alloc, &form, "D")?,
     }))
 }
 
 /// What the blocks are judged by that are left of a script.
-fn judged_by(alloc: Global, case: &Case, base: &[u8], script: &str, text: &str) -> Result<Judged> {
+fn judged_by(
+    alloc: Global,
+    case: &Case,
+    form: Form,
+    base: &[u8],
+    script: &str,
+    text: &str,
+) -> Result<Judged> {
     if is_journaled(case) {
-        return Ok(Judged::Journaled(Writes::of_script(alloc, script, text)?));
+        let writes = Writes::of_script(alloc, form, script, text)?;
+        return Ok(Judged::Journaled(writes));
     }
     Ok(Judged::Direct(Images::of_script(alloc, base, script)?))
 }
@@ -88,7 +98,7 @@ pub fn judge_recovered<C: Command>(
     left: &[u8],
     text: &str,
 ) -> Result<()> {
-    let blocks = with_journal_placed(alloc, left)?;
+    let blocks = with_journal_placed(alloc, &recovered.base.form, left)?;
     match &recovered.judged {
         Judged::Refused => {
             return judge_refused(alloc, command, counts, recovered, base, left);
@@ -96,7 +106,7 @@ pub fn judge_recovered<C: Command>(
         Judged::Journaled(writes) => {
             writes.judge(alloc, recovered.base.bytes(), &blocks, text)?;
         }
-        Judged::Direct(images) => judge_left(images.left_by(text), &blocks)?,
+        Judged::Direct(images) => judge_left(alloc, images, &blocks, text)?,
     }
     if counts.images % 4 != 0 {
         let reads = &recovered.journaled;
@@ -119,7 +129,7 @@ fn judge_both<C: Command>(
     read_again(alloc, command, counts, recovered, reads, left, blocks)?;
     let reads = &recovered.direct;
     let after = read_again(alloc, command, counts, recovered, reads, left, blocks)?;
-    if !has_empty_journal(after.disk.bytes()) {
+    if !has_empty_journal(alloc, &recovered.base.form, after.disk.bytes())? {
         bail!("direct mode has not emptied the journal");
     }
     Ok(())
@@ -157,7 +167,7 @@ fn read_again<C: Command>(
 ) -> Result<Ended> {
     counts.runs = counts.runs.saturating_add(1);
     let again = reads.judge(alloc, command, &recovered.base, image, blocks)?;
-    if !is_same_outside_journal(again.disk.bytes(), blocks) {
+    if !is_same_outside_journal(&recovered.base.form, again.disk.bytes(), blocks) {
         bail!("a run on what is left does not bring it to its places");
     }
     Ok(again)

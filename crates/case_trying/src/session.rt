@@ -119,7 +119,7 @@ fn try_bits<C: Command>(
             let at = piece.at;
             counts.runs = counts.runs.saturating_add(1);
             let edit = Edit::Flip { at, byte, bit };
-            let outcome = outcome_at(alloc, command, case, base, edit)?;
+            let outcome = outcome_at(alloc, command, case, base, &edit)?;
             let label = format!(in alloc; "byte {byte} bit {bit}")?;
             add(
                 alloc,
@@ -151,7 +151,7 @@ fn outcome_at<C: Command>(
     command: &C,
     case: &Case,
     base: &[u8],
-    edit: Edit,
+    edit: &Edit,
 ) -> Result<String> {
     let mut bytes = Vec::from_slice(alloc, base)?;
     edit_bytes(&mut bytes, edit)?;

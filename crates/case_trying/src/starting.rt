@@ -1,5 +1,6 @@
 //! The disk that a case begins with.
 use anyhow::{Result, bail};
+use case_judging::{form_of, put_at, put_empty, put_fresh, put_sector};
 use case_running::image_left;
 use case_text::{Case, Edit, Start};
 use cut_disk::CutDisk;
@@ -26,32 +27,60 @@ pub fn base_of(
         Start::Left => bail!("a disk that was left has no bytes of its own"),
     };
     for edit in &case.edits {
-        edit_bytes(&mut bytes, *edit)?;
+        edit_bytes(&mut bytes, edit)?;
     }
     Ok(bytes)
 }
 
-/// Changes bytes of a disk.
-pub fn edit_bytes(bytes: &mut [u8], edit: Edit) -> Result<()> {
+/// Changes bytes of a disk. A section of a journal is one of the superblock that stands there.
+pub fn edit_bytes(image: &mut [u8], edit: &Edit) -> Result<()> {
     match edit {
-        Edit::Set { at, byte, value } => change_byte(bytes, at, byte, 0, (value % 256) as u8)?,
-        Edit::Flip { at, byte, bit } => change_byte(bytes, at, byte, 255, 1 << (bit % 8))?,
+        Edit::Put { at, byte, bytes } => {
+            let from = at.saturating_mul(512).saturating_add(*byte) as usize;
+            put_at(image, from, bytes);
+        }
+        Edit::Flip { at, byte, bit } => flip_byte(image, *at, *byte, 1 << (*bit % 8))?,
         Edit::Number { at, count, number } => {
-            for k in 0..count {
-                put_number(bytes, at.saturating_add(k), number)?;
+            for k in 0..*count {
+                put_number(image, at.saturating_add(k), *number)?;
             }
+        }
+        Edit::Journal {
+            section,
+            sector,
+            count,
+            number,
+            bytes,
+        } => {
+            for k in 0..*count {
+                put_journal(image, *section, sector.saturating_add(k), *number, bytes);
+            }
+        }
+        Edit::Fresh => {
+            let form = form_of(image);
+            put_fresh(&form, image);
         }
     }
     Ok(())
 }
 
-/// Changes a byte of a sector: the bits of `kept` stay, all others become 0, and then those of `flipped` are flipped.
-fn change_byte(bytes: &mut [u8], at: u64, byte: u64, kept: u8, flipped: u8) -> Result<()> {
+/// Puts a sector of a section of the journal, without a used entry where there are no bytes for it.
+fn put_journal(image: &mut [u8], section: u64, sector: u64, number: u64, bytes: &[u8]) {
+    let form = form_of(image);
+    if bytes.is_empty() {
+        put_empty(&form, image, section, sector, number);
+    } else {
+        put_sector(&form, image, section, sector, number, bytes);
+    }
+}
+
+/// Flips these bits of a byte of a sector.
+fn flip_byte(bytes: &mut [u8], at: u64, byte: u64, flipped: u8) -> Result<()> {
     let from = at.saturating_mul(512).saturating_add(byte) as usize;
     let Some(place) = bytes.get_mut(from) else {
         bail!("the disk has no byte {byte} of sector {at}");
     };
-    *place = (*place & kept) ^ flipped;
+    *place ^= flipped;
     Ok(())
 }
 
@@ -67,7 +96,7 @@ fn put_number(bytes: &mut [u8], at: u64, number: u64) -> Result<()> {
         _ => 0x44,
     };
     for byte in 504..512 {
-        change_byte(bytes, at, byte, 255, 0x11 ^ pattern)?;
+        flip_byte(bytes, at, byte, 0x11 ^ pattern)?;
     }
     Ok(())
 }

@@ -55,10 +55,12 @@ impl Trial {
         let recovered = recovered_by(alloc, command, case, &base, script, text)?;
         // What is recovered is judged by images of its own.
         let script = if recovered.is_some() { "" } else { script };
+        let images = Images::of_script(alloc, &base, script)?;
+        let base = Known::new(alloc, base)?;
         Ok(Trial {
-            images: Images::of_script(alloc, &base, script)?,
-            base: Known::new(alloc, base)?,
-            reads: Reads::in_mode(alloc, "D")?,
+            images,
+            reads: Reads::in_mode(alloc, &base.form, "D")?,
+            base,
             is_keyed: is_keyed(case),
             made: made_by(alloc, case, undisturbed)?,
             recovered,
@@ -206,7 +208,7 @@ fn judge_choice<C: Command>(
     if let Some(recovered) = &trial.recovered {
         return judge_recovered(alloc, command, counts, recovered, base, &left, text);
     }
-    judge_left(trial.images.left_by(text), &left)?;
+    judge_left(alloc, &trial.images, &left, text)?;
     counts.runs = counts.runs.saturating_add(1);
     trial
         .reads
