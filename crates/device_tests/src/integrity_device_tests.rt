@@ -1,5 +1,5 @@
 //! A device on new images in memory, in each mode: what it replies, and what it leaves for the next one.
-ghost use Rattle.std.specs.Prelude.{◌≡◌, IfSome};
+ghost use Rattle.std.specs.Prelude.{◌≡◌, ◌≤◌, IfSome};
 ghost use Rattle.disk_model.specs.Identity.{IsBound};
 ghost use Rattle.integrity_device.specs.Device.{IsReady};
 
@@ -162,6 +162,41 @@ fn read_alone<D: Disk>(
     Ok(byte)
 }
 
+/// Writes a block and flushes it in journal mode. Whether that was done, and the close behind it fails.
+fn close_fails<D: Disk>(
+    alloc: Global,
+    disk: &mut D,
+    region: &mut Region,
+) -> Result<bool, AllocError>
+    requires { IsBound (D.identity disk.old).name }
+{
+    let write = write_of(alloc, 0xaa)?;
+    let Some(mut device) = open_device(alloc, disk, region, OpenMode::Journal) else {
+        return Ok(false);
+    };
+    let written = reply_to(&mut device, write);
+    let (closed, _) = device.close();
+    Ok(matches!(written, Some(Reply::Written { .. })) && closed.is_err())
+}
+
+/// So many sectors from sector 8 on, by the oldest candidates of a disk of 512 sectors.
+fn oldest_from_8(alloc: Global, disk: &MemDisk, sectors: usize) -> Result<Vec<u8>, Fail>
+    requires low { 1 ≤ sectors }
+    requires high { sectors ≤ 504 }
+{
+    let choice = vec![in alloc; 0u32; 512]?;
+    if !disk.has(&choice) {
+        return Err(Fail::from("candidate"));
+    }
+    let mut image = disk.image(alloc, &choice)?;
+    if image.sectors() < 512 {
+        return Err(Fail::from("sectors"));
+    }
+    let mut bytes = vec![in alloc; 0; sectors * 512]?;
+    image.read_run(8, &mut bytes)?;
+    Ok(bytes)
+}
+
 #[test]
 fn in_journal_mode_a_write_is_placed_by_a_step(rt: HostRuntime) -> Result<(), Fail> {
     let byte = Some(0xaa);
@@ -174,5 +209,17 @@ fn in_journal_mode_a_write_is_placed_by_a_step(rt: HostRuntime) -> Result<(), Fa
     // A close has brought all to its place, where direct mode looks.
     let in_direct_mode = read_alone(rt.alloc(), &mut disk, OpenMode::Direct)?;
     assert_eq!(rt; in_direct_mode, byte);
+    Ok(())
+}
+
+#[test]
+fn a_close_that_the_disk_stops_leaves_the_journal_in_memory(rt: HostRuntime) -> Result<(), Fail> {
+    let mut disk = new_disk(rt.alloc())?;
+    // The commit writes the 88 sectors of the journal, and a place one.
+    disk.stop_after(89);
+    let mut region = Region::new();
+    assert!(rt; close_fails(rt.alloc(), &mut disk, &mut region)?);
+    let journal = oldest_from_8(rt.alloc(), &disk, 88)?;
+    assert!(rt; region.whole().bytes() == journal.as_slice());
     Ok(())
 }
