@@ -45,6 +45,22 @@ pub trait Named: Counted {
         ensures cause { HasCause (Self.faults self.old) (Self.faults self.new) result }
 
         ensures same { tells_same name.now self.old self.new };
+
+    /// Binds it to a name for reads alone, as others may at the same time. What has this name stays as it is, and over
+    /// memory nothing changes. Where reads alone are the same as any other use it is `bind`.
+    ///
+    /// # Errors
+    ///
+    /// - `Failed`: what has the name could not be reached.
+    fn bind_to_read(&mut self, name: &str) -> Result<(), Failed>
+        ensures bound { OnOk result (IsBoundTo name.now (binding self.new)) }
+
+        ensures cause { HasCause (Self.faults self.old) (Self.faults self.new) result }
+
+        ensures same { tells_same name.now self.old self.new }
+    {
+        self.bind(name)
+    }
 }
 
 /// A disk of sectors of 512 bytes.
