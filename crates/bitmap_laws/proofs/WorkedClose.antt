@@ -1,5 +1,5 @@
 -- The fresh disk with its bit set: all is flushed, a clean clears the bit, and so does a close. No law of these speaks of nothing.
-use Rattle.std.proofs.Common.{◌≡◌, inl, inr, ℕ, ◌/◌, ◌%◌, ◌<◌, ◌==◌, ◌||◌, Bool, false, refl, sym, ◌∙◌, ap, subst, arith, Some, List, [], ◌∷◌, slice_index, replicate}
+use Rattle.std.proofs.Common.{◌≡◌, inl, inr, ℕ, ◌/◌, ◌%◌, ◌<◌, ◌==◌, ◌&&◌, ◌||◌, Bool, false, refl, sym, ◌∙◌, ap, subst, arith, Some, List, [], ◌∷◌, slice_index, replicate}
 use Rattle.std.specs.Int.{bit_at}
 use Rattle.std.proofs.lemmas.Bool.{cases_lt}
 use Rattle.std.proofs.lemmas.List.{get_or-replicate, get_or_past}
@@ -36,7 +36,7 @@ use Rattle.bitmap_laws.specs.EventLaws.{may_be_cleared, with_cleared}
 use Rattle.bitmap_laws.specs.MomentLaws.{HasBlocksOf}
 use Rattle.bitmap_laws.specs.ServeLaws.{ClearsBit, KeepsDevice}
 use Rattle.bitmap_laws.proofs.CallLemmas.{run_image, dirty_done_law, sync_kept_law, sync_law, through_law}
-use Rattle.bitmap_laws.proofs.CloseLemmas.{clear_begins_law, clear_turn_law, clear_ends_law, cleared_images_law, served_close_law, failed_clear_close_law}
+use Rattle.bitmap_laws.proofs.CloseLemmas.{clear_begins_law, clear_skips_law, clear_turn_law, clear_ends_law, cleared_images_law, served_close_law, failed_clear_close_law}
 use Rattle.bitmap_laws.proofs.DeviceLemmas.{beginning_law}
 use Rattle.bitmap_laws.proofs.EventLemmas.{quiet_events_law}
 use Rattle.bitmap_laws.proofs.ServeLemmas.{all_flushed_law, bit_cleared_law, cleaned_law, served_flush_law}
@@ -205,6 +205,11 @@ closed = newest_only (without_bit (newest_only set_content)) ∷ cleared
 ClearTurn-dirty : StandsThrough (with_cleared closing) marked flushed cleared × KeepsNow (cleared_below closing 1) marked old_tags cleared
 ClearTurn-dirty = clear_turn_law closing bitmap_format.geometry 0 marked (cleared_below closing 0).bits old_tags old_tags flushed cleared refl (λ r. refl) (omega (arith, regions-one)) is_dirty-fresh (λ r low. refl)
     (clear_begins_law closing marked old_tags flushed AllFlushed-dirty.1) (ClearsBit-first (cleared_below closing 0).bits (newest_only set_content) with_bit)
+
+-- On the fresh disk, whose bit is clear, such a turn does nothing.
+pub KeepsNow-skipped : KeepsNow (cleared_below fresh 1) marked old_tags before
+KeepsNow-skipped = clear_skips_law fresh 0 marked old_tags before (ap (λ (t : Bool). t && fresh.awaiting 0) is_dirty-fresh ∙ sym is_dirty-fresh)
+    (clear_begins_law fresh marked old_tags before KeepsNow-before)
 
 KeepsNow-cleared : KeepsNow (with_cleared closing) marked old_tags cleared
 KeepsNow-cleared = clear_ends_law closing marked old_tags cleared (subst (λ (n : ℕ). KeepsNow (cleared_below closing n) marked old_tags cleared) (sym regions-one) ClearTurn-dirty.1)

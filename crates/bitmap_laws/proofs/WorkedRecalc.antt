@@ -1,6 +1,6 @@
 -- The fresh disk, left with its bit set, is opened again: its region awaits, and is recalculated by a step, by a read, and by the
 -- loop over its blocks. No law of these speaks of nothing.
-use Rattle.std.proofs.Common.{◌≡◌, ℕ, ◌+◌, ◌==◌, Bool, true, if◌then◌else◌, refl, sym, ◌∙◌, ap, subst, arith, None, Some, List, [], ◌∷◌, length, replicate}
+use Rattle.std.proofs.Common.{◌≡◌, ℕ, ◌+◌, ◌==◌, ◌&&◌, Bool, true, if◌then◌else◌, refl, sym, ◌∙◌, ap, subst, arith, None, Some, List, [], ◌∷◌, length, replicate}
 use Rattle.std.proofs.lemmas.Bool.{eqb-true}
 use Rattle.std.proofs.lemmas.Option.{same_Some}
 use Rattle.disk_model.specs.Disk.{Content, Image, IsImage, Reads, last_image, newest_only, sector_in}
@@ -33,6 +33,7 @@ use Rattle.bitmap_model.proofs.CutOfLemmas.{standing_law}
 use Rattle.bitmap_model.proofs.OpeningLemmas.{opened_law}
 use Rattle.bitmap_model.proofs.WorkedDisk.{fresh, regions-one, KeepsCells-dirty}
 use Rattle.bitmap_laws.specs.CallLaws.{KeepsNow, StandsThrough, every_block, region_tags}
+use Rattle.bitmap_laws.specs.CloseLaws.{cleared_below}
 use Rattle.bitmap_laws.specs.Device.{IsBitmapDevice}
 use Rattle.bitmap_laws.specs.EventLaws.{after_read}
 use Rattle.bitmap_laws.specs.MomentLaws.{CanOpenNow, HasBlocksOf, IsOpenedOn}
@@ -40,6 +41,7 @@ use Rattle.bitmap_laws.specs.OwnTags.{KeepsDisk}
 use Rattle.bitmap_laws.specs.RecalcLaws.{TakesBelow}
 use Rattle.bitmap_laws.specs.ServeLaws.{KeepsDevice, Recalculates}
 use Rattle.bitmap_laws.proofs.CallLemmas.{block_read_law, kept_stands_law, still_law}
+use Rattle.bitmap_laws.proofs.CloseLemmas.{clear_begins_law, clear_skips_law}
 use Rattle.bitmap_laws.proofs.DeviceLemmas.{opening_law}
 use Rattle.bitmap_laws.proofs.EventLemmas.{quiet_events_law}
 use Rattle.bitmap_laws.proofs.MomentLemmas.{opening_done_law}
@@ -147,6 +149,11 @@ least-left = subst (λ (n : ℕ). least_region n set_bits ≡ Some 0) (sym regio
 pub KeepsDevice-recalculated : KeepsDevice format at_left (Step Recalc) entry waiting (after_recalculation waiting 0) start start
 KeepsDevice-recalculated =
     recalculated_law format at_left waiting 0 entry set_bits made_tags start start IsBitmapDevice-left HasBlocksOf-left refl least-left RegionTaken-left.0 RegionTaken-left.1
+
+-- ---- by none: a close leaves its bit set
+
+pub KeepsNow-skipped : KeepsNow (cleared_below waiting 1) set_bits told_tags start
+KeepsNow-skipped = clear_skips_law waiting 0 set_bits told_tags start (ap (λ (t : Bool). t && t) is_dirty-left ∙ sym is_dirty-left) (clear_begins_law waiting set_bits told_tags start KeepsNow-waiting)
 
 -- ---- by a read of block 5
 
