@@ -24,7 +24,7 @@ use Rattle.place_model.specs.Journal.{entries_in}
 use Rattle.place_model.specs.Kind.{CanOpenIn, MayBeLeftIn}
 use Rattle.place_model.specs.Opened.{awaiting_on, blocks_of, device_format, opened_on}
 use Rattle.place_model.proofs.FormatLemmas.{format_on-is, opens_tells}
-use Rattle.place_model.specs.Tags.{tag_byte_at}
+use Rattle.place_model.specs.Tags.{ReadsTags, tag_byte_at}
 use Rattle.place_model.proofs.JournalLemmas.{replayed_entries-plan}
 use Rattle.place_model.proofs.PlacedLemmas.{placed_tag-byte}
 use Rattle.place_model.proofs.WorkedDisk.{fresh_journal, journal_format, HasWholeSectors-journal}
@@ -39,19 +39,21 @@ use Rattle.device_laws.proofs.StepLemmas as Begins
 use Rattle.direct_model.specs.Opening
 use Rattle.direct_model.specs.Steps.{with_fields}
 use Rattle.direct_laws.specs.Device.{IsDirectDevice}
+use Rattle.direct_laws.specs.ReadLaws
 use Rattle.direct_laws.proofs.DeviceLemmas.{opening_law}
 use Rattle.direct_laws.proofs.ReadLemmas.{keeps_opened}
+use Rattle.change_model.specs.Fields.{with_head}
 use Rattle.change_model.proofs.BeginLemmas.{opened_keeps_law}
 use Rattle.recalculate_laws.specs.DirectStep.{EntersDirect}
 use Rattle.recalculate_laws.specs.Moments.{Making, HasRegionTags, awaiting_then, fields_then, head_then, tags_then}
 use Rattle.recalculate_laws.specs.JournalDisk
 use Rattle.recalculate_laws.specs.Recalculating.{KeepsAwaiting}
-use Rattle.recalculate_laws.specs.Position.{HasPosition, IsSamePosition}
+use Rattle.recalculate_laws.specs.Position.{HasPosition, IsSamePosition, moved_fields}
 use Rattle.recalculate_laws.specs.Step.{EntersRecalc}
 use Rattle.recalculate_laws.proofs.DeviceLemmas.{opened_awaits}
 use Rattle.recalculate_laws.proofs.RecalculatingLemmas.{awaiting_begins}
-use Rattle.recalculate_laws.proofs.DirectStepLemmas.{direct_moments_law, direct_done_law, direct_moves_law}
-use Rattle.recalculate_laws.proofs.StepLemmas.{recalc_moments_law, recalc_done_law, recalc_stays_law}
+use Rattle.recalculate_laws.proofs.DirectStepLemmas.{direct_moments_law, direct_done_law, direct_moves_law, direct_closing_law}
+use Rattle.recalculate_laws.proofs.StepLemmas.{recalc_moments_law, recalc_done_law, recalc_stays_law, closing_moves_law}
 
 -- ---- the disk
 
@@ -97,7 +99,7 @@ abbrev tags : ℕ → List ℕ
 tags b = (placed_cells_of format.geometry image b).tag
 
 -- Its second region awaits, and behind that the flag goes and the position is the end.
-least-direct : least_region (regions format.geometry) (awaiting_on Direct format image) ≡ Some 1
+pub least-direct : least_region (regions format.geometry) (awaiting_on Direct format image) ≡ Some 1
 unfolding region_awaits awaits regions_for
 least-direct = refl
 
@@ -166,18 +168,21 @@ module _ (known : superblock_of head ≡ Ok fields) where
     set = refl;
   }
 
-  -- The tags of a region are written back as they are.
+  -- Reads of the image give the tags in place,
+  ReadsTags-image : (c : Content) → last_image c ≡ image → ReadsTags format.geometry tags c
+  ReadsTags-image c same = record {
+    each = λ b i low i_low.
+        ap (λ (read : Image). slice_index (read (tag_byte_at format.geometry b i).0) (tag_byte_at format.geometry b i).1) same
+        ∙ sym (placed_tag-byte format.geometry 112 (opens_tells format image opens).is_geometry image HasWholeSectors-image b low (placed_cells_of format.geometry image b) i i_low);
+  }
+
+  -- so those of a region are written back as they are.
   HasRegionTags-image : (region : ℕ) (c : Content) → last_image c ≡ image → IsImage c (last_image c) → HasRegionTags format region tags c c
   HasRegionTags-image region c same reads = record {
     adds = OnlyAdds-none _ c;
     others = record { each = λ sector none. refl };
     reads = reads;
-    back = record {
-      each = λ b i low i_low.
-          ap (λ (read : Image). slice_index (read (tag_byte_at format.geometry b i).0) (tag_byte_at format.geometry b i).1) same
-          ∙ sym (placed_tag-byte format.geometry 112 (opens_tells format image opens).is_geometry image HasWholeSectors-image b low (placed_cells_of format.geometry image b) i i_low)
-          ∙ ap (λ (tag : List ℕ). slice_index tag i) (sym (then_same region c same b low));
-    };
+    back = record { each = λ b i low i_low. (ReadsTags-image c same).each b i low i_low ∙ ap (λ (tag : List ℕ). slice_index tag i) (sym (then_same region c same b low)) };
   }
 
   -- In direct mode,
@@ -208,6 +213,16 @@ module _ (known : superblock_of head ≡ Ok fields) where
       (with_fields (Opening.opened_disk format image) (fields_then format 1 (awaiting_on Direct format image)))
   done-direct = (direct_done_law (device_format Direct format) (opened_on Direct format image) (Opening.opened_disk format image) 1 tags (newest_only content) (newest_only content) EntersDirect-image
       (HasRegionTags-image 1 (newest_only content) refl (newest_only-last content))).0
+
+  -- A close moves the position as far as no region awaits, which is not at all here.
+  abbrev direct_fields : Superblock
+  direct_fields = moved_fields fields format.geometry (awaiting_on Direct format image)
+
+  pub closed-direct : ReadLaws.KeepsCells (with_fields (Opening.opened_disk format image) direct_fields) (awaiting_on Direct format image) tags
+      (newest_only (with_run 0 (with_head direct_fields head) (newest_only (newest_only content))))
+  closed-direct = (direct_closing_law (Opening.opened_disk format image) (opened_on Direct format image).history (awaiting_on Direct format image) tags image (newest_only content) (newest_only (newest_only content))
+      EntersDirect-image.device.history EntersDirect-image.keeps EntersDirect-image.image (ReadsTags-image (newest_only content) refl) EntersDirect-image.replayed position
+      (ap blocks_of (sym (format_on-is format image opens))) (OnlyAdds-none _ (newest_only (newest_only content)))).2
 
   -- In journal mode, as writing goes on in its journal,
   abbrev journaled : JournaledDisk
@@ -286,3 +301,12 @@ module _ (known : superblock_of head ≡ Ok fields) where
   stays-journal = recalc_stays_law (device_format Journal format) (opened_with all_regions) journaled (empty_ring format.geometry 0 1) 0 tags content content
       (enters all_regions 0 least-all (awaiting_begins journaled all_regions tags content KeepsCells-journaled (λ b low is. refl)))
       (HasRegionTags-image 0 content refl (newest_only-last content)) IsSamePosition-all
+
+  -- So does a close in journal mode.
+  abbrev journal_fields : Superblock
+  journal_fields = moved_fields fields format.geometry (awaiting_on Journal format image)
+
+  pub closed-journal : KeepsAwaiting (JournalDisk.with_fields journaled journal_fields) (awaiting_on Journal format image) tags (newest_only (with_run 0 (with_head journal_fields head) (newest_only content)))
+  closed-journal = (closing_moves_law (device_format Journal format) at_start.history at_start.progress.journal journaled (empty_ring format.geometry 0 1) (awaiting_on Journal format image) tags image content (newest_only content)
+      EntersRecalc-image.device EntersRecalc-image.keeps EntersRecalc-image.image (ReadsTags-image content refl) position (ap blocks_of (sym (format_on-is format image opens)))
+      (OnlyAdds-none _ (newest_only content))).3

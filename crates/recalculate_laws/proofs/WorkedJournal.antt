@@ -12,22 +12,29 @@ use Rattle.place_model.specs.Format.{tagger_of}
 use Rattle.place_model.specs.Journal.{entries_in}
 use Rattle.place_model.specs.Tags.{with_block_tag}
 use Rattle.place_model.proofs.WorkedDisk.{journal_format, fresh_journal, replayed_entries-fresh}
-use Rattle.journal_model.specs.JournaledDisk.{JournaledDisk}
-use Rattle.journal_model.specs.Steps.{IsBatch, IsNextEntry, batch_entries, after_commit, after_place}
+use Rattle.journal_model.specs.JournaledDisk.{JournaledDisk, Rests}
+use Rattle.journal_model.specs.Steps.{IsBatch, IsNextEntry, batch_entries, after_commit, after_place, after_settle}
 use Rattle.journal_model.proofs.WorkedDisk.{fresh, Rests-fresh, IsBatch-one}
+use Rattle.bitmap_laws.proofs.CallLemmas.{run_image}
 use Rattle.change_model.specs.Opened.{IsEmptiedOf}
 use Rattle.change_model.proofs.WorkedDisk.{content, tags, IsEmptiedOf-fresh, IsEmptyJournal-fresh}
 use Rattle.change_model.proofs.WorkedErasure.{KeepsCells-fresh, IsRecovered-fresh}
+use Rattle.recalculate_laws.specs.JournalDisk.{with_fields}
 use Rattle.recalculate_laws.specs.Recalculating.{KeepsAwaiting}
 use Rattle.recalculate_laws.proofs.ChangingLemmas.{recovered_changes}
-use Rattle.recalculate_laws.proofs.RecalculatingLemmas.{awaiting_committed, awaiting_placed}
+use Rattle.recalculate_laws.proofs.JournalDiskLemmas.{moved_rests}
+use Rattle.recalculate_laws.proofs.RecalculatingLemmas.{awaiting_committed, awaiting_placed, awaiting_back, awaiting_settled, awaiting_synced}
 
 -- Nothing is to be recalculated, so no region awaits.
-abbrev none : ℕ → Bool
+abbrev pub none : ℕ → Bool
 none region = false
 
-KeepsAwaiting-fresh : KeepsAwaiting fresh none tags content
+pub KeepsAwaiting-fresh : KeepsAwaiting fresh none tags content
 KeepsAwaiting-fresh = record { keeps = KeepsCells-fresh; made = λ b low waits rests. absurd (true≢false (sym waits)) }
+
+-- Under fields with another position its journal rests as before.
+pub Rests-moved : Rests (with_fields fresh (record fresh.superblock { recalc_sector = 8 }))
+Rests-moved = moved_rests fresh (record fresh.superblock { recalc_sector = 8 }) Rests-fresh
 
 -- ---- a commit of an entry of block 5
 
@@ -76,6 +83,18 @@ placing = with_run (data_at journal_format.geometry 5) entry.bytes (newest_only 
 
 pub KeepsAwaiting-placed : KeepsAwaiting (after_place committed) none (with_block_tag 5 entry.tag tags) placing
 KeepsAwaiting-placed = awaiting_placed committed none 5 entry tags (newest_only committing) placing KeepsAwaiting-committed IsNextEntry-first (OnlyAdds-none _ placing) (record { each = λ sector off. refl })
+
+-- No tag is marked, so none is written back, and then all is synced.
+pub KeepsAwaiting-back : KeepsAwaiting (after_place committed) none (with_block_tag 5 entry.tag tags) placing
+KeepsAwaiting-back = awaiting_back (after_place committed) none (with_block_tag 5 entry.tag tags) placing placing KeepsAwaiting-placed (OnlyAdds-none _ placing) (record { each = λ sector off. refl })
+
+pub KeepsAwaiting-synced : KeepsAwaiting (after_place committed) none (with_block_tag 5 entry.tag tags) (newest_only placing)
+KeepsAwaiting-synced = awaiting_synced (after_place committed) none (with_block_tag 5 entry.tag tags) placing KeepsAwaiting-back
+    (run_image (data_at journal_format.geometry 5) entry.bytes (newest_only committing) (newest_only-last committing))
+
+-- On the fresh disk all tags are in place, so a sync settles what is placed.
+pub KeepsAwaiting-settled : KeepsAwaiting (after_settle fresh) none tags (newest_only content)
+KeepsAwaiting-settled = awaiting_settled fresh none tags content KeepsAwaiting-fresh (newest_only-last content) IsEmptiedOf-fresh.emptied.reads
 
 -- ---- a change of mode
 

@@ -1,12 +1,12 @@
 -- Reads that take a region out of those that await, and steps that are idle then: in direct mode on a disk whose second region is
 -- to be recalculated, and in journal mode on a fresh disk of one region. So no law of these speaks of nothing.
-use Rattle.std.proofs.Common.{◌≡◌, ◌&&◌, not, Bool, true, false, if◌then◌else◌, is_some, refl, sym, ◌∙◌, ap, arith, None, length, replicate}
+use Rattle.std.proofs.Common.{◌≡◌, ℕ, ◌&&◌, not, Bool, true, false, if◌then◌else◌, is_some, refl, sym, ◌∙◌, ap, arith, None, length, replicate, Some, ◌<◌}
 use Rattle.std.proofs.lemmas.Bool.{true≢false}
 use Rattle.image_model.specs.Bitmap.{awaits, region_awaits}
 use Rattle.image_model.specs.Geometry.{regions, regions_for}
 use Rattle.device_model.specs.History.{cells_now}
 use Rattle.device_model.specs.Mode.{DeviceFormat, Direct, Journal}
-use Rattle.device_model.specs.Progress.{DeviceState, Submit, Serve, Step, Recalc, Idle, only_answers, opened_device, event_result, after_event}
+use Rattle.device_model.specs.Progress.{DeviceState, Submit, Serve, Step, Recalc, Idle, EventResult, only_answers, opened_device, step_regions, event_result, after_event}
 use Rattle.device_model.specs.Regions.{least_region, recalculated_region}
 use Rattle.device_model.specs.Request.{Request, Asked, newly_asked}
 use Rattle.device_model.specs.Submission.{Submission}
@@ -28,9 +28,9 @@ use Rattle.change_model.proofs.WorkedDisk.{content, tags}
 use Rattle.change_model.proofs.WorkedErasure.{same-cells, KeepsCells-fresh}
 use Rattle.recalculate_laws.specs.Device.{GivesWholeCell}
 use Rattle.recalculate_laws.specs.Recalculating.{KeepsAwaiting}
-use Rattle.recalculate_laws.proofs.DeviceLemmas.{read_regions_law, whole_read_law, recalc_idle_law}
-use Rattle.recalculate_laws.proofs.DirectDeviceLemmas.{direct_read_law, direct_idle_law}
-use Rattle.recalculate_laws.proofs.WorkedDevice.{format, image}
+use Rattle.recalculate_laws.proofs.DeviceLemmas.{read_regions_law, whole_read_law, recalc_law, recalc_did_law, recalc_idle_law}
+use Rattle.recalculate_laws.proofs.DirectDeviceLemmas.{direct_read_law, direct_recalc_law, direct_idle_law}
+use Rattle.recalculate_laws.proofs.WorkedDevice.{format, image, least-direct}
 
 -- ---- a read of block 5
 
@@ -57,6 +57,11 @@ IsDirectDevice-read = quiet_events_law direct (opened_on Direct format image) (S
 IsServed-direct : IsServed direct_read 0 asked
 IsServed-direct = record { works = refl; there = refl; unfinished = refl; unheld = refl }
 
+-- Its second region is the least that awaits, so a step would take it.
+pub recalculated-direct : (event_result direct (opened_on Direct format image) (Step Recalc) ≡ step_regions (opened_on Direct format image).progress (Some (recalculated_region 1 (opened_on Direct format image).progress.regions)))
+    × IsDirectDevice direct (after_event direct (opened_on Direct format image) (Step Recalc)) disk
+recalculated-direct = direct_recalc_law direct (opened_on Direct format image) disk 1 (opening_law format image refl) refl least-direct
+
 second-awaits : awaiting_on Direct format image 1 ≡ true
 unfolding region_awaits awaits
 second-awaits = refl
@@ -70,13 +75,13 @@ regions-direct =
     direct_read_law direct direct_read disk 0 asked 5 1 IsDirectDevice-read IsServed-direct refl
     ∙ ap (λ (t : Bool). if t then recalculated_region 1 direct_read.progress.regions else direct_read.progress.regions) second-awaits
 
-least-direct : least_region (regions format.geometry) direct_served.progress.regions.awaiting ≡ None
+none-direct : least_region (regions format.geometry) direct_served.progress.regions.awaiting ≡ None
 unfolding region_awaits awaits regions_for
-least-direct = refl
+none-direct = refl
 
 -- and no other does, so a step is idle.
 pub idle-direct : event_result direct direct_served (Step Recalc) ≡ only_answers direct_served.progress Idle
-idle-direct = direct_idle_law direct direct_served disk (serve_read_law direct direct_read disk 0 asked 5 1 IsDirectDevice-read IsServed-direct refl) refl least-direct
+idle-direct = direct_idle_law direct direct_served disk (serve_read_law direct direct_read disk 0 asked 5 1 IsDirectDevice-read IsServed-direct refl) refl none-direct
 
 -- ---- in journal mode
 
@@ -92,6 +97,20 @@ at_start = opened_device fresh.base 0 (λ region. false) (λ region. true)
 IsJournalDevice-start : IsJournalDevice journal at_start fresh ring
 IsJournalDevice-start = Begins.opening_law journal fresh fresh.base (λ region. false) (λ region. true) refl StandsFor-fresh.sound Rests-fresh (sym (ap length replayed_entries-fresh))
     (λ b low. same-cells b) (λ b low. refl)
+
+least-start : least_region (regions journal_format.geometry) at_start.progress.regions.awaiting ≡ Some 0
+unfolding regions_for
+least-start = refl
+
+-- A step would take its region.
+pub recalculated-journal : (event_result journal at_start (Step Recalc) ≡ step_regions at_start.progress (Some (recalculated_region 0 at_start.progress.regions)))
+    × IsJournalDevice journal (after_event journal at_start (Step Recalc)) fresh ring
+recalculated-journal = recalc_law journal at_start fresh ring 0 IsJournalDevice-start refl least-start
+
+-- It did something, so it took the least one.
+pub did-journal : (region : ℕ) × (region < regions fresh.geometry) × (at_start.progress.regions.awaiting region ≡ true) × ((before : ℕ) → before < region → at_start.progress.regions.awaiting before ≡ false)
+    × (event_result journal at_start (Step Recalc) ≡ step_regions at_start.progress (Some (recalculated_region region at_start.progress.regions)))
+did-journal = recalc_did_law journal at_start fresh ring IsJournalDevice-start (ap (λ (result : EventResult). result.answer) recalculated-journal.0)
 
 abbrev journal_read : DeviceState
 journal_read = after_event journal at_start (Submit submission)
@@ -118,13 +137,13 @@ regions-journal =
 IsJournalDevice-served : IsJournalDevice journal journal_served fresh ring
 IsJournalDevice-served = Events.serve_read_law journal journal_read fresh ring 0 asked 5 1 IsJournalDevice-read IsServed-journal refl
 
-least-journal : least_region (regions journal_format.geometry) journal_served.progress.regions.awaiting ≡ None
+none-journal : least_region (regions journal_format.geometry) journal_served.progress.regions.awaiting ≡ None
 unfolding regions_for
-least-journal = refl
+none-journal = refl
 
 -- a step is idle,
 pub idle-journal : event_result journal journal_served (Step Recalc) ≡ only_answers journal_served.progress Idle
-idle-journal = recalc_idle_law journal journal_served fresh ring IsJournalDevice-served refl least-journal
+idle-journal = recalc_idle_law journal journal_served fresh ring IsJournalDevice-served refl none-journal
 
 -- and the block has its cell in place, tag and all.
 KeepsAwaiting-served : KeepsAwaiting fresh journal_served.progress.regions.awaiting tags content
