@@ -5,22 +5,27 @@ use Rattle.image_model.specs.Bitmap.{is_bit_set}
 use Rattle.image_model.specs.Geometry.{bitmap_sectors_for, regions, regions_for}
 use Rattle.device_model.specs.History.{BlockWrite}
 use Rattle.device_model.specs.Mode.{Bitmap}
-use Rattle.device_model.specs.Progress.{DeviceState, Working, Closed, Submit, Serve, Step, FailedServe, FailedClose, Commit, Clean, Recalc, Idle, only_answers, is_used, event_result, after_event}
+use Rattle.device_model.specs.Progress.{DeviceState, Working, Closed, Submit, Serve, Step, FailedServe, FailedClose, Commit, Clean, Recalc, Idle, only_answers, is_used, event_result, after_event, Event}
 use Rattle.device_model.specs.Regions.{least_region}
 use Rattle.device_model.specs.Request.{Request, Asked, newly_asked}
 use Rattle.device_model.specs.Submission.{Submission}
 use Rattle.place_model.specs.Opened.{opened_on}
 use Rattle.place_model.proofs.WorkedDisk.{bitmap_format, fresh_bitmap}
 use Rattle.device_laws.specs.EventLaws.{IsServed, next_write}
+use Rattle.bitmap_model.specs.BitmapDisk.{BitmapDisk}
 use Rattle.bitmap_model.proofs.WorkedDisk.{fresh}
 use Rattle.bitmap_laws.specs.Device.{IsBitmapDevice, with_block, with_regions}
 use Rattle.bitmap_laws.specs.EventLaws.{may_be_cleared}
 use Rattle.bitmap_laws.proofs.DeviceLemmas.{other_regions_law}
-use Rattle.bitmap_laws.proofs.EventLemmas.{stopped_law, quiet_events_law, unserved_law, held_law, serve_write_law, clean_idle_law, recalc_idle_law, idle_law}
+use Rattle.bitmap_laws.proofs.EventLemmas.{stopped_law, quiet_events_law, unserved_law, held_law, serve_write_law, clean_idle_law, recalc_idle_law, idle_law, event_law}
 use Rattle.bitmap_laws.proofs.WorkedServe.{format, IsBitmapDevice-fresh}
 
 abbrev at_start : DeviceState
 at_start = opened_on Bitmap bitmap_format fresh_bitmap
+
+-- Whatever happens it is one on some disk of the same format.
+pub after-any : (event : Event) → (then_ : BitmapDisk) × (then_.format ≡ bitmap_format) × IsBitmapDevice format (after_event format at_start event) then_
+after-any event = event_law format at_start event fresh IsBitmapDevice-fresh
 
 -- ---- actors
 
