@@ -3,14 +3,14 @@
 use Rattle.std.proofs.Common.{◌≡◌, inl, inr, ℕ, ◌<◌, ◌≤◌, true, refl, sym, ◌∙◌, ap, arith, List, length, replicate, slice_index}
 use Rattle.std.proofs.lemmas.Bool.{cases_lt, true≢false}
 use Rattle.std.proofs.lemmas.List.{get_or-replicate, get_or_past, length-replicate}
-use Rattle.disk_model.specs.Disk.{Content, Image, last_image, newest_only, with_run}
+use Rattle.disk_model.specs.Disk.{Content, EachImage, Image, last_image, newest_only, with_run}
 use Rattle.disk_model.proofs.DiskLemmas.{newest_only-last}
 use Rattle.image_model.specs.Bitmap.{is_dirty}
 use Rattle.image_model.specs.Cells.{placed_cells_of}
-use Rattle.image_model.specs.Geometry.{region_of, entries_per_sector, entry_size, section_entries, section_sectors, sector_at, tag_at, tag_offset, tag_run_of}
+use Rattle.image_model.specs.Geometry.{region_of, regions, entries_per_sector, entry_size, section_entries, section_sectors, sector_at, tag_at, tag_offset, tag_run_of}
 use Rattle.image_model.specs.Sectors.{bytes_at}
 use Rattle.image_model.proofs.Regions.{region_of-lt}
-use Rattle.place_model.specs.Format.{HasWholeSectors}
+use Rattle.place_model.specs.Format.{HasCells, HasWholeSectors, cells_on}
 use Rattle.place_model.specs.Tags.{IsOfTags, tag_byte_at}
 use Rattle.place_model.proofs.WorkedDisk.{bitmap_format}
 use Rattle.bitmap_model.specs.BitmapDisk.{BitmapDisk, IsCutOf, bit_sector}
@@ -19,7 +19,7 @@ use Rattle.bitmap_model.specs.Steps.{AreTags, after_recalculation, with_dirty}
 use Rattle.bitmap_model.proofs.CutOfLemmas.{standing_law}
 use Rattle.bitmap_model.proofs.WorkedDisk.{content, dirty_sector, fresh, regions-one, KeepsCells-dirty}
 use Rattle.change_model.specs.FromBitmap.{IsRecalculating}
-use Rattle.change_model.proofs.BeginLemmas.{recalculating_begins, recalculating_tags, recalculating_region}
+use Rattle.change_model.proofs.BeginLemmas.{recalculating_begins, recalculating_tags, recalculating_region, recalculating_sync, recalculating_cut}
 use Rattle.change_model.proofs.WorkedChange.{has_run}
 
 -- ---- the image that is left
@@ -100,3 +100,12 @@ IsRecalculating-tags = recalculating_tags waiting entry placed_tags zero_tags st
 -- Once it has the tags of its bytes it awaits no more.
 pub IsRecalculating-region : IsRecalculating (after_recalculation waiting 0) entry start
 IsRecalculating-region = recalculating_region waiting entry 0 start is_dirty-left IsRecalculating-left
+
+-- A sync keeps it,
+pub IsRecalculating-synced : IsRecalculating waiting entry (newest_only start)
+IsRecalculating-synced = recalculating_sync waiting entry start IsRecalculating-left (newest_only-last left)
+
+-- and each image has the cells at opening meanwhile, with no other bit.
+pub HasCells-meanwhile : EachImage (λ image. HasCells bitmap_format (cells_on bitmap_format entry) image
+    × ((region : ℕ) → region < regions bitmap_format.geometry → is_dirty bitmap_format.geometry image region ≡ true → is_dirty bitmap_format.geometry entry region ≡ true)) start
+HasCells-meanwhile = recalculating_cut waiting entry start IsRecalculating-left
