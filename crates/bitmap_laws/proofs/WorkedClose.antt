@@ -1,5 +1,5 @@
 -- The fresh disk with its bit set: all is flushed, a clean clears the bit, and so does a close. No law of these speaks of nothing.
-use Rattle.std.proofs.Common.{◌≡◌, inl, inr, ℕ, ◌/◌, ◌%◌, ◌<◌, ◌==◌, ◌||◌, Bool, false, refl, sym, ◌∙◌, ap, subst, arith, Some, List, [], ◌∷◌, slice_index, replicate}
+use Rattle.std.proofs.Common.{◌≡◌, inl, inr, ℕ, ◌/◌, ◌%◌, ◌<◌, ◌==◌, ◌&&◌, ◌||◌, Bool, false, refl, sym, ◌∙◌, ap, subst, arith, Some, List, [], ◌∷◌, slice_index, replicate}
 use Rattle.std.specs.Int.{bit_at}
 use Rattle.std.proofs.lemmas.Bool.{cases_lt}
 use Rattle.std.proofs.lemmas.List.{get_or-replicate, get_or_past}
@@ -35,11 +35,12 @@ use Rattle.bitmap_laws.specs.Device.{IsBitmapDevice, with_regions}
 use Rattle.bitmap_laws.specs.EventLaws.{may_be_cleared, with_cleared}
 use Rattle.bitmap_laws.specs.MomentLaws.{HasBlocksOf}
 use Rattle.bitmap_laws.specs.ServeLaws.{ClearsBit, KeepsDevice}
-use Rattle.bitmap_laws.proofs.CallLemmas.{run_image, dirty_done_law, sync_kept_law, sync_law, through_law}
-use Rattle.bitmap_laws.proofs.CloseLemmas.{clear_begins_law, clear_turn_law, clear_ends_law, cleared_images_law, served_close_law, failed_clear_close_law}
+use Rattle.bitmap_laws.proofs.CallLemmas.{run_image, dirty_done_law, sync_kept_law, sync_law, through_law, still_law, kept_stands_law}
+use Rattle.bitmap_laws.proofs.CloseLemmas.{clear_begins_law, clear_skips_law, clear_turn_law, clear_ends_law, cleared_images_law, served_close_law, failed_clear_close_law, clear_stands_law}
 use Rattle.bitmap_laws.proofs.DeviceLemmas.{beginning_law}
 use Rattle.bitmap_laws.proofs.EventLemmas.{quiet_events_law}
-use Rattle.bitmap_laws.proofs.ServeLemmas.{all_flushed_law, bit_cleared_law, cleaned_law, served_flush_law}
+use Rattle.bitmap_laws.proofs.PromiseLemmas.{closed_bits_law}
+use Rattle.bitmap_laws.proofs.ServeLemmas.{all_flushed_law, bit_cleared_law, cleaned_law, served_flush_law, tags_kept_law}
 use Rattle.bitmap_laws.proofs.WorkedServe.{format, marked, old_tags, marked_dirty, before, with_bit, sectors-eight, KeepsNow-before, MakesDirty-region}
 
 -- ---- a device whose bit is set
@@ -157,6 +158,10 @@ WritesBack-none = record {
   gives = λ start told c told_c b low. refl;
 }
 
+-- So the disk stands as it did.
+pub KeepsNow-kept : StandsThrough dirty marked with_bit with_bit × KeepsNow dirty marked old_tags with_bit
+KeepsNow-kept = tags_kept_law dirty bitmap_format.geometry marked old_tags old_tags with_bit with_bit refl KeepsNow-dirty WritesBack-none
+
 -- A sync of contents whose reads are an image.
 Syncs-content : (start : Content) (h : List Content) → IsImage start (last_image start) → Syncs bitmap_format.geometry old_tags old_tags (start ∷ h) (newest_only start ∷ start ∷ h)
 Syncs-content start h image = record {
@@ -206,6 +211,16 @@ ClearTurn-dirty : StandsThrough (with_cleared closing) marked flushed cleared ×
 ClearTurn-dirty = clear_turn_law closing bitmap_format.geometry 0 marked (cleared_below closing 0).bits old_tags old_tags flushed cleared refl (λ r. refl) (omega (arith, regions-one)) is_dirty-fresh (λ r low. refl)
     (clear_begins_law closing marked old_tags flushed AllFlushed-dirty.1) (ClearsBit-first (cleared_below closing 0).bits (newest_only set_content) with_bit)
 
+-- Within the loop it stands for the one without all bits too.
+pub StandsThrough-within : StandsThrough (with_cleared closing) marked cleared cleared
+StandsThrough-within = clear_stands_law closing marked 1 cleared cleared (λ r. refl)
+    (still_law (cleared_below closing 1) marked cleared cleared refl (kept_stands_law (cleared_below closing 1) marked old_tags cleared ClearTurn-dirty.1))
+
+-- On the fresh disk, whose bit is clear, such a turn does nothing.
+pub KeepsNow-skipped : KeepsNow (cleared_below fresh 1) marked old_tags before
+KeepsNow-skipped = clear_skips_law fresh 0 marked old_tags before (ap (λ (t : Bool). t && fresh.awaiting 0) is_dirty-fresh ∙ sym is_dirty-fresh)
+    (clear_begins_law fresh marked old_tags before KeepsNow-before)
+
 KeepsNow-cleared : KeepsNow (with_cleared closing) marked old_tags cleared
 KeepsNow-cleared = clear_ends_law closing marked old_tags cleared (subst (λ (n : ℕ). KeepsNow (cleared_below closing n) marked old_tags cleared) (sym regions-one) ClearTurn-dirty.1)
 
@@ -226,6 +241,11 @@ KeepsDevice-closed =
 -- No bit is set in any image then.
 pub images-closed : HasNow (EachImage (λ image. (r : ℕ) → r < regions bitmap_format.geometry → is_dirty bitmap_format.geometry image r ≡ (with_cleared closing).bits r)) closed
 images-closed = cleared_images_law (with_cleared closing) marked old_tags cleared closed KeepsNow-cleared Syncs-cleared.image Syncs-cleared.synced
+
+-- What is left is what was set at opening and awaits still: none.
+pub bits-closed : (with_cleared closing).bits 0 ≡ (marked 0 && closing.awaiting 0)
+bits-closed = closed_bits_law closing marked (newest_only (without_bit (newest_only set_content))) 0
+    (let keeps = KeepsNow-closed (newest_only (without_bit (newest_only set_content))) refl in record { stands = keeps.cells.stands; own = keeps.own }) (omega (arith, regions-one))
 
 -- Where the disk fails behind the turn, it is closed all the same.
 pub KeepsDevice-failed_close : KeepsDevice format at_dirty FailedClose fresh_bitmap dirty (with_regions dirty (with_cleared closing).bits dirty.awaiting (λ r. false)) with_bit cleared

@@ -1,10 +1,10 @@
 -- The fresh disk, left with its bit set, is opened again: its region awaits, and is recalculated by a step, by a read, and by the
 -- loop over its blocks. No law of these speaks of nothing.
-use Rattle.std.proofs.Common.{◌≡◌, ℕ, ◌+◌, ◌==◌, Bool, true, if◌then◌else◌, refl, sym, ◌∙◌, ap, subst, arith, None, Some, List, [], ◌∷◌, length, replicate}
+use Rattle.std.proofs.Common.{◌≡◌, ℕ, ◌+◌, ◌==◌, ◌&&◌, Bool, true, if◌then◌else◌, refl, sym, ◌∙◌, ap, subst, arith, None, Some, List, [], ◌∷◌, length, replicate}
 use Rattle.std.proofs.lemmas.Bool.{eqb-true}
 use Rattle.std.proofs.lemmas.Option.{same_Some}
-use Rattle.disk_model.specs.Disk.{Content, Image, IsImage, Reads, last_image, newest_only, sector_in}
-use Rattle.disk_model.specs.Moments.{HasNow}
+use Rattle.disk_model.specs.Disk.{Content, Image, IsImage, Reads, last_image, newest_only, sector_in, EachImage}
+use Rattle.disk_model.specs.Moments.{HasNow, EachSince, EachMoment}
 use Rattle.disk_model.proofs.DiskLemmas.{newest_only-last, newest_only-pending, only_candidate, sector_in-one}
 use Rattle.disk_model.proofs.MomentsLemmas.{no_moment}
 use Rattle.image_model.specs.Bitmap.{is_dirty}
@@ -19,7 +19,7 @@ use Rattle.device_model.specs.Request.{Request, Asked, newly_asked}
 use Rattle.device_model.specs.Serial.{readable_cells}
 use Rattle.device_model.specs.Submission.{Submission}
 use Rattle.place_model.specs.Format.{HasWholeSectors, format_on, tagger_of}
-use Rattle.place_model.specs.Kind.{CanOpenIn}
+use Rattle.place_model.specs.Kind.{CanOpenIn, kind_in}
 use Rattle.place_model.specs.Opened.{blocks_of, opened_on}
 use Rattle.place_model.specs.Tags.{with_block_tag}
 use Rattle.place_model.proofs.FormatLemmas.{format_on-is, opens_tells}
@@ -33,20 +33,22 @@ use Rattle.bitmap_model.proofs.CutOfLemmas.{standing_law}
 use Rattle.bitmap_model.proofs.OpeningLemmas.{opened_law}
 use Rattle.bitmap_model.proofs.WorkedDisk.{fresh, regions-one, KeepsCells-dirty}
 use Rattle.bitmap_laws.specs.CallLaws.{KeepsNow, StandsThrough, every_block, region_tags}
+use Rattle.bitmap_laws.specs.CloseLaws.{cleared_below}
 use Rattle.bitmap_laws.specs.Device.{IsBitmapDevice}
 use Rattle.bitmap_laws.specs.EventLaws.{after_read}
 use Rattle.bitmap_laws.specs.MomentLaws.{CanOpenNow, HasBlocksOf, IsOpenedOn}
-use Rattle.bitmap_laws.specs.OwnTags.{KeepsDisk}
+use Rattle.bitmap_laws.specs.OwnTags.{KeepsDisk, KeepsTagsOf}
 use Rattle.bitmap_laws.specs.RecalcLaws.{TakesBelow}
 use Rattle.bitmap_laws.specs.ServeLaws.{KeepsDevice, Recalculates}
-use Rattle.bitmap_laws.proofs.CallLemmas.{block_read_law, kept_stands_law, still_law}
+use Rattle.bitmap_laws.proofs.CallLemmas.{block_read_law, kept_stands_law, still_law, own_through_law}
+use Rattle.bitmap_laws.proofs.CloseLemmas.{clear_begins_law, clear_skips_law}
 use Rattle.bitmap_laws.proofs.DeviceLemmas.{opening_law}
 use Rattle.bitmap_laws.proofs.EventLemmas.{quiet_events_law}
-use Rattle.bitmap_laws.proofs.MomentLemmas.{opening_done_law}
+use Rattle.bitmap_laws.proofs.MomentLemmas.{opening_done_law, opening_sync_law}
 use Rattle.bitmap_laws.proofs.OwnTagLemmas.{own_tags_begin}
-use Rattle.bitmap_laws.proofs.PromiseLemmas.{reopens_law}
-use Rattle.bitmap_laws.proofs.RecalcLemmas.{take_begins_law, take_ends_law, take_skips_law, take_turn_law}
-use Rattle.bitmap_laws.proofs.ServeLemmas.{region_taken_law, recalculated_law, served_read_law}
+use Rattle.bitmap_laws.proofs.PromiseLemmas.{reopens_law, awaiting_law}
+use Rattle.bitmap_laws.proofs.RecalcLemmas.{take_begins_law, take_ends_law, take_read_law, take_skips_law, take_stands_law, take_turn_law}
+use Rattle.bitmap_laws.proofs.ServeLemmas.{region_taken_law, recalculated_law, served_read_law, failed_region_law}
 use Rattle.bitmap_laws.proofs.WorkedServe.{format, marked_dirty}
 
 -- ---- the image that is left
@@ -113,6 +115,15 @@ pub IsOpenedOn-left : HasNow (λ c. IsOpenedOn None 112 (last_image c) found_tag
 IsOpenedOn-left = opening_done_law None 112 found_tags start (newest_only left ∷ start) (λ c told. subst (λ (x : Content). IsImage x (last_image x)) (same_Some left c told) (newest_only-last marked_dirty)) CanOpenNow-left refl
     (λ c told n low. refl)
 
+pub IsLeft-opening : EachSince (λ c. let image = last_image c in let kind = kind_in Bitmap None 112 in EachImage (kind.MayBeLeft image (kind.opened image).history)) start (newest_only left ∷ start)
+    × EachSince (λ c. let kind = kind_in Bitmap None 112 in EachImage kind.CanOpen) start (newest_only left ∷ start)
+IsLeft-opening = opening_sync_law None 112 start (newest_only left ∷ start) (λ c told. subst (λ (x : Content). IsImage x (last_image x)) (same_Some left c told) (newest_only-last marked_dirty)) CanOpenNow-left
+    (record { since = newest_only left ∷ []; grows = refl; each = (refl, tt) })
+
+-- What awaits has its bit set in the image.
+pub is_dirty-awaiting : is_dirty bitmap_format.geometry entry 0 ≡ true
+is_dirty-awaiting = awaiting_law bitmap_format entry [] 0 refl (omega (arith, regions-one)) ((IsBitmapDevice-left.regions refl).awaiting 0 (omega (arith, regions-one)) ∙ is_dirty-left)
+
 -- ---- its region is recalculated: all tags stay in memory
 
 abbrev maker : Tagger
@@ -136,6 +147,10 @@ Recalculates-left = record {
 RegionTaken-left : StandsThrough waiting set_bits start start × KeepsNow (after_recalculation waiting 0) set_bits made_tags start
 RegionTaken-left = region_taken_law waiting bitmap_format.geometry 0 maker set_bits told_tags made_tags start start refl (λ b bytes. refl) is_dirty-left KeepsNow-waiting Recalculates-left
 
+-- At each moment the tags of other regions stay.
+pub KeepsTagsOf-taken : EachMoment start start (EachImage (KeepsTagsOf waiting set_bits))
+KeepsTagsOf-taken = own_through_law waiting set_bits start start RegionTaken-left.0
+
 -- ---- by a step
 
 find_first : (test : ℕ → Bool) → test 0 ≡ true → least_region 1 test ≡ Some 0
@@ -147,6 +162,11 @@ least-left = subst (λ (n : ℕ). least_region n set_bits ≡ Some 0) (sym regio
 pub KeepsDevice-recalculated : KeepsDevice format at_left (Step Recalc) entry waiting (after_recalculation waiting 0) start start
 KeepsDevice-recalculated =
     recalculated_law format at_left waiting 0 entry set_bits made_tags start start IsBitmapDevice-left HasBlocksOf-left refl least-left RegionTaken-left.0 RegionTaken-left.1
+
+-- ---- by none: a close leaves its bit set
+
+pub KeepsNow-skipped : KeepsNow (cleared_below waiting 1) set_bits told_tags start
+KeepsNow-skipped = clear_skips_law waiting 0 set_bits told_tags start (ap (λ (t : Bool). t && t) is_dirty-left ∙ sym is_dirty-left) (clear_begins_law waiting set_bits told_tags start KeepsNow-waiting)
 
 -- ---- by a read of block 5
 
@@ -172,6 +192,10 @@ pub KeepsDevice-read : KeepsDevice format at_read (Serve 1) entry waiting (after
 KeepsDevice-read = served_read_law format at_read waiting 0 asked 5 1 entry set_bits start start start IsBitmapDevice-read HasBlocksOf-left IsServed-read refl RegionTaken-left.0
     (still_law (after_read waiting 5) set_bits start start refl (kept_stands_law (after_read waiting 5) set_bits made_tags start KeepsNow-read))
 
+-- Also where the disk fails before its region is done.
+pub KeepsDevice-failed : KeepsDevice format at_read (FailedServe 1) entry waiting waiting start start
+KeepsDevice-failed = failed_region_law format at_read waiting 0 asked 5 1 entry set_bits start start IsBitmapDevice-read HasBlocksOf-left IsServed-read refl RegionTaken-left.0
+
 data_at-fifth : data_at bitmap_format.geometry 5 ≡ 109
 unfolding data_at sector_at section_sectors section_entries entries_per_sector entry_size tag_run_of
 data_at-fifth = refl
@@ -189,7 +213,11 @@ Reads-block k low =
     let place : data_at bitmap_format.geometry 5 ≡ data_at bitmap_format.geometry 5 + 0 = omega arith in
     subst (λ (n : ℕ). sector_in block_bytes n ≡ last_image left (data_at bitmap_format.geometry 5 + n)) (sym first) (sector_in-one block_bytes 0 whole ∙ ap (last_image left) place)
 
--- It gives the block's cell by the history.
+-- It gives the bytes in place,
+pub placed-block : block_bytes ≡ (placed_cells_of bitmap_format.geometry entry 5).bytes
+placed-block = take_read_law bitmap_format.geometry 5 block_bytes left length-block Reads-block
+
+-- so the block's cell by the history.
 pub BlockRead-left : HasNow (λ c. let cell : Cell = record { bytes = block_bytes; tag = made_tags left 5 } in
     (readable_cells format (cells_now format.blocks.tag at_read.history) 5 ≡ cell)
     × (block_reply format.blocks.tag 5 (readable_cells format (cells_now format.blocks.tag at_read.history) 5) ≡ block_reply maker 5 cell)) start
@@ -219,6 +247,12 @@ TakesBelow-first : TakesBelow maker bitmap_format.geometry first_block 0 1 told_
 TakesBelow-first = take_turn_law maker bitmap_format.geometry first_block 112 0 0 put told_tags told_tags put_tags start start start (opens_tells bitmap_format entry cut.opens).is_geometry (omega arith) refl refl
     (take_begins_law maker bitmap_format.geometry first_block 0 0 told_tags start (λ b low same waits. omega arith))
     (λ c told. ap (λ (x : Content). maker 0 (placed_cells_of bitmap_format.geometry (last_image x) 0).bytes) (same_Some left c told)) PutsTag-first
+
+-- Meanwhile the disk stands for the same.
+pub StandsThrough-turn : StandsThrough waiting set_bits start start
+StandsThrough-turn = take_stands_law waiting maker bitmap_format.geometry 112 0 0 put set_bits told_tags told_tags start start start refl (λ b bytes. refl) is_dirty-left KeepsNow-waiting
+    (opens_tells bitmap_format entry cut.opens).is_geometry (omega arith) refl (take_begins_law maker bitmap_format.geometry every_block 0 0 told_tags start (λ b low same waits. omega arith))
+    (λ c told. ap (λ (x : Content). maker 0 (placed_cells_of bitmap_format.geometry (last_image x) 0).bytes) (same_Some left c told)) (no_moment start _)
 
 -- The next block does not await, nor does any behind it.
 pub Recalculates-first : Recalculates maker bitmap_format.geometry first_block 0 told_tags put_tags start start

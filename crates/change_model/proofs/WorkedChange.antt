@@ -3,7 +3,7 @@
 use Rattle.std.proofs.Common.{◌≡◌, inl, inr, ℕ, ◌+◌, ◌-◌, ◌*◌, ◌/◌, ◌<◌, ◌≤◌, refl, sym, ◌∙◌, ap, subst, arith, List, length, replicate}
 use Rattle.std.specs.List.{Contains}
 use Rattle.disk_model.specs.Disk.{Content, EachImage, Image, IsImage, last_image, newest_only, sector_in, with_run}
-use Rattle.disk_model.proofs.DiskLemmas.{last_image-with_run, last_image-with_run_out, newest_only-last, only_candidate, within_or_out}
+use Rattle.disk_model.proofs.DiskLemmas.{OnlyAdds-none, last_image-with_run, last_image-with_run_out, newest_only-last, only_candidate, within_or_out}
 use Rattle.image_model.specs.Cells.{placed_cells_of}
 use Rattle.image_model.specs.Geometry.{bitmap_sectors_for, entries_per_sector, entry_size, fitting_log2_region, regions_for, section_entries, section_sectors, tag_run_of}
 use Rattle.image_model.specs.Grid.{is_zero_sector}
@@ -15,9 +15,10 @@ use Rattle.place_model.proofs.WorkedDisk.{bitmap_format, fresh_bitmap, fresh_jou
 use Rattle.change_model.specs.Blanks.{BlanksCount}
 use Rattle.change_model.specs.Change.{HasWritten, IsOfFilling, IsOfHead, IsOfRest, IsOfZeros, ModeChange, new_bitmap, old_bitmap}
 use Rattle.change_model.specs.Ends.{IsNewBitmap, IsNewJournal, format_after}
-use Rattle.change_model.specs.Opened.{bitmap_change, bitmap_head, journal_change, journal_head}
-use Rattle.change_model.specs.Whole.{FillsSectors, WritesHead, WritesRest, ZeroesSectors}
-use Rattle.change_model.proofs.OpenedLemmas.{opens_bitmap_done, opens_journal_done}
+use Rattle.change_model.specs.Fields.{KeepsRest}
+use Rattle.change_model.specs.Opened.{KeepsEntry, bitmap_change, bitmap_head, journal_change, journal_head, rest_of}
+use Rattle.change_model.specs.Whole.{FillsSectors, Marked, Unmarking, WritesHead, WritesRest, ZeroesSectors}
+use Rattle.change_model.proofs.OpenedLemmas.{opens_bitmap_done, opens_bitmap_moments, opens_journal_done, opens_journal_moments}
 use Rattle.change_model.proofs.PlacedLemmas.{journal_inside}
 use Rattle.change_model.proofs.WorkedDisk.{fresh, content, tags, sectors-is, bitmap_content, bitmap_disk, bitmap_tags, IsEntry-fresh, IsEmptiedOf-fresh, IsHeadOf-fresh, IsEntry-bitmap, IsRecalculatedOf-fresh, IsEmptyJournal-written, IsHeadOf-journal}
 
@@ -124,6 +125,13 @@ NewBitmap-fresh counts =
     (writes_head (bitmap_head journal_format (fresh_journal 0)) (IsHeadOf-fresh counts).size zeroed (newest_only-last (newest_only (with_run 8 (bytes_at zero_image 8 8) start))))
     (λ b low. refl)
 
+-- At each moment, such as at its end, each image keeps blocks and cells of the one at entry, and what follows its fields.
+pub KeepsEntry-marked : BlanksCount journal_format.geometry → EachImage (KeepsEntry journal_format fresh_journal) marked × KeepsRest (rest_of content) marked
+KeepsEntry-marked counts =
+    opens_bitmap_moments journal_format fresh_journal fresh 0 tags content marked IsEntry-fresh refl counts IsEmptiedOf-fresh (newest_only-last content)
+    (Marked zeroed (zeroes_sectors to_bitmap refl (new_bitmap to_bitmap) new-eight start (newest_only-last content))
+    (writes_head (bitmap_head journal_format (fresh_journal 0)) (IsHeadOf-fresh counts).size zeroed (newest_only-last (newest_only (with_run 8 (bytes_at zero_image 8 8) start)))))
+
 -- ---- from a bitmap to a journal
 
 abbrev to_journal : ModeChange
@@ -192,3 +200,10 @@ NewJournal-fresh counts =
     (writes_head (journal_head bitmap_format (fresh_bitmap 0)) (IsHeadOf-journal counts).size emptied (newest_only-last (newest_only (with_run 16 (bytes_at fresh_journal 16 80) cleared))))
     (fills_sectors unmarked (newest_only-last (newest_only (with_run 0 (bytes_at (head_image (journal_head bitmap_format (fresh_bitmap 0))) 0 1) emptied))))
     (λ b low. refl)
+
+-- At each moment, such as before the superblock is written, each image keeps blocks and cells here too.
+pub KeepsEntry-emptied : BlanksCount bitmap_format.geometry → EachImage (KeepsEntry bitmap_format fresh_bitmap) emptied × KeepsRest (rest_of bitmap_content) emptied
+KeepsEntry-emptied counts =
+    opens_journal_moments bitmap_format fresh_bitmap bitmap_disk fresh_journal bitmap_tags bitmap_content emptied IsEntry-bitmap refl counts IsEmptyJournal-written IsRecalculatedOf-fresh (newest_only-last bitmap_content)
+    (Unmarking cleared emptied (zeroes_sectors to_journal same-places (old_bitmap to_journal) old-eight bitmap_start (newest_only-last bitmap_content))
+    (writes_rest cleared (newest_only-last (newest_only (with_run 8 (bytes_at zero_image 8 8) bitmap_start)))) (OnlyAdds-none _ emptied))

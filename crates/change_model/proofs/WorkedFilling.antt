@@ -2,7 +2,7 @@
 -- its journal. So no law of that speaks of nothing.
 use Rattle.std.proofs.Common.{◌≡◌, inl, inr, ℕ, ◌+◌, ◌-◌, ◌<◌, ◌≤◌, ◌==◌, ◌&&◌, nat_lt, Bool, true, false, if◌then◌else◌, refl, sym, ◌∙◌, ap, subst, arith, Ok, List, [], ◌∷◌, length}
 use Rattle.std.proofs.lemmas.Bool.{cases_lt, cases_Bool, lt-ltb, ltb-true}
-use Rattle.disk_model.specs.Disk.{Content, last_image, newest_only, with_run}
+use Rattle.disk_model.specs.Disk.{Content, EachImage, last_image, newest_only, with_run}
 use Rattle.disk_model.proofs.DiskLemmas.{last_image-with_run_out, newest_only-last, only_candidate}
 use Rattle.image_model.specs.Below.{all_below}
 use Rattle.image_model.specs.Cells.{placed_cells_of, replayed_entries}
@@ -12,18 +12,20 @@ use Rattle.image_model.specs.Scan.{blank_plan, walk_of_grid}
 use Rattle.image_model.proofs.BelowLemmas.{all_at}
 use Rattle.image_model.proofs.SectorLemmas.{length-bytes_at}
 use Rattle.image_model.specs.Sectors.{bytes_at}
+use Rattle.image_model.specs.declared.journal_plan.Plan.{Plan}
 use Rattle.place_model.specs.Format.{HasWholeSectors, OpensAs}
+use Rattle.place_model.specs.Journal.{HasNothingToReplay}
 use Rattle.place_model.proofs.FormatLemmas.{opens_tells}
 use Rattle.place_model.proofs.JournalLemmas.{replayed_entries-plan}
 use Rattle.place_model.proofs.WorkedDisk.{fresh_bitmap, fresh_journal, journal_format, HasWholeSectors-bitmap, HasWholeSectors-journal, OpensAs-journal}
-use Rattle.journal_model.specs.JournaledDisk.{JournaledDisk}
+use Rattle.journal_model.specs.JournaledDisk.{JournaledDisk, IsCutOf, Rests, StandsFor}
 use Rattle.journal_model.specs.Opening.{opened_disk}
 use Rattle.journal_model.specs.Recovery.{IsRecovered}
 use Rattle.journal_model.specs.Steps.{KeepsCells}
-use Rattle.change_model.specs.Blanks.{BlanksCount}
-use Rattle.change_model.specs.Filling.{IsBlankDisk, IsOfBlank, KeepsPlaces, ReadsFilled, StandsFilling}
+use Rattle.change_model.specs.Blanks.{BlanksCount, IsBlankState}
+use Rattle.change_model.specs.Filling.{IsBlankDisk, IsOfBlank, KeepsPlaces, ReadsFilled, StandsFilling, after_filling}
 use Rattle.change_model.proofs.BeginLemmas.{opened_keeps_law}
-use Rattle.change_model.proofs.FillingLemmas.{filled_recovered, filling_begins, filling_goes_on}
+use Rattle.change_model.proofs.FillingLemmas.{filled_recovered, filling_begins, filling_cut, filling_ends, filling_goes_on}
 use Rattle.change_model.proofs.PlacedLemmas.{journal_inside}
 use Rattle.change_model.proofs.WorkedBlanks.{unmarked, walk_of-unmarked}
 use Rattle.change_model.proofs.WorkedChange.{has_run, on_journal, reads_run}
@@ -129,6 +131,15 @@ module _ (counts : BlanksCount journal_format.geometry) where
 
   KeepsPlaces-last : KeepsPlaces blank content last
   KeepsPlaces-last = record { each = λ sector off. out_of_run sector (λ above under. off (on_journal sector above (omega arith))) }
+
+  -- A cut before the sync leaves the same cells, with nothing to replay,
+  pub IsCutOf-filling : EachImage (λ image. IsCutOf blank [] image × HasNothingToReplay journal_format.geometry image
+      × ((plan : Plan) × (walk_of journal_format.geometry image ≡ Ok plan) × IsBlankState journal_format.geometry image 0 plan.state)) last
+  IsCutOf-filling = filling_cut blank 0 fresh_journal last StandsFilling-last
+
+  -- and behind it the journal is at rest.
+  pub Rests-filled : StandsFor (after_filling blank 0 fresh_journal) (newest_only last) × Rests (after_filling blank 0 fresh_journal)
+  Rests-filled = filling_ends blank 0 fresh_journal last StandsFilling-last (newest_only-last (with_run 8 (bytes_at fresh_journal 8 8) content)) ReadsFilled-last
 
   -- Writing goes on at the journal's start, with the number 1.
   pub IsRecovered-filled : IsRecovered blank 0 1 tags (newest_only last)
