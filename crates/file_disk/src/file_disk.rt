@@ -9,28 +9,71 @@ ghost use Rattle.disk_model.specs.Moments.{EachSince, HasNow, IsChangedBy, conte
 ghost use Rattle.file_disk.specs.Files.{TellsSame, named_as, no_disk, of_file};
 
 use crate::transfer::{open_file, read_all, sync_all, write_all};
-use crate::{Folder, SectorFile};
+use crate::{Access, Folder, SectorFile};
 use sector_disk::{Counted, Disk, Failed, Named};
 
 /// The whole sectors of a file. It has none until it is bound to the file's name, and then it is bound to no other: a
-/// `bind` to the same name changes nothing, and one to another name is a fault.
+/// `bind` to the same name changes nothing, and one to another name is a fault. So is a `bind` of one that is bound for
+/// reads alone; one that is bound for writes serves for reads too.
 #[derive(Drop)]
 pub struct FileDisk<O: Folder + Drop> {
     folder: O,
     file: Option<O::File>,
+    /// What the file was opened for.
+    access: Access,
     faults: u64,
 }
 
 impl<O: Folder + Drop> FileDisk<O> {
     /// Makes a disk that is bound to no file. It opens none.
     pub fn new(folder: O) -> FileDisk<O>
-        ensures { result ≡ record { folder = folder; file = None; faults = 0 } }
+        ensures { result ≡ record { folder = folder; file = None; access = Access.Read; faults = 0 } }
     {
         FileDisk {
             folder,
             file: None,
+            access: Access::Read,
             faults: 0,
         }
+    }
+
+    /// Binds it to a name, for reads alone or for writes too.
+    ///
+    /// # Errors
+    ///
+    /// - `Failed`: it is bound to another name, or for less, or the folder failed.
+    fn bind_for(&mut self, name: &str, access: Access) -> Result<(), Failed>
+        ensures bound { OnOk result
+            (IsBoundTo name.now (of_file no_disk O.File.identity self.new.file).name) }
+        ensures access { OnOk result ((self.new.access ≡ Access.Write) ⊎ (access ≡ Access.Read)) }
+        ensures again { IsBoundTo name.now (of_file no_disk O.File.identity self.old.file).name
+            → (self.old.access ≡ Access.Write) ⊎ (access ≡ Access.Read)
+            → IsOk result × (self.new ≡ self.old) }
+
+        ensures fails { OnErr result (IsSome self.old.file
+            ⊎ Rose (O.faults self.old.folder) (O.faults self.new.folder)) }
+        ensures cause { HasCause
+            (self.old.faults + (O.faults self.old.folder + of_file 0 O.File.faults self.old.file))
+            (self.new.faults + (O.faults self.new.folder + of_file 0 O.File.faults self.new.file)) result }
+
+        ensures same { TellsSame
+            (named_as O.File.identity O.File.moments (O.named self.old.folder name.now) self.old.file)
+            (named_as O.File.identity O.File.moments (O.named self.new.folder name.now) self.new.file) }
+    {
+        if let Some(file) = &self.file
+            && file.has_name(name)
+            && self.access.serves(access)
+        {
+            return Ok(());
+        }
+        if self.file.is_some() {
+            self.faults = self.faults.saturating_add(1);
+            return Err(Failed);
+        }
+        let file = open_file(&mut self.folder, name, access)?;
+        self.file = Some(file);
+        self.access = access;
+        Ok(())
     }
 }
 
@@ -48,6 +91,26 @@ impl<O: Folder + Drop> Named for FileDisk<O> {
     fn bind(&mut self, name: &str) -> Result<(), Failed>
         ensures bound { OnOk result
             (IsBoundTo name.now (of_file no_disk O.File.identity self.new.file).name) }
+        ensures access { OnOk result (self.new.access ≡ Access.Write) }
+        ensures again { IsBoundTo name.now (of_file no_disk O.File.identity self.old.file).name
+            → self.old.access ≡ Access.Write → IsOk result × (self.new ≡ self.old) }
+
+        ensures fails { OnErr result (IsSome self.old.file
+            ⊎ Rose (O.faults self.old.folder) (O.faults self.new.folder)) }
+        ensures cause { HasCause
+            (self.old.faults + (O.faults self.old.folder + of_file 0 O.File.faults self.old.file))
+            (self.new.faults + (O.faults self.new.folder + of_file 0 O.File.faults self.new.file)) result }
+
+        ensures same { TellsSame
+            (named_as O.File.identity O.File.moments (O.named self.old.folder name.now) self.old.file)
+            (named_as O.File.identity O.File.moments (O.named self.new.folder name.now) self.new.file) }
+    {
+        self.bind_for(name, Access::Write)
+    }
+
+    fn bind_to_read(&mut self, name: &str) -> Result<(), Failed>
+        ensures bound { OnOk result
+            (IsBoundTo name.now (of_file no_disk O.File.identity self.new.file).name) }
         ensures again { IsBoundTo name.now (of_file no_disk O.File.identity self.old.file).name
             → IsOk result × (self.new ≡ self.old) }
 
@@ -61,18 +124,7 @@ impl<O: Folder + Drop> Named for FileDisk<O> {
             (named_as O.File.identity O.File.moments (O.named self.old.folder name.now) self.old.file)
             (named_as O.File.identity O.File.moments (O.named self.new.folder name.now) self.new.file) }
     {
-        if let Some(file) = &self.file
-            && file.has_name(name)
-        {
-            return Ok(());
-        }
-        if self.file.is_some() {
-            self.faults = self.faults.saturating_add(1);
-            return Err(Failed);
-        }
-        let file = open_file(&mut self.folder, name)?;
-        self.file = Some(file);
-        Ok(())
+        self.bind_for(name, Access::Read)
     }
 }
 

@@ -1,7 +1,7 @@
 //! What is asked of a file, and of the folder that opens it.
 //!
 //! Each call is one call of the system, which may be interrupted by a signal, or do a part of what it is asked.
-ghost use Rattle.std.specs.Prelude.{◌≡◌, ◌↔◌, ◌≤◌, ◌*◌, ◌/◌, ◌^◌, ◌<◌, List, ℕ, length, take, IsTrue, IfOk, OnOk, OnErr, Some};
+ghost use Rattle.std.specs.Prelude.{◌≡◌, ◌⊎◌, ◌↔◌, ◌≤◌, ◌*◌, ◌/◌, ◌^◌, ◌<◌, List, ℕ, length, take, IsTrue, IfOk, OnOk, OnErr, Some};
 ghost use Rattle.std.specs.List.{Contains};
 ghost use Rattle.disk_model.specs.Disk.{Content, IsImage, Reads, AddsSome, with_run, newest_only, last_image};
 ghost use Rattle.disk_model.specs.Identity.{DiskIdentity, IsBoundTo, IsThere, NamedDisk};
@@ -15,6 +15,24 @@ pub enum FileFault {
     Interrupted,
     /// The system failed.
     Failed,
+}
+
+/// What a file is opened for.
+#[derive(Clone, Copy, Debug, PartialEq, Eq)]
+pub enum Access {
+    /// Reads alone. Others may read it at the same time, and nobody may write it.
+    Read,
+    /// Reads and writes. Nobody else has it.
+    Write,
+}
+
+impl Access {
+    /// Whether what was opened for this serves for the other too.
+    pub fn serves(self, wanted: Access) -> bool
+        ensures { IsTrue result ↔ ((self ≡ Access.Write) ⊎ (wanted ≡ Access.Read)) }
+    {
+        self == Access::Write || wanted == Access::Read
+    }
 }
 
 /// A file that is open, as whole sectors of 512 bytes. What stands behind them is neither seen nor changed.
@@ -125,14 +143,15 @@ pub trait Folder {
     /// What has this name. Where the folder does not tell it, it has no moment.
     ghost named: { Self → List ℕ → NamedDisk };
 
-    /// Opens the file of this name for reads and writes, or for reads alone where it can't be written, and locks it:
-    /// until it is dropped nobody else gets it.
+    /// Opens the file of this name, and locks it until it is dropped: for reads alone beside others that read it, or for
+    /// reads and writes, and then nobody else gets it. One that can't be written is opened for reads in either case.
     ///
     /// # Errors
     ///
     /// - `Interrupted`: nothing was done.
-    /// - `Failed`: there is no such file, or somebody has locked it, or the system failed.
-    fn open(&mut self, name: &str) -> Result<Self::File, FileFault>
+    /// - `Failed`: there is no such file, or it can't be read by sectors, or somebody has locked it or uses it, or the
+    ///   system failed.
+    fn open(&mut self, name: &str, access: Access) -> Result<Self::File, FileFault>
         ensures bound { IfOk result (λ file. IsBoundTo name.now (Self.File.identity file).name) }
         ensures found { IfOk result (λ file. IsThere (named self.old name.now)
             (Self.File.identity file).sectors (Self.File.moments file)) }

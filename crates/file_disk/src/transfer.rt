@@ -8,7 +8,7 @@ ghost use Rattle.disk_model.specs.Identity.{IsBoundTo, IsThere};
 ghost use Rattle.disk_model.specs.Moments.{EachSince, HasNow, IsChangedBy};
 ghost use Rattle.file_disk.specs.Files.{IsFileRun};
 
-use crate::{FileFault, Folder, SectorFile};
+use crate::{Access, FileFault, Folder, SectorFile};
 use sector_disk::Failed;
 
 /// Reads whole sectors from byte `from` on. What a failed read leaves in the buffer is open.
@@ -130,7 +130,7 @@ pub fn sync_all<F: SectorFile>(file: &mut F) -> Result<(), Failed>
 /// # Errors
 ///
 /// - `Failed`: the folder failed.
-pub fn open_file<O: Folder>(folder: &mut O, name: &str) -> Result<O::File, Failed>
+pub fn open_file<O: Folder>(folder: &mut O, name: &str, access: Access) -> Result<O::File, Failed>
     ensures bound { IfOk result (λ file. IsBoundTo name.now (O.File.identity file).name) }
     ensures found { IfOk result (λ file. IsThere (O.named folder.old name.now)
         (O.File.identity file).sectors (O.File.moments file)) }
@@ -140,7 +140,7 @@ pub fn open_file<O: Folder>(folder: &mut O, name: &str) -> Result<O::File, Faile
     ensures err { OnErr result ((other : List ℕ) → O.named folder.new other ≡ O.named folder.old other) }
 {
     loop {
-        match folder.open(name) {
+        match folder.open(name, access) {
             Ok(file) => return Ok(file),
             Err(FileFault::Interrupted) => {}
             Err(FileFault::Failed) => return Err(Failed),
