@@ -19,20 +19,17 @@ use sector_disk::{Counted, Disk, Failed, Named};
 pub struct FileDisk<O: Folder + Drop> {
     folder: O,
     file: Option<O::File>,
-    /// What the file was opened for.
-    access: Access,
     faults: u64,
 }
 
 impl<O: Folder + Drop> FileDisk<O> {
     /// Makes a disk that is bound to no file. It opens none.
     pub fn new(folder: O) -> FileDisk<O>
-        ensures { result ≡ record { folder = folder; file = None; access = Access.Read; faults = 0 } }
+        ensures { result ≡ record { folder = folder; file = None; faults = 0 } }
     {
         FileDisk {
             folder,
             file: None,
-            access: Access::Read,
             faults: 0,
         }
     }
@@ -45,10 +42,14 @@ impl<O: Folder + Drop> FileDisk<O> {
     fn bind_for(&mut self, name: &str, access: Access) -> Result<(), Failed>
         ensures bound { OnOk result
             (IsBoundTo name.now (of_file no_disk O.File.identity self.new.file).name) }
-        ensures access { OnOk result ((self.new.access ≡ Access.Write) ⊎ (access ≡ Access.Read)) }
+        ensures access { OnOk result
+            ((of_file Access.Read O.File.access self.new.file ≡ Access.Write) ⊎ (access ≡ Access.Read)) }
+        ensures opened { OnOk result (IsSome self.old.file
+            ⊎ of_file Access.Read O.File.access self.new.file ≡ access) }
         ensures again { IsBoundTo name.now (of_file no_disk O.File.identity self.old.file).name
-            → (self.old.access ≡ Access.Write) ⊎ (access ≡ Access.Read)
+            → (of_file Access.Read O.File.access self.old.file ≡ Access.Write) ⊎ (access ≡ Access.Read)
             → IsOk result × (self.new ≡ self.old) }
+        ensures kept { IsSome self.old.file → self.new.file ≡ self.old.file }
 
         ensures fails { OnErr result (IsSome self.old.file
             ⊎ Rose (O.faults self.old.folder) (O.faults self.new.folder)) }
@@ -62,7 +63,7 @@ impl<O: Folder + Drop> FileDisk<O> {
     {
         if let Some(file) = &self.file
             && file.has_name(name)
-            && self.access.serves(access)
+            && file.access().serves(access)
         {
             return Ok(());
         }
@@ -72,7 +73,6 @@ impl<O: Folder + Drop> FileDisk<O> {
         }
         let file = open_file(&mut self.folder, name, access)?;
         self.file = Some(file);
-        self.access = access;
         Ok(())
     }
 }
@@ -91,9 +91,11 @@ impl<O: Folder + Drop> Named for FileDisk<O> {
     fn bind(&mut self, name: &str) -> Result<(), Failed>
         ensures bound { OnOk result
             (IsBoundTo name.now (of_file no_disk O.File.identity self.new.file).name) }
-        ensures access { OnOk result (self.new.access ≡ Access.Write) }
+        ensures access { OnOk result (of_file Access.Read O.File.access self.new.file ≡ Access.Write) }
         ensures again { IsBoundTo name.now (of_file no_disk O.File.identity self.old.file).name
-            → self.old.access ≡ Access.Write → IsOk result × (self.new ≡ self.old) }
+            → of_file Access.Read O.File.access self.old.file ≡ Access.Write
+            → IsOk result × (self.new ≡ self.old) }
+        ensures kept { IsSome self.old.file → self.new.file ≡ self.old.file }
 
         ensures fails { OnErr result (IsSome self.old.file
             ⊎ Rose (O.faults self.old.folder) (O.faults self.new.folder)) }
@@ -111,8 +113,11 @@ impl<O: Folder + Drop> Named for FileDisk<O> {
     fn bind_to_read(&mut self, name: &str) -> Result<(), Failed>
         ensures bound { OnOk result
             (IsBoundTo name.now (of_file no_disk O.File.identity self.new.file).name) }
+        ensures opened { OnOk result (IsSome self.old.file
+            ⊎ of_file Access.Read O.File.access self.new.file ≡ Access.Read) }
         ensures again { IsBoundTo name.now (of_file no_disk O.File.identity self.old.file).name
             → IsOk result × (self.new ≡ self.old) }
+        ensures kept { IsSome self.old.file → self.new.file ≡ self.old.file }
 
         ensures fails { OnErr result (IsSome self.old.file
             ⊎ Rose (O.faults self.old.folder) (O.faults self.new.folder)) }
@@ -159,6 +164,8 @@ impl<O: Folder + Drop> Disk for FileDisk<O> {
 
         ensures identity { of_file no_disk O.File.identity self.new.file
             ≡ of_file no_disk O.File.identity self.old.file }
+        ensures access { of_file Access.Read O.File.access self.new.file
+            ≡ of_file Access.Read O.File.access self.old.file }
         ensures kept { of_file [] O.File.moments self.new.file ≡ of_file [] O.File.moments self.old.file }
     {
         match &mut self.file {
@@ -184,6 +191,8 @@ impl<O: Folder + Drop> Disk for FileDisk<O> {
 
         ensures identity { of_file no_disk O.File.identity self.new.file
             ≡ of_file no_disk O.File.identity self.old.file }
+        ensures access { of_file Access.Read O.File.access self.new.file
+            ≡ of_file Access.Read O.File.access self.old.file }
 
         ensures moments { EachSince (AddsSome at bytes.now)
             (of_file [] O.File.moments self.old.file) (of_file [] O.File.moments self.new.file) }
@@ -212,6 +221,8 @@ impl<O: Folder + Drop> Disk for FileDisk<O> {
 
         ensures identity { of_file no_disk O.File.identity self.new.file
             ≡ of_file no_disk O.File.identity self.old.file }
+        ensures access { of_file Access.Read O.File.access self.new.file
+            ≡ of_file Access.Read O.File.access self.old.file }
 
         ensures moments { EachSince (λ start c. c ≡ newest_only start)
             (of_file [] O.File.moments self.old.file) (of_file [] O.File.moments self.new.file) }

@@ -7,6 +7,7 @@ ghost use Rattle.disk_model.specs.Disk.{Content, IsImage, Reads, AddsSome, with_
 ghost use Rattle.disk_model.specs.Identity.{DiskIdentity, IsBoundTo, IsThere, NamedDisk};
 ghost use Rattle.disk_model.specs.Moments.{EachSince, HasNow, IsChangedBy, content_now};
 ghost use Rattle.file_disk.specs.Files.{HasFileCause, IsFileRun, IsPart};
+ghost use Rattle.file_disk.specs.declared.sector_file.Access.{Access};
 
 /// Why a call of a file did not do its work.
 #[derive(Clone, Copy, Debug, PartialEq, Eq)]
@@ -44,6 +45,9 @@ pub trait SectorFile {
     /// has none: then no clause speaks of it.
     ghost moments: { Self → List Content };
 
+    /// What it was opened for.
+    ghost access: { Self → Access };
+
     /// How often it has failed.
     ghost faults: { Self → ℕ };
 
@@ -57,6 +61,10 @@ pub trait SectorFile {
     /// Whether it was opened by this name.
     fn has_name(&self, name: &str) -> bool
         ensures { IsTrue result ↔ IsBoundTo name.now (identity self.now).name };
+
+    /// What it was opened for.
+    fn access(&self) -> Access
+        ensures { result ≡ access self.now };
 
     /// Reads from byte `from` on into the front of the buffer, and tells how many bytes: whole sectors.
     ///
@@ -74,6 +82,7 @@ pub trait SectorFile {
             (interruptions self.old) (interruptions self.new) result }
 
         ensures identity { identity self.new ≡ identity self.old }
+        ensures access { access self.new ≡ access self.old }
         ensures kept { moments self.new ≡ moments self.old };
 
     /// Writes from the front of these bytes, from byte `from` on, and tells how many: whole sectors. They become
@@ -95,6 +104,7 @@ pub trait SectorFile {
         ensures interrupted { result ≡ Err FileFault.Interrupted → moments self.new ≡ moments self.old }
 
         ensures identity { identity self.new ≡ identity self.old }
+        ensures access { access self.new ≡ access self.old }
 
         ensures moments { EachSince (AddsSome (from / 512) bytes.now) (moments self.old) (moments self.new) };
 
@@ -112,6 +122,7 @@ pub trait SectorFile {
         ensures err { OnErr result (moments self.new ≡ moments self.old) }
 
         ensures identity { identity self.new ≡ identity self.old }
+        ensures access { access self.new ≡ access self.old }
 
         ensures moments { EachSince (λ start c. c ≡ newest_only start)
             (moments self.old) (moments self.new) };
@@ -155,6 +166,7 @@ pub trait Folder {
         ensures bound { IfOk result (λ file. IsBoundTo name.now (Self.File.identity file).name) }
         ensures found { IfOk result (λ file. IsThere (named self.old name.now)
             (Self.File.identity file).sectors (Self.File.moments file)) }
+        ensures access { IfOk result (λ file. Self.File.access file ≡ access) }
         // It has not failed yet.
         ensures fresh { IfOk result (λ file. Self.File.faults file ≡ 0) }
 

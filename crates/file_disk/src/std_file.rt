@@ -67,6 +67,7 @@ pub struct StdFile {
     file: File,
     name: Name,
     length: Length,
+    access: Access,
     calls: Calls,
 }
 
@@ -78,6 +79,8 @@ impl SectorFile for StdFile {
 
     ghost moments = { λ file. [] };
 
+    ghost access = { λ file. file.access };
+
     ghost faults = { λ file. file.calls.faults };
 
     ghost interruptions = { λ file. file.calls.interruptions };
@@ -88,6 +91,10 @@ impl SectorFile for StdFile {
 
     fn has_name(&self, name: &str) -> bool {
         self.name.is(name)
+    }
+
+    fn access(&self) -> Access {
+        self.access
     }
 
     // A call that ends within its first sector is made again for that sector, to its end.
@@ -174,6 +181,7 @@ impl<R: Files<File = File> + AllocGlobal + Clone + Drop> Folder for StdFolder<R>
             file,
             name,
             length: Length { sectors },
+            access,
             calls: Calls::new(),
         })
     }

@@ -24,6 +24,7 @@ pub fn read_all<F: SectorFile>(file: &mut F, from: u64, buffer: &mut [u8]) -> Re
     ensures cause { HasCause (F.faults file.old) (F.faults file.new) result }
 
     ensures identity { F.identity file.new ≡ F.identity file.old }
+    ensures access { F.access file.new ≡ F.access file.old }
     ensures kept { F.moments file.new ≡ F.moments file.old }
 {
     let mut done = 0;
@@ -45,6 +46,7 @@ fn read_some<F: SectorFile>(file: &mut F, from: u64, buffer: &mut [u8]) -> Resul
     ensures cause { HasCause (F.faults file.old) (F.faults file.new) result }
 
     ensures identity { F.identity file.new ≡ F.identity file.old }
+    ensures access { F.access file.new ≡ F.access file.old }
     ensures kept { F.moments file.new ≡ F.moments file.old }
 {
     match file.read_at(from, buffer) {
@@ -68,6 +70,7 @@ pub fn write_all<F: SectorFile>(file: &mut F, from: u64, bytes: &[u8]) -> Result
     ensures cause { HasCause (F.faults file.old) (F.faults file.new) result }
 
     ensures identity { F.identity file.new ≡ F.identity file.old }
+    ensures access { F.access file.new ≡ F.access file.old }
 
     ensures moments { EachSince (AddsSome (from / 512) bytes.now) (F.moments file.old) (F.moments file.new) }
 {
@@ -91,6 +94,7 @@ fn write_some<F: SectorFile>(file: &mut F, from: u64, bytes: &[u8]) -> Result<us
     ensures cause { HasCause (F.faults file.old) (F.faults file.new) result }
 
     ensures identity { F.identity file.new ≡ F.identity file.old }
+    ensures access { F.access file.new ≡ F.access file.old }
 
     ensures moments { EachSince (AddsSome (from / 512) bytes.now) (F.moments file.old) (F.moments file.new) }
 {
@@ -113,6 +117,7 @@ pub fn sync_all<F: SectorFile>(file: &mut F) -> Result<(), Failed>
     ensures err { OnErr result (F.moments file.new ≡ F.moments file.old) }
 
     ensures identity { F.identity file.new ≡ F.identity file.old }
+    ensures access { F.access file.new ≡ F.access file.old }
 
     ensures moments { EachSince (λ start c. c ≡ newest_only start) (F.moments file.old) (F.moments file.new) }
 {
@@ -134,6 +139,7 @@ pub fn open_file<O: Folder>(folder: &mut O, name: &str, access: Access) -> Resul
     ensures bound { IfOk result (λ file. IsBoundTo name.now (O.File.identity file).name) }
     ensures found { IfOk result (λ file. IsThere (O.named folder.old name.now)
         (O.File.identity file).sectors (O.File.moments file)) }
+    ensures access { IfOk result (λ file. O.File.access file ≡ access) }
     ensures fresh { IfOk result (λ file. O.File.faults file ≡ 0) }
 
     ensures cause { HasCause (O.faults folder.old) (O.faults folder.new) result }
