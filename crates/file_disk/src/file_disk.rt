@@ -9,11 +9,12 @@ ghost use Rattle.disk_model.specs.Moments.{EachSince, HasNow, IsChangedBy, conte
 ghost use Rattle.file_disk.specs.Files.{TellsSame, named_as, no_disk, of_file};
 
 use crate::transfer::{open_file, read_all, sync_all, write_all};
-use crate::{Folder, SectorFile};
+use crate::{Access, Folder, SectorFile};
 use sector_disk::{Counted, Disk, Failed, Named};
 
 /// The whole sectors of a file. It has none until it is bound to the file's name, and then it is bound to no other: a
-/// `bind` to the same name changes nothing, and one to another name is a fault.
+/// `bind` to the same name changes nothing, and one to another name is a fault. So is a `bind` of one that is bound for
+/// reads alone; one that is bound for writes serves for reads too.
 #[derive(Drop)]
 pub struct FileDisk<O: Folder + Drop> {
     folder: O,
@@ -32,6 +33,48 @@ impl<O: Folder + Drop> FileDisk<O> {
             faults: 0,
         }
     }
+
+    /// Binds it to a name, for reads alone or for writes too.
+    ///
+    /// # Errors
+    ///
+    /// - `Failed`: it is bound to another name, or for less, or the folder failed.
+    fn bind_for(&mut self, name: &str, access: Access) -> Result<(), Failed>
+        ensures bound { OnOk result
+            (IsBoundTo name.now (of_file no_disk O.File.identity self.new.file).name) }
+        ensures access { OnOk result
+            ((of_file Access.Read O.File.access self.new.file ≡ Access.Write) ⊎ (access ≡ Access.Read)) }
+        ensures opened { OnOk result (IsSome self.old.file
+            ⊎ of_file Access.Read O.File.access self.new.file ≡ access) }
+        ensures again { IsBoundTo name.now (of_file no_disk O.File.identity self.old.file).name
+            → (of_file Access.Read O.File.access self.old.file ≡ Access.Write) ⊎ (access ≡ Access.Read)
+            → IsOk result × (self.new ≡ self.old) }
+        ensures kept { IsSome self.old.file → self.new.file ≡ self.old.file }
+
+        ensures fails { OnErr result (IsSome self.old.file
+            ⊎ Rose (O.faults self.old.folder) (O.faults self.new.folder)) }
+        ensures cause { HasCause
+            (self.old.faults + (O.faults self.old.folder + of_file 0 O.File.faults self.old.file))
+            (self.new.faults + (O.faults self.new.folder + of_file 0 O.File.faults self.new.file)) result }
+
+        ensures same { TellsSame
+            (named_as O.File.identity O.File.moments (O.named self.old.folder name.now) self.old.file)
+            (named_as O.File.identity O.File.moments (O.named self.new.folder name.now) self.new.file) }
+    {
+        if let Some(file) = &self.file
+            && file.has_name(name)
+            && file.access().serves(access)
+        {
+            return Ok(());
+        }
+        if self.file.is_some() {
+            self.faults = self.faults.saturating_add(1);
+            return Err(Failed);
+        }
+        let file = open_file(&mut self.folder, name, access)?;
+        self.file = Some(file);
+        Ok(())
+    }
 }
 
 impl<O: Folder + Drop> Counted for FileDisk<O> {
@@ -48,8 +91,11 @@ impl<O: Folder + Drop> Named for FileDisk<O> {
     fn bind(&mut self, name: &str) -> Result<(), Failed>
         ensures bound { OnOk result
             (IsBoundTo name.now (of_file no_disk O.File.identity self.new.file).name) }
+        ensures access { OnOk result (of_file Access.Read O.File.access self.new.file ≡ Access.Write) }
         ensures again { IsBoundTo name.now (of_file no_disk O.File.identity self.old.file).name
+            → of_file Access.Read O.File.access self.old.file ≡ Access.Write
             → IsOk result × (self.new ≡ self.old) }
+        ensures kept { IsSome self.old.file → self.new.file ≡ self.old.file }
 
         ensures fails { OnErr result (IsSome self.old.file
             ⊎ Rose (O.faults self.old.folder) (O.faults self.new.folder)) }
@@ -61,18 +107,29 @@ impl<O: Folder + Drop> Named for FileDisk<O> {
             (named_as O.File.identity O.File.moments (O.named self.old.folder name.now) self.old.file)
             (named_as O.File.identity O.File.moments (O.named self.new.folder name.now) self.new.file) }
     {
-        if let Some(file) = &self.file
-            && file.has_name(name)
-        {
-            return Ok(());
-        }
-        if self.file.is_some() {
-            self.faults = self.faults.saturating_add(1);
-            return Err(Failed);
-        }
-        let file = open_file(&mut self.folder, name)?;
-        self.file = Some(file);
-        Ok(())
+        self.bind_for(name, Access::Write)
+    }
+
+    fn bind_to_read(&mut self, name: &str) -> Result<(), Failed>
+        ensures bound { OnOk result
+            (IsBoundTo name.now (of_file no_disk O.File.identity self.new.file).name) }
+        ensures opened { OnOk result (IsSome self.old.file
+            ⊎ of_file Access.Read O.File.access self.new.file ≡ Access.Read) }
+        ensures again { IsBoundTo name.now (of_file no_disk O.File.identity self.old.file).name
+            → IsOk result × (self.new ≡ self.old) }
+        ensures kept { IsSome self.old.file → self.new.file ≡ self.old.file }
+
+        ensures fails { OnErr result (IsSome self.old.file
+            ⊎ Rose (O.faults self.old.folder) (O.faults self.new.folder)) }
+        ensures cause { HasCause
+            (self.old.faults + (O.faults self.old.folder + of_file 0 O.File.faults self.old.file))
+            (self.new.faults + (O.faults self.new.folder + of_file 0 O.File.faults self.new.file)) result }
+
+        ensures same { TellsSame
+            (named_as O.File.identity O.File.moments (O.named self.old.folder name.now) self.old.file)
+            (named_as O.File.identity O.File.moments (O.named self.new.folder name.now) self.new.file) }
+    {
+        self.bind_for(name, Access::Read)
     }
 }
 
@@ -107,6 +164,8 @@ impl<O: Folder + Drop> Disk for FileDisk<O> {
 
         ensures identity { of_file no_disk O.File.identity self.new.file
             ≡ of_file no_disk O.File.identity self.old.file }
+        ensures access { of_file Access.Read O.File.access self.new.file
+            ≡ of_file Access.Read O.File.access self.old.file }
         ensures kept { of_file [] O.File.moments self.new.file ≡ of_file [] O.File.moments self.old.file }
     {
         match &mut self.file {
@@ -132,6 +191,8 @@ impl<O: Folder + Drop> Disk for FileDisk<O> {
 
         ensures identity { of_file no_disk O.File.identity self.new.file
             ≡ of_file no_disk O.File.identity self.old.file }
+        ensures access { of_file Access.Read O.File.access self.new.file
+            ≡ of_file Access.Read O.File.access self.old.file }
 
         ensures moments { EachSince (AddsSome at bytes.now)
             (of_file [] O.File.moments self.old.file) (of_file [] O.File.moments self.new.file) }
@@ -160,6 +221,8 @@ impl<O: Folder + Drop> Disk for FileDisk<O> {
 
         ensures identity { of_file no_disk O.File.identity self.new.file
             ≡ of_file no_disk O.File.identity self.old.file }
+        ensures access { of_file Access.Read O.File.access self.new.file
+            ≡ of_file Access.Read O.File.access self.old.file }
 
         ensures moments { EachSince (λ start c. c ≡ newest_only start)
             (of_file [] O.File.moments self.old.file) (of_file [] O.File.moments self.new.file) }

@@ -7,6 +7,7 @@
 
 mod calls;
 mod file_disk;
+mod in_use;
 mod opening;
 mod sector_file;
 mod std_file;
@@ -15,5 +16,5 @@ mod transfer;
 pub use calls::Calls;
 pub use file_disk::FileDisk;
 pub use opening::open_apart;
-pub use sector_file::{FileFault, Folder, SectorFile};
+pub use sector_file::{Access, FileFault, Folder, SectorFile};
 pub use std_file::{StdFile, StdFolder};

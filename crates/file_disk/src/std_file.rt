@@ -5,9 +5,9 @@ ghost use Rattle.std.specs.Prelude.{◌≡◌, ◌↔◌, ◌≤◌, ◌*◌, �
 ghost use Rattle.std.proofs.lemmas.Option.{none-some};
 ghost use Rattle.disk_model.specs.Identity.{BoundTo};
 
-use crate::opening::open_apart;
-use crate::{Calls, FileFault, Folder, SectorFile};
-use std::fs::{File, OpenOptions};
+use crate::opening::{open_for_reads, open_for_writes};
+use crate::{Access, Calls, FileFault, Folder, SectorFile};
+use std::fs::File;
 use std::io;
 use std::io::{ErrorKind, Seek, SeekFrom};
 use std::os::unix::fs::FileExt;
@@ -67,6 +67,7 @@ pub struct StdFile {
     file: File,
     name: Name,
     length: Length,
+    access: Access,
     calls: Calls,
 }
 
@@ -78,6 +79,8 @@ impl SectorFile for StdFile {
 
     ghost moments = { λ file. [] };
 
+    ghost access = { λ file. file.access };
+
     ghost faults = { λ file. file.calls.faults };
 
     ghost interruptions = { λ file. file.calls.interruptions };
@@ -88,6 +91,10 @@ impl SectorFile for StdFile {
 
     fn has_name(&self, name: &str) -> bool {
         self.name.is(name)
+    }
+
+    fn access(&self) -> Access {
+        self.access
     }
 
     // A call that ends within its first sector is made again for that sector, to its end.
@@ -141,12 +148,12 @@ fn write_sector(file: &File, from: u64, bytes: &[u8]) -> io::Result<()>
 
 /// The files of the system, by their paths.
 #[derive(Drop)]
-pub struct StdFolder<R: Files<File = File> + Drop> {
+pub struct StdFolder<R: Files<File = File> + AllocGlobal + Clone + Drop> {
     rt: R,
     calls: Calls,
 }
 
-impl<R: Files<File = File> + Drop> StdFolder<R> {
+impl<R: Files<File = File> + AllocGlobal + Clone + Drop> StdFolder<R> {
     /// The files that the program can reach. It opens none.
     pub fn new(rt: R) -> StdFolder<R>
         ensures { result.calls ≡ record { faults = 0; interruptions = 2 ^ 64 - 1 } }
@@ -158,7 +165,7 @@ impl<R: Files<File = File> + Drop> StdFolder<R> {
     }
 }
 
-impl<R: Files<File = File> + Drop> Folder for StdFolder<R> {
+impl<R: Files<File = File> + AllocGlobal + Clone + Drop> Folder for StdFolder<R> {
     type File = StdFile;
 
     ghost faults = { λ folder. folder.calls.faults };
@@ -167,44 +174,33 @@ impl<R: Files<File = File> + Drop> Folder for StdFolder<R> {
 
     ghost named = { λ folder name. record { sectors = 0; moments = [] } };
 
-    fn open(&mut self, name: &str) -> Result<StdFile, FileFault> {
-        let answer = open_locked(&self.rt, name);
+    fn open(&mut self, name: &str, access: Access) -> Result<StdFile, FileFault> {
+        let answer = open_locked(&self.rt, name, access);
         let (file, name, sectors) = self.calls.judge(answer)?;
         Ok(StdFile {
             file,
             name,
             length: Length { sectors },
+            access,
             calls: Calls::new(),
         })
     }
 }
 
 /// Opens a file and locks it, and tells how many whole sectors it has: of a block device its end alone tells that.
-fn open_locked<R: Files<File = File>>(rt: &R, name: &str) -> io::Result<(File, Name, u64)>
+fn open_locked<R>(rt: &R, name: &str, access: Access) -> io::Result<(File, Name, u64)>
+where
+    R: Files<File = File> + AllocGlobal + Clone + Drop,
     ensures name { IfOk result (λ opened. take opened.1.len opened.1.bytes ≡ name.now) }
     ensures fits { IfOk result (λ opened. 512 * opened.2 < 2 ^ 64) }
 {
     let Some(kept) = Name::of(name) else {
         return Err(ErrorKind::InvalidInput.into());
     };
-    let mut file = open_to_write_or_read(rt, name)?;
-    file.try_lock()?;
+    let mut file = match access {
+        Access::Read => open_for_reads(rt, name)?,
+        Access::Write => open_for_writes(rt, name)?,
+    };
     let sectors = file.seek(SeekFrom::End(0))? / 512;
     Ok((file, kept, sectors))
-}
-
-/// Opens a file for reads and writes, or for reads alone where it must not be written.
-fn open_to_write_or_read<R: Files<File = File>>(rt: &R, name: &str) -> io::Result<File> {
-    match open_apart(rt, OpenOptions::new().read(true).write(true), name) {
-        Err(e) if must_not_be_written(e.kind()) => open_apart(
-            rt,
-            OpenOptions::new().read(true),
-            name,
-        ),
-        answer => answer,
-    }
-}
-
-fn must_not_be_written(kind: ErrorKind) -> bool {
-    kind == ErrorKind::PermissionDenied || kind == ErrorKind::ReadOnlyFilesystem
 }

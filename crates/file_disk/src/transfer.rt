@@ -8,7 +8,7 @@ ghost use Rattle.disk_model.specs.Identity.{IsBoundTo, IsThere};
 ghost use Rattle.disk_model.specs.Moments.{EachSince, HasNow, IsChangedBy};
 ghost use Rattle.file_disk.specs.Files.{IsFileRun};
 
-use crate::{FileFault, Folder, SectorFile};
+use crate::{Access, FileFault, Folder, SectorFile};
 use sector_disk::Failed;
 
 /// Reads whole sectors from byte `from` on. What a failed read leaves in the buffer is open.
@@ -24,6 +24,7 @@ pub fn read_all<F: SectorFile>(file: &mut F, from: u64, buffer: &mut [u8]) -> Re
     ensures cause { HasCause (F.faults file.old) (F.faults file.new) result }
 
     ensures identity { F.identity file.new ≡ F.identity file.old }
+    ensures access { F.access file.new ≡ F.access file.old }
     ensures kept { F.moments file.new ≡ F.moments file.old }
 {
     let mut done = 0;
@@ -45,6 +46,7 @@ fn read_some<F: SectorFile>(file: &mut F, from: u64, buffer: &mut [u8]) -> Resul
     ensures cause { HasCause (F.faults file.old) (F.faults file.new) result }
 
     ensures identity { F.identity file.new ≡ F.identity file.old }
+    ensures access { F.access file.new ≡ F.access file.old }
     ensures kept { F.moments file.new ≡ F.moments file.old }
 {
     match file.read_at(from, buffer) {
@@ -68,6 +70,7 @@ pub fn write_all<F: SectorFile>(file: &mut F, from: u64, bytes: &[u8]) -> Result
     ensures cause { HasCause (F.faults file.old) (F.faults file.new) result }
 
     ensures identity { F.identity file.new ≡ F.identity file.old }
+    ensures access { F.access file.new ≡ F.access file.old }
 
     ensures moments { EachSince (AddsSome (from / 512) bytes.now) (F.moments file.old) (F.moments file.new) }
 {
@@ -91,6 +94,7 @@ fn write_some<F: SectorFile>(file: &mut F, from: u64, bytes: &[u8]) -> Result<us
     ensures cause { HasCause (F.faults file.old) (F.faults file.new) result }
 
     ensures identity { F.identity file.new ≡ F.identity file.old }
+    ensures access { F.access file.new ≡ F.access file.old }
 
     ensures moments { EachSince (AddsSome (from / 512) bytes.now) (F.moments file.old) (F.moments file.new) }
 {
@@ -113,6 +117,7 @@ pub fn sync_all<F: SectorFile>(file: &mut F) -> Result<(), Failed>
     ensures err { OnErr result (F.moments file.new ≡ F.moments file.old) }
 
     ensures identity { F.identity file.new ≡ F.identity file.old }
+    ensures access { F.access file.new ≡ F.access file.old }
 
     ensures moments { EachSince (λ start c. c ≡ newest_only start) (F.moments file.old) (F.moments file.new) }
 {
@@ -130,17 +135,18 @@ pub fn sync_all<F: SectorFile>(file: &mut F) -> Result<(), Failed>
 /// # Errors
 ///
 /// - `Failed`: the folder failed.
-pub fn open_file<O: Folder>(folder: &mut O, name: &str) -> Result<O::File, Failed>
+pub fn open_file<O: Folder>(folder: &mut O, name: &str, access: Access) -> Result<O::File, Failed>
     ensures bound { IfOk result (λ file. IsBoundTo name.now (O.File.identity file).name) }
     ensures found { IfOk result (λ file. IsThere (O.named folder.old name.now)
         (O.File.identity file).sectors (O.File.moments file)) }
+    ensures access { IfOk result (λ file. O.File.access file ≡ access) }
     ensures fresh { IfOk result (λ file. O.File.faults file ≡ 0) }
 
     ensures cause { HasCause (O.faults folder.old) (O.faults folder.new) result }
     ensures err { OnErr result ((other : List ℕ) → O.named folder.new other ≡ O.named folder.old other) }
 {
     loop {
-        match folder.open(name) {
+        match folder.open(name, access) {
             Ok(file) => return Ok(file),
             Err(FileFault::Interrupted) => {}
             Err(FileFault::Failed) => return Err(Failed),

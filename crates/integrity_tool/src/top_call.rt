@@ -2,7 +2,7 @@
 ghost use Rattle.std.specs.Prelude.{◌≡◌, ◌⊎◌, ◌≤◌, Err, IfErr, IsOk, List, None, OnOk, Some, map, ℕ};
 ghost use Rattle.std.specs.Option.{ForSome, IsSomeAnd};
 ghost use Rattle.std.specs.String.{string_bytes};
-ghost use Rattle.disk_model.specs.Causes.{Rose};
+ghost use Rattle.disk_model.specs.Causes.{HasCause, Rose};
 ghost use Rattle.disk_model.specs.Identity.{IsBoundTo, IsThere};
 ghost use Rattle.disk_model.specs.Moments.{content_now};
 ghost use Rattle.device_model.specs.Ending.{Complete, status_of};
@@ -14,12 +14,12 @@ ghost use Rattle.integrity_tool.specs.Opening.{HasReadIn, HasRunOn};
 ghost use Rattle.integrity_tool.specs.Running.{HasTaken, IsCounted, ending_by};
 ghost use Rattle.integrity_tool.specs.Top.{Given, HasCommandCause, HasMomentsIn, HasStatus, IsBeforeScript, IsGiven, IsRefusedByKey, outset_in};
 
-use crate::asked::words_asked;
+use crate::asked::{Task, words_asked};
 use crate::carrying_out::carry_out;
 use crate::keyed::hash_of;
 use command_ending::Ended;
 use script_session::TagsFound;
-use sector_disk::Disk;
+use sector_disk::{Disk, Failed};
 use std::alloc::Global;
 use stream_io::{NamedSource, Sink, Source};
 
@@ -171,16 +171,16 @@ fn run<D: Disk, K: NamedSource, S: Source, O: Sink>(
 {
     let asked = words_asked(alloc, words)?;
     let hash = hash_of(alloc, key, &asked.hash)?;
-    bind_image(disk, asked.image.as_str())?;
+    bind_image(disk, asked.image.as_str(), &asked.task)?;
     carry_out(alloc, disk, hash, asked.task, script, out)
 }
 
-/// Binds the disk to the name of an image.
+/// Binds the disk to the name of an image, as the task wants it.
 ///
 /// # Errors
 ///
 /// - `Disk`: the disk failed.
-fn bind_image<D: Disk>(disk: &mut D, image: &str) -> Result<(), Ended>
+fn bind_image<D: Disk>(disk: &mut D, image: &str, task: &Task) -> Result<(), Ended>
     ensures bound { OnOk result (IsBoundTo image.now (D.identity disk.new).name) }
     ensures found { OnOk result (IsThere (D.named disk.old image.now) (D.identity disk.new).sectors
         (D.moments disk.new)) }
@@ -192,8 +192,26 @@ fn bind_image<D: Disk>(disk: &mut D, image: &str) -> Result<(), Ended>
     ensures same { ForSome (content_now (D.named disk.old image.now).moments)
         (λ c. D.named disk.new image.now ≡ D.named disk.old image.now) }
 {
-    match disk.bind(image) {
+    match bind_for(disk, image, task) {
         Ok(()) => Ok(()),
         Err(_) => Err(Ended::Disk),
+    }
+}
+
+/// Binds the disk to a name: for reads alone where the task writes nothing.
+///
+/// # Errors
+///
+/// - `Failed`: the disk failed.
+fn bind_for<D: Disk>(disk: &mut D, name: &str, task: &Task) -> Result<(), Failed>
+    ensures bound { OnOk result (IsBoundTo name.now (D.binding disk.new)) }
+
+    ensures cause { HasCause (D.faults disk.old) (D.faults disk.new) result }
+
+    ensures same { D.tells_same name.now disk.old disk.new }
+{
+    match task {
+        Task::Dump | Task::Check(_) => disk.bind_to_read(name),
+        Task::Run(_) | Task::Format(_) | Task::Exercise { .. } => disk.bind(name),
     }
 }

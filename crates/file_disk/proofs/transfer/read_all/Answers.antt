@@ -12,6 +12,7 @@ loop-done-preserved g c =
       read = λ content told. read_more c.args.from c.loop-done.done c.in_ok-done.field-0 _ c.loop-done.buffer c.read_some.new.buffer content c.requires.begins before.whole before.within c.in_ok-done.ensures.whole c.in_ok-done.ensures.within
           (before.read content told) (c.in_ok-done.ensures.read content (ap content_now before.kept ∙ told));
       identity = search rules;
+      access = search rules;
       kept = search rules;
       no_fault = search rules;
     }

@@ -11,6 +11,7 @@ invariant-loop-done g l = record {
   read : ForSome (content_now (g.F.SectorFile.moments l.fn.file)) (λ c.
       (k : ℕ) → k < l.done / 512 → sector_in l.buffer k ≡ last_image c (l.fn.from / 512 + k));
   identity : g.F.SectorFile.identity l.file ≡ g.F.SectorFile.identity l.fn.file;
+  access : g.F.SectorFile.access l.file ≡ g.F.SectorFile.access l.fn.file;
   kept : g.F.SectorFile.moments l.file ≡ g.F.SectorFile.moments l.fn.file;
   no_fault : g.F.SectorFile.faults l.file ≡ g.F.SectorFile.faults l.fn.file;
 }

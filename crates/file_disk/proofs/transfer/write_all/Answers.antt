@@ -19,5 +19,6 @@ loop-done-preserved g c =
       written = written_next (c.args.from / 512) _ c.loop-done.done n c.args.bytes.now _ _ _ _ before.whole c.in_ok-done.ensures.whole (search rules) (omega (arith, c.requires.begins, before.whole)) (ap (take n) (take_rest c.args.bytes.now c.loop-done.done)) before.written c.in_ok-done.ensures.written;
       moments = moments_more (c.args.from / 512) _ c.loop-done.done c.args.bytes.now _ before.whole c.requires.run.whole before.within (omega (arith, c.requires.begins, before.whole)) (take_rest c.args.bytes.now c.loop-done.done) before.written before.moments c.write_some.ensures.moments;
       identity = search rules;
+      access = search rules;
       no_fault = search rules;
     }

@@ -13,6 +13,7 @@ invariant-loop-done g l = record {
   moments : EachMoment (g.F.SectorFile.moments l.fn.file) (g.F.SectorFile.moments l.file)
       (FromStart (g.F.SectorFile.moments l.fn.file) (AddsSome (l.fn.from / 512) l.bytes));
   identity : g.F.SectorFile.identity l.file ≡ g.F.SectorFile.identity l.fn.file;
+  access : g.F.SectorFile.access l.file ≡ g.F.SectorFile.access l.fn.file;
   no_fault : g.F.SectorFile.faults l.file ≡ g.F.SectorFile.faults l.fn.file;
 }
 
