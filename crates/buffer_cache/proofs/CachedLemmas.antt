@@ -16,7 +16,7 @@ use Rattle.buffer_cache.specs.declared.held.Held.{Held}
 use Rattle.buffer_cache.specs.declared.held.HeldSectors.{HeldSectors}
 use Rattle.buffer_cache.specs.declared.held.Scratch.{Scratch}
 use Rattle.buffer_cache.specs.HeldSectors.{held_in, in_scratch, changed_scratch, in_front, with_change, with_held_piece, with_piece, with_recent, no_sectors, unmarked, CanPutOut, HoldsAlso, IsFree, IsLast}
-use Rattle.buffer_cache.specs.Cached.{Changes, IsAmidWriteBack, IsWrittenBack, held_or, cached, piece_of, with_given_piece, marked_of, is_marked, Agrees, IsOfDisk, Keeps, with_marked, IsOfMarked, IsAmidMarked, IsLeastRecent, IsMarkedSector, IsPutOut, IsRead, IsScratch}
+use Rattle.buffer_cache.specs.Cached.{Changes, IsAmidWriteBack, IsWrittenBack, held_or, cached, piece_of, with_given_piece, marked_of, is_marked, Agrees, IsOfDisk, Keeps, with_marked, IsOfMarked, IsAmidMarked, IsLeastRecent, IsMarkedSector, IsPutOut, IsRead, IsScratch, HasNoMark}
 use Rattle.buffer_cache.proofs.HeldLemmas.{held_in-with_change, held_in-with_change_other, held_in-in_front, held_in-recent, held_in-scratch, in_scratch-here, in_scratch-other, last_goes_out, lookup-changed_at, lookup-changed_other, lookup-last, lookup-promoted, lookup-take, lookup-with_recent, lookup-with_recent_other, missed_in_both}
 
 -- ---- moments
@@ -645,3 +645,7 @@ OnlyAdds-write_back sectors c d amid = record {
 
 pub write_back_adds : {a b : List Content} (sectors : HeldSectors) → EachSince (IsAmidWriteBack sectors) a b → EachSince (OnlyAdds (IsMarkedSector sectors)) a b
 write_back_adds {a} sectors moments = EachMoment-weaker (FromStart-weaker a (IsAmidWriteBack sectors) (OnlyAdds (IsMarkedSector sectors)) (λ start c told amid. OnlyAdds-write_back sectors start c amid)) moments
+
+-- Where none is marked none is after a step that keeps what is given.
+pub HasNoMark-kept : {a b : List Content} (old new : HeldSectors) → Keeps old new a b → HasNoMark old → HasNoMark new
+HasNoMark-kept old new keeps none = record { none = λ sector. stays_unmarked old new sector keeps (none.none sector) }

@@ -6,7 +6,7 @@ ghost use Rattle.std.specs.Prelude.{◌≡◌, ◌<◌, None, IfErr, OnErr, OnOk
 ghost use Rattle.disk_model.specs.Causes.{HasCause};
 ghost use Rattle.disk_model.specs.Disk.{OnlyAdds, last_image};
 ghost use Rattle.disk_model.specs.Moments.{EachSince, HasNow};
-ghost use Rattle.buffer_cache.specs.Cached.{IsPutOut, IsRead, IsScratch};
+ghost use Rattle.buffer_cache.specs.Cached.{HasNoMark, IsPutOut, IsRead, IsScratch};
 ghost use Rattle.buffer_cache.specs.HeldSectors.{CanPutOut, HoldsAlso, HoldsNoMore, IsFree, held_in, with_recent};
 ghost use Rattle.buffer_cache.specs.Steps.{GivesSame, IsOverDisk};
 
@@ -29,6 +29,7 @@ pub(crate) fn bring<D: Disk>(disk: &mut D, held: &mut HeldSectors, at: u64) -> R
 
     ensures moments { EachSince (OnlyAdds (IsPutOut at held.old))
         (D.moments disk.old) (D.moments disk.new) }
+    ensures unwritten { HasNoMark held.old → D.moments disk.new ≡ D.moments disk.old }
 {
     if held.touch(at) {
         return Ok(());
@@ -52,6 +53,7 @@ fn fetch<D: Disk>(disk: &mut D, held: &mut HeldSectors, at: u64) -> Result<(), F
 
     ensures moments { EachSince (OnlyAdds (IsPutOut at held.old))
         (D.moments disk.old) (D.moments disk.new) }
+    ensures unwritten { HasNoMark held.old → D.moments disk.new ≡ D.moments disk.old }
 {
     let mut bytes = [0; 512];
     disk.read_run(at, &mut bytes)?;
@@ -82,6 +84,7 @@ fn hold<D: Disk>(
 
     ensures moments { EachSince (OnlyAdds (IsScratch held.old))
         (D.moments disk.old) (D.moments disk.new) }
+    ensures unwritten { HasNoMark held.old → D.moments disk.new ≡ D.moments disk.old }
 {
     match put_recent(
         held,
@@ -131,6 +134,7 @@ fn hold_in_scratch<D: Disk>(
 
     ensures moments { EachSince (OnlyAdds (IsScratch held.old))
         (D.moments disk.old) (D.moments disk.new) }
+    ensures unwritten { HasNoMark held.old → D.moments disk.new ≡ D.moments disk.old }
 {
     free_scratch(disk, held)?;
     held.scratch = Some(Scratch { at, held: sector });
@@ -151,6 +155,7 @@ fn free_scratch<D: Disk>(disk: &mut D, held: &mut HeldSectors) -> Result<(), Fai
 
     ensures moments { EachSince (OnlyAdds (IsScratch held.old))
         (D.moments disk.old) (D.moments disk.new) }
+    ensures unwritten { HasNoMark held.old → D.moments disk.new ≡ D.moments disk.old }
 {
     match scratch_at(&held.scratch) {
         Some(at) => write_held(disk, held, at),

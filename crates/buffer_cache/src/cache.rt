@@ -4,7 +4,7 @@ ghost use Rattle.disk_model.specs.Causes.{HasCause};
 ghost use Rattle.disk_model.specs.Disk.{OnlyAdds};
 ghost use Rattle.disk_model.specs.Identity.{IsBound};
 ghost use Rattle.disk_model.specs.Moments.{EachSince, HasNow, IsChangedBy};
-ghost use Rattle.buffer_cache.specs.Cached.{Changes, IsAmidWriteBack, IsOfDisk, IsPiece, IsPutOut, IsWrittenBack, Keeps, cached, piece_of, written_back};
+ghost use Rattle.buffer_cache.specs.Cached.{Changes, HasNoMark, IsAmidWriteBack, IsOfDisk, IsPiece, IsPutOut, IsWrittenBack, Keeps, cached, piece_of, written_back};
 ghost use Rattle.buffer_cache.specs.HeldSectors.{HoldsAlso, HoldsNoMore, no_sectors};
 
 use crate::HeldSectors;
@@ -60,7 +60,8 @@ impl Cache {
 
     /// Reads a piece of sector `at`, which begins at byte `from` of it.
     ///
-    /// The least recently used sector may go out for it, and is written first where it is marked.
+    /// The least recently used sector may go out for it, and is written first where it is marked. So nothing is written
+    /// where no sector is marked.
     ///
     /// # Errors
     ///
@@ -89,6 +90,7 @@ impl Cache {
 
         ensures moments { EachSince (OnlyAdds (IsPutOut at (sectors_of self.old)))
             (D.moments disk.old) (D.moments disk.new) }
+        ensures unwritten { HasNoMark (sectors_of self.old) → D.moments disk.new ≡ D.moments disk.old }
     {
         bring(disk, &mut self.sectors, at)?;
         copy_piece(&self.sectors, at, from, out);
@@ -132,7 +134,7 @@ impl Cache {
         Ok(())
     }
 
-    /// Writes each marked sector, in ascending order. Nothing is synced.
+    /// Writes each marked sector, in ascending order, and no other one. Nothing is synced.
     ///
     /// # Errors
     ///
@@ -156,6 +158,7 @@ impl Cache {
 
         ensures moments { EachSince (IsAmidWriteBack (sectors_of self.old))
             (D.moments disk.old) (D.moments disk.new) }
+        ensures unwritten { HasNoMark (sectors_of self.old) → D.moments disk.new ≡ D.moments disk.old }
     {
         list_marked(&self.sectors, &mut self.ascending);
         write_each(disk, &mut self.sectors, &self.ascending)

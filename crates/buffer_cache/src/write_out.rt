@@ -1,11 +1,11 @@
 //! Writing what is held of a sector, and making room for another one.
-ghost use Rattle.std.specs.Prelude.{◌≡◌, ◌<◌, ◌≤◌, Some, OnOk, OnErr, IfSome, IfNone, nat_eq, length};
+ghost use Rattle.std.specs.Prelude.{◌≡◌, ◌<◌, ◌≤◌, false, Some, OnOk, OnErr, IfSome, IfNone, nat_eq, length};
 ghost use Rattle.disk_model.specs.Causes.{HasCause};
 ghost use Rattle.disk_model.specs.Disk.{OnlyAdds};
 ghost use Rattle.disk_model.specs.Identity.{IsBound};
 ghost use Rattle.disk_model.specs.Moments.{EachSince, IsChangedBy};
 ghost use Rattle.lru.specs.LruCache.{IsValid, last_entry};
-ghost use Rattle.buffer_cache.specs.Cached.{IsAmidMarked, IsLeastRecent, with_marked};
+ghost use Rattle.buffer_cache.specs.Cached.{HasNoMark, IsAmidMarked, IsLeastRecent, is_marked, with_marked};
 ghost use Rattle.buffer_cache.specs.HeldSectors.{CanPutOut, HoldsNoMore, IsLast, held_in, unmarked, with_change};
 ghost use Rattle.buffer_cache.specs.Steps.{GivesSame, IsOverDisk};
 
@@ -35,6 +35,7 @@ pub(crate) fn write_held<D: Disk>(
 
     ensures moments { EachSince (IsAmidMarked at (held_in held.old at))
         (D.moments disk.old) (D.moments disk.new) }
+    ensures unwritten { is_marked held.old at ≡ false → D.moments disk.new ≡ D.moments disk.old }
 {
     write_marked(disk, held, at)?;
     held.unmark(at);
@@ -55,6 +56,7 @@ fn write_marked<D: Disk>(disk: &mut D, held: &HeldSectors, at: u64) -> Result<()
 
     ensures moments { EachSince (IsAmidMarked at (held_in held.now at))
         (D.moments disk.old) (D.moments disk.new) }
+    ensures unwritten { is_marked held.now at ≡ false → D.moments disk.new ≡ D.moments disk.old }
 {
     match held.find(at) {
         Some(sector) if sector.marked => disk.write_run(at, &sector.bytes),
@@ -77,6 +79,7 @@ pub(crate) fn make_room<D: Disk>(disk: &mut D, held: &mut HeldSectors) -> Result
 
     ensures moments { EachSince (OnlyAdds (IsLeastRecent held.old))
         (D.moments disk.old) (D.moments disk.new) }
+    ensures unwritten { HasNoMark held.old → D.moments disk.new ≡ D.moments disk.old }
 {
     match next_out(&held.recent) {
         Some(at) => write_held(disk, held, at),

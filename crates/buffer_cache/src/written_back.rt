@@ -83,6 +83,7 @@ pub(crate) fn write_each<D: Disk>(
     ensures held { HoldsNoMore held.old held.new }
 
     ensures moments { EachSince (IsAmidWriteBack held.old) (D.moments disk.old) (D.moments disk.new) }
+    ensures unwritten { HasNoMark held.old → D.moments disk.new ≡ D.moments disk.old }
 {
     for at in sectors {
         write_held(disk, held, *at)?;

@@ -234,3 +234,14 @@ fn what_is_written_is_read_from_the_journal_and_then_from_its_place(
     assert_eq!(rt; read_alone(rt.alloc(), &mut disk)?, Some(0xaa));
     Ok(())
 }
+
+#[test]
+fn an_image_that_was_closed_is_opened_without_a_write(rt: HostRuntime) -> Result<(), Fail> {
+    let mut disk = new_disk(rt.alloc())?;
+    assert_eq!(rt; write_and_read(rt.alloc(), &mut disk)?, Some(0xaa));
+    // The first sector write would stop the disk, so that the calls behind it fail.
+    disk.stop_after(1);
+    assert_eq!(rt; read_alone(rt.alloc(), &mut disk)?, Some(0xaa));
+    assert_eq!(rt; read_alone(rt.alloc(), &mut disk)?, Some(0xaa));
+    Ok(())
+}

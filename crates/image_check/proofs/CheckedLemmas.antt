@@ -64,7 +64,7 @@ module _ (rule : TagRule) (s : Superblock) (g : Geometry) (image : Image) (accep
       → bad_kept rule g (Some places) image b ≡ bad_cell rule.key rule.salt g b (cells_of rule.key s g image b)
   kept_cell places is = elim (cases_Bool (is_some (newest_of b places.kept))) [
     | inl has ↦
-        let there = some_of (last_entry g (replayed_entries g image) b) (sym (is.index.each b) ∙ has) in
+        let there = some_of (last_entry g (replayed_entries g image) b) (sym (is.each b) ∙ has) in
         let entry = there.0 in
         let tells = last_entry-tells (IsReplayable rule.key rule.salt g) g (replayed_entries g image) b entry is.right there.1 in
         let last = ap (λ (es : List Entry). last_entry g es b) (counted_entries-journal rule.key s g image clear) ∙ there.1 in
@@ -72,7 +72,7 @@ module _ (rule : TagRule) (s : Superblock) (g : Geometry) (image : Image) (accep
         let same : entry.tag ≡ block_tag rule.key rule.salt g (b * g.shape.spb) entry.bytes = tells.0.tag ∙ ap (λ n. block_tag rule.key rule.salt g n entry.bytes) tells.1 in
         rw has (sym (ap (λ (x : Cell). bad_cell rule.key rule.salt g b x) cell ∙ bad_by-same b entry.tag (block_tag rule.key rule.salt g (b * g.shape.spb) entry.bytes) same))
     | inr none ↦
-        let nothing = none_of (last_entry g (replayed_entries g image) b) (sym (is.index.each b) ∙ none) in
+        let nothing = none_of (last_entry g (replayed_entries g image) b) (sym (is.each b) ∙ none) in
         let last = ap (λ (es : List Entry). last_entry g es b) (counted_entries-journal rule.key s g image clear) ∙ nothing in
         let cell : cells_of rule.key s g image b ≡ placed_cells_of g image b = cells_of-placed rule.key s g image b last (no_awaits s g image b accepted clear) in
         rw none (sym (ap (λ (x : Cell). bad_cell rule.key rule.salt g b x) cell))

@@ -1,5 +1,4 @@
 pub mod JudgingLemmas
-pub mod IndexLemmas
 pub mod ReadingLemmas
 pub mod CheckedLemmas
 mod Worked

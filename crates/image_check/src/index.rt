@@ -1,85 +1,21 @@
 //! Which blocks have an entry in the journal of an image that would be replayed.
-ghost use Rattle.std.specs.Prelude.{◌≡◌, ◌≢◌, ◌*◌, ◌^◌, ◌<◌, length, option_map, Err, IfOk, Ok};
-ghost use Rattle.std.specs.List.{AllByRecursion};
+ghost use Rattle.std.specs.Prelude.{◌≡◌, ◌≢◌, ◌*◌, ◌^◌, length, option_map, Err, IfOk};
 ghost use Rattle.disk_model.specs.Disk.{last_image};
 ghost use Rattle.disk_model.specs.Identity.{IsBound};
 ghost use Rattle.disk_model.specs.Moments.{HasNow};
-ghost use Rattle.image_model.specs.Cells.{entry_of, replayed_entries};
-ghost use Rattle.image_model.specs.Geometry.{IsGeometry, journal_sectors, section_entries};
-ghost use Rattle.image_model.specs.Grid.{walk_of};
+ghost use Rattle.image_model.specs.Geometry.{IsGeometry, journal_sectors};
 ghost use Rattle.image_model.specs.Openable.{journal_fault_of};
-ghost use Rattle.journal_reading.specs.Journal.{journal_image};
 ghost use Rattle.opening_fault.specs.Faults.{ByJournal, HasOpenCause, fault_in};
-ghost use Rattle.image_check.specs.Index.{BeginsBlock, IsIndexOf, IsIndexOn, with_place};
+ghost use Rattle.image_check.specs.Index.{IsIndexOn};
 
-use commit_id::Plan;
 use hmac_tag::TagMaker;
 use image_model::SECTOR_SIZE;
-use journal_overlay::{Overlay, Place};
-use journal_reading::{entry_count, entry_place, read_entry, read_judged};
+use journal_overlay::Overlay;
+use journal_reading::{index_of, read_judged};
 use layout::Geometry;
 use opening_fault::OpeningFault;
 use sector_disk::{Disk, Memory};
 use std::alloc::Global;
-
-/// The bytes of the largest block, of 8 sectors.
-const LARGEST_BLOCK: usize = 8 * SECTOR_SIZE;
-
-/// Adds the place of an entry for its block, if the entry is used. Its bytes are put into `block`.
-fn add_entry(
-    geometry: &Geometry,
-    bytes: &[u8],
-    place: Place,
-    block: &mut [u8],
-    overlay: &mut Overlay,
-)
-    requires geometry { IsGeometry geometry.now (2 ^ 48) }
-    requires bytes { length bytes.now ≡ 512 * journal_sectors geometry.now }
-    requires section { place.section < geometry.now.sections }
-    requires entry { place.entry < section_entries geometry.now.shape }
-    requires block { length block.old ≡ 512 * geometry.now.shape.spb }
-    requires room { length overlay.old.kept < overlay.old.capacity }
-
-    ensures { overlay.new ≡ with_place geometry.now place
-        (entry_of geometry.now (journal_image bytes.now) (place.section, place.entry)) overlay.old }
-{
-    if let Some(view) = read_entry(geometry, bytes, place, block) {
-        overlay.add(view.sector / geometry.shape().spb, place);
-    }
-}
-
-/// Keeps the places of the used entries of the sections that count, each for its block.
-///
-/// # Errors
-///
-/// - `Memory`: there is none for so many.
-fn index_of(
-    alloc: Global,
-    geometry: &Geometry,
-    bytes: &[u8],
-    plan: &Plan,
-) -> Result<Overlay, Memory>
-    requires geometry { IsGeometry geometry.now (2 ^ 48) }
-    requires bytes { length bytes.now ≡ 512 * journal_sectors geometry.now }
-    requires plan { walk_of geometry.now (journal_image bytes.now) ≡ Ok plan.now }
-    requires entries { AllByRecursion (BeginsBlock geometry.now)
-        (replayed_entries geometry.now (journal_image bytes.now)) }
-
-    ensures { IfOk result
-        (IsIndexOf geometry.now (replayed_entries geometry.now (journal_image bytes.now))) }
-{
-    let count = entry_count(geometry, &plan.walk);
-    let Ok(mut overlay) = Overlay::with_capacity(alloc, count) else {
-        return Err(Memory);
-    };
-    let mut buffer = [0; LARGEST_BLOCK];
-    let block = &mut buffer[..SECTOR_SIZE * geometry.shape().spb as usize];
-    for k in 0..count {
-        let place = entry_place(geometry, &plan.walk, k);
-        add_entry(geometry, bytes, place, block, &mut overlay);
-    }
-    Ok(overlay)
-}
 
 /// A buffer for the sectors of a journal.
 ///

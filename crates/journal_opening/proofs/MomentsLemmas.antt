@@ -43,6 +43,13 @@ module _ (W : Image → ℕ → List ℕ → Type 0) where
       let is : middle ≡ newest_only start = same_Some middle (newest_only start) (sym told_middle ∙ told_synced (content_now a) (content_now b) start synced told) in
       subst (λ (x : Content). OnlyAdds (W (last_image x)) x later) is adds)
 
+-- Two syncs are no more than one.
+pub syncs_then : {a b c : List Content} → EachSince (λ start c. c ≡ newest_only start) a b → IsChangedBy newest_only a b → EachSince (λ start c. c ≡ newest_only start) b c → EachSince (λ start c. c ≡ newest_only start) a c
+syncs_then {a} {b} first synced second =
+    EachMoment-join (λ start c. c ≡ newest_only start) (λ start c. c ≡ newest_only start) first second
+    (λ start middle later told told_middle so_far is.
+    is ∙ ap newest_only (same_Some middle (newest_only start) (sym told_middle ∙ told_synced (content_now a) (content_now b) start synced told)))
+
 -- ---- a journal at rest
 
 module _ (g : Geometry) where

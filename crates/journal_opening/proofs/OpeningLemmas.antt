@@ -22,10 +22,11 @@ use Rattle.journal_mode.specs.Opening.{opened_standing}
 use Rattle.journal_mode.specs.Standing.{StandsAs}
 use Rattle.journal_mode.proofs.OpeningLemmas.{recovered_stands_law}
 use Rattle.tag_store.specs.Store.{given_tags}
+use Rattle.journal_mode.specs.Emptied.{IsRecoveredAlready}
 use Rattle.journal_mode.specs.Recovered.{Recovered}
 use Rattle.journal_mode.specs.Recovery.{LeavesRecovered}
 use Rattle.journal_opening.specs.declared.opened.OpenedJournal.{OpenedJournal}
-use Rattle.journal_opening.specs.Opening.{CanOpenRead, IsLeftOpening, IsOfOpening, IsOpenOn, KeepsImage, WritesRecovery, rule_on}
+use Rattle.journal_opening.specs.Opening.{CanOpenRead, IsLeftOpening, IsOfOpening, IsOpenOn, KeepsImage, KeepsRecovered, WritesRecovery, rule_on}
 
 -- Where the start is told, so is the end.
 told_on : (a since : List Content) (start : Content) → content_now a ≡ Some start → (c : Content) × (content_now (since ++ a) ≡ Some c)
@@ -106,3 +107,8 @@ module _ (key : Option (List ℕ)) (sectors : ℕ) (format : ImageFormat) (a b :
   pub own_moments : WritesRecovery format.geometry a b → EachSince (λ start. IsOfOpening (format_on key sectors (last_image start)).geometry start) a b
   own_moments m = EachMoment-weaker (FromStart-weaker a (IsOfOpening format.geometry) (λ start. IsOfOpening (format_on key sectors (last_image start)).geometry start)
       (λ start c told adds. subst (λ (g : Geometry). IsOfOpening g start c) (ap (λ (d : DiskFormat). d.geometry) (sym (reads start told).own)) adds)) m
+
+  -- What is not written is so too.
+  pub own_recovered : KeepsRecovered (λ image. format.geometry) a b → KeepsRecovered (λ image. (format_on key sectors image).geometry) a b
+  own_recovered keeps start told already =
+      keeps start told (subst (λ (g : Geometry). IsRecoveredAlready g (last_image start)) (ap (λ (d : DiskFormat). d.geometry) (reads start told).own) already)

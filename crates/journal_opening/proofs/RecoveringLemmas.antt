@@ -12,6 +12,7 @@ use Rattle.place_model.proofs.FirstSyncLemmas.{newest_only-cells}
 use Rattle.hmac_tag.specs.TagMaker.{TagRule}
 use Rattle.image_opening.specs.declared.reading.ImageFormat.{ImageFormat}
 use Rattle.image_opening.specs.Format.{IsReadNow, disk_format}
+use Rattle.buffer_cache.specs.Cached.{HasNoMark}
 use Rattle.buffer_cache.specs.HeldSectors.{no_sectors}
 use Rattle.tag_store.specs.Store.{Store}
 use Rattle.journal_mode.specs.Recovery.{EntersRecovery}
@@ -47,3 +48,7 @@ pub sync_cells : (f : DiskFormat) (start : Content) {a b : List Content} → con
 sync_cells f start told opens m =
     EachMoment-weaker (λ c is. subst (EachImage (HasCells f (cells_on f (last_image start)))) (sym is) (newest_only-cells f start opens))
     (each_from (λ start c. c ≡ newest_only start) start told m)
+
+-- A fresh store has nothing that is still to be written.
+pub fresh_unmarked : (format : ImageFormat) (store : Store) (slots : ℕ) → store ≡ fresh_store format slots → HasNoMark store.sectors
+fresh_unmarked format store slots is = subst (λ (s : Store). HasNoMark s.sectors) (sym is) (record { none = λ sector. refl })

@@ -16,8 +16,10 @@ use Rattle.journal_model.specs.Opening.{opened_disk}
 use Rattle.buffer_cache.specs.Cache.{sectors_of}
 use Rattle.buffer_cache.specs.HeldSectors.{no_sectors}
 use Rattle.tag_store.specs.Store.{IsStore, given_tags}
+use Rattle.journal_mode.specs.Emptied.{IsRecoveredAlready}
 use Rattle.journal_mode.specs.Recovery.{LeavesRecovered}
 use Rattle.journal_mode.specs.Writes.{IsOfRecovery}
+pub use Rattle.journal_mode.specs.Writes.{OnlySyncs}
 use Rattle.journal_mode.specs.Journal.{empty_journal}
 use Rattle.journal_mode.specs.Opening.{opened_standing}
 use Rattle.journal_mode.specs.Standing.{StandsAs}
@@ -81,14 +83,15 @@ pub record HasRecovered (f : DiskFormat) (image : RecoveredImage) (before after 
       (given_tags image.tags c) c) after) before
   pub next : HasNow (λ start. image.at.next ≡ next_on Journal f (last_image start)) before
 
--- Each content since the start is the one there with nothing pending: the disk was synced at most.
-abbrev pub OnlySyncs : (before after : List Content) → Type 0
-OnlySyncs before after = EachSince (λ start c. c ≡ newest_only start) before after
-
 -- An image that is refused for such a fault is synced at most, also where the disk fails.
 abbrev pub KeepsRefused : {F : Type 0} → (fault_of : Image → Option F) → (before after : List Content) → Type 0
 KeepsRefused {F} fault_of before after =
     HasNow (λ start. (fault : F) → fault_of (last_image start) ≡ Some fault → OnlySyncs before after) before
+
+-- An image whose journal is at rest, with all its entries in their places already, is synced at most.
+abbrev pub KeepsRecovered : (geometry_of : Image → Geometry) → (before after : List Content) → Type 0
+KeepsRecovered geometry_of before after =
+    HasNow (λ start. IsRecoveredAlready (geometry_of (last_image start)) (last_image start) → OnlySyncs before after) before
 
 -- Where the image that reads gave can be opened, each image at each moment since has its cells.
 abbrev pub KeepsImage : DiskFormat → (before after : List Content) → Type 0

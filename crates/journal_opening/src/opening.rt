@@ -11,7 +11,7 @@ ghost use Rattle.image_opening.specs.declared.open_fault.OpenFault.{OpenFault as
 ghost use Rattle.image_opening.specs.Format.{IsDirectFormat, IsReadNow, disk_format};
 ghost use Rattle.journal_reading.specs.Faults.{HasReplayCause, refusal_in};
 ghost use Rattle.opening_fault.specs.Faults.{ByFormat, HasOpenCause, fault_in, fault_of};
-ghost use Rattle.journal_opening.specs.Opening.{CanOpenRead, HasOpened, IsLeftOpening, IsOfOpening, IsOpenOn, IsReady, IsRoomFor, KeepsImage, KeepsRefused, OnlySyncs, WritesRecovery};
+ghost use Rattle.journal_opening.specs.Opening.{CanOpenRead, HasOpened, IsLeftOpening, IsOfOpening, IsOpenOn, IsReady, IsRoomFor, KeepsImage, KeepsRecovered, KeepsRefused, OnlySyncs, WritesRecovery};
 
 use crate::opened::OpenedJournal;
 use crate::recovering::recover_image;
@@ -30,13 +30,13 @@ use std::alloc::Global;
 /// 1. The first sector is read and judged.
 /// 2. Memory is taken for the journal, for tags and for requests.
 /// 3. The disk is synced, so that nothing of an earlier run is pending.
-/// 4. The image is recovered.
+/// 4. The image is recovered. Nothing is written of one whose journal is at rest, with all its entries in their places.
 ///
 /// # Errors
 ///
 /// `Memory` and `Disk` come whenever they hold, and of the others the first that holds:
 ///
-/// - `Memory`: there is none for what the journal needs, or for what its sectors bear. No sector was written.
+/// - `Memory`: there is none for what the journal needs, or for what is kept of it. No sector was written.
 /// - `Disk`: the disk failed. Every image has the cells of the image at the entry, where that can be opened.
 /// - `Super`, `Geom`, `Mode`: as `read_direct_format` tells them. Nothing was done.
 /// - `Journal`: the journal is refused, by its scan or for the first entry in the order of the replay. No sector was
@@ -69,6 +69,9 @@ pub fn open_journal<'p, D: Disk>(
         → IsLeftOpening (key_of hash) (D.identity disk.old).sectors (D.moments disk.old) (D.moments disk.new) }
     ensures moments { EachSince (λ start. IsOfOpening (format_on (key_of hash) (D.identity disk.old).sectors
         (last_image start)).geometry start) (D.moments disk.old) (D.moments disk.new) }
+    // An image that was closed is not written.
+    ensures in_place { KeepsRecovered (λ image. (format_on (key_of hash) (D.identity disk.old).sectors image).geometry)
+        (D.moments disk.old) (D.moments disk.new) }
 {
     let format = read_direct_format(disk)?;
     let room = OpeningRoom::new(alloc, format.geometry, pool)?;
@@ -82,7 +85,7 @@ pub fn open_journal<'p, D: Disk>(
 ///
 /// # Errors
 ///
-/// - `Memory`: there is none for what the journal's sectors bear. No sector was written.
+/// - `Memory`: there is none for what is kept of the journal. No sector was written.
 /// - `Disk`: the disk failed. Every image has the cells of the image at the entry.
 /// - `Journal`: the journal is refused. No sector was written.
 pub fn open_format<'p, D: Disk>(
@@ -116,6 +119,8 @@ pub fn open_format<'p, D: Disk>(
     ensures cuts { KeepsImage (disk_format (key_of hash) (D.identity disk.old).sectors format.now)
         (D.moments disk.old) (D.moments disk.new) }
     ensures moments { WritesRecovery format.now.geometry (D.moments disk.old) (D.moments disk.new) }
+    // An image that was closed is not written.
+    ensures in_place { KeepsRecovered (λ image. format.now.geometry) (D.moments disk.old) (D.moments disk.new) }
 {
     let OpeningRoom {
         journal,

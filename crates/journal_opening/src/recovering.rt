@@ -14,7 +14,7 @@ ghost use Rattle.buffer_cache.specs.HeldSectors.{no_sectors};
 ghost use Rattle.tag_store.specs.Store.{IsStore};
 ghost use Rattle.journal_mode.specs.Emptied.{KeepsResting};
 ghost use Rattle.journal_mode.specs.Recovery.{GoesOnIn};
-ghost use Rattle.journal_opening.specs.Opening.{HasRecovered, KeepsImage, KeepsRefused, OnlySyncs, WritesRecovery, rule_of};
+ghost use Rattle.journal_opening.specs.Opening.{HasRecovered, KeepsImage, KeepsRecovered, KeepsRefused, OnlySyncs, WritesRecovery, rule_of};
 
 use buffer_cache::Cache;
 use direct_mode::settle;
@@ -44,7 +44,7 @@ pub struct RecoveredImage {
 ///
 /// # Errors
 ///
-/// - `Memory`: there is none for what the journal's sectors bear. No sector was written.
+/// - `Memory`: there is none for what is kept of the journal. No sector was written.
 /// - `Disk`: the disk failed. Every image has the cells of the image at the entry.
 /// - `Journal`: the journal is refused. No sector was written.
 pub fn recover_image<D: Disk>(
@@ -83,9 +83,11 @@ pub fn recover_image<D: Disk>(
     ensures cuts { KeepsImage (disk_format (key_of hash) (D.identity disk.old).sectors format.now)
         (D.moments disk.old) (D.moments disk.new) }
     ensures moments { WritesRecovery format.now.geometry (D.moments disk.old) (D.moments disk.new) }
-    // Nothing of a journal at rest.
+    // Nothing of a journal at rest,
     ensures rest { EachSince (λ start. KeepsResting format.now.geometry start (newest_only start))
         (D.moments disk.old) (D.moments disk.new) }
+    // and no sector at all where its entries are in their places already.
+    ensures in_place { KeepsRecovered (λ image. format.now.geometry) (D.moments disk.old) (D.moments disk.new) }
 {
     let maker = maker_of(hash, format);
     let mut tags = settle(disk, format.geometry, cache)?;

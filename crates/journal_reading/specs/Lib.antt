@@ -2,3 +2,4 @@ pub mod Journal
 pub mod Places
 pub mod Entries
 pub mod Faults
+pub mod Index

@@ -8,12 +8,14 @@
 mod entries;
 mod faults;
 mod grid;
+mod index;
 mod judging;
 mod places;
 mod reading;
 
 pub use entries::read_entry;
 pub use faults::{JournalFault, ReplayFault};
+pub use index::index_of;
 pub use judging::judge;
 pub use places::{entry_count, entry_place};
 pub use reading::{JudgedJournal, read_judged};

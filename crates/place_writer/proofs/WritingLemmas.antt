@@ -25,7 +25,7 @@ use Rattle.place_writer.specs.Cells.{HasCells}
 -- ---- moments
 
 -- What each later content has, by the one at the start, where that is told.
-each_from : {a b : List Content} (P : Content → Content → Type 0) (Q : Content → Type 0) → ForSome (content_now a) (λ start. (c : Content) → P start c → Q c) → EachMoment a b (FromStart a P) → EachMoment a b Q
+pub each_from : {a b : List Content} (P : Content → Content → Type 0) (Q : Content → Type 0) → ForSome (content_now a) (λ start. (c : Content) → P start c → Q c) → EachMoment a b (FromStart a P) → EachMoment a b Q
 each_from {a} P Q f m = EachMoment-weaker (λ c. at_once a f c) m
   where
     at_once : (h : List Content) → ForSome (content_now h) (λ start. (c : Content) → P start c → Q c) → (c : Content) → FromStart h P c → Q c

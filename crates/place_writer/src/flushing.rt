@@ -1,7 +1,8 @@
 //! Writing the tags back, and a sync.
 ghost use Rattle.std.specs.Prelude.{◌≡◌, OnOk};
+ghost use Rattle.buffer_cache.specs.Cached.{HasNoMark};
 ghost use Rattle.disk_model.specs.Causes.{HasCause};
-ghost use Rattle.disk_model.specs.Disk.{HasNothingPending, OnlyAdds};
+ghost use Rattle.disk_model.specs.Disk.{HasNothingPending, OnlyAdds, newest_only};
 ghost use Rattle.disk_model.specs.Moments.{EachMoment, EachSince, HasNow};
 ghost use Rattle.journal_model.specs.JournaledDisk.{JournaledDisk, StandsFor};
 ghost use Rattle.journal_model.specs.Steps.{after_settle};
@@ -35,6 +36,9 @@ pub fn flush<D: Disk>(disk: &mut D, tags: &mut Tags) -> Result<(), Failed>
         → EachMoment (D.moments disk.old) (D.moments disk.new) (StandsFor d) }
     ensures moments { EachSince (OnlyAdds (IsMarkedTags tags.old))
         (D.moments disk.old) (D.moments disk.new) }
+    // Where no tag is still to be written the disk is synced at most.
+    ensures synced { HasNoMark tags.old.sectors
+        → EachSince (λ start c. c ≡ newest_only start) (D.moments disk.old) (D.moments disk.new) }
 {
     tags.write_back(disk)?;
     disk.sync()

@@ -4,6 +4,9 @@ pub use Rattle.place_writer.proofs.PlacingLawsLemmas
 pub use Rattle.place_writer.proofs.StoreCalls
 pub use Rattle.place_writer.proofs.WritingLemmas
 pub mod ReplayingLemmas
+pub mod AmidLemmas
+pub mod TurnedLemmas
+pub mod InPlaceLemmas
 pub mod EntriesLemmas
 pub mod RecoveryLemmas
 pub mod ErasedLemmas

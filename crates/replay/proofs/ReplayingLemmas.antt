@@ -21,11 +21,12 @@ use Rattle.image_model.proofs.NumberLemmas.{cases_option}
 use Rattle.place_model.proofs.EachLemmas.{all_get}
 use Rattle.journal_model.specs.JournaledDisk.{JournaledDisk, IsFormed, StandsFor}
 use Rattle.journal_model.specs.Steps.{after_place}
+use Rattle.journal_reading.specs.Index.{counted_places}
 use Rattle.journal_reading.specs.Journal.{journal_image}
 use Rattle.journal_reading.specs.Places.{places_of}
 use Rattle.place_writer.specs.Cells.{HasCells}
 use Rattle.tag_store.specs.Store.{IsStore, Store}
-use Rattle.replay.specs.Replaying.{IsNext, IsToReplay, after_entry, all_placed, with_placed}
+use Rattle.replay.specs.Replaying.{with_placed}
 
 -- ---- what is kept of the front of a list
 
@@ -59,23 +60,11 @@ module _ {X Y : Type 0} (f : X → Option Y) where
     | inr kept ↦ rw kept.1 (kept_at xs k x y there some)
   ]
 
-  pub kept_low : (xs : List X) (k : ℕ) → length (filter_map f (take k xs)) ≤ length (filter_map f xs)
-  kept_low [] k = rw take-nil (let le : 0 ≤ 0 = omega arith in le)
-  kept_low (a ∷ xs) zero = let le : 0 ≤ length (filter_map f (a ∷ xs)) = omega arith in le
-  kept_low (a ∷ xs) (suc k) = elim (cases_option (f a)) [
-    | inl none ↦ rw none (kept_low xs k)
-    | inr kept ↦ rw kept.1 (let rest = kept_low xs k in let le : suc (length (filter_map f (take k xs))) ≤ suc (length (filter_map f xs)) = omega arith in le)
-  ]
-
 -- ---- the entries of the front of a walk
 
 -- How many entries stand at the first places of a walk.
 abbrev pub front_count : Geometry → List ℕ → List (ℕ × ℕ) → ℕ → ℕ
 front_count g bytes walk k = length (filter_map (entry_of g (journal_image bytes)) (take k (places_of g walk)))
-
--- The disk with these placed.
-abbrev pub placed_to : Geometry → List ℕ → List (ℕ × ℕ) → ℕ → JournaledDisk → JournaledDisk
-placed_to g bytes walk k d = with_placed (front_count g bytes walk k) d
 
 -- All entries that are replayed are those of the walk.
 pub replayed_entries-places : (g : Geometry) (image : Image) (plan : Plan) → walk_of g image ≡ Ok plan → replayed_entries g image ≡ filter_map (entry_of g image) (places_of g plan.walk)
@@ -120,83 +109,6 @@ module _ (d : JournaledDisk) (p q : ℕ) (more : p ≤ q) (low : q ≤ length d.
         };
   }
 
--- ---- one place more
-
-module _ (d : JournaledDisk) (g : Geometry) (bytes : List ℕ) (plan : Plan) (is : walk_of g (journal_image bytes) ≡ Ok plan) (to : IsToReplay d g bytes) where
-  abbrev kept : ℕ × ℕ → Option Entry
-  kept = entry_of g (journal_image bytes)
-
-  abbrev places : List (ℕ × ℕ)
-  places = places_of g plan.walk
-
-  entries_are : d.entries ≡ filter_map kept places
-  entries_are = to.entries ∙ replayed_entries-places g (journal_image bytes) plan is
-
-  -- There are no more than its entries.
-  pub front_low : (k : ℕ) → front_count g bytes plan.walk k ≤ length d.entries
-  front_low k = let low = kept_low kept places k in let all = ap length entries_are in omega arith
-
-  -- Before all places nothing is placed,
-  pub placed_none : (store : Store) (moments : List Content) → HasCells d store moments → HasCells (placed_to g bytes plan.walk 0 d) store moments
-  placed_none store moments has = subst (λ (count : ℕ). HasCells (with_placed count d) store moments) to.none has
-
-  -- a place with no entry changes nothing,
-  pub placed_same : (k : ℕ) (place : ℕ × ℕ) (store : Store) (moments : List Content) → slice_get places k ≡ Some place → kept place ≡ None
-      → HasCells (placed_to g bytes plan.walk k d) store moments → HasCells (placed_to g bytes plan.walk (k + 1) d) store moments
-  placed_same k place store moments there none has =
-      subst (λ (entries : List Entry). HasCells (with_placed (length entries) d) store moments) (sym (kept_same kept places k place there none)) has
-
-  -- and one with an entry has the next,
-  pub next_there : (k : ℕ) (place : ℕ × ℕ) (entry : Entry) → slice_get places k ≡ Some place → kept place ≡ Some entry
-      → slice_get (placed_to g bytes plan.walk k d).entries (placed_to g bytes plan.walk k d).placed ≡ Some entry
-  next_there k place entry there some =
-      ap (λ (entries : List Entry). slice_get entries (front_count g bytes plan.walk k)) entries_are
-      ∙ kept_at kept places k place entry there some
-
-  -- which is then placed,
-  pub placed_one : (k : ℕ) (place : ℕ × ℕ) (entry : Entry) (store : Store) (moments : List Content) → slice_get places k ≡ Some place → kept place ≡ Some entry
-      → HasCells (after_place (placed_to g bytes plan.walk k d)) store moments → HasCells (placed_to g bytes plan.walk (k + 1) d) store moments
-  placed_one k place entry store moments there some has =
-      subst (λ (count : ℕ). HasCells (with_placed count d) store moments) (sym (kept_more kept places k place entry there some)) has
-
-  -- as may be at each moment of it.
-  pub stands_one : (k : ℕ) (place : ℕ × ℕ) (entry : Entry) {a b : List Content} → slice_get places k ≡ Some place → kept place ≡ Some entry
-      → EachMoment a b (StandsFor (after_place (placed_to g bytes plan.walk k d))) → EachMoment a b (StandsFor (all_placed d))
-  stands_one k place entry there some m =
-      let more = kept_more kept places k place entry there some in
-      let low = front_low (k + 1) in
-      EachMoment-weaker (λ c stands. StandsFor-more d (front_count g bytes plan.walk k + 1) (length d.entries) (omega arith) (omega arith) c stands) m
-
-  -- So is a place with what it has, whichever that is.
-  pub next_step : (k : ℕ) (place : ℕ × ℕ) → slice_get places k ≡ Some place → IsNext (kept place) (placed_to g bytes plan.walk k d)
-  next_step k place there = elim (cases_option (kept place)) [
-    | inl none ↦ subst (λ (o : Option Entry). IsNext o (placed_to g bytes plan.walk k d)) (sym none) tt
-    | inr some ↦ subst (λ (o : Option Entry). IsNext o (placed_to g bytes plan.walk k d)) (sym some.1) (next_there k place some.0 there some.1)
-  ]
-
-  pub placed_step : (k : ℕ) (place : ℕ × ℕ) (store : Store) (moments : List Content) → slice_get places k ≡ Some place
-      → HasCells (after_entry (kept place) (placed_to g bytes plan.walk k d)) store moments → HasCells (placed_to g bytes plan.walk (k + 1) d) store moments
-  placed_step k place store moments there has = elim (cases_option (kept place)) [
-    | inl none ↦ placed_same k place store moments there none (subst (λ (o : Option Entry). HasCells (after_entry o (placed_to g bytes plan.walk k d)) store moments) none has)
-    | inr some ↦ placed_one k place some.0 store moments there some.1 (subst (λ (o : Option Entry). HasCells (after_entry o (placed_to g bytes plan.walk k d)) store moments) some.1 has)
-  ]
-
-  pub stands_step : (k : ℕ) (place : ℕ × ℕ) {a b : List Content} → slice_get places k ≡ Some place
-      → EachMoment a b (StandsFor (after_entry (kept place) (placed_to g bytes plan.walk k d))) → EachMoment a b (StandsFor (all_placed d))
-  stands_step k place {a} {b} there m = elim (cases_option (kept place)) [
-    | inl none ↦
-        let low = front_low k in
-        EachMoment-weaker (λ c stands. StandsFor-more d (front_count g bytes plan.walk k) (length d.entries) low (omega arith) c stands)
-        (subst (λ (o : Option Entry). EachMoment a b (StandsFor (after_entry o (placed_to g bytes plan.walk k d)))) none m)
-    | inr some ↦ stands_one k place some.0 there some.1 (subst (λ (o : Option Entry). EachMoment a b (StandsFor (after_entry o (placed_to g bytes plan.walk k d)))) some.1 m)
-  ]
-
-  -- Behind all places all entries are.
-  pub placed_every : (k : ℕ) (store : Store) (moments : List Content) → k ≡ length places → HasCells (placed_to g bytes plan.walk k d) store moments → HasCells (all_placed d) store moments
-  placed_every k store moments all has =
-      let whole : filter_map kept (take k places) ≡ d.entries = ap (filter_map kept) (take_all k places (omega (arith, all))) ∙ sym entries_are in
-      subst (λ (entries : List Entry). HasCells (with_placed (length entries) d) store moments) whole has
-
 -- The entry at a place of the walk is one that is replayed.
 pub replayed_at : (P : Entry → Type 0) (g : Geometry) (bytes : List ℕ) (plan : Plan) (k : ℕ) (place : ℕ × ℕ) (entry : Entry) → walk_of g (journal_image bytes) ≡ Ok plan
     → AllByRecursion P (replayed_entries g (journal_image bytes)) → slice_get (places_of g plan.walk) k ≡ Some place → entry_of g (journal_image bytes) place ≡ Some entry → P entry
@@ -240,3 +152,11 @@ count_step g bytes walk k place there = by_entry (entry_of g (journal_image byte
     by_entry : (o : Option Entry) → entry_of g (journal_image bytes) place ≡ o → front_count g bytes walk (k + 1) ≡ front_count g bytes walk k + (if is_some o then 1 else 0)
     by_entry None none = ap length (kept_same (entry_of g (journal_image bytes)) (places_of g walk) k place there none) ∙ (let same : front_count g bytes walk k ≡ front_count g bytes walk k + 0 = omega arith in same)
     by_entry (Some entry) some = kept_more (entry_of g (journal_image bytes)) (places_of g walk) k place entry there some
+
+-- A place of the walk is one of those that count.
+pub counted_there : (g : Geometry) (bytes : List ℕ) (plan : Plan) (k : ℕ) (place : ℕ × ℕ) → walk_of g (journal_image bytes) ≡ Ok plan → slice_get (places_of g plan.walk) k ≡ Some place
+    → slice_get (counted_places g (journal_image bytes)) k ≡ Some place
+counted_there g bytes plan k place is there = rw is there
+
+pub counted_all : (g : Geometry) (bytes : List ℕ) (plan : Plan) (k : ℕ) → walk_of g (journal_image bytes) ≡ Ok plan → k ≡ length (places_of g plan.walk) → k ≡ length (counted_places g (journal_image bytes))
+counted_all g bytes plan k is all = rw is all

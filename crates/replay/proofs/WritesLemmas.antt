@@ -1,19 +1,22 @@
 -- What the steps of a recovery write.
-use Rattle.std.proofs.Common.{◌≡◌, inl, inr, ⊎_elim, ℕ, ◌/◌, refl, sym, subst, IsOk, List}
+use Rattle.std.proofs.Common.{◌≡◌, ◌<◌, inl, inr, ⊎_elim, ℕ, ◌/◌, refl, sym, subst, IsOk, List}
 use Rattle.std.specs.List.{Contains}
 use Rattle.disk_model.specs.Disk.{Content, IsOfRun, OnlyAdds, last_image}
+use Rattle.disk_model.specs.Identity.{DiskIdentity}
 use Rattle.disk_model.specs.Moments.{EachSince, HasNow}
 use Rattle.disk_model.proofs.DiskLemmas.{OnlyAdds-join, OnlyAdds-wider}
 use Rattle.disk_model.proofs.MomentsLemmas.{EachMoment-join, EachMoment-weaker, FromStart-weaker, adds_told, adds_wider}
 use Rattle.image_model.specs.Cells.{replayed_entries}
-use Rattle.image_model.specs.Geometry.{Geometry, IsGeometry, data_at, section_at}
+use Rattle.image_model.specs.Geometry.{Geometry, IsGeometry, data_at, section_at, tag_at}
 use Rattle.image_model.specs.Grid.{walk_of}
 use Rattle.image_model.specs.Section.{Entry}
 use Rattle.place_writer.specs.DirectModeCells.{IsOfBlockOrTags}
 use Rattle.journal_erasure.specs.EmptySections.{AreEmptySections}
 use Rattle.journal_reading.specs.Journal.{HasJournal, journal_image}
 use Rattle.journal_reading.proofs.JournalLemmas.{replayed_entries-journal}
-use Rattle.tag_store.specs.Store.{HoldsTag, IsMarkedTags, Store}
+use Rattle.tag_store.specs.Store.{HoldsTag, IsMarkedTags, IsOfPut, IsOutForTag, IsStore, Store}
+use Rattle.tag_store.proofs.SpansLemmas.{first_in_span}
+use Rattle.tag_store.proofs.StoreLemmas.{HoldsTag-span, tag-span}
 use Rattle.replay.specs.Writes.{IsOfEmptyJournal, IsOfPlacing, IsOfRecovery}
 
 -- ---- entries are placed
@@ -36,6 +39,21 @@ among_more g P Q f m = adds_wider (IsOfPlacing g P) (IsOfPlacing g Q)
       | inl of_entry ↦ inl (record { entry = of_entry.entry; among = f of_entry.entry of_entry.among; in_place = of_entry.in_place })
       | inr tags ↦ inr tags
     ]) m
+
+-- A tag that is got or put: sectors of tags alone.
+pub get_in_tags : (store : Store) (block : ℕ) {a b : List Content} → EachSince (OnlyAdds (IsOutForTag block store)) a b → EachSince (OnlyAdds (λ sector x. HoldsTag store.geometry sector)) a b
+get_in_tags store block m = adds_wider (IsOutForTag block store) (λ sector x. HoldsTag store.geometry sector) (λ s x out. out.marked.tags) m
+
+pub put_in_tags : (store : Store) (disk : DiskIdentity) (block : ℕ) (tag : List ℕ) {a b : List Content} → IsStore store disk a → block < store.geometry.blocks → EachSince (λ start. OnlyAdds (IsOfPut block tag store start) start) a b
+    → EachSince (OnlyAdds (λ sector x. HoldsTag store.geometry sector)) a b
+put_in_tags store disk block tag {a} is low m =
+    EachMoment-weaker (FromStart-weaker a (λ start. OnlyAdds (IsOfPut block tag store start) start) (OnlyAdds (λ sector x. HoldsTag store.geometry sector))
+    (λ start c told adds. OnlyAdds-wider (IsOfPut block tag store start) (λ sector x. HoldsTag store.geometry sector)
+    (λ s x of.
+    let span = tag-span store.geometry disk.sectors block store.geometry.shape.tag_size is.geometry low refl in
+    ⊎_elim (λ out. out.marked.tags)
+    (λ first. HoldsTag-span store.geometry block store.geometry.shape.tag_size s low refl
+    (first_in_span (tag_at store.geometry block).0 (tag_at store.geometry block).1 store.geometry.shape.tag_size s span.begins span.some first.0.is)) of) start c adds)) m
 
 -- Tags that are written back.
 pub tags_add : (g : Geometry) (store : Store) (P : Entry → Type 0) {a b : List Content} → g ≡ store.geometry → EachSince (OnlyAdds (IsMarkedTags store)) a b → EachSince (OnlyAdds (IsOfPlacing g P)) a b

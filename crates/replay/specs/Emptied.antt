@@ -1,12 +1,14 @@
 -- An image whose journal is at rest, so that a recovery leaves it as it is; and one whose journal is empty, so that an
 -- emptying does.
 -- Own: a journal is empty where it has one commit number and no used entry.
-use Rattle.std.specs.Prelude.{◌≡◌, ℕ, ◌<◌, []}
+use Rattle.std.specs.Prelude.{◌≡◌, ℕ, ◌<◌, [], Some}
 use Rattle.std.specs.List.{Contains}
 use Rattle.disk_model.specs.Disk.{Content, Image, OnlyAdds, last_image}
-use Rattle.image_model.specs.Cells.{replayed_entries}
+use Rattle.image_model.specs.Cells.{last_entry, placed_cells_of, replayed_entries}
 use Rattle.image_model.specs.Geometry.{Geometry, section_sectors}
+use Rattle.image_model.specs.Section.{Entry}
 use Rattle.image_model.specs.Tables.{IsAtRest, IsWholly}
+use Rattle.journal_model.specs.Entries.{cell_of}
 use Rattle.place_model.specs.Format.{DiskFormat, IsReadAs}
 use Rattle.place_model.specs.Journal.{numbers_on}
 use Rattle.replay.specs.Writes.{IsOfPlacing}
@@ -22,6 +24,16 @@ pub record IsRestingJournal (g : Geometry) (image : Image) : Type 0 where
 abbrev pub KeepsResting : Geometry → (start from c : Content) → Type 0
 KeepsResting g start from c = IsRestingJournal g (last_image start)
     → OnlyAdds (IsOfPlacing g (Contains (replayed_entries g (last_image start)))) from c
+
+-- Each block that has a replayed entry has the data and the tag of its last one in their places already,
+pub record IsInPlaceAlready (g : Geometry) (image : Image) : Type 0 where
+  pub each : (b : ℕ) (entry : Entry) → last_entry g (replayed_entries g image) b ≡ Some entry
+      → placed_cells_of g image b ≡ cell_of entry
+
+-- and the journal is at rest: the image was closed, and is as a recovery leaves it.
+pub record IsRecoveredAlready (g : Geometry) (image : Image) : Type 0 where
+  pub rests : IsRestingJournal g image
+  pub in_place : IsInPlaceAlready g image
 
 -- Every sector of the journal bears one commit number, so that all its sections count, and no entry of them is used.
 pub record IsEmptyJournal (g : Geometry) (image : Image) : Type 0 where

@@ -1,8 +1,9 @@
 -- Which sectors a recovery writes, and with which bytes.
 -- Source: Linux, drivers/md/dm-integrity.c, do_journal_write and init_journal.
-use Rattle.std.specs.Prelude.{◌⊎◌, ℕ, ◌/◌, List}
+use Rattle.std.specs.Prelude.{◌≡◌, ◌⊎◌, ℕ, ◌/◌, List}
 use Rattle.std.specs.List.{Contains}
-use Rattle.disk_model.specs.Disk.{IsOfRun}
+use Rattle.disk_model.specs.Disk.{Content, IsOfRun, newest_only}
+use Rattle.disk_model.specs.Moments.{EachSince}
 use Rattle.image_model.specs.Geometry.{Geometry, data_at, section_at}
 use Rattle.image_model.specs.Section.{Entry}
 use Rattle.journal_erasure.specs.EmptySections.{AreEmptySections}
@@ -28,3 +29,7 @@ pub record IsOfEmptyJournal (g : Geometry) (sector : ℕ) (x : List ℕ) : Type 
 -- They come by a recovery of these entries.
 abbrev pub IsOfRecovery : Geometry → List Entry → ℕ → List ℕ → Type 0
 IsOfRecovery g entries sector x = IsOfPlacing g (Contains entries) sector x ⊎ IsOfEmptyJournal g sector x
+
+-- Each content since the start is the one there with nothing pending: the disk was synced at most.
+abbrev pub OnlySyncs : (before after : List Content) → Type 0
+OnlySyncs before after = EachSince (λ start c. c ≡ newest_only start) before after

@@ -1,6 +1,7 @@
 //! Recovery up to the erasure: the journal is read and judged, and its entries come to their places.
 ghost use Rattle.std.specs.Prelude.{◌≡◌, ◌≢◌, ◌*◌, length, Err, IfOk, IsErr, Some};
 ghost use Rattle.std.specs.List.{Contains};
+ghost use Rattle.buffer_cache.specs.Cached.{HasNoMark};
 ghost use Rattle.disk_model.specs.Disk.{EachImage, OnlyAdds, last_image};
 ghost use Rattle.disk_model.specs.Moments.{EachMoment, EachSince, HasNow};
 ghost use Rattle.image_model.specs.Cells.{replayed_entries};
@@ -12,13 +13,14 @@ ghost use Rattle.journal_reading.specs.Faults.{HasReplayCause, refusal_in};
 ghost use Rattle.place_model.specs.Format.{DiskFormat, HasCells as HasImageCells, cells_on};
 ghost use Rattle.place_writer.specs.Cells.{HasCells};
 ghost use Rattle.tag_store.specs.Store.{IsStore};
+ghost use Rattle.replay.specs.Emptied.{IsInPlaceAlready};
 ghost use Rattle.replay.specs.Recovery.{EntersRecovery, HasReplayed};
 ghost use Rattle.replay.specs.Replaying.{all_placed};
-ghost use Rattle.replay.specs.Writes.{IsOfPlacing};
+ghost use Rattle.replay.specs.Writes.{IsOfPlacing, OnlySyncs};
 
 use crate::placing::replay;
 use hmac_tag::TagMaker;
-use journal_reading::{JudgedJournal, ReplayFault, read_judged};
+use journal_reading::{JudgedJournal, ReplayFault, index_of, read_judged};
 use layout::Geometry;
 use sector_disk::Disk;
 use std::alloc::Global;
@@ -34,13 +36,14 @@ pub(crate) struct ReplayedJournal {
 }
 
 /// Reads the journal of an image with this geometry, judges it, and replays its entries. The journal is read once, into
-/// `bytes`, which has room for it, and all memory is taken before anything is written.
+/// `bytes`, which has room for it, and all memory is taken before anything is written: for what its sectors bear, and for
+/// where the newest entry of each block stands.
 ///
 /// Source: Linux, `drivers/md/dm-integrity.c`, `replay_journal`.
 ///
 /// # Errors
 ///
-/// - `Memory`: there is none for what the journal's sectors bear. Nothing was written.
+/// - `Memory`: there is none for what is kept of the journal. Nothing was written.
 /// - `Journal`: the journal is refused. Nothing was written.
 /// - `Disk`: the disk failed. Every image has the cells of the image at the entry.
 pub(crate) fn replay_journal<D: Disk>(
@@ -83,8 +86,12 @@ pub(crate) fn replay_journal<D: Disk>(
         (EachImage (HasImageCells f (cells_on f (last_image start))))) (D.moments disk.old) }
     ensures moments { EachSince (λ start. OnlyAdds (IsOfPlacing geometry.now (Contains
         (replayed_entries geometry.now (last_image start)))) start) (D.moments disk.old) (D.moments disk.new) }
+    ensures in_place { HasNoMark tags.old.sectors → HasNow (λ start.
+        IsInPlaceAlready geometry.now (last_image start) → OnlySyncs (D.moments disk.old) (D.moments disk.new))
+        (D.moments disk.old) }
 {
     let journal = read_judged(alloc, disk, geometry, maker, bytes)?;
-    let count = replay(disk, tags, geometry, bytes, &journal.plan)?;
+    let newest = index_of(alloc, geometry, bytes, &journal.plan)?;
+    let count = replay(disk, tags, geometry, bytes, &journal.plan, &newest)?;
     Ok(ReplayedJournal { journal, count })
 }

@@ -1,8 +1,8 @@
 //! Recovery of a journal that was cut anywhere, in its own recovery too.
 //!
-//! The journal is read once and judged before anything is written. Each used entry of the sections that count is
-//! written to its place, in the order of the replay; then the tags are written back, and all is synced. A journal
-//! at rest goes on then, and any other is erased. What a recovery is entered with, and what it leaves, is said in
+//! The journal is read once and judged before anything is written. Of the used entries of the sections that count the
+//! newest of each block is brought to its place, in the order of the replay: what differs there is written. Then the
+//! tags are written back, and all is synced. A journal at rest goes on then, and any other is erased. What a recovery is entered with, and what it leaves, is said in
 //! `specs/Recovery.antt`, the file to read first.
 #![tactic(auto)]
 

@@ -1,5 +1,6 @@
 //! Recovery, as it is asked for.
 ghost use Rattle.std.specs.Prelude.{◌≡◌, ◌≢◌, ◌*◌, length, Err, IfOk, IsErr, OnOk, Some};
+ghost use Rattle.buffer_cache.specs.Cached.{HasNoMark};
 ghost use Rattle.disk_model.specs.Disk.{EachImage, OnlyAdds, last_image};
 ghost use Rattle.disk_model.specs.Moments.{EachMoment, EachSince, HasNow};
 ghost use Rattle.image_model.specs.Cells.{replayed_entries};
@@ -11,9 +12,9 @@ ghost use Rattle.journal_reading.specs.Faults.{HasReplayCause, refusal_in};
 ghost use Rattle.place_model.specs.Format.{DiskFormat, HasCells as HasImageCells, cells_on};
 ghost use Rattle.place_model.specs.Opened.{next_after_walk};
 ghost use Rattle.tag_store.specs.Store.{IsStore, given_tags};
-ghost use Rattle.replay.specs.Emptied.{KeepsResting};
+ghost use Rattle.replay.specs.Emptied.{IsRecoveredAlready, KeepsResting};
 ghost use Rattle.replay.specs.Recovery.{EntersRecovery, GoesOnIn, LeavesRecovered};
-ghost use Rattle.replay.specs.Writes.{IsOfRecovery};
+ghost use Rattle.replay.specs.Writes.{IsOfRecovery, OnlySyncs};
 
 use crate::entering::replay_journal;
 use crate::finishing::finish;
@@ -31,14 +32,16 @@ use tag_store::Tags;
 ///
 /// 1. The journal is read once, into `pool`, which has as many sectors, and scanned.
 /// 2. Every used entry of the sections that count is judged, in their order.
-/// 3. Every one is written to its place in that order; the tags are written back; sync.
+/// 3. The newest one of each block is brought to its place in that order: what differs there is written, data or tag. The
+///    tags are written back; sync.
 /// 4. A journal at rest goes on. One in which a commit or an erasure was cut is erased.
 ///
-/// Source: Linux, `drivers/md/dm-integrity.c`, `replay_journal`. Own: what is refused, and the erasure.
+/// Source: Linux, `drivers/md/dm-integrity.c`, `replay_journal`. Own: what is refused, the erasure, and that nothing is
+/// written that stands there already.
 ///
 /// # Errors
 ///
-/// - `Memory`: there is none for what the journal's sectors bear. Nothing was written.
+/// - `Memory`: there is none for what is kept of the journal. Nothing was written.
 /// - `Journal`: the journal is refused. Nothing was written.
 /// - `Disk`: the disk failed. Every image has the cells of the image at the entry.
 pub fn recover<D: Disk>(
@@ -84,8 +87,12 @@ pub fn recover<D: Disk>(
     // Nothing is written but entries in their places, sectors of tags, and empty sections of the journal.
     ensures moments { EachSince (λ start. OnlyAdds (IsOfRecovery geometry.now
         (replayed_entries geometry.now (last_image start))) start) (D.moments disk.old) (D.moments disk.new) }
-    // Nothing of a journal at rest.
+    // Nothing of a journal at rest,
     ensures rest { EachSince (λ start. KeepsResting geometry.now start start) (D.moments disk.old) (D.moments disk.new) }
+    // and no sector at all where its entries are in their places already, and no tag is still to be written.
+    ensures in_place { HasNoMark tags.old.sectors → HasNow (λ start.
+        IsRecoveredAlready geometry.now (last_image start) → OnlySyncs (D.moments disk.old) (D.moments disk.new))
+        (D.moments disk.old) }
 {
     let bytes = pool.bytes_mut();
     let replayed = replay_journal(alloc, disk, geometry, tags, maker, bytes)?;

@@ -5,7 +5,7 @@ ghost use Rattle.disk_model.specs.Disk.{OnlyAdds};
 ghost use Rattle.disk_model.specs.Identity.{IsBound};
 ghost use Rattle.disk_model.specs.Moments.{EachSince, HasNow};
 ghost use Rattle.buffer_cache.specs.Cache.{sectors_of};
-ghost use Rattle.buffer_cache.specs.Cached.{IsOfDisk, Keeps, cached};
+ghost use Rattle.buffer_cache.specs.Cached.{HasNoMark, IsOfDisk, Keeps, cached};
 ghost use Rattle.tag_store.specs.Spans.{HoldsSpan, IsOfSpan, IsOutForSpan, IsSpan, MarksSpan, StoresPart, StoresSpan, span_of};
 
 use buffer_cache::Cache;
@@ -36,6 +36,7 @@ pub(crate) fn read_span<D: Disk>(
 
     ensures moments { EachSince (OnlyAdds (IsOutForSpan at from (length out.old) (sectors_of cache.old)))
         (D.moments disk.old) (D.moments disk.new) }
+    ensures unwritten { HasNoMark (sectors_of cache.old) → D.moments disk.new ≡ D.moments disk.old }
 {
     let len = out.len();
     let size = len.min(512 - from);

@@ -5,7 +5,7 @@ ghost use Rattle.disk_model.specs.Disk.{AddsSome, OnlyAdds, Reads, with_run};
 ghost use Rattle.disk_model.specs.Moments.{EachSince, HasNow, IsChangedBy};
 ghost use Rattle.image_model.specs.Geometry.{data_at};
 ghost use Rattle.buffer_cache.specs.Cache.{sectors_of};
-ghost use Rattle.buffer_cache.specs.Cached.{IsAmidWriteBack, IsWrittenBack, written_back};
+ghost use Rattle.buffer_cache.specs.Cached.{HasNoMark, IsAmidWriteBack, IsWrittenBack, written_back};
 ghost use Rattle.tag_store.specs.Store.{IsOfPut, IsOutForTag, IsStore, KeepsButTag, KeepsStore, KeepsTags, StoresFirst, StoresTag, given_tags};
 
 use crate::spans::{read_span, write_span};
@@ -43,7 +43,8 @@ impl Tags {
 
     /// Reads the tag of a block.
     ///
-    /// The sectors of tags that go out of memory for it are written first, where they were changed.
+    /// The sectors of tags that go out of memory for it are written first, where they were changed. So nothing is
+    /// written where no tag is still to be.
     ///
     /// # Errors
     ///
@@ -63,6 +64,7 @@ impl Tags {
 
         ensures moments { EachSince (OnlyAdds (IsOutForTag block self.old))
             (D.moments disk.old) (D.moments disk.new) }
+        ensures unwritten { HasNoMark self.old.sectors → D.moments disk.new ≡ D.moments disk.old }
     {
         let (at, from) = self.geometry.tag_at(block);
         let size = self.geometry.shape().tag as usize;
@@ -175,6 +177,7 @@ impl Tags {
 
         ensures moments { EachSince (IsAmidWriteBack self.old.sectors)
             (D.moments disk.old) (D.moments disk.new) }
+        ensures unwritten { HasNoMark self.old.sectors → D.moments disk.new ≡ D.moments disk.old }
     {
         self.cache.write_back(disk)
     }

@@ -5,6 +5,8 @@ use Rattle.disk_model.proofs.MomentsLemmas.{adds_then, adds_wider}
 use Rattle.buffer_cache.specs.Cached.{IsLeastRecent, IsPutOut, IsScratch}
 use Rattle.buffer_cache.proofs.CachedLemmas.{read_later, scratch_of_before}
 use Rattle.buffer_cache.proofs.StepsLemmas.{GivesSame-then}
+use Rattle.buffer_cache.proofs.CachedLemmas.{HasNoMark-kept}
+use Rattle.std.proofs.Common.{◌∙◌}
 use Rattle.buffer_cache.proofs.bringing.fetch.Goals as goal
 
 pub returns-in_err-make_room-clause-moments : goal.returns-in_err-make_room-clause-moments
@@ -32,3 +34,11 @@ returns-clause-moments g c =
     (adds_wider (IsLeastRecent c.args.held.now) V (λ s x out. record { missed = c.requires.missed; out = inl out }) (rw c.read_run.ensures.kept at c.make_room.ensures.moments))
     (adds_wider (IsScratch c.make_room.new.held) V
     (λ s x out. record { missed = c.requires.missed; out = inr (scratch_of_before c.args.held.now c.make_room.new.held s x c.make_room.ensures.same.keeps c.in_ok-make_room.ensures.scratch out) }) c.hold.ensures.moments)
+
+pub returns-in_err-make_room-clause-unwritten : goal.returns-in_err-make_room-clause-unwritten
+returns-in_err-make_room-clause-unwritten g c none = c.make_room.ensures.unwritten none ∙ c.read_run.ensures.kept
+
+pub returns-clause-unwritten : goal.returns-clause-unwritten
+returns-clause-unwritten g c none =
+    c.hold.ensures.unwritten (HasNoMark-kept c.args.held.now c.make_room.new.held c.make_room.ensures.same.keeps none)
+    ∙ c.make_room.ensures.unwritten none ∙ c.read_run.ensures.kept

@@ -19,3 +19,6 @@ returns-in-Some-clause-moments g c =
 
 pub returns-in-None-clause-free : goal.returns-in-None-clause-free
 returns-in-None-clause-free g c = no_scratch c.args.held.now c.in-None.ensures
+
+pub returns-in-Some-clause-unwritten : goal.returns-in-Some-clause-unwritten
+returns-in-Some-clause-unwritten g c none = c.write_held.ensures.unwritten (none.none c.in-Some.at)

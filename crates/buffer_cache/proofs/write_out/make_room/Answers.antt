@@ -20,3 +20,6 @@ returns-in-Some-clause-scratch g c =
 pub returns-in-Some-clause-moments : goal.returns-in-Some-clause-moments
 returns-in-Some-clause-moments g c =
     adds_least_recent c.args.held.now c.in-Some.at c.in-Some.ensures.last c.write_held.ensures.moments
+
+pub returns-in-Some-clause-unwritten : goal.returns-in-Some-clause-unwritten
+returns-in-Some-clause-unwritten g c none = c.write_held.ensures.unwritten (none.none c.in-Some.at)

@@ -1,10 +1,10 @@
-use Rattle.std.proofs.Common.{◌≡◌, ◌<◌, ℕ, false, arith, rules, length, get_or, below_more}
+use Rattle.std.proofs.Common.{◌≡◌, ◌<◌, ◌∙◌, ℕ, false, arith, rules, length, get_or, below_more}
 use Rattle.std.specs.List.Sorted.{IsNonDecreasing}
 use Rattle.std.proofs.lemmas.List.Sorted.{IsNonDecreasingBy-from_sort}
 use Rattle.disk_model.proofs.MomentsLemmas.{EachMoment-join}
 use Rattle.buffer_cache.specs.Cached.{IsAmidMarked, IsAmidWriteBack, is_marked, written_back}
 use Rattle.buffer_cache.specs.HeldSectors.{held_in}
-use Rattle.buffer_cache.proofs.CachedLemmas.{amid_same, none_is_marked, stays_unmarked, written_unmarked}
+use Rattle.buffer_cache.proofs.CachedLemmas.{HasNoMark-kept, amid_same, none_is_marked, stays_unmarked, written_unmarked}
 use Rattle.buffer_cache.proofs.HeldLemmas.{HoldsNoMore-then}
 use Rattle.buffer_cache.proofs.StepsLemmas.{GivesSame-then, IsOverDisk-later}
 use Rattle.buffer_cache.proofs.WriteBackLemmas.{above_waits, all_written, amid_write_back, below_is_clear, changed_from, each_contained, gone_more, write_back_none, written_more}
@@ -50,6 +50,7 @@ loop-at-preserved g c =
           (rw c.in_ok-write_held.ensures.written (written_unmarked now x));
       gone = rw c.in_ok-write_held.ensures.written (gone_more start now xs i c.loop-at.invariant.gone);
       written = rw c.in_ok-write_held.ensures.written (written_more (g.D.Disk.moments c.args.disk.now) (g.D.Disk.moments c.loop-at.disk) (g.D.Disk.moments c.write_held.new.disk) start now x c.loop-at.invariant.same.keeps.marked (c.loop-at.invariant.same.cache.whole x) c.loop-at.invariant.written c.in_ok-write_held.ensures.changed);
+      unwritten = λ none. c.write_held.ensures.unwritten ((HasNoMark-kept start now c.loop-at.invariant.same.keeps none).none x) ∙ c.loop-at.invariant.unwritten none;
       held = HoldsNoMore-then start now c.write_held.new.held c.loop-at.invariant.held c.write_held.ensures.held;
       moments = EachMoment-join (IsAmidWriteBack start) (IsAmidMarked x (held_in now x)) c.loop-at.invariant.moments c.write_held.ensures.moments
           (λ at_start middle later told told_middle _ amid.
@@ -69,3 +70,8 @@ pub returns-clause-written : goal.returns-clause-written
 returns-clause-written g c =
     changed_from (IsAmidWriteBack c.args.held.now) (written_back c.args.held.now) (write_back_none c.args.held.now) c.loop-at.invariant.moments
     (λ start told end told_end. all_written c.args.held.now c.loop-at.held start end (returns-clause-unmarked g c).none (c.loop-at.invariant.written start told end told_end))
+
+pub returns-in_err-write_held-clause-unwritten : goal.returns-in_err-write_held-clause-unwritten
+returns-in_err-write_held-clause-unwritten g c none =
+    let x = get_or c.args.sectors.now c.loop-at.at-index 0 in
+    c.write_held.ensures.unwritten ((HasNoMark-kept c.args.held.now c.loop-at.held c.loop-at.invariant.same.keeps none).none x) ∙ c.loop-at.invariant.unwritten none

@@ -1,6 +1,6 @@
 use Rattle.std.proofs.Common.{◌≡◌, ◌<◌, ◌≤◌, ℕ, true, false, get_or}
 use Rattle.disk_model.specs.Moments.{EachMoment, FromStart, HasNow}
-use Rattle.buffer_cache.specs.Cached.{IsAmidWriteBack, is_marked}
+use Rattle.buffer_cache.specs.Cached.{HasNoMark, IsAmidWriteBack, is_marked}
 use Rattle.buffer_cache.specs.HeldSectors.{HoldsNoMore}
 use Rattle.buffer_cache.specs.Steps.{GivesSame}
 use Rattle.buffer_cache.proofs.WriteBackLemmas.{HasWritten}
@@ -16,5 +16,6 @@ invariant-loop-at g l =
       gone : (s : ℕ) → is_marked l.fn.held s ≡ true → is_marked l.held s ≡ false → (k : ℕ) × (k < l.at-index) × (get_or l.sectors k 0 ≡ s);
       written : HasNow (λ c. HasNow (HasWritten l.fn.held l.held c) (moments_of l.disk)) (moments_of l.fn.disk);
       held : HoldsNoMore l.fn.held l.held;
+      unwritten : HasNoMark l.fn.held → moments_of l.disk ≡ moments_of l.fn.disk;
       moments : EachMoment (moments_of l.fn.disk) (moments_of l.disk) (FromStart (moments_of l.fn.disk) (IsAmidWriteBack l.fn.held));
     }

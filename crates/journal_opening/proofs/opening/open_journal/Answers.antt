@@ -11,10 +11,10 @@ use Rattle.image_opening.specs.Format.{IsReadNow, disk_format}
 use Rattle.journal_reading.specs.Faults.{refusal_in}
 use Rattle.opening_fault.specs.Faults.{fault_by, fault_in_format}
 use Rattle.journal_opening.specs.declared.opened.OpenedJournal.{OpenedJournal}
-use Rattle.journal_opening.specs.Opening.{IsOfOpening, IsOpenOn, IsReady, KeepsImage, KeepsRefused, OnlySyncs, WritesRecovery}
+use Rattle.journal_opening.specs.Opening.{IsOfOpening, IsOpenOn, IsReady, KeepsImage, KeepsRecovered, KeepsRefused, OnlySyncs, WritesRecovery}
 use Rattle.opening_fault.proofs.FaultsLemmas.{format_cause, no_format, opened_cause, replay_cause, room_cause, same_format, same_replay, told_format, told_journal}
 use Rattle.journal_opening.proofs.OpenedLemmas.{fault_now, has_opened, refused_now, shift}
-use Rattle.journal_opening.proofs.OpeningLemmas.{opening_left, own_moments}
+use Rattle.journal_opening.proofs.OpeningLemmas.{opening_left, own_moments, own_recovered}
 use Rattle.journal_opening.proofs.opening.open_journal.Goals as goal
 
 -- ---- the calls
@@ -194,3 +194,27 @@ returns-clause-judged g c =
     let new = g.D.Disk.moments c.open_format.new.disk in
     refused_now key (g.D.Disk.identity c.args.disk.now) format (g.D.Disk.moments c.args.disk.now) new (c.in_ok-format.ensures.opens key) (c.in_ok-format.ensures.told (λ e. cc))
     (subst (λ (x : List Content). KeepsRefused (λ image. journal_fault_of key (salt_of format.fields) format.geometry image) x new) c.read_direct_format.ensures.kept c.open_format.ensures.judged)
+
+pub returns-in_err-format-clause-in_place : goal.returns-in_err-format-clause-in_place
+returns-in_err-format-clause-in_place g c start told already = EachMoment-kept _ c.read_direct_format.ensures.kept
+
+pub returns-in_err-room-clause-in_place : goal.returns-in_err-room-clause-in_place
+returns-in_err-room-clause-in_place g c start told already = EachMoment-kept _ c.read_direct_format.ensures.kept
+
+pub returns-in_err-opened-clause-in_place : goal.returns-in_err-opened-clause-in_place
+returns-in_err-opened-clause-in_place g c =
+    let key = key_of c.args.hash in
+    let old = c.args.disk.now in
+    let new = g.D.Disk.moments c.open_format.new.disk in
+    let format = c.in_ok-format.format in
+    own_recovered key (g.D.Disk.identity old).sectors format (g.D.Disk.moments old) new (λ content told. (c.in_ok-format.ensures.opens key content told).read)
+    (subst (λ (x : List Content). KeepsRecovered (λ image. format.geometry) x new) c.read_direct_format.ensures.kept c.open_format.ensures.in_place)
+
+pub returns-clause-in_place : goal.returns-clause-in_place
+returns-clause-in_place g c =
+    let key = key_of c.args.hash in
+    let old = c.args.disk.now in
+    let new = g.D.Disk.moments c.open_format.new.disk in
+    let format = c.in_ok-format.format in
+    own_recovered key (g.D.Disk.identity old).sectors format (g.D.Disk.moments old) new (λ content told. (c.in_ok-format.ensures.opens key content told).read)
+    (subst (λ (x : List Content). KeepsRecovered (λ image. format.geometry) x new) c.read_direct_format.ensures.kept c.open_format.ensures.in_place)

@@ -12,8 +12,8 @@ use Rattle.tag_store.specs.Store.{Store}
 use Rattle.journal_mode.specs.Writes.{IsOfRecovery}
 use Rattle.opening_fault.proofs.FaultsLemmas.{same_fault}
 use Rattle.journal_opening.specs.Opening.{OnlySyncs}
-use Rattle.journal_opening.proofs.MomentsLemmas.{rests_then, settles_then, sync_rests, sync_settles, told_synced}
-use Rattle.journal_opening.proofs.RecoveringLemmas.{enters, sync_cells}
+use Rattle.journal_opening.proofs.MomentsLemmas.{rests_then, settles_then, sync_rests, sync_settles, syncs_then, told_synced}
+use Rattle.journal_opening.proofs.RecoveringLemmas.{enters, fresh_unmarked, sync_cells}
 use Rattle.journal_opening.proofs.recovering.recover_image.Goals as goal
 
 pub returns-clause-recovered : goal.returns-clause-recovered
@@ -116,3 +116,26 @@ returns-in_err-tags-clause-rest g c = sync_rests c.args.format.now.geometry c.se
 
 pub returns-in_err-at-clause-rest : goal.returns-in_err-at-clause-rest
 returns-in_err-at-clause-rest g c = rests_then c.args.format.now.geometry c.settle.ensures.newest c.in_ok-tags.ensures.synced c.recover.ensures.rest
+
+pub returns-in_err-tags-clause-in_place : goal.returns-in_err-tags-clause-in_place
+returns-in_err-tags-clause-in_place g c start told already = c.settle.ensures.newest
+
+pub returns-clause-in_place : goal.returns-clause-in_place
+returns-clause-in_place g c start told already =
+    let old = g.D.Disk.moments c.args.disk.now in
+    let mid = g.D.Disk.moments c.settle.new.disk in
+    syncs_then c.settle.ensures.newest c.in_ok-tags.ensures.synced
+    (c.recover.ensures.in_place
+    (fresh_unmarked c.args.format.now c.in_ok-tags.tags c.requires.cache.0
+    (c.in_ok-tags.ensures.made ∙ ap (λ (held : HeldSectors). let s : Store = record { geometry = c.args.format.now.geometry; sectors = held } in s) c.requires.cache.1))
+    (newest_only start) (told_synced (content_now old) (content_now mid) start c.in_ok-tags.ensures.synced told) already)
+
+pub returns-in_err-at-clause-in_place : goal.returns-in_err-at-clause-in_place
+returns-in_err-at-clause-in_place g c start told already =
+    let old = g.D.Disk.moments c.args.disk.now in
+    let mid = g.D.Disk.moments c.settle.new.disk in
+    syncs_then c.settle.ensures.newest c.in_ok-tags.ensures.synced
+    (c.recover.ensures.in_place
+    (fresh_unmarked c.args.format.now c.in_ok-tags.tags c.requires.cache.0
+    (c.in_ok-tags.ensures.made ∙ ap (λ (held : HeldSectors). let s : Store = record { geometry = c.args.format.now.geometry; sectors = held } in s) c.requires.cache.1))
+    (newest_only start) (told_synced (content_now old) (content_now mid) start c.in_ok-tags.ensures.synced told) already)

@@ -1,11 +1,11 @@
-use Rattle.std.proofs.Common.{sym, subst}
+use Rattle.std.proofs.Common.{◌≡◌, List, sym, subst}
 use Rattle.std.proofs.lemmas.Result.{on_ok_weaker}
-use Rattle.disk_model.specs.Disk.{Content}
+use Rattle.disk_model.specs.Disk.{Content, newest_only}
 use Rattle.disk_model.proofs.DiskLemmas.{synced_has_nothing_pending}
-use Rattle.disk_model.proofs.MomentsLemmas.{EachMoment-then, adds_then, sync_adds}
+use Rattle.disk_model.proofs.MomentsLemmas.{EachMoment-kept, EachMoment-then, adds_then, sync_adds}
 use Rattle.image_model.specs.Geometry.{Geometry}
 use Rattle.buffer_cache.proofs.CachedLemmas.{changed_now, write_back_adds}
-use Rattle.disk_model.specs.Moments.{content_now}
+use Rattle.disk_model.specs.Moments.{EachSince, content_now}
 use Rattle.direct_mode.specs.CallLaws.{ReadsTagsNow}
 use Rattle.tag_store.specs.Store.{IsMarkedTags, given_tags}
 use Rattle.tag_store.proofs.StoreLemmas.{marked_adds}
@@ -63,3 +63,10 @@ returns-clause-moments g c =
 pub returns-clause-pending : goal.returns-clause-pending
 returns-clause-pending g c =
     on_ok_weaker c.sync.result (λ synced. synced_has_nothing_pending (λ (x : Content). x) (content_now (g.D.Disk.moments c.write_back.new.disk)) (content_now (g.D.Disk.moments c.sync.new.self)) synced) c.sync.ensures.synced
+
+pub returns-in_err-write_back-clause-synced : goal.returns-in_err-write_back-clause-synced
+returns-in_err-write_back-clause-synced g c none = EachMoment-kept _ (c.write_back.ensures.unwritten none)
+
+pub returns-clause-synced : goal.returns-clause-synced
+returns-clause-synced g c none =
+    subst (λ (m : List Content). EachSince (λ start x. x ≡ newest_only start) m (g.D.Disk.moments c.sync.new.self)) (c.write_back.ensures.unwritten none) c.sync.ensures.moments

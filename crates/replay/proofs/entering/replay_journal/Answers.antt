@@ -1,21 +1,26 @@
-use Rattle.std.proofs.Common.{◌^◌, List, sym, ap, ◌∙◌, subst}
+use Rattle.std.proofs.Common.{◌^◌, refl, List, sym, ap, ◌∙◌, subst}
 use Rattle.std.specs.List.{Contains}
 use Rattle.std.proofs.lemmas.Option.{none-some}
+use Rattle.std.proofs.lemmas.Result.{err_from_is_err_and}
 use Rattle.std.specs.Result.{is_ok}
 use Rattle.disk_model.specs.Disk.{Content, OnlyAdds, last_image}
 use Rattle.disk_model.specs.Identity.{DiskIdentity}
-use Rattle.disk_model.specs.Moments.{EachSince}
+use Rattle.disk_model.specs.Moments.{EachSince, content_now}
 use Rattle.disk_model.proofs.MomentsLemmas.{EachMoment-kept}
 use Rattle.image_model.specs.Cells.{replayed_entries}
 use Rattle.image_model.specs.Geometry.{Geometry, IsGeometry}
 use Rattle.place_writer.proofs.StoreCalls.{reads_whole}
 use Rattle.journal_model.specs.Opening.{opened_disk}
+use Rattle.image_model.proofs.OpenableLemmas.{journal_fault_law}
 use Rattle.journal_reading.specs.Journal.{journal_image}
+use Rattle.journal_reading.proofs.IndexLemmas.{all_begin}
+use Rattle.journal_reading.proofs.JournalLemmas.{replayed_entries-journal}
 use Rattle.tag_store.specs.Store.{IsStore}
 use Rattle.replay.proofs.EntriesLemmas.{whole_entries}
 use Rattle.replay.proofs.RecoveryLemmas.{cells_before, cells_through, entries_before}
 use Rattle.replay.proofs.ReplayingLemmas.{geometry_of}
-use Rattle.replay.specs.Writes.{IsOfPlacing}
+use Rattle.replay.proofs.InPlaceLemmas.{in_place_there}
+use Rattle.replay.specs.Writes.{IsOfPlacing, OnlySyncs}
 use Rattle.replay.proofs.WritesLemmas.{replay_adds}
 use Rattle.replay.proofs.entering.replay_journal.Goals as goal
 
@@ -37,7 +42,60 @@ replay-requires g c = record {
         subst (λ (m : List Content). IsStore c.args.tags.now (g.D.Disk.identity c.read_judged.new.disk) m) (sym c.read_judged.ensures.kept)
         (subst (λ (i : DiskIdentity). IsStore c.args.tags.now i (g.D.Disk.moments c.args.disk.now)) (sym c.read_judged.ensures.identity) c.requires.store);
   };
+  newest = c.in_ok-newest.ensures;
 }
+
+-- ---- where the newest entries stand
+
+pub index_of-requires : goal.index_of-requires
+index_of-requires g c = record {
+  geometry = geometry_of c.args.geometry.now c.args.tags.now (g.D.Disk.identity c.args.disk.now) (g.D.Disk.moments c.args.disk.now) c.requires.geometry c.requires.store;
+  bytes = c.read_judged.auto.bytes ∙ c.requires.bytes;
+  plan = c.in_ok-journal.ensures.journal.plan;
+  entries =
+      all_begin c.args.maker.now.key c.args.maker.now.salt c.args.geometry.now (replayed_entries c.args.geometry.now (journal_image c.read_judged.new.bytes))
+      ((journal_fault_law c.args.maker.now.key c.args.maker.now.salt c.args.geometry.now (journal_image c.read_judged.new.bytes)).0 c.in_ok-journal.ensures.journal.right).1;
+}
+
+pub returns-in_err-newest-clause-cuts : goal.returns-in_err-newest-clause-cuts
+returns-in_err-newest-clause-cuts g c f start told enters = EachMoment-kept _ c.read_judged.ensures.kept
+
+pub returns-in_err-newest-clause-moments : goal.returns-in_err-newest-clause-moments
+returns-in_err-newest-clause-moments g c = EachMoment-kept _ c.read_judged.ensures.kept
+
+pub returns-in_err-newest-clause-judged : goal.returns-in_err-newest-clause-judged
+returns-in_err-newest-clause-judged g c start told fault is = c.read_judged.ensures.kept
+
+pub returns-in_err-newest-clause-in_place : goal.returns-in_err-newest-clause-in_place
+returns-in_err-newest-clause-in_place g c none start told already = EachMoment-kept _ c.read_judged.ensures.kept
+
+pub returns-in_err-newest-clause-refused : goal.returns-in_err-newest-clause-refused
+returns-in_err-newest-clause-refused g c =
+    let p = err_from_is_err_and c.from_residual-in_err-newest.result c.from_residual-in_err-newest.ensures.1 in
+    rw (p.1, p.2) (λ not_memory not_disk content told. absurd (not_memory refl))
+
+-- ---- all is in place already
+
+pub returns-in_err-journal-clause-in_place : goal.returns-in_err-journal-clause-in_place
+returns-in_err-journal-clause-in_place g c none start told already = EachMoment-kept _ c.read_judged.ensures.kept
+
+pub returns-in_err-count-clause-in_place : goal.returns-in_err-count-clause-in_place
+returns-in_err-count-clause-in_place g c none start told already =
+    let G = c.args.geometry.now in
+    let geometry = geometry_of G c.args.tags.now (g.D.Disk.identity c.args.disk.now) (g.D.Disk.moments c.args.disk.now) c.requires.geometry c.requires.store in
+    subst (λ (m : List Content). OnlySyncs m (g.D.Disk.moments c.replay.new.disk)) c.read_judged.ensures.kept
+    (c.replay.ensures.in_place none start (ap content_now c.read_judged.ensures.kept ∙ told)
+    (in_place_there G c.args.tags.now (g.D.Disk.identity c.args.disk.now) (g.D.Disk.moments c.args.disk.now) start _ c.requires.geometry c.requires.store told none
+    (replayed_entries-journal G (2 ^ 48) c.read_judged.new.bytes (last_image start) geometry (c.in_ok-journal.ensures.read start told) (ap is_ok c.in_ok-journal.ensures.journal.plan)) already))
+
+pub returns-clause-in_place : goal.returns-clause-in_place
+returns-clause-in_place g c none start told already =
+    let G = c.args.geometry.now in
+    let geometry = geometry_of G c.args.tags.now (g.D.Disk.identity c.args.disk.now) (g.D.Disk.moments c.args.disk.now) c.requires.geometry c.requires.store in
+    subst (λ (m : List Content). OnlySyncs m (g.D.Disk.moments c.replay.new.disk)) c.read_judged.ensures.kept
+    (c.replay.ensures.in_place none start (ap content_now c.read_judged.ensures.kept ∙ told)
+    (in_place_there G c.args.tags.now (g.D.Disk.identity c.args.disk.now) (g.D.Disk.moments c.args.disk.now) start _ c.requires.geometry c.requires.store told none
+    (replayed_entries-journal G (2 ^ 48) c.read_judged.new.bytes (last_image start) geometry (c.in_ok-journal.ensures.read start told) (ap is_ok c.in_ok-journal.ensures.journal.plan)) already))
 
 pub returns-in_err-journal-clause-cuts : goal.returns-in_err-journal-clause-cuts
 returns-in_err-journal-clause-cuts g c f start told enters = EachMoment-kept _ c.read_judged.ensures.kept

@@ -1,12 +1,16 @@
-use Rattle.std.proofs.Common.{ℕ, refl, sym, ◌∙◌, arith}
+use Rattle.std.proofs.Common.{ℕ, ap, refl, sym, ◌∙◌, arith}
 use Rattle.std.specs.Option.{is_some}
 use Rattle.disk_model.proofs.MomentsLemmas.{EachMoment-then, adds_then, no_moment}
+use Rattle.disk_model.specs.Moments.{content_now}
+use Rattle.tag_store.specs.Store.{given_tags}
 use Rattle.image_model.specs.Cells.{entry_of}
 use Rattle.image_model.specs.Section.{Entry}
 use Rattle.journal_reading.specs.Journal.{journal_image}
 use Rattle.journal_reading.proofs.PlacesLemmas.{IsWalk-plan, place-inside}
 use Rattle.place_writer.specs.Placement.{IsWholeEntry}
-use Rattle.replay.proofs.ReplayingLemmas.{among_replayed, count_step, front_count-all, geometry_of, next_step, one_or_none, placed_every, placed_none, placed_step, placed_to, replayed_at, stands_step}
+use Rattle.replay.proofs.ReplayingLemmas.{among_replayed, count_step, counted_all, counted_there, front_count-all, geometry_of, one_or_none, replayed_at}
+use Rattle.replay.proofs.TurnedLemmas.{turned_all, turned_none}
+use Rattle.replay.proofs.InPlaceLemmas.{in_place_still, still_none, still_then}
 use Rattle.replay.proofs.WritesLemmas.{among_more}
 use Rattle.replay.proofs.placing.place_all.Goals as goal
 
@@ -21,9 +25,10 @@ pub loop-k-init : goal.loop-k-init
 loop-k-init g c = record {
   count = refl;
   low = omega arith;
-  placed = λ d to has. placed_none d c.args.geometry.now c.args.bytes.now c.args.plan.now c.requires.replaying.plan_is to c.args.tags.now (g.D.Disk.moments c.args.disk.now) has;
+  placed = λ d to has. turned_none d c.args.geometry.now c.args.bytes.now c.args.newest.now to c.requires.newest c.args.tags.now (g.D.Disk.moments c.args.disk.now) has;
   stands = λ d to has. no_moment (g.D.Disk.moments c.args.disk.now) _;
   moments = no_moment (g.D.Disk.moments c.args.disk.now) _;
+  still = λ none start told are. still_none c.args.tags.now (g.D.Disk.moments c.args.disk.now) none;
   faults = refl;
   store = c.requires.replaying.store_is;
   geometry = refl;
@@ -57,13 +62,13 @@ place_entry-requires-clause-whole g c entry some =
 
 pub returns-in_err-placed-clause-stands : goal.returns-in_err-placed-clause-stands
 returns-in_err-placed-clause-stands g c d to has =
-    let G = c.args.geometry.now in
-    let B = c.args.bytes.now in
-    let plan = c.args.plan.now in
-    let place : ℕ × ℕ = (c.entry_place-place.result.section, c.entry_place-place.result.entry) in
-    EachMoment-then (c.loop-k.invariant.stands d to has)
-    (stands_step d G B plan c.requires.replaying.plan_is to c.loop-k.k place c.entry_place-place.ensures
-    (c.place_entry.ensures.stands (placed_to G B plan.walk c.loop-k.k d) (next_step d G B plan c.requires.replaying.plan_is to c.loop-k.k place c.entry_place-place.ensures) (c.loop-k.invariant.placed d to has)))
+    EachMoment-then (c.loop-k.invariant.stands d to has) (c.place_entry.ensures.stands d c.loop-k.k to (c.loop-k.invariant.placed d to has))
+
+pub returns-in_err-placed-clause-still : goal.returns-in_err-placed-clause-still
+returns-in_err-placed-clause-still g c none start told are =
+    let first = c.loop-k.invariant.still none start told are in
+    still_then c.args.tags.now c.loop-k.tags c.place_entry.new.tags (g.D.Disk.moments c.args.disk.now) (g.D.Disk.moments c.loop-k.disk) (g.D.Disk.moments c.place_entry.new.disk) first
+    (c.place_entry.ensures.still first.unmarked start (ap content_now first.kept ∙ told) (in_place_still c.args.geometry.now _ (given_tags c.args.tags.now start) (given_tags c.loop-k.tags start) start (first.same start told) are))
 
 pub returns-in_err-placed-clause-moments : goal.returns-in_err-placed-clause-moments
 returns-in_err-placed-clause-moments g c =
@@ -90,17 +95,16 @@ loop-k-preserved g c =
           let more = count_step G B plan.walk k place there in
           omega (arith, more, c.in_ok-placed.ensures.count, c.loop-k.invariant.count);
       low = omega (arith, used, c.in_ok-placed.ensures.count, c.loop-k.invariant.low);
-      placed = λ d to has.
-          placed_step d G B plan c.requires.replaying.plan_is to k place c.place_entry.new.tags (g.D.Disk.moments c.place_entry.new.disk) there
-          (c.in_ok-placed.ensures.placed (placed_to G B plan.walk k d) (next_step d G B plan c.requires.replaying.plan_is to k place there) (c.loop-k.invariant.placed d to has));
-      stands = λ d to has.
-          EachMoment-then (c.loop-k.invariant.stands d to has)
-          (stands_step d G B plan c.requires.replaying.plan_is to k place there
-          (c.place_entry.ensures.stands (placed_to G B plan.walk k d) (next_step d G B plan c.requires.replaying.plan_is to k place there) (c.loop-k.invariant.placed d to has)));
+      placed = λ d to has. c.in_ok-placed.ensures.placed d k to (counted_there G B plan k place c.requires.replaying.plan_is there) (c.loop-k.invariant.placed d to has);
+      stands = λ d to has. EachMoment-then (c.loop-k.invariant.stands d to has) (c.place_entry.ensures.stands d k to (c.loop-k.invariant.placed d to has));
       moments =
           adds_then _ c.loop-k.invariant.moments
           (among_more c.args.geometry.now _ _ (λ (e : Entry) some. among_replayed c.args.geometry.now c.args.bytes.now c.args.plan.now c.loop-k.k
           (c.entry_place-place.result.section, c.entry_place-place.result.entry) e c.requires.replaying.plan_is c.entry_place-place.ensures some) c.place_entry.ensures.moments);
+      still = λ none start told are.
+          let first = c.loop-k.invariant.still none start told are in
+          still_then c.args.tags.now c.loop-k.tags c.place_entry.new.tags (g.D.Disk.moments c.args.disk.now) (g.D.Disk.moments c.loop-k.disk) (g.D.Disk.moments c.place_entry.new.disk) first
+          (c.place_entry.ensures.still first.unmarked start (ap content_now first.kept ∙ told) (in_place_still G _ (given_tags c.args.tags.now start) (given_tags c.loop-k.tags start) start (first.same start told) are));
       faults = c.in_ok-placed.ensures.cause.passed ∙ c.loop-k.invariant.faults;
       store = c.place_entry.ensures.store;
       geometry = c.place_entry.ensures.geometry ∙ c.loop-k.invariant.geometry;
@@ -114,8 +118,8 @@ returns-clause-count g c =
 
 pub returns-clause-placed : goal.returns-clause-placed
 returns-clause-placed g c d to has =
-    placed_every d c.args.geometry.now c.args.bytes.now c.args.plan.now c.requires.replaying.plan_is to c.loop-k.k c.loop-k.tags (g.D.Disk.moments c.loop-k.disk)
-    (omega (arith, c.entry_count-k-end.ensures)) (c.loop-k.invariant.placed d to has)
+    turned_all d c.args.geometry.now c.args.bytes.now c.args.newest.now to c.requires.newest c.loop-k.k c.loop-k.tags (g.D.Disk.moments c.loop-k.disk)
+    (counted_all c.args.geometry.now c.args.bytes.now c.args.plan.now c.loop-k.k c.requires.replaying.plan_is (omega (arith, c.entry_count-k-end.ensures))) (c.loop-k.invariant.placed d to has)
 
 pub returns-clause-stands : goal.returns-clause-stands
 returns-clause-stands g c d to has = c.loop-k.invariant.stands d to has

@@ -1,62 +1,118 @@
-use Rattle.std.proofs.Common.{Option, Some, sym, ◌∙◌, ap, subst, if◌then◌else◌}
-use Rattle.std.specs.Option.{is_some}
-use Rattle.disk_model.specs.Moments.{EachMoment}
-use Rattle.disk_model.proofs.MomentsLemmas.{no_moment}
-use Rattle.image_model.specs.Geometry.{Geometry}
+use Rattle.std.proofs.Common.{◌≡◌, ◌/◌, ℕ, Some, sym, ◌∙◌, ap, subst}
+use Rattle.std.proofs.lemmas.Bool.{false≢true}
+use Rattle.disk_model.specs.Disk.{last_image}
+use Rattle.image_model.specs.Cells.{last_entry, replayed_entries}
+use Rattle.image_model.specs.Geometry.{Geometry, Shape, data_at}
 use Rattle.image_model.specs.Section.{Entry}
-use Rattle.journal_model.specs.JournaledDisk.{StandsFor}
+use Rattle.image_model.specs.Sectors.{bytes_at}
+use Rattle.journal_model.specs.Entries.{cell_of}
 use Rattle.journal_reading.specs.Entries.{entry_with}
-use Rattle.place_writer.specs.Cells.{HasCells}
+use Rattle.journal_reading.specs.Journal.{journal_image}
 use Rattle.place_writer.specs.Placement.{IsWholeEntry}
-use Rattle.replay.specs.Replaying.{IsNext, after_entry}
-use Rattle.replay.proofs.ReplayingLemmas.{geometry_of}
+use Rattle.tag_store.specs.Store.{given_tags}
+use Rattle.replay.specs.Replaying.{HasAmid, last_cell, without}
+use Rattle.replay.proofs.TurnedLemmas.{newest_cell, newest_entry, turned_older, turned_one}
 use Rattle.replay.proofs.WritesLemmas.{among_more}
 use Rattle.replay.proofs.placing.place_entry.Goals as goal
 
-pub read_entry-requires-clause-geometry : goal.read_entry-requires-clause-geometry
-read_entry-requires-clause-geometry g c =
-    geometry_of c.args.geometry.now c.args.tags.now (g.D.Disk.identity c.args.disk.now) (g.D.Disk.moments c.args.disk.now) c.requires.geometry c.requires.store
-
-pub returns-in-None-clause-count : goal.returns-in-None-clause-count
-returns-in-None-clause-count g c = ap (λ (o : Option Entry). if is_some o then 1 else 0) c.in-None.ensures
-
-pub returns-in-None-clause-placed : goal.returns-in-None-clause-placed
-returns-in-None-clause-placed g c d next has =
-    subst (λ (o : Option Entry). HasCells (after_entry o d) c.args.tags.now (g.D.Disk.moments c.args.disk.now)) c.in-None.ensures has
-
-pub returns-in-None-clause-stands : goal.returns-in-None-clause-stands
-returns-in-None-clause-stands g c d next has = no_moment (g.D.Disk.moments c.args.disk.now) _
-
-pub write_view-requires-clause-whole : goal.write_view-requires-clause-whole
-write_view-requires-clause-whole g c =
+pub place_view-requires-clause-whole : goal.place_view-requires-clause-whole
+place_view-requires-clause-whole g c =
     subst (λ (x : Geometry). IsWholeEntry x (entry_with c.read_entry.new.block c.in-Some.view)) c.requires.geometry
     (c.requires.whole (entry_with c.read_entry.new.block c.in-Some.view) (sym c.in-Some.ensures))
 
-pub returns-in_err-write_view-in-Some-clause-stands : goal.returns-in_err-write_view-in-Some-clause-stands
-returns-in_err-write_view-in-Some-clause-stands g c d next has =
-    subst (λ (o : Option Entry). EachMoment (g.D.Disk.moments c.args.disk.now) (g.D.Disk.moments c.write_view.new.disk) (StandsFor (after_entry o d))) c.in-Some.ensures
-    (c.write_view.ensures.stands d (subst (λ (o : Option Entry). IsNext o d) (sym c.in-Some.ensures) next) has)
+pub returns-in_err-place_view-clause-stands : goal.returns-in_err-place_view-clause-stands
+returns-in_err-place_view-clause-stands g c d k to has =
+    let G = c.args.geometry.now in
+    let B = c.args.bytes.now in
+    let entry = entry_with c.read_entry.new.block c.in-Some.view in
+    let spb : c.shape.result.spb ≡ G.shape.spb = ap (λ (x : Shape). x.spb) c.shape.ensures.shape in
+    let sector = c.in-Some.view.sector in
+    let number = sector / c.shape.result.spb in
+    let number_is : number ≡ sector / G.shape.spb = ap (λ (n : ℕ). sector / n) spb in
+    let own : number ≡ sector / c.args.tags.now.geometry.shape.spb = number_is ∙ ap (λ (x : Geometry). sector / x.shape.spb) c.requires.geometry in
+    let cell = newest_cell d G B c.args.newest.now to c.requires.newest c.args.place entry number c.in-Some.ensures number_is (c.is_newest.ensures.0 c.if-is_newest.true) in
+    let there_cell : last_cell d (sector / c.args.tags.now.geometry.shape.spb) ≡ cell_of entry = ap (last_cell d) (sym own) ∙ cell in
+    c.place_view.ensures.stands d has.ahead there_cell has.amid
 
-pub returns-in_ok-write_view-in-Some-clause-count : goal.returns-in_ok-write_view-in-Some-clause-count
-returns-in_ok-write_view-in-Some-clause-count g c = ap (λ (o : Option Entry). if is_some o then 1 else 0) c.in-Some.ensures
+pub returns-in_ok-place_view-clause-stands : goal.returns-in_ok-place_view-clause-stands
+returns-in_ok-place_view-clause-stands g c d k to has =
+    let G = c.args.geometry.now in
+    let B = c.args.bytes.now in
+    let entry = entry_with c.read_entry.new.block c.in-Some.view in
+    let spb : c.shape.result.spb ≡ G.shape.spb = ap (λ (x : Shape). x.spb) c.shape.ensures.shape in
+    let sector = c.in-Some.view.sector in
+    let number = sector / c.shape.result.spb in
+    let number_is : number ≡ sector / G.shape.spb = ap (λ (n : ℕ). sector / n) spb in
+    let own : number ≡ sector / c.args.tags.now.geometry.shape.spb = number_is ∙ ap (λ (x : Geometry). sector / x.shape.spb) c.requires.geometry in
+    let cell = newest_cell d G B c.args.newest.now to c.requires.newest c.args.place entry number c.in-Some.ensures number_is (c.is_newest.ensures.0 c.if-is_newest.true) in
+    let there_cell : last_cell d (sector / c.args.tags.now.geometry.shape.spb) ≡ cell_of entry = ap (last_cell d) (sym own) ∙ cell in
+    c.place_view.ensures.stands d has.ahead there_cell has.amid
 
-pub returns-in_ok-write_view-in-Some-clause-placed : goal.returns-in_ok-write_view-in-Some-clause-placed
-returns-in_ok-write_view-in-Some-clause-placed g c d next has =
-    subst (λ (o : Option Entry). HasCells (after_entry o d) c.write_view.new.tags (g.D.Disk.moments c.write_view.new.disk)) c.in-Some.ensures
-    (c.in_ok-write_view-in-Some.ensures.placed d (subst (λ (o : Option Entry). IsNext o d) (sym c.in-Some.ensures) next) has)
+pub returns-in_ok-place_view-clause-placed : goal.returns-in_ok-place_view-clause-placed
+returns-in_ok-place_view-clause-placed g c d k to there has =
+    let G = c.args.geometry.now in
+    let B = c.args.bytes.now in
+    let entry = entry_with c.read_entry.new.block c.in-Some.view in
+    let spb : c.shape.result.spb ≡ G.shape.spb = ap (λ (x : Shape). x.spb) c.shape.ensures.shape in
+    let sector = c.in-Some.view.sector in
+    let number = sector / c.shape.result.spb in
+    let number_is : number ≡ sector / G.shape.spb = ap (λ (n : ℕ). sector / n) spb in
+    let own : number ≡ sector / c.args.tags.now.geometry.shape.spb = number_is ∙ ap (λ (x : Geometry). sector / x.shape.spb) c.requires.geometry in
+    let cell = newest_cell d G B c.args.newest.now to c.requires.newest c.args.place entry number c.in-Some.ensures number_is (c.is_newest.ensures.0 c.if-is_newest.true) in
+    let there_cell : last_cell d (sector / c.args.tags.now.geometry.shape.spb) ≡ cell_of entry = ap (last_cell d) (sym own) ∙ cell in
+    let new = c.place_view.new.tags in
+    let moments = g.D.Disk.moments c.place_view.new.disk in
+    turned_one d G B c.args.newest.now to c.requires.newest c.args.place entry number c.in-Some.ensures number_is k c.args.tags.now new (g.D.Disk.moments c.args.disk.now) moments there has
+    (subst (λ (n : ℕ). HasAmid d (without n has.ahead) (without n has.ahead) new moments) (sym own) (c.in_ok-place_view.ensures.placed d has.ahead there_cell has.amid))
 
-pub returns-in_ok-write_view-in-Some-clause-stands : goal.returns-in_ok-write_view-in-Some-clause-stands
-returns-in_ok-write_view-in-Some-clause-stands g c d next has =
-    subst (λ (o : Option Entry). EachMoment (g.D.Disk.moments c.args.disk.now) (g.D.Disk.moments c.write_view.new.disk) (StandsFor (after_entry o d))) c.in-Some.ensures
-    (c.write_view.ensures.stands d (subst (λ (o : Option Entry). IsNext o d) (sym c.in-Some.ensures) next) has)
+pub returns-else-is_newest-clause-placed : goal.returns-else-is_newest-clause-placed
+returns-else-is_newest-clause-placed g c d k to there has =
+    let G = c.args.geometry.now in
+    let B = c.args.bytes.now in
+    let entry = entry_with c.read_entry.new.block c.in-Some.view in
+    let spb : c.shape.result.spb ≡ G.shape.spb = ap (λ (x : Shape). x.spb) c.shape.ensures.shape in
+    let sector = c.in-Some.view.sector in
+    let number = sector / c.shape.result.spb in
+    let number_is : number ≡ sector / G.shape.spb = ap (λ (n : ℕ). sector / n) spb in
+    turned_older d G B c.args.newest.now to c.requires.newest c.args.place entry number c.in-Some.ensures number_is k c.args.tags.now (g.D.Disk.moments c.args.disk.now) there
+    (λ is. false≢true (sym c.if-is_newest.false ∙ c.is_newest.ensures.1 is)) has
 
-pub returns-in_err-write_view-in-Some-clause-moments : goal.returns-in_err-write_view-in-Some-clause-moments
-returns-in_err-write_view-in-Some-clause-moments g c =
-    among_more c.args.geometry.now _ _ (λ (e : Entry) is. sym c.in-Some.ensures ∙ ap (λ (x : Entry). Some x) (sym is)) c.write_view.ensures.moments
+pub returns-in_err-place_view-clause-moments : goal.returns-in_err-place_view-clause-moments
+returns-in_err-place_view-clause-moments g c =
+    among_more c.args.geometry.now _ _ (λ (e : Entry) is. sym c.in-Some.ensures ∙ ap (λ (x : Entry). Some x) (sym is)) c.place_view.ensures.moments
 
-pub returns-in_ok-write_view-in-Some-clause-moments : goal.returns-in_ok-write_view-in-Some-clause-moments
-returns-in_ok-write_view-in-Some-clause-moments g c =
-    among_more c.args.geometry.now _ _ (λ (e : Entry) is. sym c.in-Some.ensures ∙ ap (λ (x : Entry). Some x) (sym is)) c.write_view.ensures.moments
+pub returns-in_ok-place_view-clause-moments : goal.returns-in_ok-place_view-clause-moments
+returns-in_ok-place_view-clause-moments g c =
+    among_more c.args.geometry.now _ _ (λ (e : Entry) is. sym c.in-Some.ensures ∙ ap (λ (x : Entry). Some x) (sym is)) c.place_view.ensures.moments
 
-pub returns-in-None-clause-moments : goal.returns-in-None-clause-moments
-returns-in-None-clause-moments g c = no_moment (g.D.Disk.moments c.args.disk.now) _
+pub returns-in_err-place_view-clause-still : goal.returns-in_err-place_view-clause-still
+returns-in_err-place_view-clause-still g c none start told are =
+    let G = c.args.geometry.now in
+    let B = c.args.bytes.now in
+    let entry = entry_with c.read_entry.new.block c.in-Some.view in
+    let spb : c.shape.result.spb ≡ G.shape.spb = ap (λ (x : Shape). x.spb) c.shape.ensures.shape in
+    let sector = c.in-Some.view.sector in
+    let number = sector / c.shape.result.spb in
+    let number_is : number ≡ sector / G.shape.spb = ap (λ (n : ℕ). sector / n) spb in
+    let last : last_entry G (replayed_entries G (journal_image B)) (sector / G.shape.spb) ≡ Some entry =
+    ap (λ (n : ℕ). last_entry G (replayed_entries G (journal_image B)) n) (sym number_is)
+    ∙ newest_entry G B c.args.newest.now number c.args.place entry c.requires.newest (c.is_newest.ensures.0 c.if-is_newest.true) c.in-Some.ensures in
+    c.place_view.ensures.still none start told
+    (ap (λ (x : Geometry). bytes_at (last_image start) (data_at x (sector / x.shape.spb)) x.shape.spb) (sym c.requires.geometry) ∙ are.data_ (sector / G.shape.spb) entry last)
+    (ap (λ (x : Geometry). given_tags c.args.tags.now start (sector / x.shape.spb)) (sym c.requires.geometry) ∙ are.tag_ (sector / G.shape.spb) entry last)
+
+pub returns-in_ok-place_view-clause-still : goal.returns-in_ok-place_view-clause-still
+returns-in_ok-place_view-clause-still g c none start told are =
+    let G = c.args.geometry.now in
+    let B = c.args.bytes.now in
+    let entry = entry_with c.read_entry.new.block c.in-Some.view in
+    let spb : c.shape.result.spb ≡ G.shape.spb = ap (λ (x : Shape). x.spb) c.shape.ensures.shape in
+    let sector = c.in-Some.view.sector in
+    let number = sector / c.shape.result.spb in
+    let number_is : number ≡ sector / G.shape.spb = ap (λ (n : ℕ). sector / n) spb in
+    let last : last_entry G (replayed_entries G (journal_image B)) (sector / G.shape.spb) ≡ Some entry =
+    ap (λ (n : ℕ). last_entry G (replayed_entries G (journal_image B)) n) (sym number_is)
+    ∙ newest_entry G B c.args.newest.now number c.args.place entry c.requires.newest (c.is_newest.ensures.0 c.if-is_newest.true) c.in-Some.ensures in
+    c.place_view.ensures.still none start told
+    (ap (λ (x : Geometry). bytes_at (last_image start) (data_at x (sector / x.shape.spb)) x.shape.spb) (sym c.requires.geometry) ∙ are.data_ (sector / G.shape.spb) entry last)
+    (ap (λ (x : Geometry). given_tags c.args.tags.now start (sector / x.shape.spb)) (sym c.requires.geometry) ∙ are.tag_ (sector / G.shape.spb) entry last)

@@ -1,6 +1,8 @@
-use Rattle.std.proofs.Common.{sym, ◌∙◌}
-use Rattle.disk_model.proofs.MomentsLemmas.{EachMoment-then, adds_then}
+use Rattle.std.proofs.Common.{List, subst, sym, ◌∙◌}
+use Rattle.disk_model.proofs.MomentsLemmas.{EachMoment-kept, EachMoment-then, adds_then}
+use Rattle.disk_model.specs.Disk.{Content}
 use Rattle.replay.specs.Replaying.{all_placed}
+use Rattle.replay.specs.Writes.{OnlySyncs}
 use Rattle.replay.proofs.WritesLemmas.{tags_add}
 use Rattle.replay.proofs.placing.replay.Goals as goal
 
@@ -20,3 +22,16 @@ returns-in_err-flush-clause-moments g c = adds_then _ c.place_all.ensures.moment
 
 pub returns-clause-moments : goal.returns-clause-moments
 returns-clause-moments g c = adds_then _ c.place_all.ensures.moments (tags_add c.args.geometry.now c.place_all.new.tags _ (c.requires.replaying.geometry ∙ sym c.place_all.ensures.geometry) c.flush.ensures.moments)
+
+pub returns-in_err-count-clause-in_place : goal.returns-in_err-count-clause-in_place
+returns-in_err-count-clause-in_place g c none start told are = EachMoment-kept _ (c.place_all.ensures.still none start told are).kept
+
+pub returns-in_err-flush-clause-in_place : goal.returns-in_err-flush-clause-in_place
+returns-in_err-flush-clause-in_place g c none start told are =
+    let still = c.place_all.ensures.still none start told are in
+    subst (λ (m : List Content). OnlySyncs m (g.D.Disk.moments c.flush.new.disk)) still.kept (c.flush.ensures.synced still.unmarked)
+
+pub returns-clause-in_place : goal.returns-clause-in_place
+returns-clause-in_place g c none start told are =
+    let still = c.place_all.ensures.still none start told are in
+    subst (λ (m : List Content). OnlySyncs m (g.D.Disk.moments c.flush.new.disk)) still.kept (c.flush.ensures.synced still.unmarked)

@@ -1,7 +1,7 @@
-use Rattle.std.proofs.Common.{◌^◌, length, refl, sym, ap, ◌∙◌}
+use Rattle.std.proofs.Common.{◌^◌, List, length, refl, subst, sym, ap, ◌∙◌}
 use Rattle.std.specs.Result.{is_ok}
 use Rattle.std.proofs.lemmas.Option.{none-some}
-use Rattle.disk_model.specs.Disk.{last_image}
+use Rattle.disk_model.specs.Disk.{Content, last_image}
 use Rattle.disk_model.proofs.MomentsLemmas.{EachMoment-then}
 use Rattle.place_writer.proofs.StoreCalls.{reads_whole}
 use Rattle.journal_model.specs.Opening.{opened_disk}
@@ -9,9 +9,10 @@ use Rattle.journal_reading.proofs.JournalLemmas.{walk_of-journal}
 use Rattle.place_model.specs.Opened.{next_after_walk}
 use Rattle.journal_model.specs.Steps.{after_settle}
 use Rattle.replay.specs.Replaying.{all_placed}
+use Rattle.replay.specs.Writes.{OnlySyncs}
 use Rattle.replay.proofs.ReplayingLemmas.{geometry_of}
 use Rattle.replay.proofs.RecoveryLemmas.{cells_stay_erased, leaves_same, replayed_after}
-use Rattle.replay.proofs.RestingLemmas.{placing_rests, recovery_rests}
+use Rattle.replay.proofs.RestingLemmas.{placing_rests, recovery_rests, state_at_rest}
 use Rattle.replay.proofs.WritesLemmas.{recovery_adds, replay_only}
 use Rattle.replay.proofs.recovery.recover.Goals as goal
 
@@ -103,3 +104,26 @@ returns-clause-rest g c =
 
 pub returns-in_err-replayed-clause-rest : goal.returns-in_err-replayed-clause-rest
 returns-in_err-replayed-clause-rest g c = placing_rests c.args.geometry.now c.replay_journal.ensures.moments
+
+pub returns-in_err-replayed-clause-in_place : goal.returns-in_err-replayed-clause-in_place
+returns-in_err-replayed-clause-in_place g c none start told already = c.replay_journal.ensures.in_place none start told already.in_place
+
+pub returns-in_err-recovered-clause-in_place : goal.returns-in_err-recovered-clause-in_place
+returns-in_err-recovered-clause-in_place g c none start told already =
+    let G = c.args.geometry.now in
+    let geometry = geometry_of G c.args.tags.now (g.D.Disk.identity c.args.disk.now) (g.D.Disk.moments c.args.disk.now) c.requires.geometry c.requires.store in
+    let replayed = c.in_ok-replayed.ensures.replayed in
+    let at = state_at_rest G (2 ^ 48) (last_image start) c.in_ok-replayed.replayed.journal.plan geometry
+    (walk_of-journal G (2 ^ 48) c.replay_journal.new.bytes (last_image start) geometry (replayed.read start told) ∙ replayed.judged.plan) already.rests in
+    subst (λ (m : List Content). OnlySyncs (g.D.Disk.moments c.args.disk.now) m) (sym (c.finish.ensures.rest already.rests.next already.rests.number at))
+    (c.replay_journal.ensures.in_place none start told already.in_place)
+
+pub returns-clause-in_place : goal.returns-clause-in_place
+returns-clause-in_place g c none start told already =
+    let G = c.args.geometry.now in
+    let geometry = geometry_of G c.args.tags.now (g.D.Disk.identity c.args.disk.now) (g.D.Disk.moments c.args.disk.now) c.requires.geometry c.requires.store in
+    let replayed = c.in_ok-replayed.ensures.replayed in
+    let at = state_at_rest G (2 ^ 48) (last_image start) c.in_ok-replayed.replayed.journal.plan geometry
+    (walk_of-journal G (2 ^ 48) c.replay_journal.new.bytes (last_image start) geometry (replayed.read start told) ∙ replayed.judged.plan) already.rests in
+    subst (λ (m : List Content). OnlySyncs (g.D.Disk.moments c.args.disk.now) m) (sym (c.finish.ensures.rest already.rests.next already.rests.number at))
+    (c.replay_journal.ensures.in_place none start told already.in_place)

@@ -5,7 +5,9 @@ use Rattle.disk_model.proofs.DiskLemmas.{OnlyAdds-none}
 use Rattle.buffer_cache.specs.Cache.{sectors_of}
 use Rattle.buffer_cache.specs.Cached.{IsPutOut}
 use Rattle.buffer_cache.proofs.CachedLemmas.{Keeps-then}
-use Rattle.tag_store.proofs.SpansLemmas.{HoldsSpan-two, cached-whole, out_by_one, out_by_two, reads_two}
+use Rattle.tag_store.proofs.SpansLemmas.{HoldsSpan-one, HoldsSpan-two, cached-whole, out_by_one, out_by_two, reads_two}
+use Rattle.buffer_cache.proofs.CachedLemmas.{HasNoMark-kept}
+use Rattle.std.proofs.Common.{◌∙◌}
 use Rattle.tag_store.proofs.spans.read_span.Goals as goal
 
 pub returns-in_err-read_at-clause-moments : goal.returns-in_err-read_at-clause-moments
@@ -39,3 +41,15 @@ pub returns-clause-moments : goal.returns-clause-moments
 returns-clause-moments g c =
     out_by_two c.args.at c.args.from (length c.args.out.now) (sectors_of c.args.cache.now) (sectors_of c.read_at.new.self) (omega arith)
     c.read_at.ensures.moments c.read_at.ensures.keeps c.read_at-2.ensures.moments
+
+pub returns-clause-unwritten : goal.returns-clause-unwritten
+returns-clause-unwritten g c none =
+    c.read_at-2.ensures.unwritten (HasNoMark-kept (sectors_of c.args.cache.now) (sectors_of c.read_at.new.self) c.read_at.ensures.keeps none) ∙ c.read_at.ensures.unwritten none
+
+pub returns-in_err-read_at-clause-held : goal.returns-in_err-read_at-clause-held
+returns-in_err-read_at-clause-held g c =
+    HoldsSpan-one c.args.at c.args.from (length c.args.out.now) (sectors_of c.args.cache.now) (sectors_of c.read_at.new.self) c.requires.span.begins c.requires.span.some c.read_at.ensures.held
+
+pub returns-then-size-len-clause-held : goal.returns-then-size-len-clause-held
+returns-then-size-len-clause-held g c =
+    HoldsSpan-one c.args.at c.args.from (length c.args.out.now) (sectors_of c.args.cache.now) (sectors_of c.read_at.new.self) c.requires.span.begins c.requires.span.some c.read_at.ensures.held

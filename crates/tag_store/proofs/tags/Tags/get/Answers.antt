@@ -8,6 +8,7 @@ use Rattle.tag_store.specs.Spans.{span_of}
 use Rattle.image_model.specs.Geometry.{Shape}
 use Rattle.tag_store.specs.Store.{IsOutForTag, IsStore, Store, given, tags_in}
 use Rattle.tag_store.proofs.StoreLemmas.{IsStore-also, out_adds, tag-span, tags_in-span}
+use Rattle.buffer_cache.specs.Cached.{HasNoMark}
 use Rattle.tag_store.proofs.tags.Tags.get.Goals as goal
 
 pub read_span-requires-clause-span : goal.read_span-requires-clause-span
@@ -63,3 +64,9 @@ returns-clause-moments g c =
     (out_adds (record { geometry = c.self.inside.geometry; sectors = sectors_of c.self.inside.cache }) _ c.args.block _ is
     (length-take-le c.shape-size.result.tag _ (omega (arith, c.shape-size.ensures.is_shape.tag.1)) ∙ ap (λ (s : Shape). s.tag_size) c.shape-size.ensures.shape)
     (rw c.tag_at-at.ensures at c.read_span.ensures.moments))
+
+pub returns-in_err-read_span-clause-unwritten : goal.returns-in_err-read_span-clause-unwritten
+returns-in_err-read_span-clause-unwritten g c none = c.read_span.ensures.unwritten (subst (λ (s : Store). HasNoMark s.sectors) (sym c.self.view_is) none)
+
+pub returns-clause-unwritten : goal.returns-clause-unwritten
+returns-clause-unwritten g c none = c.read_span.ensures.unwritten (subst (λ (s : Store). HasNoMark s.sectors) (sym c.self.view_is) none)

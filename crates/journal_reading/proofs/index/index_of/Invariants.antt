@@ -1,8 +1,8 @@
 use Rattle.image_model.specs.Cells.{entry_of}
 use Rattle.journal_reading.specs.Journal.{journal_image}
 use Rattle.journal_reading.specs.Places.{places_of}
-use Rattle.image_check.proofs.IndexLemmas.{IsIndexUpTo}
-use Rattle.image_check.proofs.index.index_of.Given as goal
+use Rattle.journal_reading.proofs.IndexLemmas.{IsIndexUpTo}
+use Rattle.journal_reading.proofs.index.index_of.Given as goal
 
 -- The places of the first entries are kept.
 abbrev pub invariant-loop-k : goal.invariant-loop-k

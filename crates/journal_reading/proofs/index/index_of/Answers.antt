@@ -1,13 +1,10 @@
-use Rattle.std.proofs.Common.{sym, subst, arith, List, filter_map}
-use Rattle.std.specs.List.{AllByRecursion}
+use Rattle.std.proofs.Common.{arith}
 use Rattle.image_model.specs.Cells.{entry_of}
-use Rattle.image_model.specs.Section.{Entry}
 use Rattle.journal_reading.specs.Journal.{journal_image}
 use Rattle.journal_reading.specs.Places.{places_of}
+use Rattle.journal_reading.proofs.IndexLemmas.{index-all, index-next, index-none}
 use Rattle.journal_reading.proofs.PlacesLemmas.{IsWalk-plan, place-inside}
-use Rattle.image_check.specs.Index.{BeginsBlock, IsIndexOf}
-use Rattle.image_check.proofs.IndexLemmas.{index-all, index-next, index-none, replayed-places}
-use Rattle.image_check.proofs.index.index_of.Goals as goal
+use Rattle.journal_reading.proofs.index.index_of.Goals as goal
 
 pub entry_count-count-requires-clause-walk : goal.entry_count-count-requires-clause-walk
 entry_count-count-requires-clause-walk c = IsWalk-plan c.args.geometry.now (journal_image c.args.bytes.now) c.args.plan.now c.requires.plan
@@ -36,15 +33,10 @@ loop-k-init c =
 pub loop-k-preserved : goal.loop-k-preserved
 loop-k-preserved c =
     let g = c.args.geometry.now in
-    let image = journal_image c.args.bytes.now in
-    let whole : AllByRecursion (BeginsBlock g) (filter_map (entry_of g image) (places_of g c.args.plan.now.walk)) =
-    subst (λ (es : List Entry). AllByRecursion (BeginsBlock g) es) (replayed-places g image c.args.plan.now c.requires.plan) c.requires.entries in
-    index-next g (entry_of g image) (places_of g c.args.plan.now.walk) c.entry_count-count.result c.loop-k.k (c.entry_place-place.result.section, c.entry_place-place.result.entry) c.entry_place-place.result
-    c.loop-k.overlay c.add_entry.new.overlay c.requires.geometry.spb.0 whole c.entry_place-place.ensures c.add_entry.ensures c.loop-k.invariant
+    index-next g (entry_of g (journal_image c.args.bytes.now)) (places_of g c.args.plan.now.walk) c.entry_count-count.result c.loop-k.k c.entry_place-place.result
+    c.loop-k.overlay c.add_entry.new.overlay c.entry_place-place.ensures c.add_entry.ensures c.loop-k.invariant
 
 pub returns : goal.returns
 returns c =
-    let g = c.args.geometry.now in
-    let image = journal_image c.args.bytes.now in
-    let all = index-all g (entry_of g image) (places_of g c.args.plan.now.walk) c.entry_count-count.result c.loop-k.k c.loop-k.overlay (omega (arith, c.entry_count-count.ensures)) c.loop-k.invariant in
-    subst (λ (es : List Entry). IsIndexOf g es c.loop-k.overlay) (sym (replayed-places g image c.args.plan.now c.requires.plan)) all
+    index-all c.args.geometry.now (journal_image c.args.bytes.now) c.args.plan.now c.entry_count-count.result c.loop-k.k c.loop-k.overlay
+    c.requires.plan c.requires.geometry.spb.0 c.requires.entries (omega (arith, c.entry_count-count.ensures)) c.loop-k.invariant
