@@ -4,10 +4,8 @@
 //! Where the program is started with a standard stream closed, the next file that is opened takes its number. Text would
 //! then be written into an image, or an image be read as a script.
 use crate::in_use::is_in_use;
-use libc::{POSIX_FADV_DONTNEED, posix_fadvise};
 use std::fs::{File, OpenFile, OpenOptions};
 use std::io::ErrorKind;
-use std::os::fd::AsRawFd;
 use std::os::unix::fs::{FileTypeExt, MetadataExt};
 use std::rt::Files;
 use std::{fs, io};
@@ -22,9 +20,6 @@ pub(crate) fn open_for_reads<R: Files<File = File>>(rt: &R, name: &str) -> io::R
     refuse_streams(rt, name)?;
     let file = open_apart(rt, OpenOptions::new().read(true), name)?;
     file.try_lock_shared()?;
-    // It makes no sync: that would wait for what others have written, and might take the report of a write of theirs
-    // that failed, which whoever writes next is to get.
-    drop_cache(&file);
     Ok(file)
 }
 
@@ -38,9 +33,6 @@ where
     let file = open_to_write_or_read(rt, name)?;
     file.try_lock()?;
     refuse_if_in_use(rt, &file)?;
-    // Only what has reached the medium is dropped, so what waits to be written goes there first.
-    file.sync_all()?;
-    drop_cache(&file);
     Ok(file)
 }
 
@@ -77,10 +69,4 @@ fn refuse_if_in_use<R: Files + AllocGlobal + Clone + Drop>(rt: &R, file: &File) 
         return Err(ErrorKind::ResourceBusy.into());
     }
     Ok(())
-}
-
-/// Asks the system to forget what it holds of a file, so that the next reads come from the medium: after a write to the
-/// medium that failed it may hold bytes as written that are not there. It is advice, and its answer tells nothing.
-fn drop_cache(file: &File) {
-    let _ = posix_fadvise(file.as_raw_fd(), 0, 0, POSIX_FADV_DONTNEED);
 }
