@@ -1,0 +1,5 @@
+pub mod RangeLemmas
+pub mod WordLemmas
+pub mod SetLemmas
+pub mod BitsLemmas
+mod ScratchServes
