@@ -21,7 +21,7 @@ use Rattle.place_model.specs.Tags.{ReadsTags, tag_byte_at}
 use Rattle.place_model.proofs.FormatLemmas.{format_on-is, opens_tells}
 use Rattle.place_model.proofs.PlacedLemmas.{placed_tag-byte}
 use Rattle.place_model.proofs.WorkedDisk.{bitmap_format, fresh_bitmap, is_dirty-fresh, OpensAs-bitmap, HasWholeSectors-bitmap}
-use Rattle.device_laws.specs.EventLaws.{IsServed}
+use Rattle.journal_laws.specs.EventLaws.{IsServed}
 use Rattle.direct_laws.specs.CallLaws.{ReadsTagsNow}
 use Rattle.direct_laws.specs.ServeLaws.{WritesBack, Syncs}
 use Rattle.bitmap_model.specs.BitmapDisk.{BitmapDisk, bit_in, bit_sector, needs_bit}

@@ -11,7 +11,7 @@ use Rattle.device_model.specs.Request.{Request, Asked, newly_asked}
 use Rattle.device_model.specs.Submission.{Submission}
 use Rattle.place_model.specs.Opened.{opened_on}
 use Rattle.place_model.proofs.WorkedDisk.{bitmap_format, fresh_bitmap}
-use Rattle.device_laws.specs.EventLaws.{IsServed, next_write}
+use Rattle.journal_laws.specs.EventLaws.{IsServed, next_write}
 use Rattle.bitmap_model.specs.BitmapDisk.{BitmapDisk}
 use Rattle.bitmap_model.proofs.WorkedDisk.{fresh}
 use Rattle.bitmap_laws.specs.Device.{IsBitmapDevice, with_block, with_regions}

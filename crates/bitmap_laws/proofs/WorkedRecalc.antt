@@ -24,7 +24,7 @@ use Rattle.place_model.specs.Opened.{blocks_of, opened_on}
 use Rattle.place_model.specs.Tags.{with_block_tag}
 use Rattle.place_model.proofs.FormatLemmas.{format_on-is, opens_tells}
 use Rattle.place_model.proofs.WorkedDisk.{bitmap_format}
-use Rattle.device_laws.specs.EventLaws.{IsServed}
+use Rattle.journal_laws.specs.EventLaws.{IsServed}
 use Rattle.direct_laws.specs.ServeLaws.{PutsTag}
 use Rattle.bitmap_model.specs.BitmapDisk.{BitmapDisk, IsCutOf}
 use Rattle.bitmap_model.specs.Opening.{opened_disk}

@@ -21,7 +21,7 @@ use Rattle.device_model.proofs.SubmissionLemmas.{get_or-blocks_in, length-blocks
 use Rattle.place_model.specs.Format.{DiskFormat, IsReadAs, format_on, tagger_of}
 use Rattle.place_model.specs.Opened.{blocks_of}
 use Rattle.place_model.specs.Kind.{placed_kind}
-use Rattle.direct_mode.specs.DeviceLawsEventLaws.{IsServed}
+use Rattle.direct_mode.specs.JournalLawsEventLaws.{IsServed}
 use Rattle.direct_model.specs.DirectDisk.{DirectDisk}
 use Rattle.direct_model.specs.Steps.{after_flush, with_write}
 use Rattle.direct_mode.specs.CallLaws.{StandsThrough}

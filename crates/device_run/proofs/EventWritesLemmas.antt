@@ -17,9 +17,9 @@ use Rattle.device_model.specs.Progress.{Event, EventResult, Serve, Step, block_c
 use Rattle.device_model.specs.Request.{Asked, Write}
 use Rattle.place_model.specs.Format.{DiskFormat}
 use Rattle.place_model.proofs.EachLemmas.{all_append, all_drop, all_flat, all_get}
-use Rattle.device_laws.specs.Device.{block_of, freed_count}
-use Rattle.device_laws.specs.EventLaws.{next_write}
-use Rattle.device_laws.proofs.RingLemmas.{held_at}
+use Rattle.journal_laws.specs.Device.{block_of, freed_count}
+use Rattle.journal_laws.specs.EventLaws.{next_write}
+use Rattle.journal_laws.proofs.RingLemmas.{held_at}
 use Rattle.direct_laws.proofs.EventLemmas.{served_law}
 use Rattle.direct_mode.specs.Cells.{IsOfBlockOrTags}
 use Rattle.direct_mode.specs.Places.{IsNoBlock, IsOfPlaces, IsOfWritten, WritesPlaces}

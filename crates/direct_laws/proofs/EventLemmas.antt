@@ -20,7 +20,7 @@ use Rattle.device_model.proofs.SubmissionLemmas.{result-working}
 use Rattle.device_model.proofs.MomentLemmas.{broken-changes}
 use Rattle.place_model.specs.Format.{DiskFormat}
 use Rattle.place_model.specs.Blocks.{IsBlockWrite}
-use Rattle.device_laws.specs.EventLaws.{IsServed, next_write}
+use Rattle.journal_laws.specs.EventLaws.{IsServed, next_write}
 use Rattle.direct_model.specs.DirectDisk.{DirectDisk}
 use Rattle.direct_laws.specs.Device.{IsDirectDevice, after_changes}
 use Rattle.direct_laws.specs.EventLaws.{QuietLaw, IsQuiet, QuietEventsLaw, UnservedLaw, HeldLaw, ServedLaw, ServeReadLaw, after_block, ServeWriteLaw, ServeFlushLaw, CloseLaw, IdleLaw, RecalcIdleLaw, RecalcLaw, FailedWriteLaw}

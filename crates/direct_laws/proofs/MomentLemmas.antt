@@ -14,7 +14,7 @@ use Rattle.place_model.specs.Kind.{CanOpenPlaced, placed_kind}
 use Rattle.place_model.specs.Left.{IsLeftPlaced}
 use Rattle.place_model.specs.Opened.{awaiting_on}
 use Rattle.place_model.proofs.FormatLemmas.{reads_on}
-use Rattle.device_laws.specs.EventLaws.{next_write}
+use Rattle.journal_laws.specs.EventLaws.{next_write}
 use Rattle.direct_model.specs.DirectDisk.{DirectDisk, StandsFor}
 use Rattle.direct_model.specs.Opening.{placed_disk}
 use Rattle.direct_model.specs.Steps.{with_write}

@@ -16,7 +16,7 @@ use Rattle.place_model.specs.Opened.{blocks_of}
 use Rattle.place_model.specs.Tags.{IsOfTags}
 use Rattle.place_model.proofs.FormatLemmas.{format_on-read}
 use Rattle.place_model.proofs.LeftLemmas.{placed_pending_law}
-use Rattle.device_laws.specs.EventLaws.{IsServed, next_write}
+use Rattle.journal_laws.specs.EventLaws.{IsServed, next_write}
 use Rattle.direct_model.specs.DirectDisk.{DirectDisk, StandsFor}
 use Rattle.direct_model.specs.Steps.{with_write, after_flush, with_fields, IsOfWrite}
 use Rattle.direct_model.proofs.DirectLemmas.{placed_standing_law, placed_left_law, writing_law, tags_written_law, placed_moving_law}

@@ -14,7 +14,7 @@ use Rattle.place_model.specs.Left.{IsLeftInDirect}
 use Rattle.place_model.specs.Opened.{blocks_of}
 use Rattle.place_model.proofs.FormatLemmas.{format_on-is}
 use Rattle.place_model.proofs.ReplayLemmas.{placed_left_law}
-use Rattle.device_laws.specs.EventLaws.{next_write}
+use Rattle.journal_laws.specs.EventLaws.{next_write}
 use Rattle.direct_model.specs.DirectDisk.{DirectDisk, StandsFor}
 use Rattle.direct_model.specs.Steps.{with_write, after_flush, with_fields}
 use Rattle.direct_model.proofs.DirectLemmas.{journal_stays_law, standing_law, left_law, moving_law}

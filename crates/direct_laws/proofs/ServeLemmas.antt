@@ -6,7 +6,7 @@ use Rattle.device_model.specs.Progress.{DeviceState, Event, Serve, Close, Failed
 use Rattle.device_model.specs.Request.{Read, Flush}
 use Rattle.place_model.specs.Format.{DiskFormat}
 use Rattle.device_model.specs.History.{BlockWrite}
-use Rattle.device_laws.specs.EventLaws.{next_write}
+use Rattle.journal_laws.specs.EventLaws.{next_write}
 use Rattle.direct_model.specs.DirectDisk.{DirectDisk}
 use Rattle.direct_model.specs.Steps.{with_write, after_flush}
 use Rattle.direct_laws.specs.CallLaws.{KeepsNow}

@@ -13,7 +13,7 @@ use Rattle.place_model.specs.Kind.{CanOpenIn, CanOpenPlaced}
 use Rattle.place_model.specs.Left.{IsLeftInDirect, IsLeftPlaced}
 use Rattle.place_model.specs.Opened.{awaiting_on, device_format, opened_on, opened_placed}
 use Rattle.place_model.proofs.WorkedDisk.{journal_format, fresh_journal, zeros_journal, replayed_entries-fresh, OpensAs-journal, IsReadAs-zeros, HasWholeSectors-journal, HasWholeSectors-zeros}
-use Rattle.device_laws.specs.EventLaws.{IsServed}
+use Rattle.journal_laws.specs.EventLaws.{IsServed}
 use Rattle.direct_model.specs.DirectDisk.{DirectDisk}
 use Rattle.direct_model.specs.Steps.{with_write, after_flush}
 use Rattle.direct_model.proofs.WorkedDisk.{fresh, content, zeros, zeros_content, StandsFor-fresh, StandsFor-zeros}

@@ -21,7 +21,7 @@ use Rattle.place_model.specs.Opened.{awaiting_on, blocks_of, opened_placed}
 use Rattle.place_model.specs.Tags.{with_block_tag}
 use Rattle.place_model.proofs.FormatLemmas.{format_on-read}
 use Rattle.place_model.proofs.WorkedDisk.{journal_format, zeros_journal, IsReadAs-zeros}
-use Rattle.device_laws.specs.EventLaws.{IsServed, next_write}
+use Rattle.journal_laws.specs.EventLaws.{IsServed, next_write}
 use Rattle.direct_model.specs.DirectDisk.{DirectDisk}
 use Rattle.direct_model.specs.Steps.{with_write, after_flush}
 use Rattle.direct_model.proofs.WorkedDisk.{zeros, zeros_content}

@@ -8,7 +8,7 @@ use Rattle.device_model.specs.Progress.{DeviceState, Working, Event, Submit, Ser
 use Rattle.device_model.specs.Regions.{recalculated_region}
 use Rattle.device_model.specs.Request.{Read, Write, Flush, Asked, asked_of, held_by, is_to_serve}
 use Rattle.place_model.specs.Blocks.{IsBlockWrite}
-use Rattle.device_laws.specs.EventLaws.{IsServed, next_write}
+use Rattle.journal_laws.specs.EventLaws.{IsServed, next_write}
 use Rattle.direct_model.specs.DirectDisk.{DirectDisk}
 use Rattle.direct_model.specs.Steps.{with_write, after_flush}
 use Rattle.direct_laws.specs.Device.{IsDirectDevice, after_changes}

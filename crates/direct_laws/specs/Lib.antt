@@ -1,4 +1,4 @@
-pub use Rattle.device_laws.specs.EventLaws as DeviceLawsEventLaws
+pub use Rattle.journal_laws.specs.EventLaws as JournalLawsEventLaws
 pub mod Device
 pub mod EventLaws
 pub mod ReadLaws

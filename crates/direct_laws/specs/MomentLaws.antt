@@ -12,7 +12,7 @@ use Rattle.device_model.specs.Request.{Write, Asked}
 use Rattle.place_model.specs.Format.{HasWholeSectors, format_on}
 use Rattle.place_model.specs.Kind.{CanOpenPlaced, placed_kind}
 use Rattle.place_model.specs.Opened.{blocks_of}
-use Rattle.device_laws.specs.EventLaws.{IsServed, next_write}
+use Rattle.journal_laws.specs.EventLaws.{IsServed, next_write}
 use Rattle.direct_model.specs.DirectDisk.{DirectDisk, StandsFor}
 use Rattle.direct_model.specs.Opening.{placed_disk}
 use Rattle.direct_model.specs.Steps.{with_write}

@@ -12,7 +12,7 @@ use Rattle.place_model.specs.Kind.{CanOpenPlaced, MayBeLeftPlaced}
 use Rattle.place_model.specs.Left.{IsLeftPlaced}
 use Rattle.place_model.specs.Opened.{blocks_of}
 use Rattle.place_model.specs.Tags.{IsOfTags, ReadsTags}
-use Rattle.device_laws.specs.EventLaws.{IsServed, next_write}
+use Rattle.journal_laws.specs.EventLaws.{IsServed, next_write}
 use Rattle.direct_model.specs.DirectDisk.{DirectDisk, StandsFor, cell_now}
 use Rattle.direct_model.specs.Steps.{after_flush, with_fields, IsOfWrite, IsMoved, HasTagsOf, IsHistoryOf}
 use Rattle.direct_laws.specs.Device.{IsDirectDevice, after_changes}

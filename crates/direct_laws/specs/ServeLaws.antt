@@ -11,7 +11,7 @@ use Rattle.device_model.specs.Request.{Read, Write, Flush, Asked}
 use Rattle.place_model.specs.Blocks.{IsBlockWrite}
 use Rattle.place_model.specs.Format.{tagger_of}
 use Rattle.place_model.specs.Tags.{with_block_tag}
-use Rattle.device_laws.specs.EventLaws.{IsServed, next_write}
+use Rattle.journal_laws.specs.EventLaws.{IsServed, next_write}
 use Rattle.direct_model.specs.DirectDisk.{DirectDisk}
 use Rattle.direct_model.specs.Steps.{with_write, after_flush}
 use Rattle.direct_laws.specs.CallLaws.{AddsTags, GivesTags, KeepsNow, ReadsImage, KeepsOthersNow, ReadsTagsNow, StandsThrough}

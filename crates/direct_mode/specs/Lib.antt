@@ -1,6 +1,6 @@
 pub use Rattle.direct_laws.specs.CallLaws
 pub use Rattle.direct_laws.specs.Device
-pub use Rattle.direct_laws.specs.DeviceLawsEventLaws
+pub use Rattle.direct_laws.specs.JournalLawsEventLaws
 pub use Rattle.direct_laws.specs.EventLaws
 pub use Rattle.direct_laws.specs.MomentLaws
 pub use Rattle.direct_laws.specs.ServeLaws

@@ -6,7 +6,7 @@ use Rattle.device_model.specs.Mode.{DeviceFormat}
 use Rattle.device_model.specs.Progress.{DeviceState, FailedServe, Serve, is_flushed_by}
 use Rattle.device_model.specs.Request.{Asked, Write}
 use Rattle.place_model.specs.Format.{tagger_of}
-use Rattle.direct_laws.specs.DeviceLawsEventLaws.{IsServed, next_write}
+use Rattle.direct_laws.specs.JournalLawsEventLaws.{IsServed, next_write}
 use Rattle.direct_model.specs.DirectDisk.{DirectDisk}
 use Rattle.direct_model.specs.Steps.{with_write}
 use Rattle.direct_laws.specs.Device.{IsDirectDevice}

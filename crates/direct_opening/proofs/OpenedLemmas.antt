@@ -32,9 +32,9 @@ use Rattle.direct_laws.proofs.MomentLemmas.{left_now_law}
 use Rattle.journal_model.specs.Opening.{opened_disk}
 use Rattle.journal_model.proofs.OpeningLemmas.{opened_cells_law}
 use Rattle.tag_store.specs.Store.{given_tags}
-use Rattle.image_opening.specs.declared.reading.ImageFormat.{ImageFormat}
-use Rattle.image_opening.specs.Format.{IsOpenedNow, IsReadNow, direct_format_of, disk_format}
-use Rattle.opening_fault.specs.FaultLaws.{OpensLaw}
+use Rattle.image_format.specs.declared.reading.ImageFormat.{ImageFormat}
+use Rattle.image_format.specs.Format.{IsOpenedNow, IsReadNow, direct_format_of, disk_format}
+use Rattle.image_judging.specs.FaultLaws.{OpensLaw}
 use Rattle.replay.specs.declared.recovered.Recovered.{Recovered}
 use Rattle.replay.specs.Emptied.{HasEmptyJournal, IsEmptyJournal}
 use Rattle.replay.specs.Recovery.{LeavesRecovered}

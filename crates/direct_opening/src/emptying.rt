@@ -7,7 +7,7 @@ ghost use Rattle.image_model.specs.Cells.{salt_of};
 ghost use Rattle.image_model.specs.Geometry.{journal_sectors};
 ghost use Rattle.image_model.specs.Openable.{journal_fault_of};
 ghost use Rattle.hmac_tag.specs.TagMaker.{key_of};
-ghost use Rattle.image_opening.specs.Format.{IsDirectFormat, IsReadNow, disk_format};
+ghost use Rattle.image_format.specs.Format.{IsDirectFormat, IsReadNow, disk_format};
 ghost use Rattle.journal_reading.specs.Faults.{HasReplayCause, refusal_in};
 ghost use Rattle.buffer_cache.specs.Cache.{sectors_of};
 ghost use Rattle.buffer_cache.specs.HeldSectors.{no_sectors};
@@ -17,7 +17,7 @@ ghost use Rattle.direct_opening.specs.Opening.{HasEmptied, KeepsEmpty};
 
 use buffer_cache::Cache;
 use hmac_tag::Hash;
-use image_opening::ImageFormat;
+use image_format::ImageFormat;
 use journal_opening::{RecoveredImage, recover_image};
 use replay::{ReplayFault, empty};
 use sector_disk::Disk;

@@ -19,7 +19,7 @@ use Rattle.image_model.specs.Section.{Entry}
 use Rattle.image_model.specs.Superblock.{IsAccepted, Superblock, has_flag}
 use Rattle.image_model.proofs.CellsLemmas.{cells_of-entry, cells_of-placed, counted_entries-journal}
 use Rattle.image_model.proofs.SuperblockLemmas.{flag_unset}
-use Rattle.image_opening.specs.Format.{IsDirectFormat, IsReadNow, disk_format}
+use Rattle.image_format.specs.Format.{IsDirectFormat, IsReadNow, disk_format}
 use Rattle.hmac_tag.specs.TagMaker.{TagRule}
 use Rattle.journal_model.proofs.PlaceLemmas.{last_entry-tells}
 use Rattle.journal_overlay.specs.Kept.{Places, newest_of}

@@ -5,8 +5,8 @@ use Rattle.disk_model.specs.Identity.{DiskIdentity, IsBound}
 use Rattle.disk_model.specs.Moments.{HasNow}
 use Rattle.image_model.specs.Cells.{placed_cells_of, salt_of}
 use Rattle.image_model.specs.Geometry.{Geometry}
-use Rattle.image_opening.specs.declared.reading.ImageFormat.{ImageFormat}
-use Rattle.image_opening.specs.Format.{IsDirectFormat, disk_format}
+use Rattle.image_format.specs.declared.reading.ImageFormat.{ImageFormat}
+use Rattle.image_format.specs.Format.{IsDirectFormat, disk_format}
 use Rattle.hmac_tag.specs.TagMaker.{TagRule}
 use Rattle.journal_overlay.specs.Kept.{Places, newest_of}
 use Rattle.place_model.specs.Format.{DiskFormat, format_on}

@@ -6,8 +6,8 @@ use Rattle.disk_model.specs.Disk.{Image}
 use Rattle.image_model.specs.Cells.{salt_of}
 use Rattle.image_model.specs.Geometry.{Geometry}
 use Rattle.image_model.specs.Openable.{JournalFault, journal_fault_of}
-use Rattle.image_opening.specs.Format.{direct_format_of}
-use Rattle.opening_fault.specs.Faults.{ImageFault, fault_by}
+use Rattle.image_format.specs.Format.{direct_format_of}
+use Rattle.image_judging.specs.Faults.{ImageFault, fault_by}
 use Rattle.image_check.specs.declared.bad.What.{What}
 use Rattle.image_check.specs.declared.bad.What.TheVariants.{Cells, Placed}
 

@@ -5,15 +5,15 @@ ghost use Rattle.disk_model.specs.Identity.{IsBound};
 ghost use Rattle.disk_model.specs.Moments.{HasNow};
 ghost use Rattle.image_model.specs.Geometry.{IsGeometry, journal_sectors};
 ghost use Rattle.image_model.specs.Openable.{journal_fault_of};
-ghost use Rattle.opening_fault.specs.Faults.{ByJournal, HasOpenCause, fault_in};
+ghost use Rattle.image_judging.specs.Faults.{ByJournal, HasOpenCause, fault_in};
 ghost use Rattle.image_check.specs.Index.{IsIndexOn};
 
 use hmac_tag::TagMaker;
+use image_judging::OpeningFault;
 use image_model::SECTOR_SIZE;
 use journal_overlay::Overlay;
 use journal_reading::{index_of, read_judged};
 use layout::Geometry;
-use opening_fault::OpeningFault;
 use sector_disk::{Disk, Memory};
 use std::alloc::Global;
 

@@ -7,17 +7,17 @@ ghost use Rattle.image_model.specs.Cells.{salt_of};
 ghost use Rattle.image_model.specs.Geometry.{IsGeometry};
 ghost use Rattle.hmac_tag.specs.TagMaker.{key_of};
 ghost use Rattle.image_check.specs.Checked.{IsJournalOf, what_of};
-ghost use Rattle.opening_fault.specs.Faults.{ByJournal, HasOpenCause, fault_in};
+ghost use Rattle.image_judging.specs.Faults.{ByJournal, HasOpenCause, fault_in};
 ghost use Rattle.image_check.specs.Faults.{journal_fault_for};
 
 use crate::What;
 use crate::index::read_index;
 use hmac_tag::{Hash, TagMaker};
+use image_format::ImageFormat;
+use image_judging::OpeningFault;
 use image_model::FIXED_HMAC;
-use image_opening::ImageFormat;
 use journal_overlay::Overlay;
 use layout::Geometry;
-use opening_fault::OpeningFault;
 use sector_disk::Disk;
 use std::alloc::Global;
 

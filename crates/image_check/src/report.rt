@@ -5,7 +5,7 @@ ghost use Rattle.disk_model.specs.Identity.{IsBound};
 ghost use Rattle.disk_model.specs.Moments.{HasNow};
 ghost use Rattle.hmac_tag.specs.TagMaker.{key_of};
 ghost use Rattle.place_model.specs.Format.{format_on};
-ghost use Rattle.opening_fault.specs.Faults.{HasOpenCause, fault_in};
+ghost use Rattle.image_judging.specs.Faults.{HasOpenCause, fault_in};
 ghost use Rattle.image_check.specs.Bad.{bad_blocks};
 ghost use Rattle.image_check.specs.Checked.{IsCheckOf, checked_format, what_of};
 ghost use Rattle.image_check.specs.Faults.{fault_for};
@@ -13,7 +13,7 @@ ghost use Rattle.image_check.specs.Report.{IsReportOf, with_found};
 
 use crate::{Bad, CheckedImage, What};
 use hmac_tag::Hash;
-use opening_fault::OpeningFault;
+use image_judging::OpeningFault;
 use sector_disk::{Disk, Memory};
 use std::alloc::Global;
 

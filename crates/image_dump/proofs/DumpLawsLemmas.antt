@@ -8,10 +8,10 @@ use Rattle.image_model.specs.declared.scan_fault.ScanFault.{ScanFault}
 use Rattle.image_model.specs.Grid.{walk_of}
 use Rattle.image_model.specs.Openable.{IsReadable}
 use Rattle.image_model.specs.Superblock.{has_flag}
-use Rattle.image_opening.specs.declared.open_fault.OpenFault.{OpenFault}
-use Rattle.image_opening.specs.declared.reading.ImageFormat.{ImageFormat}
-use Rattle.image_opening.specs.Format.{format_by, format_of, format_with, told_fields}
-use Rattle.image_opening.specs.FormatLaws.{ReadLaw}
+use Rattle.image_format.specs.declared.open_fault.OpenFault.{OpenFault}
+use Rattle.image_format.specs.declared.reading.ImageFormat.{ImageFormat}
+use Rattle.image_format.specs.Format.{format_by, format_of, format_with, told_fields}
+use Rattle.image_format.specs.FormatLaws.{ReadLaw}
 use Rattle.image_dump.specs.Dump.{dump_by, dump_by_plan, dump_in, dump_of}
 use Rattle.image_dump.specs.DumpLaws.{ShownLaw}
 

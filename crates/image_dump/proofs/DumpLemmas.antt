@@ -6,10 +6,10 @@ use Rattle.image_model.specs.declared.super_fields.SuperFault.{SuperFault}
 use Rattle.image_model.specs.Geometry.{Geometry, geometry_of}
 use Rattle.image_model.specs.Openable.{first_sector}
 use Rattle.image_model.specs.Superblock.{Superblock, superblock_of}
-use Rattle.image_opening.specs.declared.open_fault.OpenFault.{OpenFault}
-use Rattle.image_opening.specs.declared.open_fault.OpenFault.TheVariants.{Disk as OpenDisk, Super as OpenSuper, Geom as OpenGeom}
-use Rattle.image_opening.specs.declared.reading.ImageFormat.{ImageFormat}
-use Rattle.image_opening.specs.Format.{format_by, format_of, format_with, told_fields}
+use Rattle.image_format.specs.declared.open_fault.OpenFault.{OpenFault}
+use Rattle.image_format.specs.declared.open_fault.OpenFault.TheVariants.{Disk as OpenDisk, Super as OpenSuper, Geom as OpenGeom}
+use Rattle.image_format.specs.declared.reading.ImageFormat.{ImageFormat}
+use Rattle.image_format.specs.Format.{format_by, format_of, format_with, told_fields}
 use Rattle.image_dump.specs.declared.dump_fault.DumpFault.TheVariants.{Memory, Disk, Super, Geom}
 use Rattle.image_dump.specs.Dump.{fault_of}
 

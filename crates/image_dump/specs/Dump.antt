@@ -9,10 +9,10 @@ use Rattle.image_model.specs.declared.journal_plan.Plan.{Plan}
 use Rattle.image_model.specs.declared.scan_fault.ScanFault.{ScanFault}
 use Rattle.image_model.specs.Grid.{walk_of}
 use Rattle.image_model.specs.Superblock.{has_flag}
-use Rattle.image_opening.specs.declared.open_fault.OpenFault.{OpenFault}
-use Rattle.image_opening.specs.declared.open_fault.OpenFault.TheVariants.{Memory as OpenMemory, Disk as OpenDisk, Super as OpenSuper, Geom as OpenGeom, Mode as OpenMode}
-use Rattle.image_opening.specs.declared.reading.ImageFormat.{ImageFormat}
-use Rattle.image_opening.specs.Format.{format_of}
+use Rattle.image_format.specs.declared.open_fault.OpenFault.{OpenFault}
+use Rattle.image_format.specs.declared.open_fault.OpenFault.TheVariants.{Memory as OpenMemory, Disk as OpenDisk, Super as OpenSuper, Geom as OpenGeom, Mode as OpenMode}
+use Rattle.image_format.specs.declared.reading.ImageFormat.{ImageFormat}
+use Rattle.image_format.specs.Format.{format_of}
 use Rattle.image_dump.specs.declared.dump_fault.DumpFault.{DumpFault}
 use Rattle.image_dump.specs.declared.dump_fault.DumpFault.TheVariants.{Memory, Disk, Super, Geom, Scan}
 use Rattle.image_dump.specs.declared.shown.Dump.{Dump}

@@ -4,14 +4,14 @@ ghost use Rattle.disk_model.specs.Disk.{last_image};
 ghost use Rattle.disk_model.specs.Identity.{IsBound};
 ghost use Rattle.disk_model.specs.Moments.{HasNow};
 ghost use Rattle.image_model.specs.Superblock.{has_flag};
-ghost use Rattle.image_opening.specs.Format.{IsFormat};
+ghost use Rattle.image_format.specs.Format.{IsFormat};
 ghost use Rattle.image_dump.specs.Dump.{HasDumpCause, IsScanned, dump_in, dump_of, fault_of};
 
 use crate::journal_grid::read_grid;
 use crate::{Dump, DumpFault, DumpJournal};
 use commit_id::scan;
+use image_format::{ImageFormat, OpenFault, read_format};
 use image_model::DIRTY_BITMAP;
-use image_opening::{ImageFormat, OpenFault, read_format};
 use sector_disk::Disk;
 use std::alloc::Global;
 

@@ -1,7 +1,7 @@
 //! What a dump shows.
 
+use image_format::ImageFormat;
 use image_model::State;
-use image_opening::ImageFormat;
 
 /// What an image shows: its format, and its journal.
 #[derive(Clone, Copy, Debug)]

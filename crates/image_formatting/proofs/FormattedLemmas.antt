@@ -14,7 +14,7 @@ use Rattle.image_model.specs.Geometry.{Geometry, IsGeometry, section_at, section
 use Rattle.image_model.specs.Superblock.{Superblock, superblock_of}
 use Rattle.image_model.proofs.GeometryLemmas.{data_at-inside}
 use Rattle.image_model.proofs.SectorLemmas.{bytes_at-same}
-use Rattle.image_opening.specs.declared.reading.ImageFormat.{ImageFormat}
+use Rattle.image_format.specs.declared.reading.ImageFormat.{ImageFormat}
 use Rattle.place_model.specs.Tags.{tag_byte_at}
 use Rattle.place_model.proofs.TagsLemmas.{tag_byte-behind}
 use Rattle.image_formatting.specs.declared.new_image.Wipe.{Wipe}

@@ -11,8 +11,8 @@ use Rattle.image_model.specs.Geometry.{Geometry, layout_of}
 use Rattle.image_model.specs.Superblock.{Superblock}
 use Rattle.image_model.proofs.GeometryOf.{geometry_given}
 use Rattle.image_model.proofs.SuperblockLemmas.{superblock_of-no_magic}
-use Rattle.image_opening.specs.declared.reading.ImageFormat.{ImageFormat}
-use Rattle.image_opening.specs.Format.{IsFormat}
+use Rattle.image_format.specs.declared.reading.ImageFormat.{ImageFormat}
+use Rattle.image_format.specs.Format.{IsFormat}
 use Rattle.image_formatting.specs.declared.new_image.NewImage.{NewImage}
 use Rattle.image_formatting.specs.FirstSector.{HasZeroHead, zero_sector}
 use Rattle.image_formatting.specs.Formatted.{HasMade, HasNoMagic, HasSynced, IsAmidWriting, IsFormatted, IsLeftByFormat, IsLeftInOrder, IsLeftSynced, IsLeftUnsynced, IsWritten, IsWrittenBehindSync, IsWrittenInOrder, format_with, rule_with}

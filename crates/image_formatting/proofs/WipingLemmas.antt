@@ -10,8 +10,8 @@ use Rattle.std.proofs.Math.Nat.{add-mul-mod_self_right, mul-div_cancel, pow-le-p
 use Rattle.std.proofs.lemmas.Nat.{pow_pos, pow-add}
 use Rattle.image_model.proofs.BestProvided.{sector_at-le}
 use Rattle.image_model.proofs.GeometryOf.{geometry_given}
-use Rattle.image_opening.specs.declared.reading.ImageFormat.{ImageFormat}
-use Rattle.image_opening.specs.Format.{IsFormat}
+use Rattle.image_format.specs.declared.reading.ImageFormat.{ImageFormat}
+use Rattle.image_format.specs.Format.{IsFormat}
 use Rattle.image_formatting.proofs.JournalLemmas.{le_times}
 use Rattle.image_model.proofs.GeometryLemmas.{area_at-lt, area_blocks_some, data_at-inside, placed, tag_at-inside}
 use Rattle.journal_section.specs.Entries.{IsWithin}

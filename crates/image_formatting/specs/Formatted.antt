@@ -9,7 +9,7 @@ use Rattle.image_model.specs.declared.super_fields.SuperFault.TheVariants.{Magic
 use Rattle.image_model.specs.Geometry.{Geometry, initial, layout_of}
 use Rattle.image_model.specs.Openable.{first_sector}
 use Rattle.image_model.specs.Superblock.{superblock_of}
-use Rattle.image_opening.specs.declared.reading.ImageFormat.{ImageFormat}
+use Rattle.image_format.specs.declared.reading.ImageFormat.{ImageFormat}
 use Rattle.image_formatting.specs.declared.format_fault.FormatFault.{FormatFault}
 use Rattle.image_formatting.specs.declared.format_fault.FormatFault.TheVariants.{Disk}
 use Rattle.image_formatting.specs.declared.new_image.NewImage.{NewImage}

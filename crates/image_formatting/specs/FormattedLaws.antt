@@ -3,7 +3,7 @@ use Rattle.std.specs.Prelude.{◌≡◌, ℕ, ◌*◌, Ok, Option, List}
 use Rattle.disk_model.specs.Disk.{Image}
 use Rattle.image_model.specs.Cells.{Cell}
 use Rattle.image_model.specs.Sectors.{zero_bytes}
-use Rattle.image_opening.specs.Format.{disk_format}
+use Rattle.image_format.specs.Format.{disk_format}
 use Rattle.place_model.specs.Format.{DiskFormat, HasCells, HasPlaced, HasWholeSectors, OpensAs, tagger_of}
 use Rattle.place_model.specs.Journal.{HasNothingToReplay}
 use Rattle.place_model.specs.Kind.{CanOpenPlaced}

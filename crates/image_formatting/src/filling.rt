@@ -4,7 +4,7 @@ ghost use Rattle.disk_model.specs.Causes.{HasCause};
 ghost use Rattle.disk_model.specs.Disk.{last_image};
 ghost use Rattle.disk_model.specs.Identity.{IsBound};
 ghost use Rattle.disk_model.specs.Moments.{EachSince, HasNow};
-ghost use Rattle.image_opening.specs.Format.{IsFormat};
+ghost use Rattle.image_format.specs.Format.{IsFormat};
 ghost use Rattle.image_formatting.specs.Formatted.{HasBlocks, HasFilled, IsBlocksByte, IsBlocksSector, IsFillSector, IsImageByte};
 ghost use Rattle.image_formatting.specs.Room.{HasRoom, HasRuns};
 ghost use Rattle.image_formatting.specs.Runs.{ChangesOnly};
@@ -16,7 +16,7 @@ use crate::room::Room;
 use crate::wiping::wipe_blocks;
 use crate::zeroing::write_zeros;
 use hmac_tag::TagMaker;
-use image_opening::ImageFormat;
+use image_format::ImageFormat;
 use sector_disk::{Disk, Failed};
 
 /// Writes zeros to the other sectors of the superblock, an empty journal, and what comes to the

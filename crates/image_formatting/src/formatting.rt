@@ -5,7 +5,7 @@ ghost use Rattle.disk_model.specs.Identity.{IsBound};
 ghost use Rattle.disk_model.specs.Moments.{HasNow};
 ghost use Rattle.commit_id.specs.Shape.{as_shape};
 ghost use Rattle.hmac_tag.specs.TagMaker.{key_of};
-ghost use Rattle.image_opening.specs.Format.{IsFormat};
+ghost use Rattle.image_format.specs.Format.{IsFormat};
 ghost use Rattle.image_model.specs.declared.geom_fault.GeomFault.{GeomFault};
 ghost use Rattle.image_formatting.specs.Formatted.{HasFormatCause, HasMade, HasSynced, IsLeftInOrder, IsWritten, IsWrittenBehindSync, IsWrittenInOrder, format_with};
 ghost use Rattle.image_formatting.specs.NewImage.{IsNewImage, provided_of};
@@ -18,7 +18,7 @@ use crate::new_image::{NewImage, Wipe};
 use crate::planning::plan;
 use crate::room::Room;
 use hmac_tag::{Hash, TagMaker};
-use image_opening::ImageFormat;
+use image_format::ImageFormat;
 use sector_disk::{Disk, Failed};
 use std::alloc::Global;
 

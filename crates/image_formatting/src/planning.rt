@@ -2,12 +2,12 @@
 ghost use Rattle.std.specs.Prelude.{◌≡◌, Err, IfErr, IfOk, Ok};
 ghost use Rattle.image_model.specs.Geometry.{fitting_log2_region, layout_of};
 ghost use Rattle.image_model.specs.Superblock.{HasLayout};
-ghost use Rattle.image_opening.specs.Format.{IsFormat};
+ghost use Rattle.image_format.specs.Format.{IsFormat};
 ghost use Rattle.image_formatting.specs.NewImage.{IsNewImage, asked_fields, fields_of, fields_with, flags_of, provided_of};
 
 use crate::new_image::{NewImage, Padding};
+use image_format::ImageFormat;
 use image_model::{FIXED_HMAC, FIXED_PADDING, GeomFault};
-use image_opening::ImageFormat;
 use layout::{Geometry, best_provided};
 use superblock::{Super, version_for};
 

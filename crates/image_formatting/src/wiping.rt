@@ -5,7 +5,7 @@ ghost use Rattle.disk_model.specs.Disk.{last_image};
 ghost use Rattle.disk_model.specs.Identity.{IsBound};
 ghost use Rattle.disk_model.specs.Moments.{EachSince, HasNow};
 ghost use Rattle.image_model.specs.Geometry.{IsGeometry};
-ghost use Rattle.image_opening.specs.Format.{IsFormat};
+ghost use Rattle.image_format.specs.Format.{IsFormat};
 ghost use Rattle.image_formatting.specs.Blocks.{HasZeroBlocks, IsAreaRun, IsSectorOf};
 ghost use Rattle.image_formatting.specs.Room.{tags_at_once, zeros_at_once};
 ghost use Rattle.image_formatting.specs.Runs.{ChangesOnly};
@@ -14,7 +14,7 @@ ghost use Rattle.image_formatting.specs.Stays.{IsBlockByte, ReadsKeep};
 use crate::tagging::write_tags;
 use crate::zeroing::write_zeros;
 use hmac_tag::TagMaker;
-use image_opening::ImageFormat;
+use image_format::ImageFormat;
 use layout::Geometry;
 use sector_disk::{Disk, Failed};
 

@@ -1,7 +1,7 @@
 //! A new image on a disk in memory.
 use hmac_tag::Hash;
+use image_format::read_direct_format;
 use image_formatting::{NewImage, Padding, Wipe, format};
-use image_opening::read_direct_format;
 use sector_disk::{Disk, Failed, MemDisk};
 use sha2::{Digest, Sha256};
 use std::alloc::Global;

@@ -6,10 +6,10 @@ mod image_check_tests;
 #[cfg(test)]
 mod image_dump_tests;
 #[cfg(test)]
+mod image_format_tests;
+#[cfg(test)]
 mod image_formatting_tests;
 #[cfg(test)]
-mod image_opening_tests;
+mod image_judging_tests;
 #[cfg(test)]
 mod journal_reading_tests;
-#[cfg(test)]
-mod opening_fault_tests;

@@ -5,12 +5,12 @@ use Rattle.std.proofs.lemmas.Option.{none-some}
 use Rattle.disk_model.specs.Disk.{Content, HasNothingPending, last_image}
 use Rattle.disk_model.specs.Identity.{DiskIdentity}
 use Rattle.disk_model.specs.Moments.{EachSince, FromStart, HasNow, content_now}
-use Rattle.image_opening.specs.declared.open_fault.OpenFault.{OpenFault}
+use Rattle.image_format.specs.declared.open_fault.OpenFault.{OpenFault}
 use Rattle.place_model.specs.Format.{format_on}
-use Rattle.opening_fault.specs.declared.opening_fault.OpeningFault.{OpeningFault}
-use Rattle.opening_fault.specs.declared.opening_fault.OpeningFault.TheVariants as Faults
-use Rattle.opening_fault.specs.Faults.{ByFormat, fault_in, fault_of}
-use Rattle.opening_fault.proofs.FaultsLemmas.{fault_in-err}
+use Rattle.image_judging.specs.declared.opening_fault.OpeningFault.{OpeningFault}
+use Rattle.image_judging.specs.declared.opening_fault.OpeningFault.TheVariants as Faults
+use Rattle.image_judging.specs.Faults.{ByFormat, fault_in, fault_of}
+use Rattle.image_judging.proofs.FaultsLemmas.{fault_in-err}
 use Rattle.journal_device.specs.JournalOpeningOpening.{IsOfOpening, OnlySyncs}
 use Rattle.device_core.specs.declared.parts.Parts.{Parts}
 use Rattle.direct_opening.specs.Opening as InDirect

@@ -7,10 +7,10 @@ use Rattle.disk_model.specs.Moments.{EachSince, HasNow}
 use Rattle.device_model.specs.Mode as Model
 use Rattle.place_model.specs.Format.{format_on}
 use Rattle.place_model.specs.Kind.{kind_in}
-use Rattle.image_opening.specs.declared.open_fault.OpenFault.{OpenFault as FormatFault}
-use Rattle.opening_fault.specs.declared.opening_fault.OpeningFault.{OpeningFault}
-use Rattle.opening_fault.specs.declared.opening_fault.OpeningFault.TheVariants as Faults
-use Rattle.opening_fault.specs.Faults.{ByFormat, fault_in, fault_of}
+use Rattle.image_format.specs.declared.open_fault.OpenFault.{OpenFault as FormatFault}
+use Rattle.image_judging.specs.declared.opening_fault.OpeningFault.{OpeningFault}
+use Rattle.image_judging.specs.declared.opening_fault.OpeningFault.TheVariants as Faults
+use Rattle.image_judging.specs.Faults.{ByFormat, fault_in, fault_of}
 use Rattle.journal_device.specs.JournalOpeningOpening.{IsOfOpening, KeepsRefused, OnlySyncs}
 use Rattle.direct_opening.specs.Opening.{WritesEmptying}
 use Rattle.request_slots.specs.Flight.{no_requests}

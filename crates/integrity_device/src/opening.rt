@@ -2,14 +2,14 @@
 ghost use Rattle.std.specs.Prelude.{◌≡◌, IfErr, IfOk};
 ghost use Rattle.disk_model.specs.Identity.{IsBound};
 ghost use Rattle.hmac_tag.specs.TagMaker.{key_of};
-ghost use Rattle.opening_fault.specs.Faults.{HasOpenCause};
+ghost use Rattle.image_judging.specs.Faults.{HasOpenCause};
 ghost use Rattle.integrity_device.specs.Opening.{HasOpened, IsRefused, LeavesOpening};
 
 use crate::{DeviceParts, Mode};
 use direct_opening::open_direct;
 use hmac_tag::Hash;
+use image_judging::OpeningFault;
 use journal_device::{OpenedDevice, device_of, open_journal, opened_journals_are_devices};
-use opening_fault::OpeningFault;
 use sector_disk::Disk;
 use sector_pool::Region;
 use std::alloc::Global;

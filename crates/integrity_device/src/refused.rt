@@ -1,6 +1,6 @@
 //! A disk on which no device was opened.
 
-use opening_fault::OpeningFault;
+use image_judging::OpeningFault;
 use sector_disk::Disk;
 
 /// Why a device was not opened, with the disk that it was lent.

@@ -14,10 +14,10 @@ use Rattle.image_check.specs.Bad.{bad_blocks_from}
 use Rattle.image_check.specs.Checked.{Checked, IsCheckOf, IsSameCheck, checked_format, what_of}
 use Rattle.image_check.specs.declared.bad.Bad.{Bad}
 use Rattle.image_check.specs.declared.bad.What.{What}
-use Rattle.opening_fault.specs.declared.opening_fault.OpeningFault.{OpeningFault}
-use Rattle.opening_fault.specs.declared.opening_fault.OpeningFault.TheVariants as OpeningFaults
+use Rattle.image_judging.specs.declared.opening_fault.OpeningFault.{OpeningFault}
+use Rattle.image_judging.specs.declared.opening_fault.OpeningFault.TheVariants as OpeningFaults
 use Rattle.image_check.specs.Faults.{fault_for}
-use Rattle.opening_fault.specs.Faults.{ImageFault, fault_in}
+use Rattle.image_judging.specs.Faults.{ImageFault, fault_in}
 use Rattle.image_check.specs.Report.{with_found}
 use Rattle.image_check.proofs.CheckedLemmas.{awaiting_none, blocks_are, judged_in, judged_now, kept-next, kept-nothing, kept-skip}
 use Rattle.place_model.specs.Format.{format_on}

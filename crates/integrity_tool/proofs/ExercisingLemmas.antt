@@ -27,10 +27,10 @@ use Rattle.image_formatting.specs.Formatted.{HasMade, IsLeftByFormat, IsLeftInOr
 use Rattle.image_formatting.specs.FormattedLaws.{NewOpensLaw}
 use Rattle.image_formatting.specs.NewImage.{IsNewImage, provided_of}
 use Rattle.image_formatting.proofs.WholeLemmas.{left_in_order}
-use Rattle.opening_fault.specs.declared.opening_fault.OpeningFault.{OpeningFault}
-use Rattle.opening_fault.specs.declared.opening_fault.OpeningFault.TheVariants as OpeningFaults
-use Rattle.opening_fault.specs.FaultLaws.{OpensLaw}
-use Rattle.opening_fault.specs.Faults.{fault_in}
+use Rattle.image_judging.specs.declared.opening_fault.OpeningFault.{OpeningFault}
+use Rattle.image_judging.specs.declared.opening_fault.OpeningFault.TheVariants as OpeningFaults
+use Rattle.image_judging.specs.FaultLaws.{OpensLaw}
+use Rattle.image_judging.specs.Faults.{fault_in}
 use Rattle.journal_opening.proofs.MomentsLemmas.{each_from}
 use Rattle.script_text.proofs.ScriptRunLemmas.{came_into, run_is_whole}
 use Rattle.script_session.specs.DeviceParts.{DeviceParts}

@@ -12,10 +12,10 @@ use Rattle.device_model.specs.Mode as Modes
 use Rattle.device_model.specs.ScriptRun.{ScriptRun, IsRunOf, changes_in}
 use Rattle.image_model.specs.Geometry.{Geometry}
 use Rattle.place_model.specs.Kind.{CanOpenIn, kind_in}
-use Rattle.opening_fault.specs.declared.opening_fault.OpeningFault.{OpeningFault}
-use Rattle.opening_fault.specs.declared.opening_fault.OpeningFault.TheVariants as OpeningFaults
-use Rattle.opening_fault.specs.FaultLaws.{OpensLaw}
-use Rattle.opening_fault.specs.Faults.{ImageFault, fault_in, fault_of}
+use Rattle.image_judging.specs.declared.opening_fault.OpeningFault.{OpeningFault}
+use Rattle.image_judging.specs.declared.opening_fault.OpeningFault.TheVariants as OpeningFaults
+use Rattle.image_judging.specs.FaultLaws.{OpensLaw}
+use Rattle.image_judging.specs.Faults.{ImageFault, fault_in, fault_of}
 use Rattle.journal_opening.proofs.MomentsLemmas.{each_from}
 use Rattle.script_session.specs.DeviceParts.{DeviceParts}
 use Rattle.script_session.specs.OpenMode.{OpenMode}

@@ -16,17 +16,17 @@ use Rattle.device_model.specs.ScriptRun.{ScriptRun, IsCameTo, IsRunOf, only_ends
 use Rattle.script_text.proofs.ScriptRunLemmas.{came_to_end, came_to_nothing}
 use Rattle.script_text.proofs.TotalLemmas.{has_run}
 use Rattle.image_model.specs.declared.geom_fault.GeomFault.{GeomFault}
-use Rattle.image_opening.specs.declared.open_fault.OpenFault.{OpenFault}
-use Rattle.image_opening.specs.declared.open_fault.OpenFault.TheVariants as OpenFaults
+use Rattle.image_format.specs.declared.open_fault.OpenFault.{OpenFault}
+use Rattle.image_format.specs.declared.open_fault.OpenFault.TheVariants as OpenFaults
 use Rattle.command_ending.specs.Ended.{ending_of, key_refusal_of}
 use Rattle.command_ending.specs.declared.ended.Ended.{Ended}
 use Rattle.command_ending.specs.declared.ended.Ended.TheVariants as Endings
 use Rattle.image_check.specs.Bad.{bad_blocks}
 use Rattle.image_check.specs.declared.bad.Bad.{Bad}
 use Rattle.image_check.specs.declared.bad.What.{What}
-use Rattle.opening_fault.specs.Faults as faults
+use Rattle.image_judging.specs.Faults as faults
 use Rattle.image_check.specs.Faults.{fault_for}
-use Rattle.opening_fault.specs.Faults.{ImageFault, fault_of}
+use Rattle.image_judging.specs.Faults.{ImageFault, fault_of}
 use Rattle.place_model.specs.Format.{DiskFormat, format_on}
 use Rattle.image_dump.specs.declared.dump_fault.DumpFault.{DumpFault}
 use Rattle.image_dump.specs.declared.dump_fault.DumpFault.TheVariants as DumpFaults

@@ -11,7 +11,7 @@ use Rattle.image_check.specs.Checked.{Checked, checked_format, what_of}
 use Rattle.image_check.specs.declared.bad.Bad.{Bad}
 use Rattle.image_check.specs.declared.bad.What.{What}
 use Rattle.image_check.specs.Faults.{fault_for}
-use Rattle.opening_fault.specs.Faults.{ImageFault}
+use Rattle.image_judging.specs.Faults.{ImageFault}
 use Rattle.image_check.specs.Report.{awaiting_in}
 use Rattle.place_model.specs.Format.{DiskFormat, format_on}
 use Rattle.script_session.specs.LineRun.{held_with}

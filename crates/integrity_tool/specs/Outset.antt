@@ -6,7 +6,7 @@ use Rattle.device_model.specs.Ending.{RefusedWords, RefusedKey, KeyRefusal, Empt
 use Rattle.image_model.specs.Geometry.{Geometry}
 use Rattle.place_model.specs.Format.{format_on}
 use Rattle.place_model.specs.Kind.{kind_in}
-use Rattle.opening_fault.specs.Faults.{ImageFault, fault_of}
+use Rattle.image_judging.specs.Faults.{ImageFault, fault_of}
 use Rattle.script_session.specs.OpenMode.{OpenMode}
 use Rattle.script_session.specs.Opening.{asked_mode}
 use Rattle.integrity_tool.specs.declared.asked.Asked.{Asked}

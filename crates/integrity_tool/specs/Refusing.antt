@@ -1,11 +1,11 @@
 -- How a command ends whose image is not opened.
 use Rattle.device_model.specs.Ending.{Ending, RefusedImage, DiskFailed, NoMemory, BySuperblock, ByGeometry, ByMode, ByJournal}
-use Rattle.image_opening.specs.declared.open_fault.OpenFault.{OpenFault}
-use Rattle.image_opening.specs.declared.open_fault.OpenFault.TheVariants as FormatFaults
-use Rattle.opening_fault.specs.declared.opening_fault.OpeningFault.{OpeningFault}
-use Rattle.opening_fault.specs.declared.opening_fault.OpeningFault.TheVariants.{Memory, Disk, Super, Geom, Mode, Journal}
-use Rattle.opening_fault.specs.Faults as faults
-use Rattle.opening_fault.specs.Faults.{ImageFault}
+use Rattle.image_format.specs.declared.open_fault.OpenFault.{OpenFault}
+use Rattle.image_format.specs.declared.open_fault.OpenFault.TheVariants as FormatFaults
+use Rattle.image_judging.specs.declared.opening_fault.OpeningFault.{OpeningFault}
+use Rattle.image_judging.specs.declared.opening_fault.OpeningFault.TheVariants.{Memory, Disk, Super, Geom, Mode, Journal}
+use Rattle.image_judging.specs.Faults as faults
+use Rattle.image_judging.specs.Faults.{ImageFault}
 use Rattle.command_ending.specs.declared.ended.Ended.{Ended}
 use Rattle.command_ending.specs.declared.ended.Ended.TheVariants as Endings
 use Rattle.command_ending.specs.declared.image_fault.ImageFault.TheVariants as Faults

@@ -28,7 +28,7 @@ use command_ending::Ended;
 use device_exercise::exercise;
 use hmac_tag::Hash;
 use image_formatting::{NewImage, Padding, Wipe, format, new_image_opens};
-use opening_fault::images_that_open_have_no_fault;
+use image_judging::images_that_open_have_no_fault;
 use script_session::{Device, OpenMode, Stop, TagsFound};
 use sector_disk::Disk;
 use sector_pool::Region;

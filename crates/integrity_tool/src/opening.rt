@@ -16,7 +16,7 @@ use crate::refusing::ended_by_opening;
 use crate::running::run_lines;
 use command_ending::Ended;
 use hmac_tag::Hash;
-use opening_fault::{OpeningFault, images_that_open_have_no_fault};
+use image_judging::{OpeningFault, images_that_open_have_no_fault};
 use script_reader::LineReader;
 use script_session::{Device, OpenMode, Refused, TagsFound};
 use sector_disk::Disk;

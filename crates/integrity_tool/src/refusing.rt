@@ -3,7 +3,7 @@ ghost use Rattle.std.specs.Prelude.{◌≡◌};
 ghost use Rattle.integrity_tool.specs.Refusing.{ended_by_opening};
 
 use command_ending::{Ended, ImageFault};
-use opening_fault::OpeningFault;
+use image_judging::OpeningFault;
 
 /// What ends a command whose image is not opened.
 pub(crate) fn ended_by_opening(fault: OpeningFault) -> Ended

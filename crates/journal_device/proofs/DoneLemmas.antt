@@ -16,7 +16,7 @@ use Rattle.device_model.proofs.SubmissionLemmas.{result-working}
 use Rattle.place_model.specs.Format.{DiskFormat, IsReadAs}
 use Rattle.place_model.specs.Left.{IsLeftInJournal}
 use Rattle.place_model.specs.Opened.{device_format}
-use Rattle.device_laws.specs.Device.{IsJournalOf}
+use Rattle.journal_laws.specs.Device.{IsJournalOf}
 use Rattle.direct_laws.specs.MomentLaws.{IsLeftNow, IsLeftThrough}
 use Rattle.direct_laws.proofs.DeviceLemmas.{idle-works}
 use Rattle.journal_model.specs.JournaledDisk.{JournaledDisk}

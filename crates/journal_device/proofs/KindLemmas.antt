@@ -13,7 +13,7 @@ use Rattle.place_model.specs.Kind.{CanOpenIn, MayBeLeftIn}
 use Rattle.place_model.specs.Left.{IsLeftInJournal}
 use Rattle.place_model.proofs.FormatLemmas.{format_on-is, format_on-read}
 use Rattle.place_model.proofs.KindLemmas.{journal_kind_law}
-use Rattle.device_laws.proofs.PromiseLemmas.{standing_left_law}
+use Rattle.journal_laws.proofs.PromiseLemmas.{standing_left_law}
 use Rattle.direct_laws.specs.MomentLaws.{IsLeftNow, IsLeftThrough}
 use Rattle.journal_opening.specs.Journal.{PlacedRing}
 use Rattle.journal_opening.specs.Standing.{JournalStanding, StandsAs}

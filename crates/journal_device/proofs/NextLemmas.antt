@@ -16,7 +16,7 @@ use Rattle.device_model.specs.Serial.{readable_cells, serial_cells}
 use Rattle.device_model.specs.Submission as Submissions
 use Rattle.device_model.proofs.SerialLemmas.{IsServedPart}
 use Rattle.device_model.proofs.SubmissionLemmas.{get_or-blocks_in, length-blocks_in, result-working}
-use Rattle.device_laws.specs.EventLaws.{IsServed}
+use Rattle.journal_laws.specs.EventLaws.{IsServed}
 use Rattle.direct_laws.proofs.DeviceLemmas.{serving-works}
 use Rattle.request_slots.specs.Flight.{Flight, bytes_in, is_in_flight, is_of, slot_of, turn_of}
 use Rattle.request_slots.specs.InFlight.{IsFlightOf, blocks_read, bytes_now, request_with, slot_for}

@@ -23,8 +23,8 @@ use Rattle.device_model.specs.Request as Asks
 use Rattle.device_model.specs.Serial.{readable_cells}
 use Rattle.place_model.specs.Format.{tagger_of}
 use Rattle.place_model.specs.Left.{IsLeftInJournal}
-use Rattle.device_laws.specs.EventLaws.{IsServed, next_write}
-use Rattle.device_laws.proofs.PutLemmas.{has_room_law}
+use Rattle.journal_laws.specs.EventLaws.{IsServed, next_write}
+use Rattle.journal_laws.proofs.PutLemmas.{has_room_law}
 use Rattle.direct_mode.specs.Cells.{block_write}
 use Rattle.journal_model.specs.JournaledDisk.{JournaledDisk}
 use Rattle.journal_model.specs.Ring.{has_room}

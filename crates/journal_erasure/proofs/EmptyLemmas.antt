@@ -11,7 +11,7 @@ use Rattle.journal_model.specs.Batch.{AreSections, IsSection}
 use Rattle.journal_model.specs.Erasing.{IsEmptyJournal}
 use Rattle.journal_model.specs.JournaledDisk.{JournaledDisk}
 use Rattle.journal_model.proofs.BatchLemmas.{has_sections, section_is}
-use Rattle.device_laws.proofs.StepLemmas.{sealed_law}
+use Rattle.journal_laws.proofs.StepLemmas.{sealed_law}
 use Rattle.journal_ring.specs.Sections.{section_bytes}
 use Rattle.journal_section.specs.Entries.{BearsNumber, HoldsEntries}
 use Rattle.journal_ring.proofs.SectionsLemmas.{IsPutThere, used-cleared}

@@ -15,7 +15,7 @@ use Rattle.journal_model.specs.Erasing.{IsErasable, IsOfErasure, StandsErasing, 
 use Rattle.journal_model.specs.JournaledDisk.{JournaledDisk, IsCutOf, StandsFor}
 use Rattle.journal_model.proofs.CutOfLemmas.{wide}
 use Rattle.journal_model.proofs.ErasingLemmas.{erasure_begins, erasure_goes_on, erasure_turns, erasure_ends, erasure_cut}
-use Rattle.device_laws.proofs.EmptiedLemmas.{erased_law}
+use Rattle.journal_laws.proofs.EmptiedLemmas.{erased_law}
 use Rattle.journal_erasure.specs.declared.part.Part.{Part}
 use Rattle.journal_erasure.specs.declared.part.Part.TheVariants.{Others, Newest}
 use Rattle.journal_erasure.specs.declared.erasure.Erasure.{Erasure}

@@ -4,7 +4,7 @@ use Rattle.std.specs.Prelude.{ℕ}
 use Rattle.disk_model.specs.Disk.{Content, HasNothingPending, Image}
 use Rattle.place_model.specs.Journal.{HasNothingToReplay}
 use Rattle.direct_model.specs.DirectDisk
-use Rattle.device_laws.specs.Emptied.{as_direct}
+use Rattle.journal_laws.specs.Emptied.{as_direct}
 use Rattle.journal_model.specs.Erasing.{after_erasure}
 use Rattle.journal_model.specs.JournaledDisk.{JournaledDisk, Rests, StandsFor}
 

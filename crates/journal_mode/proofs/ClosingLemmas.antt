@@ -8,9 +8,9 @@ use Rattle.image_model.specs.Cells.{recalculated_cell}
 use Rattle.image_model.specs.Section.{Entry}
 use Rattle.device_model.specs.History.{Flushed, cells_now, with_change}
 use Rattle.device_model.specs.Journal.{commit_all}
-use Rattle.device_laws.proofs.FormatLemmas.{blocks-is}
-use Rattle.device_laws.proofs.PromiseLemmas.{cell_is}
-use Rattle.device_laws.proofs.RingLemmas.{freed_settled}
+use Rattle.journal_laws.proofs.FormatLemmas.{blocks-is}
+use Rattle.journal_laws.proofs.PromiseLemmas.{cell_is}
+use Rattle.journal_laws.proofs.RingLemmas.{freed_settled}
 use Rattle.journal_model.specs.Entries.{cell_after}
 use Rattle.journal_model.specs.JournaledDisk.{JournaledDisk}
 use Rattle.journal_model.specs.Ring.{JournalRing, entries_of, unplaced_from}

@@ -16,7 +16,7 @@ use Rattle.image_model.proofs.GeometryLemmas.{data_at-inside}
 use Rattle.place_model.proofs.TagsLemmas.{tag_byte-behind}
 use Rattle.buffer_cache.proofs.CachedLemmas.{changed_now}
 use Rattle.device_model.specs.Journal.{commit}
-use Rattle.device_laws.proofs.CommitLemmas.{commit_law, idle_commit_law}
+use Rattle.journal_laws.proofs.CommitLemmas.{commit_law, idle_commit_law}
 use Rattle.direct_laws.specs.CallLaws.{ReadsImage}
 use Rattle.journal_model.specs.JournaledDisk.{IsCutOf, JournaledDisk, StandsFor}
 use Rattle.journal_model.specs.Ring.{JournalRing, IsNextBatch, IsRingOf, next_batch, uncommitted_entries, with_commit}

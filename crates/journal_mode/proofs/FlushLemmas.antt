@@ -7,8 +7,8 @@ use Rattle.image_model.specs.Section.{Entry}
 use Rattle.device_model.specs.History.{History}
 use Rattle.device_model.specs.Journal.{JournalCounts, commit_all}
 use Rattle.device_model.specs.RoomLaws.{commits}
-use Rattle.device_laws.specs.Device.{IsJournalOf}
-use Rattle.device_laws.proofs.StepLemmas.{commits_law, flush_law, flush_write_law}
+use Rattle.journal_laws.specs.Device.{IsJournalOf}
+use Rattle.journal_laws.proofs.StepLemmas.{commits_law, flush_law, flush_write_law}
 use Rattle.journal_model.specs.JournaledDisk.{JournaledDisk}
 use Rattle.journal_model.specs.Ring.{entries_of, next_batch, with_commit}
 use Rattle.journal_model.specs.Steps.{after_commit}

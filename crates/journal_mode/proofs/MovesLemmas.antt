@@ -12,9 +12,9 @@ use Rattle.image_model.specs.Section.{Entry}
 use Rattle.device_model.specs.History.{History}
 use Rattle.device_model.specs.Journal.{Closed, Committed, Free, JournalCounts, Open, SectionCounts, SectionState, as_settled, is_all_placed, is_committed, is_uncommitted, place, settle}
 use Rattle.device_model.specs.Mode.{DeviceFormat}
-use Rattle.device_laws.specs.Device.{AreOpened, IsJournalOf, block_of, committed_counts, placed_count}
-use Rattle.device_laws.proofs.RingLemmas.{committed_low, freed_settled}
-use Rattle.device_laws.proofs.StepLemmas.{idle_place_law, idle_settle_law, place_law, settle_law}
+use Rattle.journal_laws.specs.Device.{AreOpened, IsJournalOf, block_of, committed_counts, placed_count}
+use Rattle.journal_laws.proofs.RingLemmas.{committed_low, freed_settled}
+use Rattle.journal_laws.proofs.StepLemmas.{idle_place_law, idle_settle_law, place_law, settle_law}
 use Rattle.journal_model.specs.JournaledDisk.{JournaledDisk}
 use Rattle.journal_model.specs.Ring.{JournalRing, entries_of, uncommitted_entries, unplaced_from, with_settle}
 use Rattle.journal_model.specs.Steps.{after_settle}

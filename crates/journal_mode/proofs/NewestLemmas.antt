@@ -9,8 +9,8 @@ use Rattle.image_model.specs.Cells.{last_entry}
 use Rattle.image_model.specs.Geometry.{Geometry}
 use Rattle.image_model.specs.Section.{Entry}
 use Rattle.place_model.proofs.EachLemmas.{all_append}
-use Rattle.device_laws.specs.Device.{block_of}
-use Rattle.device_laws.proofs.PromiseLemmas.{last_entry-here}
+use Rattle.journal_laws.specs.Device.{block_of}
+use Rattle.journal_laws.proofs.PromiseLemmas.{last_entry-here}
 use Rattle.journal_model.specs.Ring.{JournalRing, entries_of}
 use Rattle.journal_model.proofs.EntriesLemmas.{last_entry-append, last_entry-some}
 use Rattle.journal_overlay.specs.Kept.{added, newest_of, place_for}

@@ -3,8 +3,8 @@ use Rattle.std.proofs.Common.{◌≡◌, ℕ, sym, ◌∙◌, ap, subst, arith}
 use Rattle.std.proofs.lemmas.Option.{same_Some}
 use Rattle.disk_model.specs.Disk.{Content}
 use Rattle.device_model.specs.Mode.{Journal}
-use Rattle.device_laws.specs.Device.{IsJournalOf}
-use Rattle.device_laws.proofs.StepLemmas.{recovered_law}
+use Rattle.journal_laws.specs.Device.{IsJournalOf}
+use Rattle.journal_laws.proofs.StepLemmas.{recovered_law}
 use Rattle.place_model.specs.Format.{DiskFormat}
 use Rattle.place_model.specs.Opened.{device_format, next_on, opened_on}
 use Rattle.journal_model.specs.Ring.{JournalRing, empty_ring}

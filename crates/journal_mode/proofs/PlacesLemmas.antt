@@ -3,7 +3,7 @@ use Rattle.std.proofs.Common.{◌≡◌, inl, inr, ℕ, suc, ◌+◌, ◌-◌, �
 use Rattle.std.proofs.lemmas.Bool.{cases_lt}
 use Rattle.image_model.specs.Geometry.{Geometry}
 use Rattle.image_model.specs.Section.{Entry}
-use Rattle.device_laws.specs.Device.{block_of}
+use Rattle.journal_laws.specs.Device.{block_of}
 use Rattle.journal_model.specs.Ring.{JournalRing, entries_of, put_last}
 use Rattle.journal_overlay.specs.Kept.{added}
 use Rattle.journal_overlay.specs.declared.place.Added.{Added}

@@ -6,7 +6,7 @@ use Rattle.std.proofs.lemmas.Bool.{false≢true, ltb-true}
 use Rattle.image_model.specs.Geometry.{Geometry, IsGeometry, section_entries}
 use Rattle.image_model.specs.Section.{Entry}
 use Rattle.place_model.proofs.EachLemmas.{all_append}
-use Rattle.device_laws.specs.Device.{block_of}
+use Rattle.journal_laws.specs.Device.{block_of}
 use Rattle.journal_model.specs.Ring.{HasFreeSection, JournalRing, entries_of, has_open_section, has_room, put_last, takes_more, with_put}
 use Rattle.journal_model.proofs.JournalRingLemmas.{entries_of-append, free_section_law, length-put_last}
 use Rattle.journal_overlay.specs.Kept.{Places, added}

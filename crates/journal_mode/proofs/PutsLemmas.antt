@@ -10,9 +10,9 @@ use Rattle.image_model.specs.Section.{Entry}
 use Rattle.image_model.proofs.GeometryLemmas.{data_at-inside}
 use Rattle.device_model.specs.History.{Begun, History, Written, with_change}
 use Rattle.device_model.specs.Journal.{JournalCounts}
-use Rattle.device_laws.specs.Device.{IsJournalOf, block_of}
-use Rattle.device_laws.proofs.FormatLemmas.{block_size-is, blocks-is}
-use Rattle.device_laws.proofs.PutLemmas.{has_room_law, put_law}
+use Rattle.journal_laws.specs.Device.{IsJournalOf, block_of}
+use Rattle.journal_laws.proofs.FormatLemmas.{block_size-is, blocks-is}
+use Rattle.journal_laws.proofs.PutLemmas.{has_room_law, put_law}
 use Rattle.replay.specs.DirectModeCells.{IsTaggedBlock, block_write}
 use Rattle.journal_model.specs.HistoryOf.{entry_of_write}
 use Rattle.journal_model.specs.Ring.{JournalRing, has_room, with_put}

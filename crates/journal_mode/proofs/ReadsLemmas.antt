@@ -11,11 +11,11 @@ use Rattle.image_model.proofs.SectorLemmas.{bytes_at_read}
 use Rattle.device_model.specs.History.{cells_now}
 use Rattle.place_model.proofs.EachLemmas.{all_append, all_flat}
 use Rattle.device_model.specs.Progress.{is_journaled}
-use Rattle.device_laws.specs.Device.{IsJournalOf}
-use Rattle.device_laws.specs.PromiseLaws.{newest_entry}
-use Rattle.device_laws.proofs.FormatLemmas.{blocks-is}
-use Rattle.device_laws.proofs.JournaledLemmas.{is_journaled_law}
-use Rattle.device_laws.proofs.PromiseLemmas.{cell_is, journaled_read_law, placed_law, standing_left_law}
+use Rattle.journal_laws.specs.Device.{IsJournalOf}
+use Rattle.journal_laws.specs.PromiseLaws.{newest_entry}
+use Rattle.journal_laws.proofs.FormatLemmas.{blocks-is}
+use Rattle.journal_laws.proofs.JournaledLemmas.{is_journaled_law}
+use Rattle.journal_laws.proofs.PromiseLemmas.{cell_is, journaled_read_law, placed_law, standing_left_law}
 use Rattle.journal_model.specs.Entries.{IsBlockEntry}
 use Rattle.journal_model.specs.JournaledDisk.{StandsFor}
 use Rattle.journal_model.specs.Ring.{JournalRing, entries_of, uncommitted_entries}

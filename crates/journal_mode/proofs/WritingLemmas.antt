@@ -8,7 +8,7 @@ use Rattle.disk_model.specs.Moments.{EachSince}
 use Rattle.disk_model.proofs.MomentsLemmas.{EachMoment-kept, adds_then, no_moment}
 use Rattle.image_model.specs.Geometry.{Geometry}
 use Rattle.image_model.specs.Section.{Entry}
-use Rattle.device_laws.specs.Device.{block_of}
+use Rattle.journal_laws.specs.Device.{block_of}
 use Rattle.journal_model.specs.Ring.{JournalRing, entries_of, next_batch, with_commit}
 use Rattle.journal_model.proofs.JournalRingLemmas.{entries_of-append}
 use Rattle.journal_ring.specs.declared.ring.Moved.{Moved}

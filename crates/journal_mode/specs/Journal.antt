@@ -3,7 +3,7 @@ use Rattle.std.specs.Prelude.{◌≡◌, ℕ, ◌+◌, ◌*◌, ◌^◌, ◌≤�
 use Rattle.std.specs.List.{AllByRecursion}
 use Rattle.image_model.specs.Geometry.{Geometry, IsGeometry, section_entries}
 use Rattle.image_model.specs.Section.{Entry}
-use Rattle.device_laws.specs.Device.{block_of}
+use Rattle.journal_laws.specs.Device.{block_of}
 use Rattle.journal_model.specs.Ring.{JournalRing, empty_ring, with_put}
 use Rattle.journal_overlay.specs.Kept.{Places, added}
 use Rattle.journal_overlay.specs.declared.place.Added.{Added}

@@ -6,7 +6,7 @@ use Rattle.device_model.specs.History.{History}
 use Rattle.device_model.specs.Journal.{JournalCounts}
 use Rattle.device_model.specs.Mode.{DeviceFormat}
 use Rattle.place_model.specs.Left.{IsLeftInJournal}
-use Rattle.device_laws.specs.Device.{IsJournalOf}
+use Rattle.journal_laws.specs.Device.{IsJournalOf}
 use Rattle.journal_model.specs.JournaledDisk.{JournaledDisk}
 use Rattle.replay.specs.Moves.{IsPlacedOn}
 use Rattle.tag_store.specs.Store.{Store}

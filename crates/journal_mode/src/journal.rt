@@ -5,7 +5,7 @@ ghost use Rattle.disk_model.specs.Disk.{Content, OnlyAdds};
 ghost use Rattle.disk_model.specs.Moments.{EachSince, HasNow};
 ghost use Rattle.image_model.specs.Geometry.{journal_sectors};
 ghost use Rattle.image_model.specs.Section.{Entry};
-ghost use Rattle.device_laws.specs.Device.{IsJournalOf};
+ghost use Rattle.journal_laws.specs.Device.{IsJournalOf};
 ghost use Rattle.device_model.specs.Progress.{is_journaled};
 ghost use Rattle.replay.specs.DirectModeCells.{IsBlock, IsTaggedBlock, block_write};
 ghost use Rattle.journal_model.specs.Ring.{entries_of, has_room};

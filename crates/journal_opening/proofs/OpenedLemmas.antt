@@ -9,11 +9,11 @@ use Rattle.image_model.specs.Cells.{salt_of}
 use Rattle.image_model.specs.Openable as model
 use Rattle.image_model.specs.Openable.{journal_fault_of}
 use Rattle.place_model.specs.Format.{DiskFormat}
-use Rattle.image_opening.specs.declared.reading.ImageFormat.{ImageFormat}
-use Rattle.image_opening.specs.Format.{IsOpenedNow, direct_format_of, disk_format}
-use Rattle.opening_fault.specs.FaultLaws.{OpensLaw}
-use Rattle.opening_fault.specs.Faults.{ByJournal, ImageFault, fault_of}
-use Rattle.opening_fault.proofs.FaultsLemmas.{fault_of-format}
+use Rattle.image_format.specs.declared.reading.ImageFormat.{ImageFormat}
+use Rattle.image_format.specs.Format.{IsOpenedNow, direct_format_of, disk_format}
+use Rattle.image_judging.specs.FaultLaws.{OpensLaw}
+use Rattle.image_judging.specs.Faults.{ByJournal, ImageFault, fault_of}
+use Rattle.image_judging.proofs.FaultsLemmas.{fault_of-format}
 use Rattle.journal_opening.specs.declared.opened.OpenedJournal.{OpenedJournal}
 use Rattle.journal_opening.specs.Opening.{HasOpened, IsOpenOn, IsReady, KeepsRefused}
 

@@ -13,8 +13,8 @@ use Rattle.place_model.specs.Left.{IsLeftInJournal}
 use Rattle.place_model.specs.Opened.{next_on, opened_on}
 use Rattle.place_model.proofs.FormatLemmas.{format_on-is, opens_on}
 use Rattle.place_model.proofs.KindLemmas.{journal_kind_law}
-use Rattle.image_opening.specs.declared.reading.ImageFormat.{ImageFormat}
-use Rattle.image_opening.specs.Format.{IsReadNow, disk_format}
+use Rattle.image_format.specs.declared.reading.ImageFormat.{ImageFormat}
+use Rattle.image_format.specs.Format.{IsReadNow, disk_format}
 use Rattle.journal_model.specs.Opening.{opened_disk}
 use Rattle.journal_model.specs.Recovery.{IsRecovered}
 use Rattle.journal_mode.specs.Journal.{PlacedRing, empty_journal}

@@ -10,8 +10,8 @@ use Rattle.image_model.specs.Superblock.{has_flag}
 use Rattle.place_model.specs.Format.{DiskFormat, HasCells, OpensAs, cells_on}
 use Rattle.place_model.proofs.FirstSyncLemmas.{newest_only-cells}
 use Rattle.hmac_tag.specs.TagMaker.{TagRule}
-use Rattle.image_opening.specs.declared.reading.ImageFormat.{ImageFormat}
-use Rattle.image_opening.specs.Format.{IsReadNow, disk_format}
+use Rattle.image_format.specs.declared.reading.ImageFormat.{ImageFormat}
+use Rattle.image_format.specs.Format.{IsReadNow, disk_format}
 use Rattle.buffer_cache.specs.Cached.{HasNoMark}
 use Rattle.buffer_cache.specs.HeldSectors.{no_sectors}
 use Rattle.tag_store.specs.Store.{Store}

@@ -10,7 +10,7 @@ use Rattle.place_model.specs.Format.{DiskFormat, HasCells, OpensAs, cells_on, fo
 use Rattle.place_model.specs.Kind.{kind_in}
 use Rattle.place_model.specs.Opened.{next_on}
 use Rattle.hmac_tag.specs.TagMaker.{TagRule}
-use Rattle.image_opening.specs.declared.reading.ImageFormat.{ImageFormat}
+use Rattle.image_format.specs.declared.reading.ImageFormat.{ImageFormat}
 use Rattle.journal_model.specs.JournaledDisk.{JournaledDisk}
 use Rattle.journal_model.specs.Opening.{opened_disk}
 use Rattle.buffer_cache.specs.Cache.{sectors_of}

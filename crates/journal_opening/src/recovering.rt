@@ -7,7 +7,7 @@ ghost use Rattle.image_model.specs.Cells.{salt_of};
 ghost use Rattle.image_model.specs.Geometry.{journal_sectors};
 ghost use Rattle.image_model.specs.Openable.{journal_fault_of};
 ghost use Rattle.hmac_tag.specs.TagMaker.{key_of};
-ghost use Rattle.image_opening.specs.Format.{IsDirectFormat, IsReadNow, disk_format};
+ghost use Rattle.image_format.specs.Format.{IsDirectFormat, IsReadNow, disk_format};
 ghost use Rattle.journal_reading.specs.Faults.{HasReplayCause, refusal_in};
 ghost use Rattle.buffer_cache.specs.Cache.{sectors_of};
 ghost use Rattle.buffer_cache.specs.HeldSectors.{no_sectors};
@@ -19,8 +19,8 @@ ghost use Rattle.journal_opening.specs.Opening.{HasRecovered, KeepsImage, KeepsR
 use buffer_cache::Cache;
 use direct_mode::settle;
 use hmac_tag::{Hash, TagMaker};
+use image_format::ImageFormat;
 use image_model::FIXED_HMAC;
-use image_opening::ImageFormat;
 use journal_mode::{Recovered, ReplayFault, recover};
 use sector_disk::Disk;
 use sector_pool::Run;

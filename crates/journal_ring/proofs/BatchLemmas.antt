@@ -15,7 +15,7 @@ use Rattle.journal_model.specs.Batch.{AreSections, IsSection}
 use Rattle.journal_model.specs.Cuts.{next_after, number_after}
 use Rattle.journal_model.specs.Ring.{next_batch, opened_at, IsNextBatch, JournalRing, with_commit}
 use Rattle.journal_model.proofs.Runs.{run_joins, run_drop}
-use Rattle.device_laws.proofs.StepLemmas.{sealed_law}
+use Rattle.journal_laws.proofs.StepLemmas.{sealed_law}
 use Rattle.journal_ring.specs.declared.marks.Marks.{Marks}
 use Rattle.journal_ring.specs.Batch.{next_of, batch_of, committed_marks}
 use Rattle.journal_ring.specs.RoomLaws.{HasBounds}

@@ -18,7 +18,7 @@ use Rattle.journal_model.proofs.BatchLemmas.{batch_law}
 use Rattle.journal_model.proofs.CommittedLemmas.{committed_law}
 use Rattle.journal_model.proofs.JournalRingLemmas.{entries_of-map, next_batch-of_disk, ring_law}
 use Rattle.journal_model.proofs.StepLemmas.{committing_law}
-use Rattle.device_laws.proofs.RingLemmas.{run_of}
+use Rattle.journal_laws.proofs.RingLemmas.{run_of}
 use Rattle.journal_ring.specs.declared.marks.Marks.{Marks}
 use Rattle.journal_ring.specs.Batch.{next_of, batch_of, next_entries, HasWritten, HasCommitted, WritesBatch}
 use Rattle.journal_ring.specs.Ring.{view_of, IsRing}

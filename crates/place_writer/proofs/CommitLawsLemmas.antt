@@ -8,7 +8,7 @@ use Rattle.buffer_cache.specs.declared.held.Held.{Held}
 use Rattle.buffer_cache.specs.Cached.{held_or}
 use Rattle.buffer_cache.specs.HeldSectors.{held_in}
 use Rattle.buffer_cache.proofs.CachedLemmas.{changed_now}
-use Rattle.device_laws.specs.Device.{placed_count}
+use Rattle.journal_laws.specs.Device.{placed_count}
 use Rattle.journal_model.specs.JournaledDisk.{JournaledDisk, IsSound}
 use Rattle.journal_model.specs.Ring.{entries_of, next_batch, with_commit}
 use Rattle.journal_model.specs.Steps.{IsBatch, KeepsCells, after_commit, batch_entries}

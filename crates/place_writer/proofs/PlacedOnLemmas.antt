@@ -12,8 +12,8 @@ use Rattle.image_model.specs.Section.{Entry}
 use Rattle.image_model.specs.Walk.{ring as ring_at}
 use Rattle.place_model.specs.Journal.{entries_in}
 use Rattle.place_model.proofs.EachLemmas.{all_drop}
-use Rattle.device_laws.specs.Device.{IsJournalRing, freed_count, placed_count}
-use Rattle.device_laws.proofs.RingLemmas.{committed_low, drop-map, freed_is, freed_settled, held_at}
+use Rattle.journal_laws.specs.Device.{IsJournalRing, freed_count, placed_count}
+use Rattle.journal_laws.proofs.RingLemmas.{committed_low, drop-map, freed_is, freed_settled, held_at}
 use Rattle.journal_model.specs.JournaledDisk.{JournaledDisk, IsCutOf, IsSound, StandsFor}
 use Rattle.journal_model.specs.Ring.{JournalRing, entries_of}
 use Rattle.journal_model.specs.Steps.{after_place, after_settle, oldest_entries}

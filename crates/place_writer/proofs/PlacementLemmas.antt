@@ -11,7 +11,7 @@ use Rattle.disk_model.specs.Moments.{EachSince}
 use Rattle.image_model.specs.Geometry.{Geometry, IsGeometry}
 use Rattle.image_model.proofs.Bounds.{has_entries}
 use Rattle.image_model.specs.Section.{Entry}
-use Rattle.device_laws.specs.Device.{block_of}
+use Rattle.journal_laws.specs.Device.{block_of}
 use Rattle.direct_mode.specs.Cells.{IsOfBlockOrTags}
 use Rattle.place_model.proofs.EachLemmas.{all_drop, all_get}
 use Rattle.journal_model.specs.Ring.{JournalRing, entries_of, unplaced_from, with_settle}

@@ -9,8 +9,8 @@ use Rattle.image_model.specs.Geometry.{Geometry, IsGeometry}
 use Rattle.image_model.specs.Section.{Entry}
 use Rattle.image_model.proofs.TagLemmas.{length-tag_of}
 use Rattle.place_model.proofs.EachLemmas.{all_append, all_drop, all_take}
-use Rattle.device_laws.specs.Device.{IsJournalRing, freed_count}
-use Rattle.device_laws.proofs.RingLemmas.{held_at}
+use Rattle.journal_laws.specs.Device.{IsJournalRing, freed_count}
+use Rattle.journal_laws.proofs.RingLemmas.{held_at}
 use Rattle.journal_model.specs.Entries.{IsBlockEntry, cell_after}
 use Rattle.journal_model.specs.JournaledDisk.{JournaledDisk, IsFormed, IsSound, MayStandOutside, cell_at}
 use Rattle.journal_model.specs.Ring.{JournalRing, entries_of, has_open_section, next_batch, with_commit, with_put}

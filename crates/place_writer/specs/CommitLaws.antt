@@ -4,7 +4,7 @@ use Rattle.disk_model.specs.Disk.{Content, last_image, newest_only, with_run}
 use Rattle.disk_model.specs.Identity.{DiskIdentity}
 use Rattle.disk_model.specs.Moments.{HasNow, IsChangedBy}
 use Rattle.image_model.specs.Geometry.{section_at}
-use Rattle.device_laws.specs.Device.{IsJournalRing}
+use Rattle.journal_laws.specs.Device.{IsJournalRing}
 use Rattle.direct_mode.specs.CallLaws.{ReadsImage}
 use Rattle.journal_model.specs.JournaledDisk.{JournaledDisk, Rests}
 use Rattle.journal_model.specs.Ring.{JournalRing, next_batch, with_commit}

@@ -5,7 +5,7 @@ use Rattle.disk_model.specs.Moments.{EachMoment, EachSince, HasNow}
 use Rattle.image_model.specs.Cells.{recalculated_cell}
 use Rattle.image_model.specs.Geometry.{Geometry}
 use Rattle.image_model.specs.Section.{Entry}
-use Rattle.device_laws.specs.Device.{IsJournalRing, block_of, placed_count}
+use Rattle.journal_laws.specs.Device.{IsJournalRing, block_of, placed_count}
 use Rattle.direct_mode.specs.Cells.{IsOfBlockOrTags}
 use Rattle.journal_model.specs.JournaledDisk.{JournaledDisk, IsCutOf, StandsFor, cell_at}
 use Rattle.journal_model.specs.Ring.{JournalRing, entries_of, with_settle}

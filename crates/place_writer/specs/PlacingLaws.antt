@@ -3,7 +3,7 @@ use Rattle.std.specs.Prelude.{◌≡◌, ℕ}
 use Rattle.disk_model.specs.Disk.{Content, EachImage}
 use Rattle.image_model.specs.Geometry.{Geometry}
 use Rattle.image_model.specs.Section.{Entry}
-use Rattle.device_laws.specs.Device.{IsJournalRing}
+use Rattle.journal_laws.specs.Device.{IsJournalRing}
 use Rattle.journal_model.specs.JournaledDisk.{JournaledDisk, IsSound, StandsFor}
 use Rattle.journal_model.specs.Ring.{JournalRing, empty_ring, with_commit, with_put}
 use Rattle.place_writer.specs.Moves.{HasPlacedCells}

@@ -4,7 +4,7 @@ ghost use Rattle.disk_model.specs.Causes.{HasCause};
 ghost use Rattle.disk_model.specs.Disk.{OnlyAdds};
 ghost use Rattle.disk_model.specs.Moments.{EachMoment, EachSince};
 ghost use Rattle.image_model.specs.Section.{Entry};
-ghost use Rattle.device_laws.specs.Device.{block_of};
+ghost use Rattle.journal_laws.specs.Device.{block_of};
 ghost use Rattle.direct_mode.specs.Cells.{IsOfBlockOrTags};
 ghost use Rattle.journal_model.specs.JournaledDisk.{JournaledDisk, StandsFor};
 ghost use Rattle.journal_model.specs.Steps.{after_place};

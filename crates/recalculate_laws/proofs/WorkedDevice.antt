@@ -34,8 +34,8 @@ use Rattle.journal_model.specs.Ring.{empty_ring}
 use Rattle.journal_model.specs.Steps.{KeepsCells}
 use Rattle.journal_model.proofs.EntriesLemmas.{cell_after-none}
 use Rattle.journal_model.proofs.OpeningLemmas.{opened_law, state_law}
-use Rattle.device_laws.specs.Device.{IsJournalDevice}
-use Rattle.device_laws.proofs.StepLemmas as Begins
+use Rattle.journal_laws.specs.Device.{IsJournalDevice}
+use Rattle.journal_laws.proofs.StepLemmas as Begins
 use Rattle.direct_model.specs.Opening
 use Rattle.direct_model.specs.Steps.{with_fields}
 use Rattle.direct_laws.specs.Device.{IsDirectDevice}

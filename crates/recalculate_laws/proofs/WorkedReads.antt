@@ -14,11 +14,11 @@ use Rattle.place_model.specs.Opened.{awaiting_on, device_format, opened_on}
 use Rattle.place_model.proofs.WorkedDisk.{journal_format, replayed_entries-fresh}
 use Rattle.journal_model.specs.Ring.{JournalRing, empty_ring}
 use Rattle.journal_model.proofs.WorkedDisk.{fresh, Rests-fresh, StandsFor-fresh}
-use Rattle.device_laws.specs.Device.{IsJournalDevice}
-use Rattle.device_laws.specs.EventLaws.{IsServed}
-use Rattle.device_laws.specs.PromiseLaws.{newest_entry}
-use Rattle.device_laws.proofs.EventLemmas as Events
-use Rattle.device_laws.proofs.StepLemmas as Begins
+use Rattle.journal_laws.specs.Device.{IsJournalDevice}
+use Rattle.journal_laws.specs.EventLaws.{IsServed}
+use Rattle.journal_laws.specs.PromiseLaws.{newest_entry}
+use Rattle.journal_laws.proofs.EventLemmas as Events
+use Rattle.journal_laws.proofs.StepLemmas as Begins
 use Rattle.direct_model.specs.DirectDisk.{DirectDisk}
 use Rattle.direct_model.specs.Opening.{opened_disk}
 use Rattle.direct_laws.specs.Device.{IsDirectDevice}

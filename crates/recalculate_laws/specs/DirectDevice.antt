@@ -6,7 +6,7 @@ use Rattle.device_model.specs.Mode.{DeviceFormat}
 use Rattle.device_model.specs.Progress.{DeviceState, Working, Serve, Step, Recalc, Idle, only_answers, step_regions, event_result, after_event}
 use Rattle.device_model.specs.Regions.{least_region, recalculated_region}
 use Rattle.device_model.specs.Request.{Read, Asked}
-use Rattle.device_laws.specs.EventLaws.{IsServed}
+use Rattle.journal_laws.specs.EventLaws.{IsServed}
 use Rattle.direct_model.specs.DirectDisk.{DirectDisk}
 use Rattle.direct_laws.specs.Device.{IsDirectDevice}
 

@@ -14,7 +14,7 @@ use Rattle.device_model.specs.Request.{Request, Asked, newly_asked}
 use Rattle.device_model.specs.ScriptBytes.{is_too_long}
 use Rattle.device_model.specs.ScriptRun.{ScriptRun, IsRunOf, run_from}
 use Rattle.device_model.specs.Submission.{Submission as Asking}
-use Rattle.device_laws.specs.EventLaws.{IsServed}
+use Rattle.journal_laws.specs.EventLaws.{IsServed}
 use Rattle.place_model.specs.Kind.{kind_in}
 use Rattle.place_model.specs.Opened.{device_format, opened_on}
 use Rattle.place_model.proofs.WorkedDisk.{journal_format, zeros_journal, IsReadAs-zeros}

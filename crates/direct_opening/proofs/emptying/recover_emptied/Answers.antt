@@ -4,10 +4,10 @@ use Rattle.std.proofs.lemmas.Result.{err_from_is_err_and}
 use Rattle.disk_model.specs.Disk.{last_image}
 use Rattle.disk_model.proofs.MomentsLemmas.{EachMoment-then}
 use Rattle.hmac_tag.specs.TagMaker.{key_of}
-use Rattle.image_opening.specs.Format.{disk_format}
+use Rattle.image_format.specs.Format.{disk_format}
 use Rattle.journal_model.specs.Opening.{opened_disk}
 use Rattle.tag_store.specs.Store.{given_tags}
-use Rattle.opening_fault.proofs.FaultsLemmas.{same_fault}
+use Rattle.image_judging.proofs.FaultsLemmas.{same_fault}
 use Rattle.journal_opening.proofs.OpeningLemmas.{now_told}
 use Rattle.direct_opening.proofs.EmptyingLemmas.{at_rest, cells_while_emptied, emptying_adds, emptying_keeps, leaves_then, resting_keeps, stays_unused}
 use Rattle.direct_opening.proofs.emptying.recover_emptied.Goals as goal

@@ -7,14 +7,14 @@ use Rattle.disk_model.proofs.MomentsLemmas.{EachMoment-kept}
 use Rattle.image_model.specs.Cells.{salt_of}
 use Rattle.image_model.specs.Openable.{journal_fault_of}
 use Rattle.hmac_tag.specs.TagMaker.{key_of}
-use Rattle.image_opening.specs.Format.{IsReadNow, disk_format}
+use Rattle.image_format.specs.Format.{IsReadNow, disk_format}
 use Rattle.journal_reading.specs.Faults.{refusal_in}
-use Rattle.opening_fault.specs.Faults.{fault_by, fault_in_format}
+use Rattle.image_judging.specs.Faults.{fault_by, fault_in_format}
 use Rattle.journal_opening.specs.Opening.{IsOfOpening, KeepsImage, KeepsRefused, OnlySyncs, WritesRecovery}
 use Rattle.device_core.specs.declared.parts.Parts.{Parts}
 use Rattle.device_core.specs.Device.{IsReady}
 use Rattle.direct_opening.specs.Opening.{IsOpenOn, KeepsEmpty}
-use Rattle.opening_fault.proofs.FaultsLemmas.{format_cause, no_format, opened_cause, replay_cause, room_cause, same_format, same_replay, told_format, told_journal}
+use Rattle.image_judging.proofs.FaultsLemmas.{format_cause, no_format, opened_cause, replay_cause, room_cause, same_format, same_replay, told_format, told_journal}
 use Rattle.journal_opening.proofs.OpenedLemmas.{fault_now, refused_now, shift}
 use Rattle.direct_opening.proofs.OpenedLemmas.{has_opened, opening_left, own_writes}
 use Rattle.direct_opening.proofs.opening.open_direct.Goals as goal

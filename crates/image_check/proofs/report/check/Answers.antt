@@ -3,7 +3,7 @@ use Rattle.disk_model.specs.Disk.{last_image}
 use Rattle.disk_model.specs.Identity.{DiskIdentity}
 use Rattle.disk_model.specs.Moments.{content_now}
 use Rattle.hmac_tag.specs.TagMaker.{key_of}
-use Rattle.image_opening.specs.declared.reading.ImageFormat.{ImageFormat}
+use Rattle.image_format.specs.declared.reading.ImageFormat.{ImageFormat}
 use Rattle.place_model.specs.Format.{format_on}
 use Rattle.image_check.specs.declared.report.Report.{Report}
 use Rattle.image_check.specs.Report.{IsReportOf}

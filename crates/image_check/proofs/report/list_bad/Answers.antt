@@ -1,5 +1,5 @@
 use Rattle.std.proofs.Common.{refl, ap, ◌∙◌, arith, rules}
-use Rattle.image_opening.specs.declared.reading.ImageFormat.{ImageFormat}
+use Rattle.image_format.specs.declared.reading.ImageFormat.{ImageFormat}
 use Rattle.image_check.proofs.CheckedLemmas.{lists-all, lists-next, IsSameCheck-refl, IsSameCheck-then}
 use Rattle.image_check.proofs.report.list_bad.Goals as goal
 

@@ -1,5 +1,5 @@
 use Rattle.std.proofs.Common.{◌<◌, refl, ap, ◌∙◌, arith}
-use Rattle.image_opening.specs.declared.reading.ImageFormat.{ImageFormat}
+use Rattle.image_format.specs.declared.reading.ImageFormat.{ImageFormat}
 use Rattle.image_check.proofs.CheckedLemmas.{IsSameCheck-refl, IsSameCheck-then}
 use Rattle.integrity_tool.proofs.CheckingLemmas.{cut_by_disk, cut_by_sink, listed_all, listed_next, listed_none}
 use Rattle.integrity_tool.proofs.checking.print_bad.Goals as goal

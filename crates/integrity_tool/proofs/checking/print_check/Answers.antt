@@ -4,9 +4,9 @@ use Rattle.disk_model.specs.Identity.{DiskIdentity}
 use Rattle.disk_model.specs.Moments.{content_now}
 use Rattle.hmac_tag.specs.TagMaker.{key_of}
 use Rattle.image_check.specs.Checked.{Checked, IsCheckOf}
-use Rattle.opening_fault.specs.declared.opening_fault.OpeningFault.TheVariants.{Memory, Disk}
-use Rattle.opening_fault.proofs.FaultsLemmas.{fault_in-err}
-use Rattle.image_opening.specs.declared.reading.ImageFormat.{ImageFormat}
+use Rattle.image_judging.specs.declared.opening_fault.OpeningFault.TheVariants.{Memory, Disk}
+use Rattle.image_judging.proofs.FaultsLemmas.{fault_in-err}
+use Rattle.image_format.specs.declared.reading.ImageFormat.{ImageFormat}
 use Rattle.command_ending.specs.Ended.{ending_of}
 use Rattle.command_ending.specs.declared.ended.Ended.{Ended}
 use Rattle.integrity_tool.specs.Checking.{IsListed, IsPrintedShort, bad_in, check_outset, lines_in}

@@ -3,11 +3,11 @@ use Rattle.std.proofs.lemmas.Result.{err_from_is_err_and}
 use Rattle.disk_model.specs.Disk.{last_image}
 use Rattle.image_model.specs.Geometry.{Geometry}
 use Rattle.hmac_tag.specs.TagMaker.{TagRule, key_of}
-use Rattle.image_opening.specs.Format.{disk_format}
+use Rattle.image_format.specs.Format.{disk_format}
 use Rattle.journal_mode.specs.Journal.{PlacedRing, empty_journal}
 use Rattle.request_slots.specs.Flight.{no_requests}
 use Rattle.journal_opening.specs.declared.opened.OpenedJournal.{OpenedJournal}
-use Rattle.opening_fault.proofs.FaultsLemmas.{same_fault}
+use Rattle.image_judging.proofs.FaultsLemmas.{same_fault}
 use Rattle.journal_opening.proofs.OpeningLemmas.{now_told, open_on}
 use Rattle.journal_opening.proofs.opening.open_format.Goals as goal
 

@@ -7,12 +7,12 @@ use Rattle.disk_model.proofs.MomentsLemmas.{EachMoment-kept}
 use Rattle.image_model.specs.Cells.{salt_of}
 use Rattle.image_model.specs.Openable.{journal_fault_of}
 use Rattle.hmac_tag.specs.TagMaker.{key_of}
-use Rattle.image_opening.specs.Format.{IsReadNow, disk_format}
+use Rattle.image_format.specs.Format.{IsReadNow, disk_format}
 use Rattle.journal_reading.specs.Faults.{refusal_in}
-use Rattle.opening_fault.specs.Faults.{fault_by, fault_in_format}
+use Rattle.image_judging.specs.Faults.{fault_by, fault_in_format}
 use Rattle.journal_opening.specs.declared.opened.OpenedJournal.{OpenedJournal}
 use Rattle.journal_opening.specs.Opening.{IsOfOpening, IsOpenOn, IsReady, KeepsImage, KeepsRecovered, KeepsRefused, OnlySyncs, WritesRecovery}
-use Rattle.opening_fault.proofs.FaultsLemmas.{format_cause, no_format, opened_cause, replay_cause, room_cause, same_format, same_replay, told_format, told_journal}
+use Rattle.image_judging.proofs.FaultsLemmas.{format_cause, no_format, opened_cause, replay_cause, room_cause, same_format, same_replay, told_format, told_journal}
 use Rattle.journal_opening.proofs.OpenedLemmas.{fault_now, has_opened, refused_now, shift}
 use Rattle.journal_opening.proofs.OpeningLemmas.{opening_left, own_moments, own_recovered}
 use Rattle.journal_opening.proofs.opening.open_journal.Goals as goal

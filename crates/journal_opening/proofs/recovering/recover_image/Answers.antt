@@ -6,11 +6,11 @@ use Rattle.disk_model.proofs.MomentsLemmas.{EachMoment-then}
 use Rattle.image_model.specs.Cells.{replayed_entries}
 use Rattle.hmac_tag.specs.TagMaker.{TagRule, key_of}
 use Rattle.image_model.specs.Openable.{journal_fault_of}
-use Rattle.image_opening.specs.Format.{disk_format}
+use Rattle.image_format.specs.Format.{disk_format}
 use Rattle.buffer_cache.specs.declared.held.HeldSectors.{HeldSectors}
 use Rattle.tag_store.specs.Store.{Store}
 use Rattle.journal_mode.specs.Writes.{IsOfRecovery}
-use Rattle.opening_fault.proofs.FaultsLemmas.{same_fault}
+use Rattle.image_judging.proofs.FaultsLemmas.{same_fault}
 use Rattle.journal_opening.specs.Opening.{OnlySyncs}
 use Rattle.journal_opening.proofs.MomentsLemmas.{rests_then, settles_then, sync_rests, sync_settles, syncs_then, told_synced}
 use Rattle.journal_opening.proofs.RecoveringLemmas.{enters, fresh_unmarked, sync_cells}

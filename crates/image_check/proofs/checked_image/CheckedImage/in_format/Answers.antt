@@ -5,10 +5,10 @@ use Rattle.disk_model.specs.Disk.{last_image}
 use Rattle.hmac_tag.specs.TagMaker.{TagRule, key_of}
 use Rattle.journal_overlay.specs.Kept.{Places}
 use Rattle.image_check.specs.Checked.{Checked}
-use Rattle.opening_fault.specs.declared.opening_fault.OpeningFault.{OpeningFault}
-use Rattle.opening_fault.specs.declared.opening_fault.OpeningFault.TheVariants.{Memory, Disk}
-use Rattle.opening_fault.specs.Faults.{ByJournal, fault_in}
-use Rattle.opening_fault.proofs.FaultsLemmas.{fault_in-err}
+use Rattle.image_judging.specs.declared.opening_fault.OpeningFault.{OpeningFault}
+use Rattle.image_judging.specs.declared.opening_fault.OpeningFault.TheVariants.{Memory, Disk}
+use Rattle.image_judging.specs.Faults.{ByJournal, fault_in}
+use Rattle.image_judging.proofs.FaultsLemmas.{fault_in-err}
 use Rattle.image_check.specs.Faults.{journal_fault_for}
 use Rattle.image_check.proofs.CheckedLemmas.{opened_check}
 use Rattle.image_check.proofs.checked_image.CheckedImage.in_format.Goals as goal

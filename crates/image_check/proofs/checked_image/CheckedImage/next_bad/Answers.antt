@@ -1,5 +1,5 @@
 use Rattle.std.proofs.Common.{◌<◌, refl, sym, ap, ◌∙◌, arith}
-use Rattle.image_opening.specs.declared.reading.ImageFormat.{ImageFormat}
+use Rattle.image_format.specs.declared.reading.ImageFormat.{ImageFormat}
 use Rattle.image_check.proofs.CheckedLemmas.{first-end, first-none, first-some, IsSameCheck-refl, IsSameCheck-then}
 use Rattle.image_check.proofs.checked_image.CheckedImage.next_bad.Goals as goal
 

@@ -2,7 +2,7 @@ use Rattle.std.proofs.Common.{ℕ, ap, sym, subst, ◌∙◌}
 use Rattle.disk_model.specs.Identity.{DiskIdentity}
 use Rattle.disk_model.specs.Moments.{content_now}
 use Rattle.hmac_tag.specs.TagMaker.{key_of}
-use Rattle.image_opening.specs.Format.{IsReadNow}
+use Rattle.image_format.specs.Format.{IsReadNow}
 use Rattle.image_check.proofs.checked_image.CheckedImage.open.Goals as goal
 
 pub in_format-requires-clause-reads : goal.in_format-requires-clause-reads

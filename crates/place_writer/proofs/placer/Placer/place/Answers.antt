@@ -4,7 +4,7 @@ use Rattle.disk_model.specs.Disk.{OnlyAdds}
 use Rattle.disk_model.specs.Moments.{EachSince}
 use Rattle.image_model.specs.Geometry.{Geometry}
 use Rattle.image_model.specs.Section.{Entry}
-use Rattle.device_laws.specs.Device.{block_of}
+use Rattle.journal_laws.specs.Device.{block_of}
 use Rattle.direct_mode.specs.Cells.{IsOfBlockOrTags}
 use Rattle.place_writer.specs.Moves.{PlacesOne}
 use Rattle.place_writer.specs.Placement.{IsPlacementOf, IsWholeEntry, after_next, next_place}

@@ -1,0 +1,109 @@
+//! Reads the first sector, and judges what it tells: first the superblock, then the geometry, then the mode.
+ghost use Rattle.std.specs.Prelude.{◌≡◌, ◌≢◌, ℕ, Err, IfOk, List, Ok, Option};
+ghost use Rattle.disk_model.specs.Disk.{last_image};
+ghost use Rattle.disk_model.specs.Identity.{IsBound};
+ghost use Rattle.disk_model.specs.Moments.{HasNow};
+ghost use Rattle.image_model.specs.Superblock.{IsAccepted};
+ghost use Rattle.image_format.specs.Format.{HasDiskCause, IsDirectFormat, IsFormat, IsOpenedNow, IsReadNow, direct_format_of, fields_of, format_of, in_direct_mode};
+
+use crate::OpenFault;
+use image_model::DIRTY_BITMAP;
+use layout::Geometry;
+use sector_disk::Disk;
+use superblock::{Super, SuperFault, read};
+
+/// What the first sector of a disk tells.
+#[derive(Clone, Copy, Debug)]
+pub struct ImageFormat {
+    /// The fields of the superblock, which are accepted.
+    pub fields: Super,
+    /// Where all lies on the disk, by these fields.
+    pub geometry: Geometry,
+}
+
+/// Reads what the first sector tells, whatever the mode. It writes nothing.
+///
+/// # Errors
+///
+/// The first that holds:
+///
+/// - `Disk`: the disk failed at the read.
+/// - `Super`: the superblock is refused. A disk without a sector has no magic.
+/// - `Geom`: the disk has no room for what the superblock tells.
+pub fn read_format<D: Disk>(disk: &mut D) -> Result<ImageFormat, OpenFault>
+    requires { IsBound (D.identity disk.old).name }
+
+    ensures format { IfOk result (IsFormat (D.identity disk.old).sectors) }
+    ensures reads { IfOk result (λ format. (key : Option (List ℕ)) → HasNow
+        (IsReadNow key (D.identity disk.old).sectors format) (D.moments disk.old)) }
+
+    ensures told { result ≢ Err OpenFault.Disk → HasNow (λ c. result
+        ≡ format_of (D.identity disk.old).sectors (last_image c)) (D.moments disk.old) }
+    ensures cause { HasDiskCause (D.faults disk.old) (D.faults disk.new) result }
+
+    ensures identity { D.identity disk.new ≡ D.identity disk.old }
+    ensures kept { D.moments disk.new ≡ D.moments disk.old }
+{
+    let fields = read_fields(disk)?;
+    let geometry = Geometry::new(&fields, disk.sectors())?;
+    Ok(ImageFormat { fields, geometry })
+}
+
+/// Reads what the first sector tells direct mode. It writes nothing.
+///
+/// # Errors
+///
+/// The first that holds:
+///
+/// - `Disk`, `Super`, `Geom`: as `read_format` tells them.
+/// - `Mode`: there is a bitmap.
+pub fn read_direct_format<D: Disk>(disk: &mut D) -> Result<ImageFormat, OpenFault>
+    requires { IsBound (D.identity disk.old).name }
+
+    ensures format { IfOk result (IsDirectFormat (D.identity disk.old).sectors) }
+    ensures opens { IfOk result (λ format. (key : Option (List ℕ)) → HasNow
+        (IsOpenedNow key (D.identity disk.old).sectors format) (D.moments disk.old)) }
+
+    ensures told { result ≢ Err OpenFault.Disk → HasNow (λ c. result
+        ≡ direct_format_of (D.identity disk.old).sectors (last_image c)) (D.moments disk.old) }
+    ensures cause { HasDiskCause (D.faults disk.old) (D.faults disk.new) result }
+
+    ensures identity { D.identity disk.new ≡ D.identity disk.old }
+    ensures kept { D.moments disk.new ≡ D.moments disk.old }
+{
+    let format = read_format(disk)?;
+    judge_direct(format)
+}
+
+/// The format, where direct mode opens it.
+fn judge_direct(format: ImageFormat) -> Result<ImageFormat, OpenFault>
+    ensures { result ≡ in_direct_mode (Ok format) }
+{
+    let flags = format.fields.flags;
+    if flags & DIRTY_BITMAP != 0 {
+        return Err(OpenFault::Mode { flags });
+    }
+    Ok(format)
+}
+
+/// Reads the fields of the superblock.
+fn read_fields<D: Disk>(disk: &mut D) -> Result<Super, OpenFault>
+    requires { IsBound (D.identity disk.old).name }
+
+    ensures accepted { IfOk result (λ fields. IsAccepted fields) }
+
+    ensures told { result ≢ Err OpenFault.Disk → HasNow (λ c. result
+        ≡ fields_of (D.identity disk.old).sectors (last_image c)) (D.moments disk.old) }
+    ensures cause { HasDiskCause (D.faults disk.old) (D.faults disk.new) result }
+
+    ensures identity { D.identity disk.new ≡ D.identity disk.old }
+    ensures kept { D.moments disk.new ≡ D.moments disk.old }
+{
+    if disk.sectors() == 0 {
+        return Err(OpenFault::Super(SuperFault::Magic));
+    }
+    let mut bytes = [0; 512];
+    disk.read_run(0, &mut bytes)?;
+    let fields = read(&bytes)?;
+    Ok(fields)
+}

@@ -1,0 +1,59 @@
+-- Which images have a fault.
+use Rattle.std.proofs.Common.{◌≡◌, ℕ, false, refl, sym, ◌∙◌, ap, Result, Option, None, Some, Ok, Err, IsOk, List}
+use Rattle.std.specs.Option.{option_map}
+use Rattle.std.proofs.lemmas.Option.{none-some}
+use Rattle.disk_model.specs.Disk.{Image}
+use Rattle.image_model.specs.declared.flags.TheConstants.{DIRTY_BITMAP}
+use Rattle.image_model.specs.declared.geom_fault.GeomFault.{GeomFault}
+use Rattle.image_model.specs.declared.super_fields.SuperFault.{SuperFault}
+use Rattle.image_model.specs.Cells.{salt_of}
+use Rattle.image_model.specs.Geometry.{Geometry}
+use Rattle.image_model.specs.Openable as model
+use Rattle.image_model.specs.Openable.{IsReadable, journal_fault_of}
+use Rattle.image_model.specs.Superblock.{Superblock, has_flag}
+use Rattle.image_model.proofs.OpenableLemmas.{IsOpenable-from, IsOpenable-journal, IsReadable-same}
+use Rattle.place_model.specs.Format.{format_on}
+use Rattle.place_model.proofs.FormatLemmas.{reads_on}
+use Rattle.image_format.specs.declared.open_fault.OpenFault.{OpenFault}
+use Rattle.image_format.specs.declared.reading.ImageFormat.{ImageFormat}
+use Rattle.image_format.specs.Format.{direct_format_of, format_by, format_with, in_direct_mode, told_fields}
+use Rattle.image_format.specs.FormatLaws.{DirectLaw}
+use Rattle.image_judging.specs.FaultLaws.{OpensLaw}
+use Rattle.image_judging.specs.Faults.{ByFormat, ByJournal, fault_by, fault_in_format, fault_of}
+
+no_fault : (o : Option model.JournalFault) → option_map ByJournal o ≡ None → o ≡ None
+no_fault None e = refl
+no_fault (Some fault) e = absurd (none-some (ByJournal fault) (sym e))
+
+-- An image without a fault is one that direct mode opens,
+told-ok : (journal : ImageFormat → Option model.JournalFault) (r : Result ImageFormat OpenFault) → fault_by journal r ≡ None → IsOk r
+told-ok journal (Ok format) e = refl
+told-ok journal (Err fault) e = absurd (none-some (ByFormat fault) (sym e))
+
+module _ (sectors : ℕ) (image : Image) (readable : IsReadable sectors image) (clear : has_flag DIRTY_BITMAP readable.superblock.flags ≡ false) where
+  -- and tells it this.
+  direct_format_of-readable : direct_format_of sectors image ≡ Ok (record { fields = readable.superblock; geometry = readable.geometry })
+  direct_format_of-readable =
+      ap (λ (r : Result Superblock SuperFault). in_direct_mode (format_by sectors (told_fields r))) readable.has_superblock
+      ∙ ap (λ (r : Result Geometry GeomFault). in_direct_mode (format_with readable.superblock r)) readable.has_geometry
+      ∙ rw clear refl
+
+  fault_of-readable : (key : Option (List ℕ)) → fault_of key sectors image ≡ option_map ByJournal (journal_fault_of key (salt_of readable.superblock) readable.geometry image)
+  fault_of-readable key = ap (fault_by (fault_in_format key image)) direct_format_of-readable
+
+-- Whether a disk has a bitmap, by its own fields.
+own_flag : (key : Option (List ℕ)) (sectors : ℕ) (image : Image) (readable : IsReadable sectors image) → has_flag DIRTY_BITMAP readable.superblock.flags ≡ has_flag DIRTY_BITMAP (format_on key sectors image).superblock.flags
+own_flag key sectors image readable =
+    let reads = reads_on key sectors image readable in
+    ap (λ (s : Superblock). has_flag DIRTY_BITMAP s.flags) ((IsReadable-same sectors image readable reads.readable).0 ∙ reads.superblock)
+
+pub opens_law : DirectLaw → OpensLaw
+opens_law direct key sectors image = (
+  λ none.
+      let opens = (direct key sectors image).0 (told-ok (fault_in_format key image) (direct_format_of sectors image) none) in
+      let clear = own_flag key sectors image opens.0 ∙ opens.1 in
+      (IsOpenable-from key sectors image opens.0 (λ _. no_fault (journal_fault_of key (salt_of opens.0.superblock) opens.0.geometry image) (sym (fault_of-readable sectors image opens.0 clear key) ∙ none)), opens.1),
+  λ opens.
+      let clear = own_flag key sectors image opens.0.readable ∙ opens.1 in
+      fault_of-readable sectors image opens.0.readable clear key ∙ ap (option_map ByJournal) (IsOpenable-journal key sectors image opens.0 clear),
+)

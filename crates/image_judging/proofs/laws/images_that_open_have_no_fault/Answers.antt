@@ -1,0 +1,5 @@
+use Rattle.image_judging.proofs.FaultLawsLemmas.{opens_law}
+use Rattle.image_judging.proofs.laws.images_that_open_have_no_fault.Goals as goal
+
+pub returns : goal.returns
+returns c = opens_law c.images_that_open_are_told.ensures.direct

@@ -1,0 +1,72 @@
+-- Why a disk is not opened: the fault that is told, and the one that an image has.
+-- Own: the superblock is judged before the geometry, that before the mode, and the journal last.
+use Rattle.std.specs.Prelude.{◌≡◌, ◌≢◌, ℕ, ◌≤◌, Option, Some, None, option_map, List, Result, Ok, Err}
+use Rattle.disk_model.specs.Causes.{Rose}
+use Rattle.disk_model.specs.Disk.{Image}
+use Rattle.image_model.specs.Cells.{salt_of}
+use Rattle.image_model.specs.Openable as model
+use Rattle.image_model.specs.Openable.{journal_fault_of}
+use Rattle.image_format.specs.declared.open_fault.OpenFault.{OpenFault}
+use Rattle.image_format.specs.declared.open_fault.OpenFault.TheVariants as FormatFaults
+use Rattle.image_format.specs.declared.reading.ImageFormat.{ImageFormat}
+use Rattle.image_format.specs.Format.{direct_format_of}
+use Rattle.journal_reading.specs.declared.faults.ReplayFault.{ReplayFault}
+use Rattle.journal_reading.specs.declared.faults.ReplayFault.TheVariants as ReplayFaults
+use Rattle.journal_reading.specs.Faults.{as_fault}
+use Rattle.image_judging.specs.declared.opening_fault.OpeningFault.{OpeningFault}
+use Rattle.image_judging.specs.declared.opening_fault.OpeningFault.TheVariants.{Memory, Disk, Super, Geom, Mode, Journal}
+
+-- ---- what is told
+
+-- The fault of reading a format,
+abbrev pub of_format : OpenFault → OpeningFault
+of_format FormatFaults.Memory = Memory
+of_format FormatFaults.Disk = Disk
+of_format (FormatFaults.Super fault) = Super fault
+of_format (FormatFaults.Geom fault) = Geom fault
+of_format (FormatFaults.Mode flags) = Mode flags
+
+-- and that of reading or recovering a journal, as an opening tells them.
+abbrev pub of_replay : ReplayFault → OpeningFault
+of_replay ReplayFaults.Memory = Memory
+of_replay ReplayFaults.Disk = Disk
+of_replay (ReplayFaults.Journal fault) = Journal fault
+
+-- ---- what an image has
+
+-- Why an image is refused: by its format, or by its journal.
+pub data ImageFault : Type 0 where
+  ByFormat : (fault : OpenFault) → ImageFault
+  ByJournal : (fault : model.JournalFault) → ImageFault
+
+-- The fault of an image, by what its first sector tells: of the format, and else of the journal, if that has one.
+abbrev pub fault_by : (journal : ImageFormat → Option model.JournalFault) → Result ImageFormat OpenFault
+    → Option ImageFault
+fault_by journal (Ok format) = option_map ByJournal (journal format)
+fault_by journal (Err fault) = Some (ByFormat fault)
+
+-- The fault of the journal of an image in this format, under a key, if it has one,
+abbrev pub fault_in_format : (key : Option (List ℕ)) → Image → ImageFormat → Option model.JournalFault
+fault_in_format key image format = journal_fault_of key (salt_of format.fields) format.geometry image
+
+-- and that of an image on a disk of so many sectors.
+abbrev pub fault_of : (key : Option (List ℕ)) → (sectors : ℕ) → Image → Option ImageFault
+fault_of key sectors image = fault_by (fault_in_format key image) (direct_format_of sectors image)
+
+-- The fault of an image that an answer tells, if it tells one.
+abbrev pub fault_in : {T : Type 0} → Result T OpeningFault → Option ImageFault
+fault_in (Ok answer) = None
+fault_in (Err Memory) = None
+fault_in (Err Disk) = None
+fault_in (Err (Super fault)) = Some (ByFormat (FormatFaults.Super fault))
+fault_in (Err (Geom fault)) = Some (ByFormat (FormatFaults.Geom fault))
+fault_in (Err (Mode flags)) = Some (ByFormat (FormatFaults.Mode flags))
+fault_in (Err (Journal fault)) = Some (ByJournal (as_fault fault))
+
+-- ---- why
+
+-- The count of faults never falls; `Disk` comes only where it rose, and else it is as it was.
+pub record HasOpenCause {T : Type 0} (before after : ℕ) (result : Result T OpeningFault) : Type 0 where
+  pub later : before ≤ after
+  pub failed : result ≡ Err Disk → Rose before after
+  pub passed : result ≢ Err Disk → after ≡ before

@@ -1,0 +1,11 @@
+//! What the words of the contracts say, as the contract of a function that does nothing.
+ghost use Rattle.image_judging.specs.FaultLaws.{OpensLaw};
+
+use image_format::images_that_open_are_told;
+
+/// An image has no fault exactly where journal mode can open it.
+pub fn images_that_open_have_no_fault()
+    ensures { OpensLaw }
+{
+    images_that_open_are_told();
+}

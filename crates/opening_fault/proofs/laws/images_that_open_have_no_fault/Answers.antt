@@ -1,5 +1,0 @@
-use Rattle.opening_fault.proofs.FaultLawsLemmas.{opens_law}
-use Rattle.opening_fault.proofs.laws.images_that_open_have_no_fault.Goals as goal
-
-pub returns : goal.returns
-returns c = opens_law c.images_that_open_are_told.ensures.direct
