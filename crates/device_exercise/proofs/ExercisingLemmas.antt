@@ -17,15 +17,16 @@ use Rattle.workload.specs.Tally.{no_tally, with_ask}
 use Rattle.workload.specs.Workload.{WorkloadState, asks_ahead}
 use Rattle.workload.proofs.RunnableLemmas.{read_runs, workload_runs}
 use Rattle.workload.proofs.WorkloadLemmas.{asks_ahead-next}
-use Rattle.device_core.specs.declared.condition.Condition.{Condition}
-use Rattle.device_core.specs.declared.condition.Condition.TheVariants as Conditions
-use Rattle.script_session.specs.DeviceParts.{DeviceParts}
-use Rattle.script_session.specs.Mode.{Mode}
-use Rattle.script_session.specs.Mode.TheVariants as Modes
-use Rattle.script_session.specs.Device.{IsDevice, IsReady, IsReadyIn, Standing}
-use Rattle.device_core.specs.declared.parts.Parts.{Parts}
-use Rattle.script_session.specs.Run.{HasRun, IsCutOff, standing_behind}
-use Rattle.script_session.proofs.RunLemmas.{cut_then, cut_wider, run_none, run_then}
+use Rattle.device_parts.specs.declared.condition.Condition.{Condition}
+use Rattle.device_parts.specs.declared.condition.Condition.TheVariants as Conditions
+use Rattle.device.specs.declared.mode.DeviceParts.{DeviceParts}
+use Rattle.device.specs.declared.mode.Mode.{Mode}
+use Rattle.device.specs.declared.mode.Mode.TheVariants as Modes
+use Rattle.device.specs.Device.{IsDevice, IsReady, IsReadyIn}
+use Rattle.device_parts.specs.Device.{Standing}
+use Rattle.device_parts.specs.declared.parts.Parts.{Parts}
+use Rattle.device.specs.Run.{HasRun, IsCutOff, standing_behind}
+use Rattle.device.proofs.RunLemmas.{cut_then, cut_wider, run_none, run_then}
 use Rattle.script_session.specs.declared.tickets.Tickets.{Tickets}
 use Rattle.script_session.specs.LineRun.{HasRunAsk, events_of}
 use Rattle.script_session.specs.Meaning.{ask_fault_on}

@@ -9,10 +9,11 @@ use Rattle.command_model.specs.Exercise.{script_events, tally_of}
 use Rattle.request_slots.specs.InFlight.{as_reply}
 use Rattle.request_slots.specs.declared.reply.Reply.{Reply}
 use Rattle.workload.specs.Tally.{with_reply}
-use Rattle.device_core.specs.declared.condition.Condition.{Condition}
-use Rattle.script_session.specs.DeviceParts.{DeviceParts}
-use Rattle.script_session.specs.Device.{IsReady, Standing, mode_of}
-use Rattle.script_session.specs.Run.{HasRun}
+use Rattle.device_parts.specs.declared.condition.Condition.{Condition}
+use Rattle.device.specs.declared.mode.DeviceParts.{DeviceParts}
+use Rattle.device.specs.Device.{IsReady, mode_of}
+use Rattle.device_parts.specs.Device.{Standing}
+use Rattle.device.specs.Run.{HasRun}
 use Rattle.script_session.specs.declared.tickets.Tickets.{Tickets}
 use Rattle.script_session.specs.Tickets.{AreInFlight}
 

@@ -3,9 +3,10 @@ ghost use Rattle.std.specs.Prelude.{◌≡◌, ◌≢◌, ◌+◌, ◌<◌, ◌�
 ghost use Rattle.command_model.specs.Exercise.{read_all};
 ghost use Rattle.command_model.specs.Workload.{workload_asks};
 ghost use Rattle.device_model.specs.Script.{AskLine};
-ghost use Rattle.device_core.specs.declared.condition.Condition.TheVariants.{Broken, Working};
-ghost use Rattle.script_session.specs.Device.{IsDevice, IsReady, Standing, mode_of};
-ghost use Rattle.script_session.specs.Run.{IsCutOff};
+ghost use Rattle.device_parts.specs.declared.condition.Condition.TheVariants.{Broken, Working};
+ghost use Rattle.device.specs.Device.{IsDevice, IsReady, mode_of};
+ghost use Rattle.device_parts.specs.Device.{Standing};
+ghost use Rattle.device.specs.Run.{IsCutOff};
 ghost use Rattle.script_text.specs.Line.{ask_of};
 ghost use Rattle.script_session.specs.Meaning.{fault_on};
 ghost use Rattle.script_session.specs.Stop.{HasStopCause};
@@ -14,8 +15,9 @@ ghost use Rattle.workload.specs.Tally.{lines_in, no_tally};
 ghost use Rattle.device_exercise.specs.Exercising.{HasExercised, HasRunAsks, StaysWithin, events_of_asks};
 ghost use Rattle.device_exercise.specs.Exercising.{exercise_events, with_reply_of};
 
+use device::Device;
 use request_slots::Reply;
-use script_session::{Device, Stop, Tickets, run_ask};
+use script_session::{Stop, Tickets, run_ask};
 use script_text::Ask;
 use sector_disk::Disk;
 use std::alloc::Global;

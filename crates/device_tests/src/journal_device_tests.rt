@@ -1,16 +1,13 @@
 //! A device in journal mode on new images in memory: what it replies, and what it leaves.
 ghost use Rattle.std.specs.Prelude.{IfSome};
 ghost use Rattle.disk_model.specs.Identity.{IsBound};
-ghost use Rattle.device_core.specs.declared.condition.Condition.TheVariants.{Working};
+ghost use Rattle.device_parts.specs.declared.condition.Condition.TheVariants.{Working};
 ghost use Rattle.journal_device.specs.Device.{IsReady};
 
-use device_core::Condition;
+use device_parts::{Condition, Served};
 use hmac_tag::Hash;
 use image_formatting::{NewImage, Padding, Wipe, format};
-use journal_device::{
-    OpenedDevice, Served, close, device_of, opened_journals_are_devices, replies_are_taken,
-    requests_are_submitted, serve,
-};
+use journal_device::{OpenedDevice, close, device_of, opened_journals_are_devices, serve};
 use journal_opening::open_journal;
 use request_slots::{Bytes, Reply, Request, Ticket};
 use sector_disk::{Disk, MemDisk};
@@ -93,7 +90,6 @@ fn submit<D: Disk>(
     if !device.parts.slots.has_ticket() {
         return None;
     }
-    requests_are_submitted();
     device.parts.slots.submit(request).ok()
 }
 
@@ -113,14 +109,16 @@ fn serve_once<D: Disk>(
     if !device.parts.slots.holds(ticket) {
         return None;
     }
-    serve(
-        disk,
-        &mut device.parts,
-        &mut device.journal,
-        condition,
-        ticket,
-    )
-    .ok()
+    match *condition {
+        Condition::Broken => None,
+        Condition::Working => match serve(disk, &mut device.parts, &mut device.journal, ticket) {
+            Ok(served) => Some(served),
+            Err(_) => {
+                *condition = Condition::Broken;
+                None
+            }
+        },
+    }
 }
 
 /// Serves a request until that does anything else than one block of many. Tells what it did, and after how many blocks.
@@ -165,7 +163,6 @@ fn reply_to<D: Disk>(
     if !device.parts.slots.holds(&ticket) {
         return None;
     }
-    replies_are_taken();
     device.parts.slots.take(ticket).ok()
 }
 
@@ -188,7 +185,10 @@ fn close_journaled<D: Disk>(
     if !device.journal.is_journaled(5) {
         return false;
     }
-    close(disk, &mut device.parts, &mut device.journal, condition).is_ok()
+    match condition {
+        Condition::Broken => false,
+        Condition::Working => close(disk, &mut device.parts, &mut device.journal).is_ok(),
+    }
 }
 
 /// Writes a block and flushes it, reads it and closes the device: the byte that was read, where all went well.

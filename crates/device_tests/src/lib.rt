@@ -2,9 +2,9 @@
 #![tactic(auto)]
 
 #[cfg(test)]
-mod device_run_tests;
+mod call_tests;
 #[cfg(test)]
-mod integrity_device_tests;
+mod chain_tests;
 #[cfg(test)]
 mod journal_device_tests;
 #[cfg(test)]

@@ -42,9 +42,10 @@ use Rattle.journal_opening.specs.Opening.{IsOfOpening, KeepsImage, WritesRecover
 use Rattle.journal_opening.proofs.OpenedLemmas.{fault_now}
 use Rattle.journal_opening.proofs.OpeningLemmas.{since_from}
 use Rattle.request_slots.specs.Flight.{Flight, no_requests}
-use Rattle.device_core.specs.declared.condition.Condition.TheVariants.{Working}
-use Rattle.device_core.specs.declared.parts.Parts.{Parts}
-use Rattle.device_core.specs.Device.{IsDevice, IsReady, rule_on}
+use Rattle.device_parts.specs.declared.condition.Condition.TheVariants.{Working}
+use Rattle.device_parts.specs.declared.parts.Parts.{Parts}
+use Rattle.device_parts.specs.Device.{IsReady, rule_on}
+use Rattle.direct_device.specs.Device.{IsOverDisk as IsDevice}
 use Rattle.direct_opening.specs.Opening.{CanOpenRead, HasOpened, IsLeftOpening, IsOpenOn, KeepsEmpty, WritesEmptying, opened_standing}
 use Rattle.direct_opening.proofs.EmptiedLemmas.{empty_same}
 use Rattle.direct_opening.proofs.EmptyingLemmas.{left_empty}

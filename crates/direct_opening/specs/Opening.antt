@@ -20,9 +20,10 @@ use Rattle.journal_opening.specs.declared.recovering.RecoveredImage.{RecoveredIm
 use Rattle.journal_opening.specs.declared.room.TheConstants.{HELD_SECTORS}
 use Rattle.journal_opening.specs.Opening.{IsOfOpening}
 use Rattle.request_slots.specs.Flight.{no_requests}
-use Rattle.device_core.specs.declared.condition.Condition.TheVariants.{Working}
-use Rattle.device_core.specs.declared.parts.Parts.{Parts}
-use Rattle.device_core.specs.Device.{IsDevice, IsReady, Standing}
+use Rattle.device_parts.specs.declared.condition.Condition.TheVariants.{Working}
+use Rattle.device_parts.specs.declared.parts.Parts.{Parts}
+use Rattle.device_parts.specs.Device.{IsReady}
+use Rattle.direct_device.specs.Device.{DirectStanding as Standing, IsOverDisk as IsDevice}
 use Rattle.direct_opening.specs.declared.room.DirectRoom.{DirectRoom}
 
 -- ---- memory

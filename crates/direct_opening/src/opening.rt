@@ -12,12 +12,12 @@ ghost use Rattle.journal_reading.specs.Faults.{HasReplayCause, refusal_in};
 ghost use Rattle.image_judging.specs.Faults.{ByFormat, HasOpenCause, fault_in, fault_of};
 ghost use Rattle.journal_opening.specs.Opening.{KeepsImage, KeepsRefused, OnlySyncs, WritesRecovery};
 ghost use Rattle.request_slots.specs.Flight.{no_requests};
-ghost use Rattle.device_core.specs.Device.{IsReady};
+ghost use Rattle.device_parts.specs.Device.{IsReady};
 ghost use Rattle.direct_opening.specs.Opening.{CanOpenRead, HasOpened, IsLeftOpening, IsOpenOn, IsRoomFor, KeepsEmpty, WritesEmptying};
 
 use crate::emptying::recover_emptied;
 use crate::room::DirectRoom;
-use device_core::Parts;
+use device_parts::Parts;
 use hmac_tag::Hash;
 use image_format::{ImageFormat, read_direct_format};
 use image_judging::{OpeningFault, images_that_open_have_no_fault};

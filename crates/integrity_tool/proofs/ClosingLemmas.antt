@@ -20,20 +20,22 @@ use Rattle.direct_laws.specs.Within.{IsWithin}
 use Rattle.stream_io.specs.Stream.{AddsPrefix}
 use Rattle.script_text.proofs.ScriptRunLemmas.{came_into}
 use Rattle.script_text.proofs.ScriptRunLemmas.{run_is_whole}
-use Rattle.device_core.specs.declared.condition.Condition.{Condition}
-use Rattle.device_core.specs.declared.condition.Condition.TheVariants.{Working}
-use Rattle.device_core.specs.Answers.{answer_by, event_by}
-use Rattle.device_core.specs.declared.answers.StepFault.{StepFault}
-use Rattle.device_core.specs.declared.answers.StepFault.TheVariants as faults
+use Rattle.device_parts.specs.declared.condition.Condition.{Condition}
+use Rattle.device_parts.specs.declared.condition.Condition.TheVariants.{Working}
+use Rattle.device_parts.specs.Answers.{answer_by, event_by}
+use Rattle.device_parts.specs.declared.answers.StepFault.{StepFault}
+use Rattle.device_parts.specs.declared.answers.StepFault.TheVariants as faults
 use Rattle.script_session.specs.declared.tags_found.TagsFound.{TagsFound}
 use Rattle.script_session.specs.Told.{finds_fault}
-use Rattle.script_session.specs.DeviceParts.{DeviceParts}
-use Rattle.script_session.specs.Answers.{HasEnded, WritesInClose}
-use Rattle.script_session.specs.Device.{IsDevice, Standing, kind_of}
-use Rattle.script_session.specs.Run.{IsLeftWithin}
-use Rattle.script_session.specs.Writes.{WritesOnly}
-use Rattle.script_session.proofs.EventWritesLemmas.{close_writes}
-use Rattle.script_session.proofs.RunLemmas.{EachMoment-both, left-wider}
+use Rattle.device.specs.declared.mode.DeviceParts.{DeviceParts}
+use Rattle.device.specs.Answers.{WritesInClose}
+use Rattle.device_parts.specs.Device.{HasEnded}
+use Rattle.device.specs.Device.{IsDevice, any_mode, kind_of}
+use Rattle.device_parts.specs.Device.{Standing}
+use Rattle.device.specs.Run.{IsLeftWithin}
+use Rattle.device.specs.Writes.{WritesOnly}
+use Rattle.device.proofs.EventWritesLemmas.{close_writes}
+use Rattle.device.proofs.RunLemmas.{EachMoment-both, left-wider}
 use Rattle.script_session.specs.LineRun.{held_with}
 use Rattle.command_ending.specs.declared.ended.Ended.{Ended}
 use Rattle.command_ending.specs.declared.ended.Ended.TheVariants as Endings
@@ -173,8 +175,8 @@ module _ (w : Standing) (found : TagsFound) (a b : List Content)
 -- The device is closed where the close did not fail.
 pub closed_device : {T : Type 0} (w : Standing) (a b : List Content) (result : Result T StepFault)
     → is_err result ≡ false
-    → HasEnded w (event_by Close FailedClose result) (answer_by (λ done. Model.IsClosed) result) a b
-    → HasEnded w Close Model.IsClosed a b
+    → HasEnded any_mode w (event_by Close FailedClose result) (answer_by (λ done. Model.IsClosed) result) a b
+    → HasEnded any_mode w Close Model.IsClosed a b
 closed_device w a b (Ok done) not ended = ended
 closed_device w a b (Err fault) not ended = absurd (cc)
 
@@ -182,8 +184,8 @@ closed_device w a b (Err fault) not ended = absurd (cc)
 pub failed_device : {T : Type 0} (w : Standing) (a b : List Content) (result : Result T StepFault)
     → is_err result ≡ true
     → (result ≡ Err faults.Broken → ⊥)
-    → HasEnded w (event_by Close FailedClose result) (answer_by (λ done. Model.IsClosed) result) a b
-    → HasEnded w FailedClose Model.DiskFailed a b
+    → HasEnded any_mode w (event_by Close FailedClose result) (answer_by (λ done. Model.IsClosed) result) a b
+    → HasEnded any_mode w FailedClose Model.DiskFailed a b
 failed_device w a b (Ok done) failed works ended = absurd (cc)
 failed_device w a b (Err faults.Disk) failed works ended = ended
 failed_device w a b (Err faults.Broken) failed works ended = absurd (works refl)

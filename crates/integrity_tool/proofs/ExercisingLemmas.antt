@@ -33,15 +33,16 @@ use Rattle.image_judging.specs.FaultLaws.{OpensLaw}
 use Rattle.image_judging.specs.Faults.{fault_in}
 use Rattle.journal_opening.proofs.MomentsLemmas.{each_from}
 use Rattle.script_text.proofs.ScriptRunLemmas.{came_into, run_is_whole}
-use Rattle.script_session.specs.DeviceParts.{DeviceParts}
-use Rattle.script_session.specs.OpenMode.TheVariants as OpenModes
-use Rattle.script_session.specs.Answers.{HasEnded}
-use Rattle.script_session.specs.Device.{Standing, kind_of}
-use Rattle.script_session.specs.Opening.{IsRefused, LeavesOpening}
-use Rattle.script_session.specs.Run.{HasRun, IsLeftWithin, standing_behind}
-use Rattle.script_session.specs.Writes.{IsOfRun, WritesOnly}
-use Rattle.script_session.proofs.RunLemmas.{EachMoment-both, left-behind, left-wider}
-use Rattle.script_session.proofs.WritesLemmas.{WritesOnly-left, WritesOnly-then}
+use Rattle.device.specs.declared.mode.DeviceParts.{DeviceParts}
+use Rattle.device.specs.declared.opening.OpenMode.TheVariants as OpenModes
+use Rattle.device_parts.specs.Device.{HasEnded}
+use Rattle.device.specs.Device.{any_mode, kind_of}
+use Rattle.device_parts.specs.Device.{Standing}
+use Rattle.device.specs.Opening.{IsRefused, LeavesOpening}
+use Rattle.device.specs.Run.{HasRun, IsLeftWithin, standing_behind}
+use Rattle.device.specs.Writes.{IsOfRun, WritesOnly}
+use Rattle.device.proofs.RunLemmas.{EachMoment-both, left-behind, left-wider}
+use Rattle.device.proofs.WritesLemmas.{WritesOnly-left, WritesOnly-then}
 use Rattle.device_exercise.specs.Exercising.{exercise_events}
 use Rattle.script_session.specs.declared.stop.Stop.{Stop}
 use Rattle.script_session.specs.declared.stop.Stop.TheVariants as Stops
@@ -159,7 +160,7 @@ module _ (w : Standing) (count seed : ℕ) where
 
     -- Its requests are done and the device is closed,
     pub exercise_closed : (tally : Tally) → tally ≡ exercise_tally w.format w.state count seed
-        → HasEnded there Close Model.IsClosed m b → IsExercised w count seed (Ok tally) a b
+        → HasEnded any_mode there Close Model.IsClosed m b → IsExercised w count seed (Ok tally) a b
     exercise_closed tally counted ended = record {
       changes = all;
       is_counted = (counted, refl);
@@ -174,7 +175,7 @@ module _ (w : Standing) (count seed : ℕ) where
     }
 
     -- or the disk failed in that.
-    pub exercise_unclosed : (stop : Stop) → HasEnded there FailedClose Model.DiskFailed m b
+    pub exercise_unclosed : (stop : Stop) → HasEnded any_mode there FailedClose Model.DiskFailed m b
         → IsExercised w count seed (Err stop) a b
     exercise_unclosed stop ended =
         exercise_stopped stop a b

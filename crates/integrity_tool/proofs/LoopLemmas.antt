@@ -22,10 +22,11 @@ use Rattle.script_text.proofs.ScriptRunLemmas.{run_is_split}
 use Rattle.script_reader.specs.Lines.{FindsEnd, FindsWholeLine}
 use Rattle.script_reader.specs.Reading.{HasNoNewline, IsWithin, Reading, TakesLine, most_piece}
 use Rattle.script_reader.proofs.LinesLemmas.{is_too_long-script, lines_left-script}
-use Rattle.device_core.specs.declared.condition.Condition.TheVariants as Conditions
-use Rattle.script_session.specs.DeviceParts.{DeviceParts}
-use Rattle.script_session.specs.Device.{IsDevice, Standing}
-use Rattle.script_session.specs.Run.{standing_behind}
+use Rattle.device_parts.specs.declared.condition.Condition.TheVariants as Conditions
+use Rattle.device.specs.declared.mode.DeviceParts.{DeviceParts}
+use Rattle.device.specs.Device.{IsDevice}
+use Rattle.device_parts.specs.Device.{Standing}
+use Rattle.device.specs.Run.{standing_behind}
 use Rattle.script_session.specs.declared.tags_found.TagsFound.{TagsFound}
 use Rattle.script_session.specs.declared.tags_found.TagsFound.TheVariants.{Matching}
 use Rattle.request_slots.specs.Flight.{Flight, ask_of}

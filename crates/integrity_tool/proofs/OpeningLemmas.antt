@@ -17,12 +17,13 @@ use Rattle.image_judging.specs.declared.opening_fault.OpeningFault.TheVariants a
 use Rattle.image_judging.specs.FaultLaws.{OpensLaw}
 use Rattle.image_judging.specs.Faults.{ImageFault, fault_in, fault_of}
 use Rattle.journal_opening.proofs.MomentsLemmas.{each_from}
-use Rattle.script_session.specs.DeviceParts.{DeviceParts}
-use Rattle.script_session.specs.OpenMode.{OpenMode}
-use Rattle.script_session.specs.OpenMode.TheVariants.{Direct, Journal}
-use Rattle.script_session.specs.Opening.{IsRefused, LeavesOpening, WritesInOpening, asked_mode, opened_standing}
-use Rattle.script_session.specs.Writes.{IsOfRun}
-use Rattle.script_session.proofs.RunLemmas.{EachMoment-both}
+use Rattle.device.specs.declared.mode.DeviceParts.{DeviceParts}
+use Rattle.device.specs.declared.opening.OpenMode.{OpenMode}
+use Rattle.device.specs.declared.opening.OpenMode.TheVariants.{Direct, Journal}
+use Rattle.device.specs.Opening.{IsRefused, LeavesOpening, WritesInOpening, asked_mode}
+use Rattle.device_parts.specs.Device.{opened_standing}
+use Rattle.device.specs.Writes.{IsOfRun}
+use Rattle.device.proofs.RunLemmas.{EachMoment-both}
 use Rattle.command_ending.specs.Ended.{ending_of}
 use Rattle.command_model.specs.CommandRun.{Outset, RunsOn, IsRunAt, MayBeLeftAt}
 use Rattle.integrity_tool.specs.Opening.{HasReadIn, HasRunOn, IsMomentOn, IsOfOpeningIn, IsOpenedTo, WritesOnlyBy}

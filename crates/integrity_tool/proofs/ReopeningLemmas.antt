@@ -13,7 +13,7 @@ use Rattle.place_model.specs.Kind.{MayBeLeftIn, kind_in}
 use Rattle.place_model.specs.Opened.{blocks_of}
 use Rattle.place_model.proofs.BlocksLemmas.{cells_after-base}
 use Rattle.image_judging.specs.FaultLaws.{OpensLaw}
-use Rattle.script_session.specs.OpenMode.TheVariants as Modes
+use Rattle.device.specs.declared.opening.OpenMode.TheVariants as Modes
 use Rattle.command_model.specs.CommandRun.{Outset, IsRunAt}
 use Rattle.integrity_tool.specs.Reopening.{HoldsFlushed, IsLeftBehind, ReopeningLaw, history_on}
 use Rattle.integrity_tool.proofs.OpeningLemmas.{runs_on}

@@ -25,15 +25,16 @@ use Rattle.device_model.proofs.ScriptLemmas.{history-after}
 use Rattle.direct_laws.specs.MomentLaws.{IsLeftNow}
 use Rattle.script_text.proofs.ScriptRunLemmas.{came_further, came_into, came_into_line, came_to_nothing}
 use Rattle.script_text.proofs.ScriptRunLemmas.{run_is_split, run_is_whole}
-use Rattle.device_core.specs.declared.condition.Condition.{Condition}
-use Rattle.device_core.specs.declared.condition.Condition.TheVariants.{Working}
-use Rattle.script_session.specs.DeviceParts.{DeviceParts}
-use Rattle.script_session.specs.Device.{IsDevice, Standing, kind_of}
-use Rattle.script_session.proofs.ModeLemmas.{left_now}
-use Rattle.script_session.specs.Run.{IsLeftWithin, standing_behind}
-use Rattle.script_session.specs.Writes.{WritesOnly}
-use Rattle.script_session.proofs.RunLemmas.{left-behind, left-wider}
-use Rattle.script_session.proofs.WritesLemmas.{WritesOnly-left, WritesOnly-then}
+use Rattle.device_parts.specs.declared.condition.Condition.{Condition}
+use Rattle.device_parts.specs.declared.condition.Condition.TheVariants.{Working}
+use Rattle.device.specs.declared.mode.DeviceParts.{DeviceParts}
+use Rattle.device.specs.Device.{IsDevice, kind_of}
+use Rattle.device_parts.specs.Device.{Standing}
+use Rattle.device.proofs.ModeLemmas.{left_now}
+use Rattle.device.specs.Run.{IsLeftWithin, standing_behind}
+use Rattle.device.specs.Writes.{WritesOnly}
+use Rattle.device.proofs.RunLemmas.{left-behind, left-wider}
+use Rattle.device.proofs.WritesLemmas.{WritesOnly-left, WritesOnly-then}
 use Rattle.script_session.specs.declared.tags_found.TagsFound.{TagsFound}
 use Rattle.script_session.specs.declared.line_end.LineEnd.{LineEnd}
 use Rattle.script_session.specs.declared.line_end.LineEnd.TheVariants as Ends

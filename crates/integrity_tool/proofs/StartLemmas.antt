@@ -53,7 +53,7 @@ use Rattle.integrity_tool.specs.Running.{HasReadTo, HoldsText}
 use Rattle.integrity_tool.proofs.RunningLemmas.{complete_prints, told_further, told_nothing}
 use Rattle.integrity_tool.proofs.TextsLemmas.{BeginsText, none_short}
 use Rattle.script_session.specs.LineRun.{held_with}
-use Rattle.script_session.specs.OpenMode.{OpenMode}
+use Rattle.device.specs.declared.opening.OpenMode.{OpenMode}
 use Rattle.integrity_tool.specs.Refusing.{ending_by_format, ending_by_refusal}
 use Rattle.integrity_tool.specs.Outset.{geometry_on, key_by, outset_at, outset_by, outset_on, outset_under, outset_for}
 

@@ -7,10 +7,11 @@ use Rattle.device_model.specs.Mode.{Journal}
 use Rattle.device_model.specs.ScriptRun.{ScriptRun}
 use Rattle.place_model.specs.Kind.{CanOpenIn, kind_in}
 use Rattle.direct_laws.specs.MomentLaws.{IsLeftNow}
-use Rattle.script_session.specs.Device.{Standing, kind_of}
-use Rattle.script_session.specs.Opening.{opened_standing}
-use Rattle.script_session.specs.Run.{IsLeftWithin}
-use Rattle.script_session.specs.Writes.{WritesOnly}
+use Rattle.device.specs.Device.{kind_of}
+use Rattle.device_parts.specs.Device.{Standing}
+use Rattle.device_parts.specs.Device.{opened_standing}
+use Rattle.device.specs.Run.{IsLeftWithin}
+use Rattle.device.specs.Writes.{WritesOnly}
 use Rattle.stream_io.specs.Stream.{AddsPrefix}
 use Rattle.script_session.specs.declared.stop.Stop.{Stop}
 use Rattle.script_session.specs.declared.stop.Stop.TheVariants as Stops

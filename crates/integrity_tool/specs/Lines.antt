@@ -4,8 +4,8 @@ use Rattle.disk_model.specs.Disk.{Content}
 use Rattle.device_model.specs.Grammar.{ReadLine, Means, IsReadAs}
 use Rattle.device_model.specs.Script.{ScriptLine}
 use Rattle.device_model.specs.ScriptRun.{run_from}
-use Rattle.script_session.specs.DeviceParts.{DeviceParts}
-use Rattle.script_session.specs.Device.{Standing}
+use Rattle.device.specs.declared.mode.DeviceParts.{DeviceParts}
+use Rattle.device_parts.specs.Device.{Standing}
 use Rattle.script_reader.specs.Lines.{FindsEnd, FindsLongLine, FindsLongScript, FindsWholeLine}
 use Rattle.script_reader.specs.Reading.{Reading}
 use Rattle.script_session.specs.declared.line_end.LineEnd.{LineEnd}

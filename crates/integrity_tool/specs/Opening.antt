@@ -9,9 +9,9 @@ use Rattle.device_model.specs.Mode.{Mode, Direct, Journal}
 use Rattle.device_model.specs.ScriptRun.{ScriptRun, changes_in}
 use Rattle.image_model.specs.Geometry.{Geometry}
 use Rattle.journal_opening.specs.Opening.{IsOfOpening}
-use Rattle.script_session.specs.DirectOpeningOpening.{KeepsEmpty}
-use Rattle.script_session.specs.OpenMode.{OpenMode}
-use Rattle.script_session.specs.Writes.{IsOfRun}
+use Rattle.device.specs.DirectOpeningOpening.{KeepsEmpty}
+use Rattle.device.specs.declared.opening.OpenMode.{OpenMode}
+use Rattle.device.specs.Writes.{IsOfRun}
 use Rattle.script_session.specs.LineRun.{held_with}
 use Rattle.command_ending.specs.declared.ended.Ended.{Ended}
 use Rattle.command_ending.specs.declared.ended.Ended.TheVariants as Endings

@@ -7,8 +7,8 @@ use Rattle.image_model.specs.Geometry.{Geometry}
 use Rattle.place_model.specs.Format.{format_on}
 use Rattle.place_model.specs.Kind.{kind_in}
 use Rattle.image_judging.specs.Faults.{ImageFault, fault_of}
-use Rattle.script_session.specs.OpenMode.{OpenMode}
-use Rattle.script_session.specs.Opening.{asked_mode}
+use Rattle.device.specs.declared.opening.OpenMode.{OpenMode}
+use Rattle.device.specs.Opening.{asked_mode}
 use Rattle.integrity_tool.specs.declared.asked.Asked.{Asked}
 use Rattle.integrity_tool.specs.declared.asked.Task.{Task}
 use Rattle.integrity_tool.specs.declared.asked.Task.TheVariants as Tasks

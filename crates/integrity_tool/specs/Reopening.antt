@@ -11,7 +11,7 @@ use Rattle.image_model.specs.Cells.{Cell}
 use Rattle.place_model.specs.Format.{cells_on, format_on}
 use Rattle.place_model.specs.Kind.{kind_in}
 use Rattle.place_model.specs.Opened.{blocks_of}
-use Rattle.script_session.specs.OpenMode.TheVariants as Modes
+use Rattle.device.specs.declared.opening.OpenMode.TheVariants as Modes
 use Rattle.command_model.specs.CommandRun.{IsLeftBy, IsRunAt}
 use Rattle.integrity_tool.specs.Outset.{outset_on}
 

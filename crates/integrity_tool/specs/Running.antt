@@ -10,11 +10,12 @@ use Rattle.device_model.specs.History.{Change, with_changes}
 use Rattle.device_model.specs.ScriptBytes.{most_script}
 use Rattle.device_model.specs.ScriptRun.{ScriptRun, ScriptStep, changes_in, close_step, only_ends, run_from, texts_of, with_step}
 use Rattle.direct_laws.specs.MomentLaws.{IsLeftNow}
-use Rattle.device_core.specs.declared.condition.Condition.TheVariants as Conditions
-use Rattle.script_session.specs.DeviceParts.{DeviceParts}
-use Rattle.script_session.specs.Device.{IsDevice, Standing, kind_of}
-use Rattle.script_session.specs.Run.{IsLeftWithin}
-use Rattle.script_session.specs.Writes.{WritesOnly}
+use Rattle.device_parts.specs.declared.condition.Condition.TheVariants as Conditions
+use Rattle.device.specs.declared.mode.DeviceParts.{DeviceParts}
+use Rattle.device.specs.Device.{IsDevice, kind_of}
+use Rattle.device_parts.specs.Device.{Standing}
+use Rattle.device.specs.Run.{IsLeftWithin}
+use Rattle.device.specs.Writes.{WritesOnly}
 use Rattle.script_reader.specs.Lines.{lines_left}
 use Rattle.script_reader.specs.Reading.{HasNoNewline, Reading, most_piece}
 use Rattle.script_session.specs.declared.tags_found.TagsFound.{TagsFound}

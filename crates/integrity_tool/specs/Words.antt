@@ -30,8 +30,8 @@ use Rattle.image_formatting.specs.declared.new_image.Padding.TheVariants.{Fixed,
 use Rattle.image_formatting.specs.declared.new_image.Wipe.{Wipe}
 use Rattle.image_formatting.specs.declared.new_image.Wipe.TheVariants.{Wiped, Kept}
 use Rattle.image_formatting.specs.NewImage.{IsNewImage}
-use Rattle.script_session.specs.OpenMode.{OpenMode}
-use Rattle.script_session.specs.OpenMode.TheVariants.{Direct, Journal}
+use Rattle.device.specs.declared.opening.OpenMode.{OpenMode}
+use Rattle.device.specs.declared.opening.OpenMode.TheVariants.{Direct, Journal}
 use Rattle.integrity_tool.specs.declared.asked.Asked.{Asked}
 use Rattle.integrity_tool.specs.declared.asked.Task.{Task}
 use Rattle.integrity_tool.specs.declared.asked.Task.TheVariants as Tasks

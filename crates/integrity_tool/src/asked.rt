@@ -10,9 +10,9 @@ use command_words::{
     Check, Checked, Command, Dump, Exercise, FileName, Format, HashChoice, Mode, Padding, Run,
     Wipe, WordsFault, parse,
 };
+use device::OpenMode;
 use image_check::What;
 use image_formatting::NewImage;
-use script_session::OpenMode;
 use std::alloc::Global;
 
 /// What the words ask for.

@@ -1,13 +1,15 @@
 //! The end of a run that has come to its last line: the device is closed, and that is printed.
 ghost use Rattle.std.specs.Prelude.{◌≡◌, ◌≤◌, Err};
 ghost use Rattle.disk_model.specs.Causes.{Rose};
-ghost use Rattle.device_core.specs.declared.condition.Condition.TheVariants.{Working};
-ghost use Rattle.script_session.specs.Device.{IsDevice, IsReady, Standing};
+ghost use Rattle.device_parts.specs.declared.condition.Condition.TheVariants.{Working};
+ghost use Rattle.device.specs.Device.{IsDevice, IsReady};
+ghost use Rattle.device_parts.specs.Device.{Standing};
 ghost use Rattle.integrity_tool.specs.Closing.{HasCloseCounts, close_ending, fault_ended};
 ghost use Rattle.integrity_tool.specs.Running.{IsStopped, only_close};
 
 use command_ending::Ended;
-use script_session::{Device, TagsFound};
+use device::Device;
+use script_session::TagsFound;
 use sector_disk::Disk;
 use stream_io::{Sink, put_all};
 

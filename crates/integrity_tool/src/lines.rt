@@ -2,16 +2,18 @@
 ghost use Rattle.std.specs.Prelude.{◌≡◌, ◌≤◌, ◌+◌, ◌++◌, ◌<◌, ◌^◌, Err, IfErr, IfOk, Ok, OnOk, true};
 ghost use Rattle.std.specs.Option.{ForSome, IsSomeAnd};
 ghost use Rattle.disk_model.specs.Causes.{Rose};
-ghost use Rattle.device_core.specs.declared.condition.Condition.TheVariants.{Working};
-ghost use Rattle.script_session.specs.Device.{IsDevice, IsReady, Standing};
+ghost use Rattle.device_parts.specs.declared.condition.Condition.TheVariants.{Working};
+ghost use Rattle.device.specs.Device.{IsDevice, IsReady};
+ghost use Rattle.device_parts.specs.Device.{Standing};
 ghost use Rattle.script_reader.specs.Reading.{IsWithin, TakesLine};
 ghost use Rattle.script_session.specs.Tickets.{AreInFlight, Stays};
 ghost use Rattle.integrity_tool.specs.Lines.{HasAdvanced, HasRunBytes, IsStoppedByBytes, ended_by};
 ghost use Rattle.integrity_tool.specs.Running.{EndsScript, HasEndCause, HasRead, IsCounted};
 
 use command_ending::{Ended, FormFault, LineRefusal};
+use device::Device;
 use script_reader::{LineReader, NextLine};
-use script_session::{Device, LineEnd, TagsFound, Tickets, run_line};
+use script_session::{LineEnd, TagsFound, Tickets, run_line};
 use script_text::read_line;
 use sector_disk::Disk;
 use std::alloc::Global;

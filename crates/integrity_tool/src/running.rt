@@ -3,16 +3,18 @@
 ghost use Rattle.std.specs.Prelude.{◌≡◌, ◌≤◌, ◌||◌, [], IfErr, IfOk, List, ℕ, OnOk, Some};
 ghost use Rattle.device_model.specs.ScriptRun.{ScriptRun, IsRunOf};
 ghost use Rattle.disk_model.specs.Causes.{Rose};
-ghost use Rattle.device_core.specs.declared.condition.Condition.TheVariants.{Working};
-ghost use Rattle.script_session.specs.Device.{IsDevice, IsReady, Standing};
+ghost use Rattle.device_parts.specs.declared.condition.Condition.TheVariants.{Working};
+ghost use Rattle.device.specs.Device.{IsDevice, IsReady};
+ghost use Rattle.device_parts.specs.Device.{Standing};
 ghost use Rattle.script_session.specs.Told.{finds_fault};
 ghost use Rattle.command_ending.specs.Ended.{ending_of};
 ghost use Rattle.integrity_tool.specs.Running.{EndsScript, HasEndCause, HasReadTo, HasTaken, IsAtClose, IsCounted, IsStopped};
 
 use crate::lines::{advance, run_bytes};
 use command_ending::Ended;
+use device::Device;
 use script_reader::LineReader;
-use script_session::{Device, TagsFound, Tickets};
+use script_session::{TagsFound, Tickets};
 use sector_disk::Disk;
 use std::alloc::Global;
 use stream_io::{Sink, Source};

@@ -22,13 +22,14 @@ use Rattle.direct_laws.proofs.DeviceLemmas.{idle-works}
 use Rattle.journal_model.specs.JournaledDisk.{JournaledDisk}
 use Rattle.request_slots.specs.InFlight.{IsFlightOf}
 use Rattle.tag_store.specs.Store.{Store}
-use Rattle.device_core.specs.declared.condition.Condition.{Condition}
-use Rattle.device_core.specs.declared.condition.Condition.TheVariants as Conditions
-use Rattle.device_core.specs.declared.parts.Parts.{Parts}
-use Rattle.device_core.specs.Device.{condition_of, rule_on}
+use Rattle.device_parts.specs.declared.condition.Condition.{Condition}
+use Rattle.device_parts.specs.declared.condition.Condition.TheVariants as Conditions
+use Rattle.device_parts.specs.declared.parts.Parts.{Parts}
+use Rattle.device_parts.specs.Device.{condition_of, rule_on}
 use Rattle.journal_opening.specs.Journal.{PlacedRing}
 use Rattle.journal_opening.specs.Standing.{JournalStanding, StandsAs}
-use Rattle.journal_device.specs.Device.{DeviceStanding, HasDone, IsDevice, IsDone, kind_on, standing_after, standing_of}
+use Rattle.journal_device.specs.Device.{IsOverDisk, JournaledStanding, kind_on, standing_of, standing_then}
+use Rattle.journal_device.proofs.OverDisk.{IsAfter, IsDoneOver}
 use Rattle.journal_device.proofs.KindLemmas.{left_now, left_through, standing_now}
 
 -- ---- what is told
@@ -47,16 +48,16 @@ told_then a b c told moments = subst IsTold (sym moments.grows) (told_behind mom
 
 -- ---- an event that is done
 
-module _ (w : DeviceStanding) (condition : Condition) (parts : Parts) (journal : PlacedRing) (a : List Content) (is : IsDevice w condition parts journal a) where
+module _ (w : JournaledStanding) (condition : Condition) (parts : Parts) (journal : PlacedRing) (a : List Content) (is : IsOverDisk w condition parts journal a) where
   -- Where a call leaves the device's disk in its format, the requests and the rule, the event is done.
   pub done : (event : Model.Event) (d : JournaledDisk) (now : Condition) (new : Parts) (j : PlacedRing) (b : List Content) → d.format ≡ w.disk.format
       → IsFlightOf w.format new.slots (Model.after_event w.format w.state event).progress.requests → new.maker ≡ parts.maker
       → (Model.after_event w.format w.state event).condition ≡ condition_of now
       → ((region : ℕ) → (Model.after_event w.format w.state event).progress.regions.awaiting region ≡ false)
-      → (now ≡ Conditions.Working → StandsAs (standing_of (standing_after w event d)) j new.tags b)
+      → (now ≡ Conditions.Working → StandsAs (standing_of (standing_then w event d)) j new.tags b)
       → IsLeftThrough (kind_on w.disk.format) w.entry w.format w.state event a b
       → IsLeftNow (kind_on w.disk.format) w.entry (Model.after_event w.format w.state event).history b
-      → HasDone w event now new j a b
+      → IsAfter w event now new j a b
   done event d now new j b same flight maker condition_is still stands through left =
       let told = told_then a b is.told is.is_told through.opens in
       record {
@@ -83,7 +84,7 @@ module _ (w : DeviceStanding) (condition : Condition) (parts : Parts) (journal :
       → IsFlightOf w.format new.slots (Model.after_event w.format w.state event).progress.requests → new.maker ≡ parts.maker → new.tags ≡ parts.tags
       → (Model.event_result w.format w.state event).progress.journal ≡ w.state.progress.journal
       → (Model.event_result w.format w.state event).progress.regions ≡ w.state.progress.regions
-      → (Model.after_event w.format w.state event).condition ≡ w.state.condition → HasDone w event condition new journal a a
+      → (Model.after_event w.format w.state event).condition ≡ w.state.condition → IsAfter w event condition new journal a a
   quiet_done event new none flight maker tags counts regions same =
       let history : w.state.history ≡ (Model.after_event w.format w.state event).history = sym (ap (λ (xs : List Change). with_changes xs w.state.history) none) in
       done event w.disk condition new journal a refl flight maker (same ∙ is.condition_)
@@ -100,7 +101,7 @@ module _ (w : DeviceStanding) (condition : Condition) (parts : Parts) (journal :
 
   -- So is one that only answers.
   pub only_done : (event : Model.Event) (answer : Model.Answer) → Model.event_result w.format w.state event ≡ Model.only_answers w.state.progress answer
-      → (Model.after_event w.format w.state event).condition ≡ w.state.condition → IsDone w event answer condition parts journal a a
+      → (Model.after_event w.format w.state event).condition ≡ w.state.condition → IsDoneOver w event answer condition parts journal a a
   only_done event answer told same = record {
     answers = ap (λ (x : Model.EventResult). x.answer) told;
     done = quiet_done event parts (ap (λ (x : Model.EventResult). x.changes) told)
@@ -110,7 +111,7 @@ module _ (w : DeviceStanding) (condition : Condition) (parts : Parts) (journal :
 
 -- ---- a device that works
 
-module _ (w : DeviceStanding) (parts : Parts) (journal : PlacedRing) (a : List Content) (is : IsDevice w Conditions.Working parts journal a) where
+module _ (w : JournaledStanding) (parts : Parts) (journal : PlacedRing) (a : List Content) (is : IsOverDisk w Conditions.Working parts journal a) where
   abbrev f : DeviceFormat
   f = w.format
 
@@ -138,7 +139,7 @@ module _ (w : DeviceStanding) (parts : Parts) (journal : PlacedRing) (a : List C
       → (d : JournaledDisk) → d.format ≡ w.disk.format → (new : Parts) (j : PlacedRing) (b : List Content)
       → IsFlightOf f new.slots x.progress.requests → new.maker ≡ parts.maker → ((region : ℕ) → x.progress.regions.awaiting region ≡ false)
       → StandsAs (standing_with x d) j new.tags b → (kept : ℕ) (h : History) → h ≡ with_changes (take kept x.changes) s.history → EachMoment a b (EachImage (IsLeftInJournal w.disk.format h))
-      → HasDone w event Conditions.Working new j a b
+      → IsAfter w event Conditions.Working new j a b
   working_done event x told works d same new j b flight maker still stands kept h within m =
       let now = subst (λ (y : DiskFormat). HasNow (EachImage (IsLeftInJournal y (with_changes x.changes s.history))) b) same (standing_now (standing_with x d) j new.tags b stands) in
       done w Conditions.Working parts journal a is event d Conditions.Working new j b same
@@ -163,7 +164,7 @@ module _ (w : DeviceStanding) (parts : Parts) (journal : PlacedRing) (a : List C
       → x.progress.regions ≡ s.progress.regions
       → HasNow (EachImage (IsLeftInJournal w.disk.format (with_changes x.changes s.history))) a
       → EachMoment a b (EachImage (IsLeftInJournal w.disk.format (with_changes x.changes s.history)))
-      → HasDone w event Conditions.Broken new j a b
+      → IsAfter w event Conditions.Broken new j a b
   broken_done event x told broken new j b flight maker regions now m =
       done w Conditions.Working parts journal a is event w.disk Conditions.Broken new j b refl
       (subst (λ (y : Model.EventResult). IsFlightOf f new.slots y.progress.requests) (sym told) flight) maker broken

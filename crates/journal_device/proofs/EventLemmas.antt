@@ -1,4 +1,4 @@
--- The steps of the actors, the end of a device, and the calls that make no call of the disk, as events.
+-- The steps of the actors, the end of a device, and the events that call no disk.
 use Rattle.std.proofs.Common.{◌≡◌, ℕ, zero, suc, ◌+◌, not, Bool, true, false, find, option_map, if◌then◌else◌, List, [], ◌∷◌, slice_get, set, Option, None, Some, Ok, Err, Result, IfOk, refl, sym, ◌∙◌, ap, subst, arith}
 use Rattle.std.specs.List.{list_any, range_with_len}
 use Rattle.std.specs.Option.{option_or}
@@ -32,25 +32,26 @@ use Rattle.request_slots.specs.declared.slot.Slot.{Slot}
 use Rattle.request_slots.proofs.InFlightLemmas.{is_open-outcome_in}
 use Rattle.request_slots.proofs.ServeEventLemmas.{flight_taken, reply_is_told}
 use Rattle.request_slots.proofs.SubmitEventLemmas.{submit_is_told}
-use Rattle.device_core.specs.declared.condition.Condition.{Condition}
-use Rattle.device_core.specs.declared.condition.Condition.TheVariants as Conditions
-use Rattle.device_core.specs.declared.parts.Parts.{Parts}
-use Rattle.device_core.specs.Device.{condition_of}
-use Rattle.device_core.proofs.TurnLemmas.{placed, slot-is}
-use Rattle.device_core.specs.Answers.{moved_answer}
+use Rattle.device_parts.specs.declared.condition.Condition.{Condition}
+use Rattle.device_parts.specs.declared.condition.Condition.TheVariants as Conditions
+use Rattle.device_parts.specs.declared.parts.Parts.{Parts}
+use Rattle.device_parts.specs.Device.{condition_of}
+use Rattle.device_parts.proofs.TurnLemmas.{placed, slot-is}
+use Rattle.device_parts.specs.Answers.{moved_answer}
 use Rattle.journal_opening.specs.Closing.{HasClosed}
 use Rattle.journal_opening.specs.Commits.{CommitsAs}
 use Rattle.journal_opening.specs.Moves.{PlacesAs, SettlesAs}
 use Rattle.journal_opening.specs.Journal.{PlacedRing}
 use Rattle.journal_opening.specs.Standing.{IsLeftThrough, JournalStanding, StandsAs}
-use Rattle.journal_device.specs.Answers.{HasEnded, HasTaken, IsSerial, SubmitLaw, TakeLaw, moved_as}
-use Rattle.journal_device.specs.Device.{DeviceStanding, HasDone, IsDevice, IsDone, kind_on, standing_of}
+use Rattle.journal_device.specs.Answers.{moved_as}
+use Rattle.journal_device.specs.Device.{IsOverDisk, JournaledStanding, QuietLaw, kind_on, standing_of, standing_on}
+use Rattle.journal_device.proofs.OverDisk.{EndsOver, IsAfter, IsDoneOver, done_on}
 use Rattle.journal_device.proofs.DoneLemmas.{broken_done, no_bitmap, only_done, quiet_done, stands_now, working_done, working-is}
 use Rattle.journal_device.proofs.KindLemmas.{left_now, left_through, standing_now}
 
 -- ---- a device that works
 
-module _ (w : DeviceStanding) (parts : Parts) (journal : PlacedRing) (a : List Content) (is : IsDevice w Conditions.Working parts journal a) where
+module _ (w : JournaledStanding) (parts : Parts) (journal : PlacedRing) (a : List Content) (is : IsOverDisk w Conditions.Working parts journal a) where
   abbrev f : DeviceFormat
   f = w.format
 
@@ -66,7 +67,7 @@ module _ (w : DeviceStanding) (parts : Parts) (journal : PlacedRing) (a : List C
   pub step_did : (actor : Model.Actor) (counts : JournalCounts) (d : JournaledDisk) (new : Parts) (p : PlacedRing) (b : List Content)
       → Model.event_result f s (Model.Step actor) ≡ Model.only_answers (record s.progress { journal = counts }) Model.Did → d.format ≡ w.disk.format
       → new.slots ≡ parts.slots → new.maker ≡ parts.maker → StandsAs (record { format = f; history = s.history; counts = counts; disk = d }) p new.tags b → IsLeftThrough y a b
-      → IsDone w (Model.Step actor) Model.Did Conditions.Working new p a b
+      → IsDoneOver w (Model.Step actor) Model.Did Conditions.Working new p a b
   step_did actor counts d new p b told same slots maker stands m = record {
     answers = ap (λ (x : Model.EventResult). x.answer) told;
     done = working_done w parts journal a is (Model.Step actor) (Model.only_answers (record s.progress { journal = counts }) Model.Did) told is.condition_ d same new p b
@@ -76,7 +77,7 @@ module _ (w : DeviceStanding) (parts : Parts) (journal : PlacedRing) (a : List C
   -- and one that found nothing to do.
   pub step_idle : (actor : Model.Actor) (new : Parts) (p : PlacedRing) (b : List Content) → Model.event_result f s (Model.Step actor) ≡ Model.only_answers s.progress Model.Idle
       → new.slots ≡ parts.slots → new.maker ≡ parts.maker → StandsAs y p new.tags b → IsLeftThrough y a b
-      → IsDone w (Model.Step actor) Model.Idle Conditions.Working new p a b
+      → IsDoneOver w (Model.Step actor) Model.Idle Conditions.Working new p a b
   step_idle actor new p b told slots maker stands m = record {
     answers = ap (λ (x : Model.EventResult). x.answer) told;
     done = working_done w parts journal a is (Model.Step actor) (Model.only_answers s.progress Model.Idle) told is.condition_ w.disk refl new p b
@@ -85,7 +86,7 @@ module _ (w : DeviceStanding) (parts : Parts) (journal : PlacedRing) (a : List C
 
   -- One in which the disk fails leaves the history.
   pub step_failed : (actor : Model.Actor) (new : Parts) (p : PlacedRing) (b : List Content) → new.slots ≡ parts.slots → new.maker ≡ parts.maker → IsLeftThrough y a b
-      → HasDone w (Model.FailedStep actor) Conditions.Broken new p a b
+      → IsAfter w (Model.FailedStep actor) Conditions.Broken new p a b
   step_failed actor new p b slots maker m =
       broken_done w parts journal a is (Model.FailedStep actor) (Model.only_answers s.progress Model.DiskFailed) (working-is w parts journal a is (Model.FailedStep actor)) (ap Model.after_failure is.condition_) new p b
       (subst (λ (x : Flight). IsFlightOf f x s.progress.requests) (sym slots) is.flight) maker refl (standing_now y journal parts.tags a (stands_now w parts journal a is)) m
@@ -99,7 +100,7 @@ module _ (w : DeviceStanding) (parts : Parts) (journal : PlacedRing) (a : List C
 
   -- What a commit, a place or a settle did.
   abbrev pub Steps : Model.Actor → Moved → Parts → PlacedRing → List Content → Type 0
-  Steps actor moved new p b = IsDone w (Model.Step actor) (moved_answer (moved_as moved)) Conditions.Working new p a b
+  Steps actor moved new p b = IsDoneOver w (Model.Step actor) (moved_answer (moved_as moved)) Conditions.Working new p a b
 
   pub commit_step : (moved : Moved) (new : Parts) (p : PlacedRing) (b : List Content) → new.slots ≡ parts.slots → new.maker ≡ parts.maker
       → CommitsAs moved y journal p new.tags b → IsLeftThrough y a b → Steps Model.Commit moved new p b
@@ -124,7 +125,7 @@ module _ (w : DeviceStanding) (parts : Parts) (journal : PlacedRing) (a : List C
       step_idle Model.Settle new p b (journal_step Model.Settle (settle s.progress.journal) refl None has.none) slots maker has.stands m
 
   -- The other actors have nothing to do.
-  pub clean_step : IsDone w (Model.Step Model.Clean) Model.Idle Conditions.Working parts journal a a
+  pub clean_step : IsDoneOver w (Model.Step Model.Clean) Model.Idle Conditions.Working parts journal a a
   clean_step =
       only_done w Conditions.Working parts journal a is (Model.Step Model.Clean) Model.Idle
       (working-is w parts journal a is (Model.Step Model.Clean)
@@ -134,7 +135,7 @@ module _ (w : DeviceStanding) (parts : Parts) (journal : PlacedRing) (a : List C
   find-none test from zero fails = refl
   find-none test from (suc count) fails = rw (fails from) (find-none test (from + 1) count fails)
 
-  pub recalc_step : IsDone w (Model.Step Model.Recalc) Model.Idle Conditions.Working parts journal a a
+  pub recalc_step : IsDoneOver w (Model.Step Model.Recalc) Model.Idle Conditions.Working parts journal a a
   recalc_step =
       only_done w Conditions.Working parts journal a is (Model.Step Model.Recalc) Model.Idle
       (working-is w parts journal a is (Model.Step Model.Recalc)
@@ -143,7 +144,7 @@ module _ (w : DeviceStanding) (parts : Parts) (journal : PlacedRing) (a : List C
 
   -- ---- the end
 
-  pub close_done : (new : Parts) (p : PlacedRing) (b : List Content) → HasClosed y p new.tags b → IsLeftThrough y a b → HasEnded w Model.Close Model.IsClosed a b
+  pub close_done : (new : Parts) (p : PlacedRing) (b : List Content) → HasClosed y p new.tags b → IsLeftThrough y a b → EndsOver w Model.Close Model.IsClosed a b
   close_done new p b closed m =
       let told = working-is w parts journal a is Model.Close in
       let changes : (Model.event_result f s Model.Close).changes ≡ Flushed ∷ [] = ap (λ (x : Model.EventResult). x.changes) told ∙ ap (λ (x : DeviceFormat). if is_recovery x.mode then [] else Flushed ∷ []) is.format in
@@ -157,7 +158,7 @@ module _ (w : DeviceStanding) (parts : Parts) (journal : PlacedRing) (a : List C
             (standing_now (record { format = f; history = with_change s.history Flushed; counts = closed.counts; disk = closed.disk }) p new.tags b closed.stands)));
       }
 
-  pub close_failed : (b : List Content) → IsLeftThrough y a b → HasEnded w Model.FailedClose Model.DiskFailed a b
+  pub close_failed : (b : List Content) → IsLeftThrough y a b → EndsOver w Model.FailedClose Model.DiskFailed a b
   close_failed b m =
       let told = working-is w parts journal a is Model.FailedClose in
       let mode = no_bitmap w parts journal a is in
@@ -168,137 +169,10 @@ module _ (w : DeviceStanding) (parts : Parts) (journal : PlacedRing) (a : List C
             (left_now w.disk.format w.entry is.reads mode s.history b (content_at_end m (standing_now y journal parts.tags a (stands_now w parts journal a is))));
       }
 
--- ---- a device that is broken
+-- ---- for callers
 
-module _ (w : DeviceStanding) (parts : Parts) (journal : PlacedRing) (a : List Content) (is : IsDevice w Conditions.Broken parts journal a) where
-  broken-is : (event : Model.Event) → Model.event_result w.format w.state event ≡ Model.broken_result w.state.progress event
-  broken-is event = ap (λ (c : Model.Condition). Model.result_in w.format w.state c event) is.condition_
-
-  pub broken_serve : (ticket : ℕ) → IsDone w (Model.Serve ticket) Model.IsBroken Conditions.Broken parts journal a a
-  broken_serve ticket = only_done w Conditions.Broken parts journal a is (Model.Serve ticket) Model.IsBroken (broken-is (Model.Serve ticket)) refl
-
-  pub broken_step : (actor : Model.Actor) → IsDone w (Model.Step actor) Model.IsBroken Conditions.Broken parts journal a a
-  broken_step actor = only_done w Conditions.Broken parts journal a is (Model.Step actor) Model.IsBroken (broken-is (Model.Step actor)) refl
-
-  pub broken_close : HasEnded w Model.Close Model.IsBroken a a
-  broken_close =
-      let told = broken-is Model.Close in
-      record {
-        answers = ap (λ (x : Model.EventResult). x.answer) told;
-        through = record { opens = no_moment a _; left = no_moment a _ };
-        left = subst (λ (x : Model.EventResult). IsLeftNow (kind_on w.disk.format) w.entry (with_changes x.changes w.state.history) a) (sym told) is.left;
-      }
-
--- ---- requests come and go
-
-module _ (w : DeviceStanding) (condition : Condition) (parts : Parts) (journal : PlacedRing) (a : List Content) (is : IsDevice w condition parts journal a) where
-  abbrev sc : Model.DeviceState
-  sc = w.state
-
-  take-is : (c : Condition) → sc.condition ≡ condition_of c → (ticket : ℕ) → Model.event_result w.format sc (Model.Take ticket) ≡ Model.take_reply sc.progress ticket
-  take-is Conditions.Working e ticket = ap (λ (c : Model.Condition). Model.result_in w.format sc c (Model.Take ticket)) e
-  take-is Conditions.Broken e ticket = ap (λ (c : Model.Condition). Model.result_in w.format sc c (Model.Take ticket)) e
-
-  module _ (k : ℕ) (r : Asks.Asked) (there : slice_get sc.progress.requests k ≡ Some r) where
-    abbrev slot : Slot
-    slot = slot_for (1 + k) r
-
-    abbrev new : Parts
-    new = record parts { slots = after_take (suc k) (Some slot) parts.slots }
-
-    take-state : (state : Asks.RequestState) → r.state ≡ state → Model.event_result w.format sc (Model.Take (suc k)) ≡ Model.take_by sc.progress k r state
-    take-state state e = take-is condition is.condition_ (suc k) ∙ ap (Model.take_asked sc.progress k) there ∙ ap (Model.take_by sc.progress k r) e
-
-    take_unfinished : r.state ≡ Asks.Unfinished → HasTaken w (suc k) (taken_by (suc k) (Some slot)) condition new journal a
-    take_unfinished e =
-        let told = take-state Asks.Unfinished e in
-        let unfinished : is_unfinished slot ≡ true = is_open-outcome_in r.state r.reply ∙ ap Asks.is_unfinished e in
-        let same : new.slots ≡ parts.slots = ap (λ (b : Bool). if b then parts.slots else record parts.slots { slots = without (suc k) parts.slots.slots }) unfinished in
-        subst (λ (b : Bool). HasTaken w (suc k) (if b then Err (suc k) else Ok (reply_of slot)) condition new journal a) (sym unfinished)
-        (record {
-          taken = ap (λ (x : Model.EventResult). x.answer) told;
-          done = quiet_done w condition parts journal a is (Model.Take (suc k)) new (ap (λ (x : Model.EventResult). x.changes) told)
-              (subst (λ (x : Model.EventResult). IsFlightOf w.format new.slots x.progress.requests) (sym told) (subst (λ (x : Flight). IsFlightOf w.format x sc.progress.requests) (sym same) is.flight)) refl refl
-              (ap (λ (x : Model.EventResult). x.progress.journal) told) (ap (λ (x : Model.EventResult). x.progress.regions) told) refl;
-        })
-
-    take_finished : r.state ≡ Asks.Finished → HasTaken w (suc k) (taken_by (suc k) (Some slot)) condition new journal a
-    take_finished e =
-        let told = take-state Asks.Finished e in
-        let finished : is_unfinished slot ≡ false = is_open-outcome_in r.state r.reply ∙ ap Asks.is_unfinished e in
-        let same : new.slots ≡ record parts.slots { slots = without (suc k) parts.slots.slots } =
-        ap (λ (b : Bool). if b then parts.slots else record parts.slots { slots = without (suc k) parts.slots.slots }) finished in
-        let reply = reply_is_told w.format (1 + k) r e (is.flight.each k r there).0 (is.flight.each k r there).1 in
-        subst (λ (b : Bool). HasTaken w (suc k) (if b then Err (suc k) else Ok (reply_of slot)) condition new journal a) (sym finished)
-        (record {
-          taken = (
-            r.request,
-            ap (λ (x : Model.EventResult). x.answer) told
-                ∙ ap (λ (x : ModelReply.Reply). Model.Replied r.request x (Asks.returned_by r.request r.reply r.got r.given)) (sym reply.0)
-                ∙ ap (Model.Replied r.request (as_reply (reply_of slot))) (sym reply.1),
-          );
-          done = quiet_done w condition parts journal a is (Model.Take (suc k)) new (ap (λ (x : Model.EventResult). x.changes) told)
-              (subst (λ (x : Model.EventResult). IsFlightOf w.format new.slots x.progress.requests) (sym told)
-              (subst (λ (x : Flight). IsFlightOf w.format x (set sc.progress.requests k (record r { state = Asks.Taken }))) (sym same) (flight_taken w.format parts.slots sc.progress.requests k r is.flight there e))) refl refl
-              (ap (λ (x : Model.EventResult). x.progress.journal) told) (ap (λ (x : Model.EventResult). x.progress.regions) told) refl;
-        })
-
-    take_open : Asks.is_over r.state ≡ false → HasTaken w (suc k) (taken_by (suc k) (Some slot)) condition new journal a
-    take_open open_ = by r.state refl
-      where
-        by : (state : Asks.RequestState) → r.state ≡ state → HasTaken w (suc k) (taken_by (suc k) (Some slot)) condition new journal a
-        by Asks.Unfinished e = take_unfinished e
-        by Asks.Finished e = take_finished e
-        by Asks.Taken e = absurd (false≢true (sym open_ ∙ ap Asks.is_over e))
-        by Asks.Dropped e = absurd (false≢true (sym open_ ∙ ap Asks.is_over e))
-
-  -- The reply is the serial one.
-  serial_taken : (k : ℕ) (result : Result Reply ℕ) (now : Parts) → HasTaken w (suc k) result condition now journal a → IfOk result (IsSerial w (suc k))
-  serial_taken k (Ok reply) now has = record {
-    place = k;
-    is = refl;
-    request = has.taken.0;
-    serial = taken_reached w.format sc is.reached k has.taken.0 (as_reply reply) (returned_in reply) has.taken.1;
-  }
-  serial_taken k (Err back) now has = tt
-
-  abbrev IsTakenSo : ℕ → Option Slot → Type 0
-  IsTakenSo ticket slot =
-      HasTaken w ticket (taken_by ticket slot) condition (record parts { slots = after_take ticket slot parts.slots }) journal a × IfOk (taken_by ticket slot) (IsSerial w ticket)
-
-  pub take_done : (ticket : ℕ) → is_in_flight ticket parts.slots ≡ true → IsTakenSo ticket (slot_of ticket parts.slots)
-  take_done ticket in_flight =
-      let place = placed ticket 1 sc.progress.requests (sym (ap (λ (xs : List Slot). list_any (is_of ticket) xs) is.flight.slots) ∙ in_flight) in
-      let ticket_is : ticket ≡ suc place.place = let same = place.is in omega (arith, same) in
-      let told = slot-is w.format parts.slots sc.progress.requests is.flight place.place place.asked place.there place.open_ in
-      let has = take_open place.place place.asked place.there place.open_ in
-      subst (λ (t : ℕ). IsTakenSo t (slot_of t parts.slots)) (sym ticket_is)
-      (subst (IsTakenSo (suc place.place)) (sym told) (has, serial_taken place.place (taken_by (suc place.place) (Some (slot_for (1 + place.place) place.asked))) _ has))
-
--- ---- a submission
-
-submit-none : (f : DeviceFormat) (p : Model.Progress) (submission : Submissions.Submission) (o : Option Model.Answer)
-    → ((Model.submit_by f p submission o).changes ≡ []) × ((Model.submit_by f p submission o).progress.journal ≡ p.journal)
-    × ((Model.submit_by f p submission o).progress.regions ≡ p.regions)
-submit-none f p submission None = (refl, refl, refl)
-submit-none f p submission (Some answer) = (refl, refl, refl)
-
-pub submit_law : SubmitLaw
-submit_law w Conditions.Broken parts journal a request is =
-    only_done w Conditions.Broken parts journal a is (Model.Submit (as_submission request)) Model.IsBroken
-    (ap (λ (c : Model.Condition). Model.result_in w.format w.state c (Model.Submit (as_submission request))) is.condition_) refl
-submit_law w Conditions.Working parts journal a request is =
-    let event = Model.Submit (as_submission request) in
-    let working = working-is w parts journal a is event in
-    let told = submit_is_told w.format w.state.progress parts.slots request is.flight (ap (λ (x : DeviceFormat). is_recovery x.mode) is.format) in
-    let none = submit-none w.format w.state.progress (as_submission request) (option_or (Model.form_refusal w.format (as_submission request)) (Model.slots_refusal w.format w.state.progress.requests)) in
-    record {
-      answers = ap (λ (x : Model.EventResult). x.answer) working ∙ told.0;
-      done = quiet_done w Conditions.Working parts journal a is event (record parts { slots = after_submit (fault_of parts.slots request) request parts.slots })
-          (ap (λ (x : Model.EventResult). x.changes) working ∙ none.0)
-          (subst (λ (x : Model.EventResult). IsFlightOf w.format (after_submit (fault_of parts.slots request) request parts.slots) x.progress.requests) (sym working) told.1) refl refl
-          (ap (λ (x : Model.EventResult). x.progress.journal) working ∙ none.1) (ap (λ (x : Model.EventResult). x.progress.regions) working ∙ none.2) refl;
-    }
-
-pub take_law : TakeLaw
-take_law w condition parts journal a ticket is there = take_done w condition parts journal a is ticket there
+pub quiet_kept_law : QuietLaw
+quiet_kept_law w condition device flight moments event is none counts regions own same =
+    let new : Parts = record device.parts { slots = flight } in
+    done_on w is.disk is.format event condition new device.journal moments moments
+    (quiet_done (standing_on w is.disk) condition device.parts device.journal moments is.over event new none own refl refl counts regions same)

@@ -1,9 +1,11 @@
+pub mod OverDisk
 pub mod KindLemmas
 pub mod DoneLemmas
 pub mod NextLemmas
 pub mod WriteLemmas
 pub mod ServingLemmas
 pub mod EventLemmas
+pub mod EndLemmas
 pub mod StepsLemmas
 pub mod IdleLemmas
 pub mod OpeningLemmas

@@ -24,7 +24,7 @@ use Rattle.request_slots.specs.Serving.{next_bytes, with_block_read, with_change
 use Rattle.request_slots.specs.declared.slot.Slot.{Slot}
 use Rattle.request_slots.specs.declared.turn.Turn.{Turn}
 use Rattle.request_slots.proofs.ServeEventLemmas.{flight_fault, flight_read, got_none}
-use Rattle.device_core.proofs.TurnLemmas.{IsTurnOf, placed, slot-is, turn_is}
+use Rattle.device_parts.proofs.TurnLemmas.{IsTurnOf, placed, slot-is, turn_is}
 
 module _ (f : DeviceFormat) (s : Model.DeviceState) (flight : Flight) (is : IsFlightOf f flight s.progress.requests) where
   -- The request of a ticket in flight, and what is done next for it.

@@ -23,10 +23,10 @@ use Rattle.journal_opening.specs.JournalModeOpening.{opened_standing}
 use Rattle.journal_opening.specs.declared.opened.OpenedJournal.{OpenedJournal}
 use Rattle.journal_opening.specs.Opening as Opening
 use Rattle.request_slots.specs.Flight.{Flight, no_requests}
-use Rattle.device_core.specs.declared.condition.Condition.TheVariants.{Working}
-use Rattle.device_core.specs.Device.{rule_on}
-use Rattle.journal_device.specs.Device.{IsDevice, IsReady, kind_on}
-use Rattle.journal_device.specs.Opening.{HasOpened, OpenedLaw, device_of, opened_on_image, parts_of}
+use Rattle.device_parts.specs.declared.condition.Condition.TheVariants.{Working}
+use Rattle.device_parts.specs.Device.{HasOpened, opened_standing as standing_opened, rule_on}
+use Rattle.journal_device.specs.Device.{IsOverDisk, IsReady, in_journal, kind_on, standing_on}
+use Rattle.journal_device.specs.Opening.{OpenedLaw, device_of, parts_of}
 use Rattle.journal_device.proofs.DoneLemmas.{told_then}
 use Rattle.journal_device.proofs.KindLemmas.{left_now, standing_now}
 
@@ -60,7 +60,7 @@ module _ (key : Option (List ℕ)) (disk : DiskIdentity) (opened : OpenedJournal
   -- and the device of the image.
   device_opened : {P : Content → Type 0} → EachMoment a b P → (start : Content) → content_now a ≡ Some start
       → (on : Opening.IsOpenOn (format_on key disk.sectors (last_image start)) (last_image start) opened b)
-      → IsDevice (opened_on_image key disk.sectors (last_image start) on.disk) Working (parts_of opened) opened.journal b
+      → IsOverDisk (standing_on (standing_opened Journal key disk.sectors (last_image start)) on.disk) Working (parts_of opened) opened.journal b
   device_opened moments start told on =
       let image = last_image start in
       let f = format_on key disk.sectors image in
@@ -92,14 +92,15 @@ module _ (key : Option (List ℕ)) (disk : DiskIdentity) (opened : OpenedJournal
             (standing_now (opened_standing f image on.disk) opened.journal opened.tags b on.stands)));
       }
 
-  pub has_opened : {P : Content → Type 0} → EachMoment a b P → HasOpened key disk (device_of opened) a b
+  pub has_opened : {P : Content → Type 0} → EachMoment a b P → HasOpened in_journal Journal key disk (device_of opened) a b
   has_opened moments = record {
     device = λ start told. let on = is.device start told in record {
       disk = on.disk;
       format = on.format;
-      device = device_opened moments start told on;
+      over = device_opened moments start told on;
     };
     ready = ready_opened;
+    asked_ = refl;
     requests = is.ready.slots;
     can = is.can;
   }

@@ -36,33 +36,24 @@ use Rattle.request_slots.specs.Serving as Slots
 use Rattle.request_slots.specs.declared.turn.Turn.{Turn}
 use Rattle.request_slots.specs.declared.turn.Turn.TheVariants as Turns
 use Rattle.request_slots.proofs.ServeEventLemmas.{flight_flushed, flight_written}
-use Rattle.device_core.specs.declared.condition.Condition.TheVariants as Conditions
-use Rattle.device_core.specs.declared.parts.Parts.{Parts}
-use Rattle.device_core.specs.Answers as Direct
-use Rattle.device_core.specs.Answers.{after_read, tag_by}
-use Rattle.device_core.specs.Device as DirectDevice
-use Rattle.device_core.proofs.TurnLemmas.{answer_is}
+use Rattle.device_parts.specs.declared.condition.Condition.TheVariants as Conditions
+use Rattle.device_parts.specs.declared.parts.Parts.{Parts}
+use Rattle.device_parts.specs.Answers.{after_read, served_by, tag_by}
+use Rattle.device_parts.specs.Device.{IsReady}
+use Rattle.device_parts.proofs.TurnLemmas.{answer_is}
 use Rattle.tag_store.specs.Store.{Store}
 use Rattle.journal_opening.specs.Commits.{HasFlushed}
 use Rattle.journal_opening.specs.Journal.{PlacedRing}
 use Rattle.journal_opening.specs.Puts.{HasPut, TakesWrite, after_change, sections_with}
 use Rattle.journal_opening.specs.Reads.{GivesBlock, KeepsStanding}
 use Rattle.journal_opening.specs.Standing.{IsLeftThrough, JournalStanding, StandsAs}
-use Rattle.journal_device.specs.declared.served.Served.TheVariants as Serves
-use Rattle.journal_device.specs.Answers.{HasFailedIn, IsServedAs, served_answer, served_by}
-use Rattle.journal_device.specs.Device.{DeviceStanding, IsDevice, standing_of}
+use Rattle.device_parts.specs.declared.answers.Served.TheVariants as Serves
+use Rattle.journal_device.proofs.OverDisk.{HasFailedIn, IsServedAs}
+use Rattle.journal_device.specs.Device.{IsOverDisk, JournaledStanding, standing_of}
 use Rattle.journal_device.specs.Writing.{HasFlushedIf}
 use Rattle.journal_device.proofs.DoneLemmas.{broken_done, idle_now, only_done, stands_now, working_done, working-is}
 use Rattle.journal_device.proofs.KindLemmas.{standing_now}
 use Rattle.journal_device.proofs.NextLemmas.{IsNext, bytes-next, flight_put, next_of_ticket, open_then, requests_then, result_is, serve_is, served_asked, there_then}
-
--- It answers as a device in direct mode does.
-same_answer : (t : Turn) → Direct.served_answer (Direct.served_by t) ≡ served_answer (served_by t)
-same_answer Turns.Finished = refl
-same_answer (Turns.Held by) = refl
-same_answer (Turns.Read block) = refl
-same_answer (Turns.Write block is_flushed) = refl
-same_answer Turns.Flush = refl
 
 none_of : {A : Type 0} (o : Option A) → is_some o ≡ false → o ≡ None
 none_of None none = refl
@@ -91,7 +82,7 @@ still_served f p r (Asks.Write first blocks fua) none still region =
     ∙ back_if (Model.is_flushed_by r blocks fua) region p.regions still
 still_served f p r Asks.Flush none still region = still region
 
-module _ (w : DeviceStanding) (parts : Parts) (journal : PlacedRing) (a : List Content) (is : IsDevice w Conditions.Working parts journal a) where
+module _ (w : JournaledStanding) (parts : Parts) (journal : PlacedRing) (a : List Content) (is : IsOverDisk w Conditions.Working parts journal a) where
   abbrev f : DeviceFormat
   f = w.format
 
@@ -143,8 +134,7 @@ module _ (w : DeviceStanding) (parts : Parts) (journal : PlacedRing) (a : List C
         let asked = served_asked f s parts.slots is.flight k r served in
         record {
           answers = ap (λ (x : Model.EventResult). x.answer) told
-              ∙ answer_is f new.slots then_ flight k asked (there_then f s parts.slots is.flight k r served) (open_then f s parts.slots is.flight k r served)
-              ∙ same_answer (turn_of new.slots (suc k));
+              ∙ answer_is f new.slots then_ flight k asked (there_then f s parts.slots is.flight k r served) (open_then f s parts.slots is.flight k r served);
           done = working_done w parts journal a is (Model.Serve (suc k)) (Model.serve_with f s k r (Some j)) told is.condition_ d same new p b flight maker
               (still_served f s.progress r r.request (ap (λ (x : DeviceFormat). is_bitmap x.mode) is.format) is.still)
               (subst (λ (q : Asks.Request). StandsAs (record { format = f; history = with_changes (Model.block_changes (suc k) r q) s.history; counts = j; disk = d }) p new.tags b) (sym e) stands)
@@ -291,7 +281,7 @@ module _ (w : DeviceStanding) (parts : Parts) (journal : PlacedRing) (a : List C
   -- ---- the request of a ticket
 
   -- The tag of a block's bytes is the one of the disk's rule.
-  pub rule_told : (disk : DiskIdentity) → DirectDevice.IsReady parts disk a → (block : ℕ) (bytes : List ℕ) → tag_by parts.maker parts.spb block bytes ≡ tagger_of w.disk.format block bytes
+  pub rule_told : (disk : DiskIdentity) → IsReady parts disk a → (block : ℕ) (bytes : List ℕ) → tag_by parts.maker parts.spb block bytes ≡ tagger_of w.disk.format block bytes
   rule_told disk ready block bytes =
       ap (λ (rule : TagRule). tag_of rule.key rule.salt rule.size (block * parts.spb) bytes) is.rule
       ∙ ap (λ (n : ℕ). tag_of w.disk.format.key (salt_of w.disk.format.superblock) w.disk.format.geometry.shape.tag_size (block * n) bytes)
@@ -321,7 +311,7 @@ module _ (w : DeviceStanding) (parts : Parts) (journal : PlacedRing) (a : List C
           subst (λ (t : ℕ). HasFailedIn w t new journal a b) (sym next.ticket_)
           (read_failed next.k next.asked served next.turn_.first next.turn_.count next.turn_.request new b slots maker m)
 
-      pub serve_read_done : (disk : DiskIdentity) (mid new : Parts) (stored : List ℕ) (b : List Content) → DirectDevice.IsReady parts disk a
+      pub serve_read_done : (disk : DiskIdentity) (mid new : Parts) (stored : List ℕ) (b : List Content) → IsReady parts disk a
           → mid.slots ≡ parts.slots → mid.maker ≡ parts.maker → mid.spb ≡ parts.spb → length mid.buffer.items ≡ parts.slots.block_size
           → new ≡ record mid { slots = after_read ticket block stored mid } → KeepsStanding y journal mid.tags a b
           → HasNow (λ c. GivesBlock y block mid.buffer.items stored) a → IsServedAs w ticket (served_by (turn_of new.slots ticket)) new journal a b
@@ -351,7 +341,7 @@ module _ (w : DeviceStanding) (parts : Parts) (journal : PlacedRing) (a : List C
 
       module _ (bytes : List ℕ) (bytes_ : IfSome (slot_of ticket parts.slots) (λ slot. bytes ≡ next_bytes parts.slots.block_size slot)) where
         -- The bytes may be put for the device.
-        pub takes_write : (disk : DiskIdentity) → DirectDevice.IsReady parts disk a → (tag : List ℕ) → tag ≡ tag_by parts.maker parts.spb block bytes → TakesWrite y (block_write ticket block bytes) tag journal parts.tags a
+        pub takes_write : (disk : DiskIdentity) → IsReady parts disk a → (tag : List ℕ) → tag ≡ tag_by parts.maker parts.spb block bytes → TakesWrite y (block_write ticket block bytes) tag journal parts.tags a
         takes_write disk ready tag tag_ = record {
           stands = stands_now w parts journal a is;
           idle = idle_now w parts journal a is;

@@ -9,8 +9,8 @@ use Rattle.journal_ring.specs.declared.ring.Moved.TheVariants.{Did, Idle}
 use Rattle.journal_opening.specs.PlaceWriterMoves.{HasPlaced, HasSettled}
 use Rattle.journal_opening.specs.Placement.{placed_in}
 use Rattle.tag_store.specs.Store.{Store}
-use Rattle.device_core.specs.declared.answers.Actor.TheVariants as Actors
-use Rattle.device_core.specs.declared.answers.Moved.TheVariants as Moves
+use Rattle.device_parts.specs.declared.answers.Actor.TheVariants as Actors
+use Rattle.device_parts.specs.declared.answers.Moved.TheVariants as Moves
 use Rattle.journal_opening.specs.Commits.{HasCommitted}
 use Rattle.journal_opening.specs.Journal.{PlacedRing}
 use Rattle.journal_opening.proofs.MovesLemmas.{unplaced_few}

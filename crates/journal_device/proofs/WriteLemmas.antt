@@ -7,9 +7,9 @@ use Rattle.disk_model.specs.Disk.{Content}
 use Rattle.disk_model.specs.Identity.{DiskIdentity}
 use Rattle.tag_store.specs.Store.{IsStore, Store}
 use Rattle.request_slots.specs.declared.turn.Turn.TheVariants as Turns
-use Rattle.device_core.specs.declared.parts.Parts.{Parts}
-use Rattle.device_core.specs.Device.{IsReady}
-use Rattle.device_core.proofs.ServeLemmas.{ready_read}
+use Rattle.device_parts.specs.declared.parts.Parts.{Parts}
+use Rattle.device_parts.specs.Device.{IsReady}
+use Rattle.device_parts.proofs.ReadyLemmas.{ready_read, same_flight}
 use Rattle.journal_opening.specs.Journal.{PlacedRing}
 use Rattle.journal_device.specs.Answers.{HasEntryMore, WritesFor}
 use Rattle.journal_device.specs.Writing.{WritesIf}
@@ -46,4 +46,4 @@ writes_none false block parts journal before = refl
 -- With another store of the same disk it stays so.
 pub ready_tags : (parts : Parts) (tags : Store) (disk now : DiskIdentity) (a b : List Content) → IsReady parts disk a → IsStore tags now b → tags.geometry ≡ parts.tags.geometry → IsReady (record parts { tags = tags }) now b
 ready_tags parts tags disk now a b ready store same =
-    ready_read parts (record parts { tags = tags }) disk now a b ready store same (record { blocks = refl; block_size = refl; submitted = refl; same = λ t. refl; asks = refl }) refl refl ready.buffer
+    ready_read parts (record parts { tags = tags }) disk now a b ready store same (same_flight parts.slots) refl refl ready.buffer

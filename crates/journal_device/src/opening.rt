@@ -2,7 +2,7 @@
 ghost use Rattle.std.specs.Prelude.{◌≡◌};
 ghost use Rattle.journal_device.specs.Opening.{device_of};
 
-use device_core::Parts;
+use device_parts::Parts;
 use journal_opening::{Journal, OpenedJournal};
 
 /// What a device in journal mode keeps beside its disk.

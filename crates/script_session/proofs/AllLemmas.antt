@@ -9,7 +9,7 @@ use Rattle.device_model.specs.Request.{Asked, RequestState, Unfinished, Finished
 use Rattle.device_model.specs.Script.{finish_all_events, finish_events, is_did, last_answer, room_events, turn_events, turns_left, whole_finish}
 use Rattle.device_model.proofs.IdleLemmas.{after_events-append, room_events-same}
 use Rattle.device_model.proofs.ScriptLemmas.{changes_of-append, finish-condition}
-use Rattle.device_run.proofs.FinishLemmas.{serve-finished, whole_finish-finished}
+use Rattle.device.proofs.FinishLemmas.{serve-finished, whole_finish-finished}
 
 -- The tickets of those that are neither taken nor dropped. The first has ticket t.
 abbrev pub numbers_from : ℕ → List Asked → List ℕ

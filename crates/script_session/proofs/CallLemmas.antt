@@ -30,22 +30,24 @@ use Rattle.request_slots.specs.declared.slot.Outcome.TheVariants.{Unfinished, Fi
 use Rattle.request_slots.specs.declared.slot.Slot.{Slot}
 use Rattle.request_slots.specs.declared.submit_fault.SubmitFault.{SubmitFault}
 use Rattle.request_slots.specs.declared.submit_fault.SubmitFault.TheVariants as Faults
-use Rattle.device_run.specs.Served.{Served}
-use Rattle.device_run.specs.Served.TheVariants as Serves
-use Rattle.device_run.specs.JournalDeviceAnswers.{served_answer}
-use Rattle.device_core.specs.declared.answers.Moved.{Moved}
-use Rattle.device_core.specs.declared.answers.Moved.TheVariants as Moves
-use Rattle.device_core.specs.Answers.{moved_answer}
-use Rattle.device_core.specs.declared.condition.Condition.{Condition}
-use Rattle.device_core.specs.declared.condition.Condition.TheVariants as Conditions
-use Rattle.device_run.specs.DeviceParts.{DeviceParts}
-use Rattle.device_run.specs.Answers.{Answers, HasDone, HasTaken, IsDone, KeepsParts}
-use Rattle.device_run.specs.Device.{IsDevice, IsReady, Standing, mode_of, with_slots}
-use Rattle.device_run.proofs.ModeLemmas.{condition_now, flight_now}
-use Rattle.device_run.specs.Run.{HasBegun, HasFailed, HasRun, standing_behind}
-use Rattle.device_run.proofs.RunLemmas.{failed_then, failed_wider, run_one, run_then}
-use Rattle.device_run.proofs.WritesLemmas.{WritesOnly-kept}
-use Rattle.device_core.proofs.TurnLemmas.{slot-is}
+use Rattle.device_parts.specs.declared.answers.Served.{Served}
+use Rattle.device_parts.specs.declared.answers.Served.TheVariants as Serves
+use Rattle.device_parts.specs.Answers.{served_answer}
+use Rattle.device_parts.specs.declared.answers.Moved.{Moved}
+use Rattle.device_parts.specs.declared.answers.Moved.TheVariants as Moves
+use Rattle.device_parts.specs.Answers.{moved_answer}
+use Rattle.device_parts.specs.declared.condition.Condition.{Condition}
+use Rattle.device_parts.specs.declared.condition.Condition.TheVariants as Conditions
+use Rattle.device.specs.declared.mode.DeviceParts.{DeviceParts}
+use Rattle.device_parts.specs.Answers.{HasTaken}
+use Rattle.device_parts.specs.Device.{Answers, HasDone, IsDone, KeepsParts}
+use Rattle.device.specs.Device.{IsDevice, IsReady, any_mode, mode_of, with_slots}
+use Rattle.device_parts.specs.Device.{Standing}
+use Rattle.device.proofs.ModeLemmas.{condition_now, flight_now}
+use Rattle.device.specs.Run.{HasBegun, HasFailed, HasRun, standing_behind}
+use Rattle.device.proofs.RunLemmas.{failed_then, failed_wider, run_one, run_then}
+use Rattle.device.proofs.WritesLemmas.{WritesOnly-kept}
+use Rattle.device_parts.proofs.TurnLemmas.{slot-is}
 use Rattle.script_session.specs.declared.line_answer.LineAnswer.{LineAnswer}
 use Rattle.script_session.specs.declared.line_answer.LineAnswer.TheVariants as Lines
 use Rattle.script_session.specs.declared.tickets.Tickets.{Tickets}
@@ -74,12 +76,12 @@ answered_run w event answer line parts a b run is text found reply = record {
 
 pub answered_done : (w : Standing) (event : Event) (answer : Model.Answer) (line : LineAnswer)
     (condition : Condition) (parts : DeviceParts) (a b : List Content)
-    → IsDone w event answer condition parts a b → condition ≡ Conditions.Working → b ≡ a
+    → IsDone any_mode w event answer condition parts a b → condition ≡ Conditions.Working → b ≡ a
     → answer_told line ≡ answer_text answer → finds_fault (answer_found line) ≡ tells_fault answer
     → IsReplied (reply_in line) (Some answer) → HasAnswered w (event ∷ []) line parts a b
 answered_done w event answer line condition parts a b is works same text found reply =
     answered_run w event answer line parts a b
-    (run_one w event parts a b (subst (λ (x : Condition). HasDone w event x parts a b) works is.done) (WritesOnly-kept w.format.mode w.on.geometry _ same)) is.answers text found reply
+    (run_one w event parts a b (subst (λ (x : Condition). HasDone any_mode w event x parts a b) works is.done) (WritesOnly-kept w.format.mode w.on.geometry _ same)) is.answers text found reply
 
 served_text : (served : Served) → answer_told (served_line served) ≡ answer_text (served_answer served)
 served_text (Serves.Held by) = refl
@@ -201,7 +203,7 @@ submitted_ticket fault n line answer same is =
 
 pub submit_told : (w : Standing) (request : Request) (fault : Option SubmitFault) (n : ℕ) (line : LineAnswer)
     (condition : Condition) (parts : DeviceParts) (a : List Content)
-    → IsDone w (Model.Submit (as_submission request)) (submit_answer fault n) condition parts a a
+    → IsDone any_mode w (Model.Submit (as_submission request)) (submit_answer fault n) condition parts a a
     → condition ≡ Conditions.Working → line ≡ submitted_line fault n
     → HasAnswered w (Model.Submit (as_submission request) ∷ []) line parts a a
 submit_told w request fault n line condition parts a is works same =
@@ -351,7 +353,7 @@ module _ (w : Standing) (parts : DeviceParts) (a : List Content) (is : IsDevice 
 
   -- It is told of a reply what the model says.
   pub taken_told : (reply : Reply) → ◌≡◌ {A = Result Reply ℕ} (Ok reply)
-      (taken_by own.ticket (slot_of own.ticket parts.common.slots)) → HasTaken w own.ticket (Ok reply) condition new b
+      (taken_by own.ticket (slot_of own.ticket parts.common.slots)) → HasTaken any_mode w own.ticket (Ok reply) condition new b
       → HasAnswered w (Take own.ticket ∷ []) (Lines.Replied own.first own.count reply) new b b
   taken_told reply same taken =
       let r = taken.taken.0 in
@@ -371,24 +373,24 @@ module _ (w : Standing) (parts : DeviceParts) (a : List Content) (is : IsDevice 
       ∙ ap (λ (x : Reply). script.reply_text asked.request (as_reply x)) (sym reply_is)
       ∙ ap (λ (q : Asks.Request). script.reply_text q (as_reply reply)) (sym request_is) in
       answered_run w (Take own.ticket) (Model.Replied r (as_reply reply) (returned_in reply)) (Lines.Replied own.first own.count reply) new b b
-      (run_one w (Take own.ticket) new b b (subst (λ (x : Condition). HasDone w (Take own.ticket) x new b b) works taken.done) (WritesOnly-kept w.format.mode w.on.geometry _ refl)) taken.taken.1 text (reply_found-is reply) (record { asked = r; is = refl })
+      (run_one w (Take own.ticket) new b b (subst (λ (x : Condition). HasDone any_mode w (Take own.ticket) x new b b) works taken.done) (WritesOnly-kept w.format.mode w.on.geometry _ refl)) taken.taken.1 text (reply_found-is reply) (record { asked = r; is = refl })
 
 pub untaken_told : (w : Standing) (ticket back : ℕ) (condition : Condition) (new : DeviceParts) (a : List Content)
-    → condition ≡ Conditions.Working → HasTaken w ticket (Err back) condition new a
+    → condition ≡ Conditions.Working → HasTaken any_mode w ticket (Err back) condition new a
     → HasAnswered w (Take ticket ∷ []) Lines.NotDone new a a
 untaken_told w ticket back condition new a works taken =
     answered_run w (Take ticket) Model.NotDone Lines.NotDone new a a
-    (run_one w (Take ticket) new a a (subst (λ (x : Condition). HasDone w (Take ticket) x new a a) works taken.done) (WritesOnly-kept w.format.mode w.on.geometry _ refl)) taken.taken refl refl tt
+    (run_one w (Take ticket) new a a (subst (λ (x : Condition). HasDone any_mode w (Take ticket) x new a a) works taken.done) (WritesOnly-kept w.format.mode w.on.geometry _ refl)) taken.taken refl refl tt
 
 -- ---- what stays
 
 pub stays_kept : (condition : Condition) (old new : DeviceParts) (tickets : Tickets) (before disk : DiskIdentity)
     (moments : List Content) → AreInFlight tickets old.common.slots
-    → KeepsParts condition old new before disk moments → Stays condition old new tickets before disk moments
+    → KeepsParts any_mode condition old new before disk moments → Stays condition old new tickets before disk moments
 stays_kept condition old new tickets before disk moments are kept = record {
   ready = kept.ready;
   tickets_ = in_flight_kept tickets old.common.slots new.common.slots are kept.flight;
-  mode_ = kept.mode;
+  mode_ = kept.same_mode;
   blocks = kept.flight.blocks;
   block_size = kept.flight.block_size;
   submitted = let same = kept.flight.submitted in omega (arith, same);

@@ -1,7 +1,3 @@
-pub use Rattle.device_run.proofs.EventWritesLemmas
-pub use Rattle.device_run.proofs.ModeLemmas
-pub use Rattle.device_run.proofs.RunLemmas
-pub use Rattle.device_run.proofs.WritesLemmas
 pub mod AllLemmas
 pub mod CallLemmas
 pub mod LineLemmas

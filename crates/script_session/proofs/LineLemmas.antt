@@ -3,12 +3,13 @@ use Rattle.std.proofs.Common.{◌≡◌, ℕ, List, [], Option, sym, ◌∙◌, 
 use Rattle.disk_model.specs.Disk.{Content}
 use Rattle.device_model.specs.Progress.{Event}
 use Rattle.device_model.specs.Script.{MeaningFault, ScriptLine, meaning_fault}
-use Rattle.device_core.specs.declared.condition.Condition.TheVariants as Conditions
-use Rattle.device_run.specs.DeviceParts.{DeviceParts}
-use Rattle.device_run.specs.Device.{IsDevice, Standing}
-use Rattle.device_run.proofs.ModeLemmas.{flight_now}
-use Rattle.device_run.specs.Run.{HasBegun, HasFailed, HasRun, IsCutOff}
-use Rattle.device_run.proofs.RunLemmas.{cut_run}
+use Rattle.device_parts.specs.declared.condition.Condition.TheVariants as Conditions
+use Rattle.device.specs.declared.mode.DeviceParts.{DeviceParts}
+use Rattle.device.specs.Device.{IsDevice}
+use Rattle.device_parts.specs.Device.{Standing}
+use Rattle.device.proofs.ModeLemmas.{flight_now}
+use Rattle.device.specs.Run.{HasBegun, HasFailed, HasRun, IsCutOff}
+use Rattle.device.proofs.RunLemmas.{cut_run}
 use Rattle.script_session.specs.declared.line_answer.LineAnswer.{LineAnswer}
 use Rattle.script_session.specs.declared.stop.Stop.{Stop}
 use Rattle.script_session.specs.declared.stop.Stop.TheVariants as Stops

@@ -5,13 +5,14 @@ use Rattle.disk_model.specs.Disk.{Content}
 use Rattle.device_model.specs.Progress.{Event, after_events}
 use Rattle.device_model.specs.Script.{finish_all_events, whole_finish}
 use Rattle.request_slots.specs.Flight.{Flight}
-use Rattle.device_core.specs.declared.condition.Condition.TheVariants as Conditions
-use Rattle.device_core.specs.Device.{KeepsFlight}
-use Rattle.device_run.specs.DeviceParts.{DeviceParts}
-use Rattle.device_run.specs.Device.{IsDevice, Standing}
-use Rattle.device_run.proofs.ModeLemmas.{condition_now, flight_now}
-use Rattle.device_run.specs.Run.{HasFailed, HasRun, standing_behind}
-use Rattle.device_run.proofs.RunLemmas.{failed_same, failed_then, failed_wider, run_same, run_then}
+use Rattle.device_parts.specs.declared.condition.Condition.TheVariants as Conditions
+use Rattle.device_parts.specs.Device.{KeepsFlight}
+use Rattle.device.specs.declared.mode.DeviceParts.{DeviceParts}
+use Rattle.device.specs.Device.{IsDevice}
+use Rattle.device_parts.specs.Device.{Standing}
+use Rattle.device.proofs.ModeLemmas.{condition_now, flight_now}
+use Rattle.device.specs.Run.{HasFailed, HasRun, standing_behind}
+use Rattle.device.proofs.RunLemmas.{failed_same, failed_then, failed_wider, run_same, run_then}
 use Rattle.script_session.specs.declared.tickets.Tickets.{Tickets}
 use Rattle.script_session.specs.declared.tickets.Waiting.{Waiting}
 use Rattle.script_session.specs.Tickets.{AreInFlight, numbers_of}

@@ -1,12 +1,3 @@
-pub use Rattle.device_run.specs.Answers
-pub use Rattle.device_run.specs.Device
-pub use Rattle.device_run.specs.DeviceParts
-pub use Rattle.device_run.specs.DirectOpeningOpening
-pub use Rattle.device_run.specs.Mode
-pub use Rattle.device_run.specs.OpenMode
-pub use Rattle.device_run.specs.Opening
-pub use Rattle.device_run.specs.Run
-pub use Rattle.device_run.specs.Writes
 pub mod LineRun
 pub mod Meaning
 pub mod Stop

@@ -8,10 +8,10 @@ use Rattle.device_model.specs.Progress.{Event, Submit, answers, event_result}
 use Rattle.device_model.specs.Script.{Ask, AskLine, ScriptLine, ServeLine, Skip, StepLine, TakeLine, last_answer, line_events, line_outcome, meaning_fault, told_fault, told_text}
 use Rattle.device_model.specs.Submission.{Submission}
 use Rattle.stream_io.specs.Stream.{AddsPrefix, with_bytes}
-use Rattle.device_run.specs.DeviceParts.{DeviceParts}
-use Rattle.device_run.specs.Answers.{HasNoWork}
-use Rattle.device_run.specs.Device.{Standing}
-use Rattle.device_run.specs.Run.{HasBegun, HasFailed, HasRun, IsCutOff}
+use Rattle.device.specs.declared.mode.DeviceParts.{DeviceParts}
+use Rattle.device.specs.Answers.{HasNoWork}
+use Rattle.device_parts.specs.Device.{Standing}
+use Rattle.device.specs.Run.{HasBegun, HasFailed, HasRun, IsCutOff}
 use Rattle.request_slots.specs.declared.reply.Reply.{Reply}
 use Rattle.script_session.specs.declared.line_answer.LineAnswer.{LineAnswer}
 use Rattle.script_session.specs.declared.line_end.LineEnd.{LineEnd}

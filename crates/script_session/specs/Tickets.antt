@@ -5,9 +5,9 @@ use Rattle.disk_model.specs.Identity.{DiskIdentity}
 use Rattle.range_lock.specs.Asks.{ask_for}
 use Rattle.range_lock.specs.declared.ask.Ask.{Ask}
 use Rattle.request_slots.specs.Flight.{Flight, ask_of}
-use Rattle.device_core.specs.declared.condition.Condition.{Condition}
-use Rattle.device_run.specs.DeviceParts.{DeviceParts}
-use Rattle.device_run.specs.Device.{IsReady, mode_of}
+use Rattle.device_parts.specs.declared.condition.Condition.{Condition}
+use Rattle.device.specs.declared.mode.DeviceParts.{DeviceParts}
+use Rattle.device.specs.Device.{IsReady, mode_of}
 use Rattle.script_session.specs.declared.tickets.Tickets.{Tickets}
 use Rattle.script_session.specs.declared.tickets.Waiting.{Waiting}
 

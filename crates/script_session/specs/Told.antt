@@ -10,10 +10,10 @@ use Rattle.request_slots.specs.declared.reply.Reply.{Reply}
 use Rattle.request_slots.specs.declared.reply.Reply.TheVariants as replies
 use Rattle.request_slots.specs.declared.submit_fault.SubmitFault.{SubmitFault}
 use Rattle.request_slots.specs.declared.submit_fault.SubmitFault.TheVariants as refusals
-use Rattle.device_core.specs.declared.answers.Moved.{Moved}
-use Rattle.device_core.specs.declared.answers.Moved.TheVariants as moves
-use Rattle.device_run.specs.Served.{Served}
-use Rattle.device_run.specs.Served.TheVariants as serves
+use Rattle.device_parts.specs.declared.answers.Moved.{Moved}
+use Rattle.device_parts.specs.declared.answers.Moved.TheVariants as moves
+use Rattle.device_parts.specs.declared.answers.Served.{Served}
+use Rattle.device_parts.specs.declared.answers.Served.TheVariants as serves
 use Rattle.script_session.specs.declared.line_answer.LineAnswer.{LineAnswer}
 use Rattle.script_session.specs.declared.line_answer.LineAnswer.TheVariants.{Nothing, Ticket, SlotsFull, ReadOnly, HeldBy, NoRoom, Did, Done, Idle, NotDone, Replied}
 use Rattle.script_session.specs.declared.tags_found.TagsFound.{TagsFound}

@@ -1,8 +1,9 @@
 //! Runs one request as a plain line of a script does, and hands out its reply.
 ghost use Rattle.std.specs.Prelude.{◌≡◌, ◌≢◌, ◌+◌, ◌<◌, ◌^◌, Err, IfErr, IfOk, None, false};
 ghost use Rattle.device_model.specs.Script.{AskLine};
-ghost use Rattle.device_core.specs.declared.condition.Condition.TheVariants.{Broken, Working};
-ghost use Rattle.device_run.specs.Device.{IsDevice, IsReady, Standing};
+ghost use Rattle.device_parts.specs.declared.condition.Condition.TheVariants.{Broken, Working};
+ghost use Rattle.device.specs.Device.{IsDevice, IsReady};
+ghost use Rattle.device_parts.specs.Device.{Standing};
 ghost use Rattle.script_text.specs.Line.{ask_of};
 ghost use Rattle.script_session.specs.LineRun.{HasRunAsk, HasStopped, events_of};
 ghost use Rattle.script_session.specs.Meaning.{fault_on};
@@ -13,7 +14,7 @@ ghost use Rattle.script_session.specs.Told.{reply_in};
 use crate::line_answer::LineAnswer;
 use crate::running::ask_whole;
 use crate::{Stop, Tickets};
-use device_run::Device;
+use device::Device;
 use request_slots::Reply;
 use script_text::Ask;
 use sector_disk::Disk;

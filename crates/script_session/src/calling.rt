@@ -3,11 +3,13 @@ ghost use Rattle.std.specs.Prelude.{◌≡◌, ◌+◌, ◌<◌, ◌^◌, ◌∷
 ghost use Rattle.std.specs.List.{list_any};
 ghost use Rattle.disk_model.specs.Causes.{HasCause};
 ghost use Rattle.device_model.specs.Progress.{Serve, Step, Submit, Take};
-ghost use Rattle.device_core.specs.Answers as Core;
-ghost use Rattle.device_core.specs.declared.condition.Condition.TheVariants.{Broken, Working};
-ghost use Rattle.device_run.specs.Answers.{HasNoWork, KeepsParts};
-ghost use Rattle.device_run.specs.Device.{IsDevice, IsReady, Standing, mode_of};
-ghost use Rattle.device_run.specs.Run.{HasFailed};
+ghost use Rattle.device_parts.specs.Answers as Core;
+ghost use Rattle.device_parts.specs.declared.condition.Condition.TheVariants.{Broken, Working};
+ghost use Rattle.device.specs.Answers.{HasNoWork};
+ghost use Rattle.device_parts.specs.Device.{KeepsParts};
+ghost use Rattle.device.specs.Device.{IsDevice, IsReady, any_mode, mode_of};
+ghost use Rattle.device_parts.specs.Device.{Standing};
+ghost use Rattle.device.specs.Run.{HasFailed};
 ghost use Rattle.request_slots.specs.Flight.{count_in, first_in};
 ghost use Rattle.request_slots.specs.InFlight.{as_submission};
 ghost use Rattle.script_text.specs.Line.{actor_of};
@@ -19,8 +21,9 @@ ghost use Rattle.script_session.specs.Tickets.{AreInFlight, Stays, is_of};
 use crate::Tickets;
 use crate::line_answer::LineAnswer;
 use crate::tickets::Waiting;
-use device_core::{Actor, Moved};
-use device_run::{Device, Served, serve};
+use device_parts::{Actor, Moved};
+use device::{Device, serve};
+use device_parts::Served;
 use request_slots::{Request, SubmitFault};
 use sector_disk::{Disk, Failed};
 
@@ -175,13 +178,13 @@ pub(crate) fn step<'d, 'p, D: Disk>(
 
     ensures works { OnOk result (device.new.condition ≡ Working) }
     ensures broken { OnErr result (device.new.condition ≡ Broken) }
-    ensures keeps { KeepsParts device.new.condition device.old.parts device.new.parts
+    ensures keeps { KeepsParts any_mode device.new.condition device.old.parts device.new.parts
         (D.identity device.old.disk.now) (D.identity device.new.disk.now) (D.moments device.new.disk.now) }
     ensures quiet { HasNoWork (mode_of device.old.parts.mode) (actor_of actor)
         → device.new.disk.now ≡ device.old.disk.now }
     ensures same_disk { device.new.disk.ghost_name ≡ device.old.disk.ghost_name }
 {
-    let moved = device_run::step(device, core_actor(actor))?;
+    let moved = device::step(device, core_actor(actor))?;
     Ok(moved_answer(moved))
 }
 

@@ -1,14 +1,14 @@
 //! Serves the requests in flight until they are done.
 ghost use Rattle.std.specs.Prelude.{◌≡◌, length};
 ghost use Rattle.disk_model.specs.Causes.{HasCause};
-ghost use Rattle.device_core.specs.declared.condition.Condition.TheVariants.{Working};
+ghost use Rattle.device_parts.specs.declared.condition.Condition.TheVariants.{Working};
 ghost use Rattle.device_model.specs.Script.{finish_all_events};
-ghost use Rattle.device_run.specs.Device.{IsReady};
-ghost use Rattle.device_run.specs.Calls.{Runs};
+ghost use Rattle.device.specs.Device.{IsReady};
+ghost use Rattle.device.specs.Calls.{Runs};
 ghost use Rattle.script_session.specs.Tickets.{AreInFlight};
 
 use crate::Tickets;
-use device_run::{Device, finish};
+use device::{Device, finish};
 use sector_disk::{Disk, Failed};
 
 /// Serves each request in flight until it is done, in order. Room is made where the journal has none.

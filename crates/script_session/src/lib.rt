@@ -19,7 +19,6 @@ mod telling;
 mod tickets;
 
 pub use asking_whole::run_ask;
-pub use device_run::{Device, OpenMode, Refused};
 pub use line_end::LineEnd;
 pub use meaning::MeaningFault;
 pub use running::run_line;

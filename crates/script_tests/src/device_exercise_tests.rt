@@ -1,13 +1,14 @@
 //! Exercises of a new image in memory, in each mode, with values from a program that knows the rules alone.
 ghost use Rattle.std.specs.Prelude.{◌≡◌, ◌≤◌, []};
 ghost use Rattle.disk_model.specs.Identity.{IsBound};
-ghost use Rattle.device_core.specs.declared.condition.Condition.TheVariants.{Working};
-ghost use Rattle.script_session.specs.Device.{IsReady};
+ghost use Rattle.device_parts.specs.declared.condition.Condition.TheVariants.{Working};
+ghost use Rattle.device.specs.Device.{IsReady};
 
+use device::{Device, OpenMode};
 use device_exercise::exercise;
 use hmac_tag::Hash;
 use image_formatting::{NewImage, Padding, Wipe, format};
-use script_session::{Device, OpenMode, Stop};
+use script_session::Stop;
 use sector_disk::{Disk, MemDisk};
 use sector_pool::Region;
 use std::alloc::Global;

@@ -1,7 +1,7 @@
 //! Lines on small images in memory, in each mode, and what they tell.
 ghost use Rattle.disk_model.specs.Identity.{IsBound};
 
-use device_run::{Device, OpenMode};
+use device::{Device, OpenMode};
 use hmac_tag::Hash;
 use image_formatting::{NewImage, Padding, Wipe, format};
 use script_session::{LineEnd, TagsFound, Tickets, run_line};

@@ -1,7 +1,7 @@
 use Rattle.std.proofs.Common.{sym}
 use Rattle.std.proofs.lemmas.Result.{err_from_is_err_and}
-use Rattle.device_core.specs.declared.condition.Condition.TheVariants.{Working}
-use Rattle.script_session.proofs.ModeLemmas.{flight_now}
+use Rattle.device_parts.specs.declared.condition.Condition.TheVariants.{Working}
+use Rattle.device.proofs.ModeLemmas.{flight_now}
 use Rattle.script_session.proofs.TicketLemmas.{none_in_flight}
 use Rattle.command_model.specs.Workload.{workload_asks}
 use Rattle.device_exercise.proofs.ExercisingLemmas.{behind, cut_first, cut_second, has_exercised}

@@ -1,9 +1,10 @@
 use Rattle.std.proofs.Common.{◌≡◌, ◌+◌, ◌-◌, ◌≤◌, [], map}
 use Rattle.std.specs.List.{range_with_len}
 use Rattle.command_model.specs.Exercise.{read_all}
-use Rattle.device_core.specs.declared.condition.Condition.TheVariants.{Working}
+use Rattle.device_parts.specs.declared.condition.Condition.TheVariants.{Working}
 use Rattle.device_model.specs.Script.{Read}
-use Rattle.script_session.specs.Device.{IsDevice, Standing}
+use Rattle.device.specs.Device.{IsDevice}
+use Rattle.device_parts.specs.Device.{Standing}
 use Rattle.device_exercise.specs.Exercising.{StaysWithin}
 use Rattle.device_exercise.proofs.ExercisingLemmas.{IsAmong}
 use Rattle.device_exercise.proofs.exercising.read_blocks.Given as goal

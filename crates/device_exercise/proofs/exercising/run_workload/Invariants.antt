@@ -1,7 +1,8 @@
 use Rattle.std.proofs.Common.{◌≡◌, ◌-◌, ◌≤◌}
 use Rattle.command_model.specs.Workload.{workload_asks}
-use Rattle.device_core.specs.declared.condition.Condition.TheVariants.{Working}
-use Rattle.script_session.specs.Device.{IsDevice, Standing}
+use Rattle.device_parts.specs.declared.condition.Condition.TheVariants.{Working}
+use Rattle.device.specs.Device.{IsDevice}
+use Rattle.device_parts.specs.Device.{Standing}
 use Rattle.workload.specs.Tally.{lines_in, no_tally}
 use Rattle.workload.specs.Workload.{asks_ahead}
 use Rattle.device_exercise.specs.Exercising.{StaysWithin}

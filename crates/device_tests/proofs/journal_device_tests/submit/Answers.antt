@@ -1,6 +1,6 @@
 use Rattle.std.proofs.Common.{sym, subst}
 use Rattle.request_slots.specs.Flight.{Flight}
-use Rattle.device_core.proofs.ReadyLemmas.{ready-same, submit-same}
+use Rattle.device_parts.proofs.ReadyLemmas.{ready-same, submit-same}
 use Rattle.journal_device.specs.Device.{IsReady}
 use Rattle.device_tests.proofs.journal_device_tests.submit.Goals as goal
 

@@ -11,8 +11,8 @@ use Rattle.image_format.specs.Format.{IsReadNow, disk_format}
 use Rattle.journal_reading.specs.Faults.{refusal_in}
 use Rattle.image_judging.specs.Faults.{fault_by, fault_in_format}
 use Rattle.journal_opening.specs.Opening.{IsOfOpening, KeepsImage, KeepsRefused, OnlySyncs, WritesRecovery}
-use Rattle.device_core.specs.declared.parts.Parts.{Parts}
-use Rattle.device_core.specs.Device.{IsReady}
+use Rattle.device_parts.specs.declared.parts.Parts.{Parts}
+use Rattle.device_parts.specs.Device.{IsReady}
 use Rattle.direct_opening.specs.Opening.{IsOpenOn, KeepsEmpty}
 use Rattle.image_judging.proofs.FaultsLemmas.{format_cause, no_format, opened_cause, replay_cause, room_cause, same_format, same_replay, told_format, told_journal}
 use Rattle.journal_opening.proofs.OpenedLemmas.{fault_now, refused_now, shift}

@@ -5,7 +5,7 @@ use Rattle.image_model.specs.Geometry.{Geometry, Shape}
 use Rattle.hmac_tag.specs.TagMaker.{TagRule, key_of}
 use Rattle.image_format.specs.Format.{disk_format}
 use Rattle.request_slots.specs.Flight.{Flight, no_requests}
-use Rattle.device_core.specs.declared.parts.Parts.{Parts}
+use Rattle.device_parts.specs.declared.parts.Parts.{Parts}
 use Rattle.image_judging.proofs.FaultsLemmas.{same_fault}
 use Rattle.journal_opening.proofs.OpeningLemmas.{now_told}
 use Rattle.direct_opening.proofs.OpenedLemmas.{open_on}

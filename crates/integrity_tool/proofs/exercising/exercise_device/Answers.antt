@@ -1,7 +1,7 @@
 use Rattle.std.proofs.Common.{List, Err, sym, ap, subst, is_err}
 use Rattle.disk_model.specs.Disk.{Content}
 use Rattle.disk_model.proofs.MomentsLemmas.{EachMoment-weaker}
-use Rattle.script_session.proofs.EventWritesLemmas.{close_writes}
+use Rattle.device.proofs.EventWritesLemmas.{close_writes}
 use Rattle.integrity_tool.specs.Exercised.{IsExercised}
 use Rattle.integrity_tool.proofs.ClosingLemmas.{closed_device, failed_device, in_condition}
 use Rattle.integrity_tool.proofs.ExercisingLemmas.{exercise_closed, exercise_stopped, exercise_unclosed, last, there, within_first, writes_first}

@@ -2,7 +2,8 @@ use Rattle.std.proofs.Common.{Result, IfErr, sym, subst, refl, ap, ◌∙◌}
 use Rattle.disk_model.specs.Disk.{last_image}
 use Rattle.device_model.specs.Ending.{Ending}
 use Rattle.hmac_tag.specs.TagMaker.{key_of}
-use Rattle.script_session.specs.Opening.{asked_mode, opened_standing}
+use Rattle.device.specs.Opening.{asked_mode}
+use Rattle.device_parts.specs.Device.{opened_standing}
 use Rattle.script_text.proofs.TotalLemmas.{has_run}
 use Rattle.command_ending.specs.Ended.{ending_of}
 use Rattle.integrity_tool.specs.Closing.{close_ending}

@@ -1,8 +1,9 @@
 use Rattle.std.proofs.Common.{◌≡◌, ℕ, ◌+◌, ◌-◌, ◌≤◌, List, length, Some}
 use Rattle.std.specs.Option.{IsSomeAnd}
 use Rattle.device_model.specs.ScriptRun.{ScriptRun, IsRunOf}
-use Rattle.device_core.specs.declared.condition.Condition.TheVariants.{Working}
-use Rattle.script_session.specs.Device.{IsDevice, IsReady, Standing}
+use Rattle.device_parts.specs.declared.condition.Condition.TheVariants.{Working}
+use Rattle.device.specs.Device.{IsDevice, IsReady}
+use Rattle.device_parts.specs.Device.{Standing}
 use Rattle.script_session.specs.Tickets.{AreInFlight}
 use Rattle.integrity_tool.specs.Running.{IsAt, read_by}
 use Rattle.integrity_tool.proofs.running.run_lines.Given as goal

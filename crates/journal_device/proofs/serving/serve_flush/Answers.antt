@@ -1,47 +1,58 @@
-use Rattle.std.proofs.Common.{rules, ◌<◌, refl, sym, subst}
+use Rattle.std.proofs.Common.{rules, refl}
 use Rattle.direct_mode.proofs.ServingLemmas.{on_err_always}
-use Rattle.request_slots.specs.Flight.{Flight}
+use Rattle.device_model.specs.Progress.{FailedServe, Serve}
 use Rattle.request_slots.specs.Serving.{with_finish}
-use Rattle.device_core.specs.Answers.{turns_left}
-use Rattle.device_core.proofs.LeftLemmas.{fewer_flushed}
-use Rattle.device_core.proofs.ServeLemmas.{keeps_flight}
-use Rattle.journal_device.specs.Device.{standing_of}
+use Rattle.device_parts.specs.declared.answers.Served.TheVariants as Serves
+use Rattle.device_parts.specs.declared.condition.Condition.TheVariants.{Broken, Working}
+use Rattle.device_parts.specs.declared.parts.Parts.{Parts}
+use Rattle.device_parts.specs.Answers.{served_answer}
+use Rattle.device_parts.proofs.ReadyLemmas.{keeps_flight, same_flight}
+use Rattle.journal_device.specs.Device.{standing_of, standing_on}
 use Rattle.journal_device.proofs.DoneLemmas.{stands_now}
+use Rattle.journal_device.proofs.OverDisk.{done_on, is_done_on}
 use Rattle.journal_device.proofs.ServingLemmas.{serve_flush_done, serve_flush_failed}
 use Rattle.journal_device.proofs.serving.serve_flush.Goals as goal
 
 pub returns-in_err-flush-clause-next : goal.returns-in_err-flush-clause-next
-returns-in_err-flush-clause-next g c = record {
-  served = search rules;
-  goes_on = search rules;
-  waiting = search rules;
-  err = on_err_always c.from_residual.result (λ w is.
-      let before = g.D.Disk.moments c.args.disk.now in
-      serve_flush_failed w c.args.parts.now c.args.journal.now before is c.args.ticket.now c.requires.there c.requires.turn _ _ _ refl refl
-      (c.flush.ensures.left (standing_of w) (stands_now w c.args.parts.now c.args.journal.now before is)));
-  ready = search rules;
-  geometry = search rules;
-  flight = search rules;
-  identity = search rules;
-  writes = search rules;
-}
+returns-in_err-flush-clause-next g c =
+    let parts = c.args.parts.now in
+    let journal = c.args.journal.now in
+    let ticket = c.args.ticket.now in
+    let a = g.D.Disk.moments c.args.disk.now in
+    let b = g.D.Disk.moments c.flush.new.disk in
+    record {
+      does = record {
+        done = search rules;
+        err = on_err_always c.from_residual.result (λ w is.
+            let v = standing_on w is.disk in
+            done_on w is.disk is.format (FailedServe ticket) Broken parts c.flush.new.self a b
+            (serve_flush_failed v parts journal a is.over ticket c.requires.there c.requires.turn _ _ _ refl refl
+            (c.flush.ensures.left (standing_of v) (stands_now v parts journal a is.over))));
+      };
+      goes_on = search rules;
+      waiting = search rules;
+      flight = same_flight parts.slots;
+    }
 
 pub returns-clause-next : goal.returns-clause-next
 returns-clause-next g c =
+    let parts = c.args.parts.now in
+    let journal = c.args.journal.now in
     let ticket = c.args.ticket.now in
-    let slots = c.args.parts.now.slots in record {
-      served = λ w is.
-          let before = g.D.Disk.moments c.args.disk.now in
-          let stands = stands_now w c.args.parts.now c.args.journal.now before is in
-          serve_flush_done w c.args.parts.now c.args.journal.now before is ticket c.requires.there c.requires.turn _ _ _ c.finish.ensures refl
-          (c.in_ok-flush.ensures.flushed (standing_of w) stands) (c.flush.ensures.left (standing_of w) stands);
-      goes_on = λ same. subst (λ (x : Flight). turns_left ticket x < turns_left ticket slots) (sym c.finish.ensures)
-          (fewer_flushed ticket slots c.requires.there c.requires.turn);
+    let a = g.D.Disk.moments c.args.disk.now in
+    let b = g.D.Disk.moments c.flush.new.disk in
+    let new : Parts = record parts { slots = c.finish.new.self } in
+    record {
+      does = record {
+        done = λ w is.
+            let v = standing_on w is.disk in
+            let stands = stands_now v parts journal a is.over in
+            is_done_on w is.disk is.format (Serve ticket) (served_answer Serves.Done) Working new c.flush.new.self a b
+            (serve_flush_done v parts journal a is.over ticket c.requires.there c.requires.turn _ _ _ c.finish.ensures refl
+            (c.in_ok-flush.ensures.flushed (standing_of v) stands) (c.flush.ensures.left (standing_of v) stands));
+        err = tt;
+      };
+      goes_on = λ did. absurd cc;
       waiting = λ waits. absurd cc;
-      err = search rules;
-      ready = search rules;
-      geometry = search rules;
-      flight = rw c.finish.ensures (keeps_flight ticket with_finish (λ x. refl) slots);
-      identity = search rules;
-      writes = search rules;
+      flight = rw c.finish.ensures (keeps_flight ticket with_finish (λ x. refl) parts.slots);
     }

@@ -2,7 +2,7 @@ use Rattle.std.proofs.Common.{ℕ, [], ◌∷◌, sym, ◌∙◌, ap, subst}
 use Rattle.device_model.specs.Progress.{Serve}
 use Rattle.request_slots.specs.Flight.{is_in_flight}
 use Rattle.direct_mode.proofs.ServingLemmas.{on_err_always}
-use Rattle.device_run.specs.Run.{HasFailed}
+use Rattle.device.specs.Run.{HasFailed}
 use Rattle.script_session.specs.LineRun.{HasAnswered}
 use Rattle.script_session.proofs.CallLemmas.{served_told}
 use Rattle.script_session.proofs.TicketLemmas.{any-asks}

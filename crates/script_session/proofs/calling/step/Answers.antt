@@ -1,7 +1,7 @@
 use Rattle.std.proofs.Common.{[], ◌∷◌, subst}
 use Rattle.device_model.specs.Progress as Model
 use Rattle.direct_mode.proofs.ServingLemmas.{on_err_always}
-use Rattle.device_run.specs.Run.{HasFailed}
+use Rattle.device.specs.Run.{HasFailed}
 use Rattle.script_session.specs.LineRun.{HasAnswered}
 use Rattle.script_session.proofs.CallLemmas.{moved_told}
 use Rattle.script_session.proofs.calling.step.Goals as goal

@@ -4,14 +4,15 @@ use Rattle.device_model.specs.Progress.{Submit}
 use Rattle.request_slots.specs.InFlight.{as_submission}
 use Rattle.script_session.specs.LineRun.{HasAnswered}
 use Rattle.request_slots.specs.Submitting.{answer_by}
-use Rattle.device_core.specs.declared.condition.Condition.{Condition}
-use Rattle.device_core.specs.declared.condition.Condition.TheVariants.{Working}
-use Rattle.device_core.specs.Answers.{submit_fault}
-use Rattle.device_run.specs.Answers.{HasSubmitted}
-use Rattle.device_run.proofs.CallLemmas.{device_works}
+use Rattle.device_parts.specs.declared.condition.Condition.{Condition}
+use Rattle.device_parts.specs.declared.condition.Condition.TheVariants.{Working}
+use Rattle.device_parts.specs.Answers.{submit_fault}
+use Rattle.device_parts.specs.Answers.{HasSubmitted}
+use Rattle.device.proofs.CallLemmas.{device_works}
 use Rattle.script_session.specs.declared.line_answer.LineAnswer.TheVariants as Lines
 use Rattle.script_session.proofs.CallLemmas.{submit_err, submit_ok, submit_told, submitted_ticket}
 use Rattle.script_session.proofs.calling.submit.Goals as goal
+use Rattle.device.specs.Device.{any_mode}
 
 pub returns-in-Ok-clause-answered : goal.returns-in-Ok-clause-answered
 returns-in-Ok-clause-answered g c w is =
@@ -19,7 +20,7 @@ returns-in-Ok-clause-answered g c w is =
     let fault = submit_fault Working old.common.slots c.args.request in
     subst (λ (m : List Content). HasAnswered w (Submit (as_submission c.args.request) ∷ []) (Lines.Ticket c.number-number.result) c.submit.new.self.parts m (g.D.Disk.moments c.submit.new.self.disk.now)) (ap g.D.Disk.moments c.submit.ensures.disk)
     (submit_told w c.args.request fault (suc old.common.slots.submitted) _ Working c.submit.new.self.parts _
-    (subst (λ (x : Condition). HasSubmitted w c.args.request x old c.submit.new.self.parts (g.D.Disk.moments c.submit.new.self.disk.now)) (c.submit.ensures.condition ∙ c.requires.works)
+    (subst (λ (x : Condition). HasSubmitted any_mode w c.args.request x old c.submit.new.self.parts (g.D.Disk.moments c.submit.new.self.disk.now)) (c.submit.ensures.condition ∙ c.requires.works)
     (c.submit.ensures.done w (device_works w _ _ _ c.requires.works is))) refl
     (ap Lines.Ticket c.number-number.ensures
     ∙ submit_ok fault (suc old.common.slots.submitted) c.in-Ok.ticket c.args.request
@@ -31,7 +32,7 @@ returns-in-Err-clause-answered g c w is =
     let fault = submit_fault Working old.common.slots c.args.request in
     subst (λ (m : List Content). HasAnswered w (Submit (as_submission c.args.request) ∷ []) (c.refused.result) c.submit.new.self.parts m (g.D.Disk.moments c.submit.new.self.disk.now)) (ap g.D.Disk.moments c.submit.ensures.disk)
     (submit_told w c.args.request fault (suc old.common.slots.submitted) _ Working c.submit.new.self.parts _
-    (subst (λ (x : Condition). HasSubmitted w c.args.request x old c.submit.new.self.parts (g.D.Disk.moments c.submit.new.self.disk.now)) (c.submit.ensures.condition ∙ c.requires.works)
+    (subst (λ (x : Condition). HasSubmitted any_mode w c.args.request x old c.submit.new.self.parts (g.D.Disk.moments c.submit.new.self.disk.now)) (c.submit.ensures.condition ∙ c.requires.works)
     (c.submit.ensures.done w (device_works w _ _ _ c.requires.works is))) refl
     (c.refused.ensures
     ∙ submit_err fault (suc old.common.slots.submitted) c.args.request c.in-Err.refusal
@@ -41,7 +42,7 @@ pub returns-in-Ok-clause-ticket : goal.returns-in-Ok-clause-ticket
 returns-in-Ok-clause-ticket g c w is =
     let old = c.args.device.now.parts in
     let fault = submit_fault Working old.common.slots c.args.request in
-    let done = subst (λ (x : Condition). HasSubmitted w c.args.request x old c.submit.new.self.parts (g.D.Disk.moments c.submit.new.self.disk.now)) (c.submit.ensures.condition ∙ c.requires.works)
+    let done = subst (λ (x : Condition). HasSubmitted any_mode w c.args.request x old c.submit.new.self.parts (g.D.Disk.moments c.submit.new.self.disk.now)) (c.submit.ensures.condition ∙ c.requires.works)
     (c.submit.ensures.done w (device_works w _ _ _ c.requires.works is)) in
     submitted_ticket fault (suc old.common.slots.submitted) (Lines.Ticket c.number-number.result) _
     (ap Lines.Ticket c.number-number.ensures
@@ -52,7 +53,7 @@ pub returns-in-Err-clause-ticket : goal.returns-in-Err-clause-ticket
 returns-in-Err-clause-ticket g c w is =
     let old = c.args.device.now.parts in
     let fault = submit_fault Working old.common.slots c.args.request in
-    let done = subst (λ (x : Condition). HasSubmitted w c.args.request x old c.submit.new.self.parts (g.D.Disk.moments c.submit.new.self.disk.now)) (c.submit.ensures.condition ∙ c.requires.works)
+    let done = subst (λ (x : Condition). HasSubmitted any_mode w c.args.request x old c.submit.new.self.parts (g.D.Disk.moments c.submit.new.self.disk.now)) (c.submit.ensures.condition ∙ c.requires.works)
     (c.submit.ensures.done w (device_works w _ _ _ c.requires.works is)) in
     submitted_ticket fault (suc old.common.slots.submitted) c.refused.result _
     (c.refused.ensures

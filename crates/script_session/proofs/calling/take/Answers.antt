@@ -4,10 +4,10 @@ use Rattle.request_slots.specs.Flight.{Flight, slot_of}
 use Rattle.request_slots.specs.Taking.{without}
 use Rattle.disk_model.specs.Disk.{Content}
 use Rattle.script_session.specs.declared.line_answer.LineAnswer.TheVariants as Lines
-use Rattle.device_run.specs.Device.{with_slots}
-use Rattle.device_run.proofs.ModeLemmas.{flight_now}
-use Rattle.device_core.specs.declared.condition.Condition.TheVariants.{Working}
-use Rattle.device_run.proofs.CallLemmas.{device_works}
+use Rattle.device.specs.Device.{with_slots}
+use Rattle.device.proofs.ModeLemmas.{flight_now}
+use Rattle.device_parts.specs.declared.condition.Condition.TheVariants.{Working}
+use Rattle.device.proofs.CallLemmas.{device_works}
 use Rattle.script_session.specs.LineRun.{HasAnswered}
 use Rattle.script_session.proofs.CallLemmas.{after_taken, own_asked, own_number, own_there, rest_asks, stays_slots, taken_told, untaken_told}
 use Rattle.script_session.proofs.SplitLemmas.{place_is}

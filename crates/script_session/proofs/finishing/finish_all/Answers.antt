@@ -1,7 +1,8 @@
 use Rattle.std.proofs.Common.{◌≡◌, ◌<◌, ◌≤◌, List, length, get_or, refl, ◌∙◌, subst}
 use Rattle.std.proofs.lemmas.Result.{err_from_is_err_and}
-use Rattle.device_run.proofs.CallLemmas.{kept_then, runs_failed, same_flight}
-use Rattle.device_run.proofs.RunLemmas.{run_none}
+use Rattle.device.proofs.CallLemmas.{kept_then, runs_failed}
+use Rattle.device_parts.proofs.ReadyLemmas.{same_flight}
+use Rattle.device.proofs.RunLemmas.{run_none}
 use Rattle.script_session.specs.declared.tickets.Waiting.{Waiting}
 use Rattle.script_session.proofs.TicketLemmas.{ticket_there}
 use Rattle.script_session.proofs.WayLemmas.{all_cut_at, all_run_at, each_more_at, in_flight_kept}
@@ -10,7 +11,7 @@ use Rattle.script_session.proofs.finishing.finish_all.Goals as goal
 pub loop-waiting-init : goal.loop-waiting-init
 loop-waiting-init g c = record {
   works = c.requires.works;
-  keeps = record { ready = c.requires.ready; mode = refl; flight = same_flight _; identity = refl };
+  keeps = record { ready = c.requires.ready; same_mode = refl; flight = same_flight _; identity = refl };
   faults = refl;
   same_disk = refl;
   way = λ w is. run_none w _ _ is;

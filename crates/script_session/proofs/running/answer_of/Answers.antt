@@ -1,8 +1,8 @@
 use Rattle.std.proofs.Common.{sym, ◌∙◌, ap, subst}
 use Rattle.script_text.specs.Line.{line_of}
 use Rattle.script_text.specs.declared.line.Line.{Line}
-use Rattle.device_run.specs.Run.{HasFailed}
-use Rattle.device_run.proofs.RunLemmas.{none_begun}
+use Rattle.device.specs.Run.{HasFailed}
+use Rattle.device.proofs.RunLemmas.{none_begun}
 use Rattle.script_session.specs.LineRun.{events_of}
 use Rattle.script_session.specs.Meaning.{fault_on}
 use Rattle.script_session.specs.Tickets.{numbers_of}

@@ -3,8 +3,8 @@ use Rattle.request_slots.specs.Flight.{is_in_flight}
 use Rattle.device_model.specs.Script.{finish_all_events, submission_of, whole_finish}
 use Rattle.device_model.specs.Progress as Model
 use Rattle.script_text.specs.Line.{ask_of}
-use Rattle.device_run.specs.Run.{HasFailed, HasRun, standing_behind}
-use Rattle.device_run.proofs.RunLemmas.{failed_wider}
+use Rattle.device.specs.Run.{HasFailed, HasRun, standing_behind}
+use Rattle.device.proofs.RunLemmas.{failed_wider}
 use Rattle.script_session.specs.Told.{IsTicketOf}
 use Rattle.script_session.specs.declared.line_answer.LineAnswer.{LineAnswer}
 use Rattle.script_session.proofs.CallLemmas.{ask_begun, ask_done, ask_failed, ask_refused}
@@ -32,7 +32,7 @@ returns-in_default-clause-stays g c =
     record {
       ready = stays.ready;
       tickets_ = stays.tickets_;
-      mode_ = stays.mode_ ∙ kept.mode;
+      mode_ = stays.mode_ ∙ kept.same_mode;
       blocks = stays.blocks ∙ kept.flight.blocks;
       block_size = stays.block_size ∙ kept.flight.block_size;
       submitted = let before = kept.flight.submitted in let after = stays.submitted in omega (arith, before, after);
@@ -77,7 +77,7 @@ returns-clause-stays g c =
     record {
       ready = taken.ready;
       tickets_ = taken.tickets_;
-      mode_ = taken.mode_ ∙ own.mode ∙ begun.mode_ ∙ all.mode;
+      mode_ = taken.mode_ ∙ own.same_mode ∙ begun.mode_ ∙ all.same_mode;
       blocks = taken.blocks ∙ own.flight.blocks ∙ begun.blocks ∙ all.flight.blocks;
       block_size = taken.block_size ∙ own.flight.block_size ∙ begun.block_size ∙ all.flight.block_size;
       submitted =

@@ -1,6 +1,6 @@
 use Rattle.std.proofs.Common.{◌≡◌}
-use Rattle.device_core.specs.declared.condition.Condition.TheVariants.{Working}
-use Rattle.device_run.specs.Device.{IsReady}
+use Rattle.device_parts.specs.declared.condition.Condition.TheVariants.{Working}
+use Rattle.device.specs.Device.{IsReady}
 use Rattle.script_session.specs.Tickets.{AreInFlight}
 use Rattle.script_tests.proofs.script_session_tests.run_lines.Given as goal
 

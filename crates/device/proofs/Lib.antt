@@ -1,0 +1,13 @@
+pub use Rattle.journal_device.proofs.DoneLemmas
+pub mod EmptiedLemmas
+pub mod ModeLemmas
+pub mod JudgedLemmas
+pub mod StepLemmas
+pub mod RequestLemmas
+pub mod OpeningLemmas
+pub mod WritesLemmas
+pub mod RunLemmas
+pub mod EventWritesLemmas
+pub mod CallLemmas
+pub mod FinishLemmas
+pub mod TurnRunLemmas

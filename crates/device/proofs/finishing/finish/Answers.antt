@@ -1,0 +1,60 @@
+use Rattle.std.proofs.Common.{◌≡◌, Some, inl, inr, ap, subst, ◌∙◌}
+use Rattle.std.proofs.lemmas.Result.{err_from_is_err_and}
+use Rattle.device_model.specs.Progress.{answers}
+use Rattle.device_model.specs.Script.{last_answer, turn_events}
+use Rattle.device_parts.specs.declared.answers.Served.{Served}
+use Rattle.device_parts.specs.Answers.{served_answer}
+use Rattle.device.specs.Run.{standing_behind}
+use Rattle.device.proofs.CallLemmas.{kept_then, runs_failed}
+use Rattle.device.proofs.FinishLemmas.{more_by}
+use Rattle.device.proofs.TurnRunLemmas.{way_cut, way_ends, way_goes_on}
+use Rattle.device.proofs.finishing.finish.Goals as goal
+
+pub returns-in_err-serve_with_room-clause-runs : goal.returns-in_err-serve_with_room-clause-runs
+returns-in_err-serve_with_room-clause-runs g c =
+    let p = err_from_is_err_and c.from_residual.result c.from_residual.ensures.1 in
+    let runs = c.in_err-serve_with_room.ensures.runs in
+    runs_failed _ _ _ _ _ _ _ _ c.from_residual.result p.0 p.1
+    (λ w is.
+    let way = c.turns.invariant.way w is in
+    way_cut w c.args.ticket.now _ _ _ _ _ way c.turns.invariant.there (runs.err _ way.run.device)) runs.broken
+    (kept_then _ _ _ _ _ _ _ _ _ _ c.turns.invariant.keeps runs.keeps)
+
+pub turns-preserved : goal.turns-preserved
+turns-preserved g c =
+    let t = c.args.ticket.now in
+    let runs = c.in_ok-serve_with_room.ensures.runs in
+    record {
+      works = runs.works;
+      there = runs.keeps.flight.same t ∙ c.turns.invariant.there;
+      keeps = kept_then _ _ _ _ _ _ _ _ _ _ c.turns.invariant.keeps runs.keeps;
+      faults = c.in_ok-serve_with_room.ensures.cause.passed ∙ c.turns.invariant.faults;
+      same_disk = c.serve_with_room.ensures.same_disk ∙ c.turns.invariant.same_disk;
+      way = λ w is.
+          let way = c.turns.invariant.way w is in
+          let here = standing_behind w way.made in
+          way_goes_on w t _ _ _ _ _ way c.turns.invariant.there
+          (subst (λ (x : Served). last_answer (answers here.format here.state (turn_events here.format t here.state)) ≡ Some (served_answer x)) c.in-Did.is
+          (c.in_ok-serve_with_room.ensures.answers _ way.run.device)) (runs.done _ way.run.device);
+    }
+
+pub returns-in-Held-clause-runs : goal.returns-in-Held-clause-runs
+returns-in-Held-clause-runs g c =
+    let t = c.args.ticket.now in
+    let runs = c.in_ok-serve_with_room.ensures.runs in
+    record {
+      done = λ w is.
+          let way = c.turns.invariant.way w is in
+          way_ends w t _ _ _ _ _ way c.turns.invariant.there c.in_ok-serve_with_room.field-0
+          (λ more. elim c.in-Held.is [
+            | inl held ↦ ap (λ (x : Served). more_by x more) held.1
+            | inr other ↦ elim other [
+              | inl done ↦ ap (λ (x : Served). more_by x more) done
+              | inr full ↦ ap (λ (x : Served). more_by x more) full
+            ]
+          ]) (c.in_ok-serve_with_room.ensures.answers _ way.run.device) (runs.done _ way.run.device);
+      err = tt;
+      works = runs.works;
+      broken = tt;
+      keeps = kept_then _ _ _ _ _ _ _ _ _ _ c.turns.invariant.keeps runs.keeps;
+    }

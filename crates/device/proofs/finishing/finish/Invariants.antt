@@ -1,0 +1,25 @@
+use Rattle.std.proofs.Common.{◌≡◌, true}
+use Rattle.device_parts.specs.declared.condition.Condition.TheVariants.{Working}
+use Rattle.device_parts.specs.Answers.{turns_left}
+use Rattle.request_slots.specs.Flight.{is_in_flight}
+use Rattle.device_parts.specs.Device.{KeepsParts}
+use Rattle.device.specs.Device.{IsDevice, any_mode}
+use Rattle.device_parts.specs.Device.{Standing}
+use Rattle.device.proofs.TurnRunLemmas.{IsOnWay}
+use Rattle.device.proofs.finishing.finish.Given as goal
+
+abbrev pub invariant-turns : goal.invariant-turns
+invariant-turns g l = record {
+  works : l.device.condition ≡ Working;
+  there : is_in_flight l.ticket l.device.parts.common.slots ≡ true;
+  keeps : KeepsParts any_mode l.device.condition l.initial.device.parts l.device.parts
+      (g.D.Disk.identity l.initial.device.disk.now) (g.D.Disk.identity l.device.disk.now) (g.D.Disk.moments l.device.disk.now);
+  faults : g.D.Counted.faults l.device.disk.now ≡ g.D.Counted.faults l.initial.device.disk.now;
+  same_disk : l.device.disk.ghost_name ≡ l.initial.device.disk.ghost_name;
+  way : (w : Standing) → IsDevice w Working l.initial.device.parts (g.D.Disk.moments l.initial.device.disk.now)
+      → IsOnWay w l.ticket l.device.parts (g.D.Disk.moments l.initial.device.disk.now)
+      (g.D.Disk.moments l.device.disk.now);
+}
+
+abbrev pub decreases-turns : goal.decreases-turns
+decreases-turns g l = turns_left l.ticket l.device.parts.common.slots

@@ -1,0 +1,61 @@
+use Rattle.std.proofs.Common.{refl, sym, subst}
+use Rattle.device_model.specs.Progress.{FailedServe, IsBroken, Serve}
+use Rattle.device_parts.specs.declared.condition.Condition.{Condition}
+use Rattle.device_parts.specs.Answers.{served_answer}
+use Rattle.device_parts.specs.Device.{IsDone, KeepsParts}
+use Rattle.device_parts.proofs.ReadyLemmas.{same_flight}
+use Rattle.device.specs.Device.{IsDevice, any_mode}
+use Rattle.device.proofs.JudgedLemmas.{done_failed, done_working, not_both, turns_broken, turns_failed, turns_none}
+use Rattle.device.proofs.RequestLemmas.{broken_serve}
+use Rattle.device.proofs.serving.serve.Goals as goal
+
+-- ---- a device that is broken
+
+pub returns-in-Broken-clause-served : goal.returns-in-Broken-clause-served
+returns-in-Broken-clause-served g c w is =
+    let parts = c.args.parts.now in
+    let a = g.D.Disk.moments c.args.disk.now in
+    subst (λ (x : Condition). IsDone any_mode w (Serve c.args.ticket.now) IsBroken x parts a a) (sym c.in-Broken.is)
+    (broken_serve w parts a (subst (λ (x : Condition). IsDevice w x parts a) c.in-Broken.is is) c.args.ticket.now)
+
+pub returns-in-Broken-clause-condition : goal.returns-in-Broken-clause-condition
+returns-in-Broken-clause-condition g c = turns_broken c.args.condition.now c.args.disk.now c.in-Broken.is
+
+pub returns-in-Broken-clause-keeps : goal.returns-in-Broken-clause-keeps
+returns-in-Broken-clause-keeps g c = record {
+  ready = c.requires.ready;
+  same_mode = refl;
+  flight = same_flight c.args.parts.now.common.slots;
+  identity = refl;
+}
+
+pub returns-in-Broken-clause-writes : goal.returns-in-Broken-clause-writes
+returns-in-Broken-clause-writes g c works = not_both c.args.condition.now works c.in-Broken.is
+
+-- ---- one that works
+
+pub returns-in-Ok-clause-served : goal.returns-in-Ok-clause-served
+returns-in-Ok-clause-served g c w is =
+    let t = c.args.ticket.now in
+    done_working w c.args.parts.now c.serve_next.new.parts c.args.condition.now c.in-Working.is _ _ is (Serve t) (FailedServe t)
+    served_answer c.in-Ok.served c.in-Ok.ensures.next.does
+
+pub returns-in-Ok-clause-condition : goal.returns-in-Ok-clause-condition
+returns-in-Ok-clause-condition g c = turns_none c.args.condition.now c.in-Ok.served _ _ c.in-Working.is
+
+pub returns-in-Ok-clause-keeps : goal.returns-in-Ok-clause-keeps
+returns-in-Ok-clause-keeps g c =
+    let disk = c.serve_next.new.disk in
+    subst (λ (x : Condition). KeepsParts any_mode x c.args.parts.now c.serve_next.new.parts (g.D.Disk.identity c.args.disk.now)
+    (g.D.Disk.identity disk) (g.D.Disk.moments disk)) (sym c.in-Working.is) c.in-Ok.ensures.keeps
+
+-- ---- one whose disk fails
+
+pub returns-in-Err-clause-served : goal.returns-in-Err-clause-served
+returns-in-Err-clause-served g c w is =
+    let t = c.args.ticket.now in
+    done_failed w c.args.parts.now c.serve_next.new.parts c.args.condition.now c.in-Working.is _ _ is (Serve t) (FailedServe t)
+    served_answer _ refl c.in-Err.ensures.next.does
+
+pub returns-in-Err-clause-condition : goal.returns-in-Err-clause-condition
+returns-in-Err-clause-condition g c = turns_failed c.args.condition.now _ _ c.in-Working.is

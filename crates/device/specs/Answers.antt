@@ -1,0 +1,57 @@
+-- What the calls of a device write in its mode, and how long its actors have work.
+use Rattle.std.specs.Prelude.{◌≡◌, ℕ, List}
+use Rattle.disk_model.specs.Disk.{Content, OnlyAdds}
+use Rattle.disk_model.specs.Moments.{EachSince}
+use Rattle.device_model.specs.Mode as Modes
+use Rattle.device_model.specs.Progress as Model
+use Rattle.direct_mode.specs.Places.{IsNoBlock, IsOfPlaces}
+use Rattle.request_slots.specs.Flight.{turn_of}
+use Rattle.device_parts.specs.declared.answers.Actor.{Actor}
+use Rattle.device_parts.specs.declared.parts.Parts.{Parts}
+use Rattle.device_parts.specs.Device.{Standing}
+use Rattle.direct_device.specs.Answers.{WritesServed}
+use Rattle.journal_device.specs.Closing.{WritesAll}
+use Rattle.journal_device.specs.Answers as InJournal
+use Rattle.journal_device.specs.Answers.{WritesAs, WritesFor}
+use Rattle.device.specs.declared.mode.Mode.{Mode}
+use Rattle.device.specs.declared.mode.Mode.TheVariants.{Direct, Journal}
+
+-- ---- a serve
+
+-- What is written in one: in direct mode sectors of tags, and the block that is written next; in journal mode what is done
+-- next tells it.
+abbrev pub WritesInServe : Mode → (ticket : ℕ) → (old new : Parts) → (before after : List Content) → Type 0
+WritesInServe Direct ticket old new before after = WritesServed ticket old new before after
+WritesInServe (Journal journal) ticket old new before after =
+    WritesFor (turn_of old.slots ticket) old journal before after
+
+-- ---- a step
+
+-- How many steps of an actor still do something at most: in direct mode none.
+abbrev pub steps_left : Actor → Mode → ℕ
+steps_left actor Direct = 0
+steps_left actor (Journal journal) = InJournal.steps_left actor journal
+
+-- What is written in one: in direct mode nothing, and in journal mode what the actor does.
+abbrev pub WritesInStep : Mode → Actor → Parts → (before after : List Content) → Type 0
+WritesInStep Direct actor common before after = after ≡ before
+WritesInStep (Journal journal) actor common before after = WritesAs actor common journal before after
+
+-- The actor has nothing to do in the mode: in direct mode none has.
+abbrev pub HasNoWork : Modes.Mode → Model.Actor → Type 0
+HasNoWork Modes.Direct actor = Unit {0}
+HasNoWork Modes.Journal actor = InJournal.HasNoWork actor
+HasNoWork mode actor = ⊥
+
+-- ---- a close
+
+-- In journal mode each image has in place of each block the cell that the history gives it.
+abbrev pub IsAllPlaced : Mode → Standing → List Content → Type 0
+IsAllPlaced Direct w moments = Unit {0}
+IsAllPlaced (Journal journal) w moments = InJournal.IsAllPlaced w moments
+
+-- What is written in one: in direct mode sectors of tags, in journal mode batches and then what is not placed.
+abbrev pub WritesInClose : Mode → Parts → (before after : List Content) → Type 0
+WritesInClose Direct common before after =
+    EachSince (OnlyAdds (IsOfPlaces common.tags.geometry IsNoBlock)) before after
+WritesInClose (Journal journal) common before after = WritesAll journal before after

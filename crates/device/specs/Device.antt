@@ -1,0 +1,69 @@
+-- Which device of `device_model` a device in any mode is, by what it keeps beside its disk and what the disk tells.
+use Rattle.std.specs.Prelude.{◌≡◌, List}
+use Rattle.disk_model.specs.Disk.{Content, EachImage}
+use Rattle.disk_model.specs.Identity.{DiskIdentity}
+use Rattle.disk_model.specs.Moments.{HasNow}
+use Rattle.device_model.specs.Device.{DeviceKind}
+use Rattle.device_model.specs.Mode as Model
+use Rattle.place_model.specs.Kind.{kind_in}
+use Rattle.request_slots.specs.Flight.{Flight}
+use Rattle.device_parts.specs.declared.condition.Condition.{Condition}
+use Rattle.device_parts.specs.declared.parts.Parts.{Parts}
+use Rattle.device_parts.specs.Device as Devices
+use Rattle.device_parts.specs.Device.{DeviceMode, Standing}
+use Rattle.direct_device.specs.Device.{IsDirect}
+use Rattle.direct_opening.specs.Emptied.{HasEmptyJournal}
+use Rattle.journal_device.specs.Device as InJournal
+use Rattle.journal_device.specs.Device.{IsJournaled, kept}
+use Rattle.device.specs.declared.mode.DeviceParts.{DeviceParts}
+use Rattle.device.specs.declared.mode.Mode.{Mode}
+use Rattle.device.specs.declared.mode.Mode.TheVariants.{Direct, Journal}
+
+-- ---- what is true of each device
+
+-- What is kept is of this disk, in the mode.
+abbrev pub IsReadyIn : Mode → Condition → Parts → DiskIdentity → List Content → Type 0
+IsReadyIn Direct condition common disk moments = Devices.IsReady common disk moments
+IsReadyIn (Journal journal) condition common disk moments = InJournal.IsReady condition common journal disk moments
+
+abbrev pub IsReady : Condition → DeviceParts → DiskIdentity → List Content → Type 0
+IsReady condition parts disk moments = IsReadyIn parts.mode condition parts.common disk moments
+
+-- The mode that a device is in.
+abbrev pub mode_of : Mode → Model.Mode
+mode_of Direct = Model.Direct
+mode_of (Journal journal) = Model.Journal
+
+-- What is kept, with these requests in flight.
+abbrev pub with_slots : DeviceParts → Flight → DeviceParts
+with_slots parts flight = record parts { common = record parts.common { slots = flight } }
+
+-- ---- which device it is
+
+-- The kind of device that opens such disks in its mode.
+abbrev pub kind_of : Standing → DeviceKind
+kind_of w = kind_in w.format.mode w.on.key w.on.sectors
+
+-- It is one in direct mode, over a disk of which each image has an empty journal,
+pub record IsEmptied (w : Standing) (condition : Condition) (common : Parts) (moments : List Content) : Type 0 where
+  pub direct : IsDirect w condition common moments
+  pub emptied : HasNow (EachImage (HasEmptyJournal w.on)) moments
+
+-- or one in journal mode.
+abbrev pub IsDeviceIn : Mode → Standing → Condition → Parts → List Content → Type 0
+IsDeviceIn Direct w condition common moments = IsEmptied w condition common moments
+IsDeviceIn (Journal journal) w condition common moments = IsJournaled w condition (kept common journal) moments
+
+-- What is kept is that of this device, whose disk tells its content.
+abbrev pub IsDevice : Standing → Condition → DeviceParts → List Content → Type 0
+IsDevice w condition parts moments = IsDeviceIn parts.mode w condition parts.common moments
+
+-- Any mode.
+abbrev pub any_mode : DeviceMode DeviceParts
+any_mode = record {
+  IsDevice = IsDevice;
+  IsReady = IsReady;
+  parts = λ parts. parts.common;
+  mode_of = λ parts. mode_of parts.mode;
+  kind = kind_of;
+}

@@ -1,0 +1,75 @@
+-- Some events of a device, one after the other: what is left while they run, and how far they came.
+use Rattle.std.specs.Prelude.{◌≡◌, ℕ, List, [], ◌∷◌, ◌++◌, take, Option, Some, None}
+use Rattle.disk_model.specs.Disk.{Content, EachImage, Image}
+use Rattle.disk_model.specs.Moments.{EachMoment, HasNow}
+use Rattle.device_model.specs.Device.{DeviceKind}
+use Rattle.device_model.specs.History.{Change, History, with_changes}
+use Rattle.device_model.specs.Progress.{Event, Submit, Serve, Step, Take, Close, FailedServe, FailedStep, FailedClose, after_events, changes_of}
+use Rattle.device_parts.specs.declared.condition.Condition.TheVariants as Conditions
+use Rattle.device.specs.declared.mode.DeviceParts.{DeviceParts}
+use Rattle.device_parts.specs.Device.{Standing}
+use Rattle.device.specs.Device.{IsDevice, kind_of}
+use Rattle.device.specs.Writes.{WritesOnlyOf}
+
+-- Some of the first changes are made at a moment: each image can be opened, and may be left by that history.
+pub record IsLeftWithin (kind : DeviceKind) (entry : Image) (h : History) (changes : List Change) (c : Content)
+    : Type 0 where
+  pub made : ℕ
+  pub opens : EachImage kind.CanOpen c
+  pub left : EachImage (kind.MayBeLeft entry (with_changes (take made changes) h)) c
+
+-- The same device after some events.
+abbrev pub standing_behind : Standing → List Event → Standing
+standing_behind w events = record w { state = after_events w.format w.state events }
+
+-- At each moment some of the first changes of these events are made.
+abbrev pub IsLeftSince : Standing → List Event → (before after : List Content) → Type 0
+IsLeftSince w events before after =
+    EachMoment before after
+    (IsLeftWithin (kind_of w) w.entry w.state.history (changes_of w.format w.state events))
+
+-- These events are done: the device is the one after them, and works.
+pub record HasRun (w : Standing) (events : List Event) (parts : DeviceParts) (before after : List Content)
+    : Type 0 where
+  pub device : IsDevice (standing_behind w events) Conditions.Working parts after
+  pub since : IsLeftSince w events before after
+  pub writes : WritesOnlyOf w events before after
+
+-- They were cut off: of their changes some of the first are made, at each moment and now.
+pub record IsCutOff (w : Standing) (events : List Event) (before after : List Content) : Type 0 where
+  pub since : IsLeftSince w events before after
+  pub now : HasNow
+      (IsLeftWithin (kind_of w) w.entry w.state.history (changes_of w.format w.state events)) after
+  pub writes : WritesOnlyOf w events before after
+
+-- The event in which a disk fails where it would be this one, if it calls the disk.
+abbrev pub failed_of : Event → Option Event
+failed_of (Submit submission) = None
+failed_of (Serve ticket) = Some (FailedServe ticket)
+failed_of (Step actor) = Some (FailedStep actor)
+failed_of (Take ticket) = None
+failed_of Close = Some FailedClose
+failed_of (FailedServe ticket) = None
+failed_of (FailedStep actor) = None
+failed_of FailedClose = None
+
+-- The disk failed in one: of events that come to the same as these the first are done, and the next one has failed. The
+-- device is the one after that, and is broken.
+pub record HasFailed (w : Standing) (events : List Event) (parts : DeviceParts) (before after : List Content)
+    : Type 0 where
+  pub cut : IsCutOff w events before after
+  pub made : List Event
+  pub event : Event
+  pub rest : List Event
+  pub same : after_events w.format w.state (made ++ event ∷ rest) ≡ after_events w.format w.state events
+  pub failed : Event
+  pub fails : failed_of event ≡ Some failed
+  pub device : IsDevice (standing_behind w (made ++ failed ∷ [])) Conditions.Broken parts after
+
+-- Some of the first of them are done, and no other is begun: the device is the one after those, and works.
+pub record HasBegun (w : Standing) (events : List Event) (parts : DeviceParts) (before after : List Content)
+    : Type 0 where
+  pub made : List Event
+  pub rest : List Event
+  pub all : events ≡ made ++ rest
+  pub run : HasRun w made parts before after

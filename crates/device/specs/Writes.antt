@@ -1,0 +1,34 @@
+-- Which sectors a run of events writes.
+use Rattle.std.specs.Prelude.{◌⊎◌, ℕ, ◌<◌, ◌≤◌, List}
+use Rattle.disk_model.specs.Disk.{Content, OnlyAdds}
+use Rattle.disk_model.specs.Moments.{EachSince}
+use Rattle.image_model.specs.Geometry.{Geometry, initial}
+use Rattle.device_model.specs.History.{Change, IsWrittenIn}
+use Rattle.device_model.specs.Mode as Model
+use Rattle.device_model.specs.Progress.{Event, changes_of}
+use Rattle.direct_mode.specs.Places.{IsOfPlaces}
+use Rattle.device_parts.specs.Device.{Standing}
+
+-- The sector is one of the journal's: behind those of the superblock, and before those of tags.
+pub record IsInJournal (g : Geometry) (sector : ℕ) : Type 0 where
+  pub begins : 8 ≤ sector
+  pub ends : sector < initial g
+
+-- Any block may be written.
+abbrev pub IsAnyBlock : ℕ → Type 0
+IsAnyBlock block = Unit {0}
+
+-- Bytes may be written to the sector: in direct mode it is one of tags, or of the data of a block that the changes write; in
+-- journal mode one of the journal, of tags, or of the data of a block, since entries of earlier writes come to their places.
+abbrev pub IsOfRun : Model.Mode → Geometry → List Change → (sector : ℕ) → List ℕ → Type 0
+IsOfRun Model.Journal g changes sector x = IsInJournal g sector ⊎ IsOfPlaces g IsAnyBlock sector x
+IsOfRun mode g changes sector x = IsOfPlaces g (IsWrittenIn changes) sector x
+
+-- Between two moments nothing else was written.
+abbrev pub WritesOnly : Model.Mode → Geometry → List Change → (before after : List Content) → Type 0
+WritesOnly mode g changes before after = EachSince (OnlyAdds (IsOfRun mode g changes)) before after
+
+-- So it is for these events of a device.
+abbrev pub WritesOnlyOf : Standing → List Event → (before after : List Content) → Type 0
+WritesOnlyOf w events before after =
+    WritesOnly w.format.mode w.on.geometry (changes_of w.format w.state events) before after

@@ -1,0 +1,126 @@
+//! Opening a device in the mode that is asked for.
+ghost use Rattle.std.specs.Prelude.{◌≡◌, IfErr, IfOk};
+ghost use Rattle.disk_model.specs.Identity.{IsBound};
+ghost use Rattle.hmac_tag.specs.TagMaker.{key_of};
+ghost use Rattle.image_judging.specs.Faults.{HasOpenCause};
+ghost use Rattle.device_model.specs.Mode as Modes;
+ghost use Rattle.device_parts.specs.Device.{HasOpened};
+ghost use Rattle.device.specs.Device.{any_mode};
+ghost use Rattle.device.specs.Opening.{IsRefused, IsSettledIn, LeavesOpening, asked_mode};
+
+use crate::{DeviceParts, Mode};
+use direct_opening::open_direct;
+use hmac_tag::Hash;
+use image_judging::OpeningFault;
+use journal_device::{OpenedDevice, device_of, open_journal, opened_journals_are_devices};
+use sector_disk::Disk;
+use sector_pool::Region;
+use std::alloc::Global;
+
+/// The mode that a device is opened in.
+#[derive(Clone, Copy, Debug, PartialEq, Eq)]
+pub enum OpenMode {
+    /// Writes go to their places. What the journal holds comes to its place at the opening, which then empties it.
+    Direct,
+    /// Writes go to the journal first.
+    Journal,
+}
+
+/// Opens a device on a disk. All memory that it ever takes is taken before the first write, and the region gets the
+/// journal's sectors. In either mode the disk is synced and its image recovered, so that all that the journal holds
+/// comes to its place; in direct mode the journal is then emptied, unless every entry of it is unused and it has one
+/// commit number.
+///
+/// # Errors
+///
+/// `Memory` and `Disk` come whenever they hold, and of the others the first that holds:
+///
+/// - `Memory`: there is none for what the device keeps, or for what the journal's sectors bear. No sector was written.
+/// - `Disk`: the disk failed.
+/// - `Super`: the superblock is refused. A disk without a sector has no magic.
+/// - `Geom`: the disk has no room for what the superblock tells.
+/// - `Mode`: there is a bitmap.
+/// - `Journal`: the journal is refused. No sector was written.
+pub(crate) fn open<'p, D: Disk>(
+    alloc: Global,
+    disk: &mut D,
+    pool: &'p mut Region,
+    hash: Hash,
+    mode: OpenMode,
+) -> Result<DeviceParts<'p>, OpeningFault>
+    requires { IsBound (D.identity disk.old).name }
+
+    ensures opened { IfOk result (λ parts. HasOpened any_mode (asked_mode mode) (key_of hash) (D.identity disk.old) parts
+        (D.moments disk.old) (D.moments disk.new)) }
+    ensures settled { IfOk result (λ parts. IsSettledIn mode (D.moments disk.new)) }
+    ensures refused { IfErr result (λ fault. IsRefused (key_of hash) (D.identity disk.old) fault
+        (D.moments disk.old) (D.moments disk.new)) }
+    ensures cause { HasOpenCause (D.faults disk.old) (D.faults disk.new) result }
+    ensures leaves { LeavesOpening mode (key_of hash) (D.identity disk.old) (D.identity disk.new)
+        (D.moments disk.old) (D.moments disk.new) }
+{
+    match mode {
+        OpenMode::Direct => open_in_direct(alloc, disk, pool, hash),
+        OpenMode::Journal => open_in_journal(alloc, disk, pool, hash),
+    }
+}
+
+/// Opens a device in direct mode.
+///
+/// # Errors
+///
+/// As `open` in that mode.
+fn open_in_direct<'p, D: Disk>(
+    alloc: Global,
+    disk: &mut D,
+    pool: &mut Region,
+    hash: Hash,
+) -> Result<DeviceParts<'p>, OpeningFault>
+    requires { IsBound (D.identity disk.old).name }
+
+    ensures opened { IfOk result (λ parts. HasOpened any_mode Modes.Direct (key_of hash) (D.identity disk.old) parts
+        (D.moments disk.old) (D.moments disk.new)) }
+    ensures settled { IfOk result (λ parts. IsSettledIn OpenMode.Direct (D.moments disk.new)) }
+    ensures refused { IfErr result (λ fault. IsRefused (key_of hash) (D.identity disk.old) fault
+        (D.moments disk.old) (D.moments disk.new)) }
+    ensures cause { HasOpenCause (D.faults disk.old) (D.faults disk.new) result }
+    ensures leaves { LeavesOpening OpenMode.Direct (key_of hash) (D.identity disk.old) (D.identity disk.new)
+        (D.moments disk.old) (D.moments disk.new) }
+{
+    let common = open_direct(alloc, disk, hash, pool)?;
+    Ok(DeviceParts {
+        common,
+        mode: Mode::Direct,
+    })
+}
+
+/// Opens a device in journal mode.
+///
+/// # Errors
+///
+/// As `open` in that mode.
+fn open_in_journal<'p, D: Disk>(
+    alloc: Global,
+    disk: &mut D,
+    pool: &'p mut Region,
+    hash: Hash,
+) -> Result<DeviceParts<'p>, OpeningFault>
+    requires { IsBound (D.identity disk.old).name }
+
+    ensures opened { IfOk result (λ parts. HasOpened any_mode Modes.Journal (key_of hash) (D.identity disk.old) parts
+        (D.moments disk.old) (D.moments disk.new)) }
+    ensures refused { IfErr result (λ fault. IsRefused (key_of hash) (D.identity disk.old) fault
+        (D.moments disk.old) (D.moments disk.new)) }
+    ensures cause { HasOpenCause (D.faults disk.old) (D.faults disk.new) result }
+    ensures leaves { LeavesOpening OpenMode.Journal (key_of hash) (D.identity disk.old) (D.identity disk.new)
+        (D.moments disk.old) (D.moments disk.new) }
+{
+    let opened = open_journal(alloc, disk, hash, pool)?;
+    // What was opened is a device.
+    opened_journals_are_devices();
+    let OpenedDevice { parts, journal } = device_of(opened);
+    Ok(DeviceParts {
+        common: parts,
+        mode: Mode::Journal(journal),
+    })
+}

@@ -1,0 +1,86 @@
+//! Serving a request, in the device's mode.
+ghost use Rattle.std.specs.Prelude.{◌≡◌, ◌<◌, Ok, true};
+ghost use Rattle.disk_model.specs.Causes.{HasCause};
+ghost use Rattle.request_slots.specs.Flight.{is_in_flight};
+ghost use Rattle.device_parts.specs.Answers.{HasServed, HasStepCause, ServesNext, TurnsBroken, condition_by, turns_left};
+ghost use Rattle.device_parts.specs.Device.{KeepsParts, Standing};
+ghost use Rattle.device_parts.specs.declared.answers.Served.TheVariants.{Did, NoRoom};
+ghost use Rattle.device_parts.specs.declared.condition.Condition.TheVariants.{Working};
+ghost use Rattle.device.specs.Answers.{WritesInServe};
+ghost use Rattle.device.specs.Device.{IsDevice, IsReady, any_mode};
+
+use crate::{DeviceParts, Mode};
+use device_parts::{Condition, Served, StepFault};
+use request_slots::Ticket;
+use sector_disk::{Disk, Failed};
+
+/// Does what is next for a request. A broken device makes no call of its disk.
+///
+/// # Errors
+///
+/// - `Disk`: the disk failed. The device is broken from then on.
+/// - `Broken`: the device is.
+pub(crate) fn serve<D: Disk>(
+    disk: &mut D,
+    parts: &mut DeviceParts<'_>,
+    condition: &mut Condition,
+    ticket: &Ticket,
+) -> Result<Served, StepFault>
+    requires ready { IsReady condition.old parts.old (D.identity disk.old) (D.moments disk.old) }
+    requires there { is_in_flight ticket.now parts.old.common.slots ≡ true }
+
+    ensures served { (w : Standing) → IsDevice w condition.old parts.old (D.moments disk.old)
+        → HasServed any_mode w ticket.now result condition.new parts.new (D.moments disk.old) (D.moments disk.new) }
+    ensures goes_on { result ≡ Ok Did
+        → turns_left ticket.now parts.new.common.slots < turns_left ticket.now parts.old.common.slots }
+    ensures no_room { result ≡ Ok NoRoom
+        → (parts.new ≡ parts.old) × (D.moments disk.new ≡ D.moments disk.old) }
+
+    ensures cause { HasStepCause (D.faults disk.old) (D.faults disk.new) result }
+    ensures condition { TurnsBroken condition.old condition.new result disk.old disk.new }
+
+    ensures keeps { KeepsParts any_mode condition.new parts.old parts.new
+        (D.identity disk.old) (D.identity disk.new) (D.moments disk.new) }
+    ensures writes { condition.old ≡ Condition.Working → WritesInServe parts.old.mode ticket.now
+        parts.old.common parts.new.common (D.moments disk.old) (D.moments disk.new) }
+{
+    match *condition {
+        Condition::Broken => Err(StepFault::Broken),
+        Condition::Working => match serve_next(disk, parts, ticket) {
+            Ok(served) => Ok(served),
+            Err(_) => {
+                *condition = Condition::Broken;
+                Err(StepFault::Disk)
+            }
+        },
+    }
+}
+
+/// Does what is next for a request of a device that works, as its mode does it.
+///
+/// # Errors
+///
+/// - `Failed`: the disk failed. The device is broken then.
+fn serve_next<D: Disk>(
+    disk: &mut D,
+    parts: &mut DeviceParts<'_>,
+    ticket: &Ticket,
+) -> Result<Served, Failed>
+    requires ready { IsReady Working parts.old (D.identity disk.old) (D.moments disk.old) }
+    requires there { is_in_flight ticket.now parts.old.common.slots ≡ true }
+
+    ensures next { ServesNext any_mode ticket.now parts.old parts.new
+        (D.moments disk.old) (D.moments disk.new) result }
+
+    ensures cause { HasCause (D.faults disk.old) (D.faults disk.new) result }
+
+    ensures keeps { KeepsParts any_mode (condition_by result) parts.old parts.new
+        (D.identity disk.old) (D.identity disk.new) (D.moments disk.new) }
+    ensures writes { WritesInServe parts.old.mode ticket.now parts.old.common parts.new.common
+        (D.moments disk.old) (D.moments disk.new) }
+{
+    match &mut parts.mode {
+        Mode::Direct => direct_device::serve(disk, &mut parts.common, ticket),
+        Mode::Journal(journal) => journal_device::serve(disk, &mut parts.common, journal, ticket),
+    }
+}

@@ -1,0 +1,86 @@
+//! What is done in the background, in the device's mode.
+ghost use Rattle.std.specs.Prelude.{◌≡◌, ◌<◌, IfOk, Ok};
+ghost use Rattle.disk_model.specs.Causes.{HasCause};
+ghost use Rattle.device_parts.specs.Answers.{HasStepCause, HasStepped, StepsNext, TurnsBroken, actor_of, condition_by};
+ghost use Rattle.device_parts.specs.Device.{KeepsParts, Standing};
+ghost use Rattle.device_parts.specs.declared.condition.Condition.TheVariants.{Working};
+ghost use Rattle.device.specs.Answers.{HasNoWork, WritesInStep, steps_left};
+ghost use Rattle.device.specs.Device.{IsDevice, IsReady, any_mode, mode_of};
+
+use crate::{DeviceParts, Mode};
+use device_parts::{Actor, Condition, Moved, StepFault};
+use sector_disk::{Disk, Failed};
+
+/// Lets an actor do its next step. A broken device makes no call of its disk.
+///
+/// # Errors
+///
+/// - `Disk`: the disk failed. The device is broken from then on.
+/// - `Broken`: the device is.
+pub(crate) fn step<D: Disk>(
+    disk: &mut D,
+    parts: &mut DeviceParts<'_>,
+    condition: &mut Condition,
+    actor: Actor,
+) -> Result<Moved, StepFault>
+    requires { IsReady condition.old parts.old (D.identity disk.old) (D.moments disk.old) }
+
+    ensures stepped { (w : Standing) → IsDevice w condition.old parts.old (D.moments disk.old)
+        → HasStepped any_mode w (actor_of actor) result condition.new parts.new
+        (D.moments disk.old) (D.moments disk.new) }
+    ensures goes_on { result ≡ Ok Moved.Did → steps_left actor parts.new.mode < steps_left actor parts.old.mode }
+
+    ensures cause { HasStepCause (D.faults disk.old) (D.faults disk.new) result }
+    ensures condition { TurnsBroken condition.old condition.new result disk.old disk.new }
+
+    ensures keeps { KeepsParts any_mode condition.new parts.old parts.new
+        (D.identity disk.old) (D.identity disk.new) (D.moments disk.new) }
+    ensures slots { parts.new.common.slots ≡ parts.old.common.slots }
+    ensures idle { result ≡ Ok Moved.Idle → (parts.new ≡ parts.old) × (disk.new ≡ disk.old) }
+    ensures writes { condition.old ≡ Condition.Working → WritesInStep parts.old.mode actor parts.old.common
+        (D.moments disk.old) (D.moments disk.new) }
+    ensures quiet { HasNoWork (mode_of parts.old.mode) (actor_of actor) → disk.new ≡ disk.old }
+{
+    match *condition {
+        Condition::Broken => Err(StepFault::Broken),
+        Condition::Working => match step_next(disk, parts, actor) {
+            Ok(moved) => Ok(moved),
+            Err(_) => {
+                *condition = Condition::Broken;
+                Err(StepFault::Disk)
+            }
+        },
+    }
+}
+
+/// Lets an actor of a device that works do its next step, as its mode has it. In direct mode none has anything to do.
+///
+/// # Errors
+///
+/// - `Failed`: the disk failed. The device is broken then.
+fn step_next<D: Disk>(
+    disk: &mut D,
+    parts: &mut DeviceParts<'_>,
+    actor: Actor,
+) -> Result<Moved, Failed>
+    requires { IsReady Working parts.old (D.identity disk.old) (D.moments disk.old) }
+
+    ensures next { StepsNext any_mode actor parts.old parts.new (D.moments disk.old) (D.moments disk.new) result }
+    ensures goes_on { IfOk result (λ moved. moved ≡ Moved.Did
+        → steps_left actor parts.new.mode < steps_left actor parts.old.mode) }
+    ensures idle { IfOk result (λ moved. moved ≡ Moved.Idle
+        → (parts.new ≡ parts.old) × (disk.new ≡ disk.old)) }
+
+    ensures cause { HasCause (D.faults disk.old) (D.faults disk.new) result }
+
+    ensures keeps { KeepsParts any_mode (condition_by result) parts.old parts.new
+        (D.identity disk.old) (D.identity disk.new) (D.moments disk.new) }
+    ensures slots { parts.new.common.slots ≡ parts.old.common.slots }
+    ensures writes { WritesInStep parts.old.mode actor parts.old.common (D.moments disk.old) (D.moments disk.new) }
+    ensures quiet { HasNoWork (mode_of parts.old.mode) (actor_of actor) → disk.new ≡ disk.old }
+{
+    match &mut parts.mode {
+        Mode::Direct => Ok(direct_device::step(actor)),
+        Mode::Journal(journal) => journal_device::step(disk, &mut parts.common, journal, actor),
+    }
+}

@@ -1,0 +1,4 @@
+pub mod TurnLemmas
+pub mod LeftLemmas
+pub mod ReadyLemmas
+pub mod Worked

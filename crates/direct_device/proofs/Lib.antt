@@ -1,0 +1,5 @@
+pub mod OverDisk
+pub mod DoneLemmas
+pub mod ServeLemmas
+pub mod EventLemmas
+pub mod EndLemmas

@@ -1,0 +1,15 @@
+//! The work of a device in direct mode, request by request: it is served, and all is flushed at its end.
+//!
+//! A device keeps its `Parts` beside the disk. `specs/Device.antt`, the file to read first, says which device of
+//! `device_model` that is; each call is then one event of it. No call asks whether the device works: who calls does.
+#![tactic(auto)]
+
+mod closing;
+mod laws;
+mod serving;
+mod stepping;
+
+pub use closing::close;
+pub use laws::{direct_devices_rest, quiet_events_are_kept};
+pub use serving::serve;
+pub use stepping::step;

@@ -1,0 +1,75 @@
+-- An event of a device in journal mode over its disk, and as one of any mode.
+use Rattle.std.proofs.Common.{◌≡◌, ℕ, List, ◌∙◌, subst}
+use Rattle.disk_model.specs.Disk.{Content}
+use Rattle.device_model.specs.Progress as Model
+use Rattle.place_model.specs.Format.{DiskFormat}
+use Rattle.direct_laws.specs.MomentLaws.{IsLeftNow, IsLeftThrough}
+use Rattle.journal_model.specs.JournaledDisk.{JournaledDisk}
+use Rattle.device_parts.specs.declared.answers.Served.{Served}
+use Rattle.device_parts.specs.declared.condition.Condition.{Condition}
+use Rattle.device_parts.specs.declared.condition.Condition.TheVariants.{Broken, Working}
+use Rattle.device_parts.specs.declared.parts.Parts.{Parts}
+use Rattle.device_parts.specs.Answers.{served_answer}
+use Rattle.device_parts.specs.Device.{HasDone, HasEnded, IsDone, Standing}
+use Rattle.journal_opening.specs.Journal.{PlacedRing}
+use Rattle.journal_device.specs.Device.{IsOverDisk, JournaledStanding, in_journal, kept, kind_on, standing_on, standing_then}
+
+-- The device is the one after an event, over a disk of the same format. At each moment of the call each image can be
+-- opened, and may be left within the event.
+pub record IsAfter (w : JournaledStanding) (event : Model.Event) (condition : Condition) (parts : Parts)
+    (journal : PlacedRing) (before after : List Content) : Type 0 where
+  pub disk : JournaledDisk
+  pub format : disk.format ≡ w.disk.format
+  pub device : IsOverDisk (standing_then w event disk) condition parts journal after
+  pub through : IsLeftThrough (kind_on w.disk.format) w.entry w.format w.state event before after
+
+-- The device answers the event so, and is the one after it.
+pub record IsDoneOver (w : JournaledStanding) (event : Model.Event) (answer : Model.Answer) (condition : Condition)
+    (parts : Parts) (journal : PlacedRing) (before after : List Content) : Type 0 where
+  pub answers : (Model.event_result w.format w.state event).answer ≡ answer
+  pub done : IsAfter w event condition parts journal before after
+
+-- The request is served, and answers so.
+abbrev pub IsServedAs : JournaledStanding → (ticket : ℕ) → Served → Parts → PlacedRing → (before after : List Content)
+    → Type 0
+IsServedAs w ticket served parts journal before after =
+    IsDoneOver w (Model.Serve ticket) (served_answer served) Working parts journal before after
+
+-- The disk failed in it.
+abbrev pub HasFailedIn : JournaledStanding → (ticket : ℕ) → Parts → PlacedRing → (before after : List Content) → Type 0
+HasFailedIn w ticket parts journal before after =
+    IsAfter w (Model.FailedServe ticket) Broken parts journal before after
+
+-- It ends with an event that answers so.
+pub record EndsOver (w : JournaledStanding) (event : Model.Event) (answer : Model.Answer) (before after : List Content)
+    : Type 0 where
+  pub answers : (Model.event_result w.format w.state event).answer ≡ answer
+  pub through : IsLeftThrough (kind_on w.disk.format) w.entry w.format w.state event before after
+  pub left : IsLeftNow (kind_on w.disk.format) w.entry (Model.after_event w.format w.state event).history after
+
+-- ---- for callers
+
+-- What is said over a disk of the device's format is said of the device.
+module _ (w : Standing) (disk : JournaledDisk) (same : disk.format ≡ w.on) (event : Model.Event) where
+  pub done_on : (condition : Condition) (parts : Parts) (journal : PlacedRing) (a b : List Content)
+      → IsAfter (standing_on w disk) event condition parts journal a b
+      → HasDone in_journal w event condition (kept parts journal) a b
+  done_on condition parts journal a b done = record {
+    device = record { disk = done.disk; format = done.format ∙ same; over = done.device };
+    through = subst (λ (f : DiskFormat). IsLeftThrough (kind_on f) w.entry w.format w.state event a b) same done.through;
+  }
+
+  pub is_done_on : (answer : Model.Answer) (condition : Condition) (parts : Parts) (journal : PlacedRing) (a b : List Content)
+      → IsDoneOver (standing_on w disk) event answer condition parts journal a b
+      → IsDone in_journal w event answer condition (kept parts journal) a b
+  is_done_on answer condition parts journal a b done =
+      record { answers = done.answers; done = done_on condition parts journal a b done.done }
+
+  pub ended_on : (answer : Model.Answer) (a b : List Content) → EndsOver (standing_on w disk) event answer a b
+      → HasEnded in_journal w event answer a b
+  ended_on answer a b ended = record {
+    answers = ended.answers;
+    through = subst (λ (f : DiskFormat). IsLeftThrough (kind_on f) w.entry w.format w.state event a b) same ended.through;
+    left = subst (λ (f : DiskFormat). IsLeftNow (kind_on f) w.entry (Model.after_event w.format w.state event).history b) same
+        ended.left;
+  }

@@ -1,5 +1,0 @@
-use Rattle.journal_device.proofs.EventLemmas.{take_law}
-use Rattle.journal_device.proofs.laws.replies_are_taken.Goals as goal
-
-pub returns : goal.returns
-returns c = take_law
