@@ -12,17 +12,17 @@ use Rattle.device_parts.specs.declared.answers.StepFault.{StepFault}
 use Rattle.device_parts.specs.declared.answers.StepFault.TheVariants as Faults
 use Rattle.device_parts.specs.declared.condition.Condition.{Condition}
 use Rattle.device_parts.specs.declared.condition.Condition.TheVariants as Conditions
-use Rattle.device_parts.specs.Answers.{actor_of}
+use Rattle.device_parts.specs.Answers.{actor_of, condition_by}
 use Rattle.request_slots.specs.Flight.{Flight}
 use Rattle.device.specs.declared.mode.DeviceParts.{DeviceParts}
 use Rattle.device.specs.Answers.{WritesInStep}
 use Rattle.device_parts.specs.Answers.{HasStepped}
 use Rattle.device_parts.specs.Device.{Answers, HasDone, KeepsParts}
-use Rattle.device.specs.Device.{IsDevice, any_mode}
+use Rattle.device.specs.Device.{IsDevice, IsReady, any_mode}
 use Rattle.device_parts.specs.Device.{Standing}
 use Rattle.device.proofs.ModeLemmas.{condition_now}
-use Rattle.device.specs.Calls.{Runs}
-use Rattle.device_parts.proofs.ReadyLemmas.{kept_flight}
+use Rattle.device.specs.Calls.{Runs, Works}
+use Rattle.device_parts.proofs.ReadyLemmas.{kept_flight, same_flight}
 use Rattle.device.specs.Run.{HasFailed, HasRun, standing_behind}
 use Rattle.device.proofs.EventWritesLemmas.{step_writes}
 use Rattle.device.proofs.RunLemmas.{failed_then, failed_wider, one_failed, run_none, run_one, run_then}
@@ -45,22 +45,18 @@ device_works w condition parts a works is = subst (λ (x : Condition). IsDevice 
 
 -- ---- one step
 
-module _ (w : Standing) (actor : Actor) (old new : DeviceParts) (condition : Condition) (a b : List Content)
+module _ (w : Standing) (actor : Actor) (old new : DeviceParts) (a b : List Content)
     (is : IsDevice w Conditions.Working old a) (writes : WritesInStep old.mode actor old.common a b) where
-  pub stepped_run : (moved : Moved) → HasStepped any_mode w (actor_of actor) (Ok moved) condition new a b
-      → condition ≡ Conditions.Working → HasRun w (Step (actor_of actor) ∷ []) new a b
-  stepped_run moved has works =
-      run_one w (Step (actor_of actor)) new a b
-      (subst (λ (x : Condition). HasDone any_mode w (Step (actor_of actor)) x new a b) works has.done)
-      (step_writes w old.common a old.mode is actor writes)
+  pub stepped_run : (moved : Moved) → HasStepped any_mode w (actor_of actor) (Ok moved) Conditions.Working new a b
+      → HasRun w (Step (actor_of actor) ∷ []) new a b
+  stepped_run moved has = run_one w (Step (actor_of actor)) new a b has.done (step_writes w old.common a old.mode is actor writes)
 
-  pub stepped_failed : (fault : StepFault) → HasStepped any_mode w (actor_of actor) (Err fault) condition new a b
-      → fault ≡ Faults.Disk → condition ≡ Conditions.Broken → HasFailed w (Step (actor_of actor) ∷ []) new a b
-  stepped_failed fault has disk broken =
+  pub stepped_failed : (fault : StepFault) → HasStepped any_mode w (actor_of actor) (Err fault) Conditions.Broken new a b
+      → fault ≡ Faults.Disk → HasFailed w (Step (actor_of actor) ∷ []) new a b
+  stepped_failed fault has disk =
       one_failed w (Step (actor_of actor)) (FailedStep (actor_of actor)) new a b
       (condition_now w Conditions.Working old.mode old.common a is) refl
-      (subst (λ (x : Condition). HasDone any_mode w (FailedStep (actor_of actor)) x new a b) broken
-      (subst (λ (x : StepFault). HasStepped any_mode w (actor_of actor) (Err x) condition new a b) disk has).done)
+      (subst (λ (x : StepFault). HasStepped any_mode w (actor_of actor) (Err x) Conditions.Broken new a b) disk has).done
       (step_writes w old.common a old.mode is actor writes)
 
 -- ---- steps until an actor is idle
@@ -131,14 +127,45 @@ kept_then first second old mid new disk then_ now b c x y = record {
 }
 
 -- A call in which the disk failed.
-pub runs_failed : {T E : Type 0} (events : Standing → List Event) (old new : DeviceParts) (condition : Condition)
-    (disk now : DiskIdentity) (a b : List Content) (result : Result T E) (fault : E) → result ≡ Err fault
-    → ((w : Standing) → IsDevice w Conditions.Working old a → HasFailed w (events w) new a b)
-    → condition ≡ Conditions.Broken → KeepsParts any_mode condition old new disk now b
-    → Runs events old new condition disk now a b result
-runs_failed {T} {E} events old new condition disk now a b result fault same failed broken keeps =
-    subst (λ (r : Result T E). Runs events old new condition disk now a b r) (sym same)
-    (record { done = tt; err = failed; works = tt; broken = broken; keeps = keeps })
+pub runs_failed : {D T E : Type 0} (identity : D → DiskIdentity) (moments : D → List Content) (events : Standing → List Event)
+    (old new : DeviceParts) (first last : D) (result : Result T E) (fault : E) → result ≡ Err fault
+    → ((w : Standing) → IsDevice w Conditions.Working old (moments first) → HasFailed w (events w) new (moments first) (moments last))
+    → KeepsParts any_mode Conditions.Broken old new (identity first) (identity last) (moments last)
+    → Runs identity moments events old new first last result
+runs_failed {D} {T} {E} identity moments events old new first last result fault same failed keeps =
+    subst (λ (r : Result T E). Runs identity moments events old new first last r) (sym same)
+    (record { done = tt; err = failed; keeps = keeps })
+
+pub turn_broken : {T E : Type 0} (condition : Condition) (result : Result T E) (fault : E) → result ≡ Err fault
+    → condition ≡ Conditions.Broken → condition ≡ condition_by result
+turn_broken {T} {E} condition result fault same broken = broken ∙ ap (λ (r : Result T E). condition_by r) (sym same)
+
+-- What works is ready, and keeps itself;
+pub ready_works : {D : Type 0} (identity : D → DiskIdentity) (moments : D → List Content) (condition : Condition)
+    (parts : DeviceParts) (disk : D) → Works identity moments condition parts disk
+    → IsReady Conditions.Working parts (identity disk) (moments disk)
+ready_works identity moments condition parts disk works =
+    subst (λ (c : Condition). IsReady c parts (identity disk) (moments disk)) works.is works.ready
+
+pub keeps_none : {D : Type 0} (identity : D → DiskIdentity) (moments : D → List Content) (condition : Condition)
+    (parts : DeviceParts) (disk : D) → Works identity moments condition parts disk
+    → KeepsParts any_mode Conditions.Working parts parts (identity disk) (identity disk) (moments disk)
+keeps_none identity moments condition parts disk works = record {
+  ready = ready_works identity moments condition parts disk works;
+  same_mode = refl;
+  flight = same_flight parts.common.slots;
+  identity = refl;
+}
+
+-- and what a call keeps that went well works.
+pub works_then : {D : Type 0} (identity : D → DiskIdentity) (moments : D → List Content) (condition : Condition)
+    (old new : DeviceParts) (was : DiskIdentity) (disk : D) → condition ≡ Conditions.Working
+    → KeepsParts any_mode Conditions.Working old new was (identity disk) (moments disk)
+    → Works identity moments condition new disk
+works_then identity moments condition old new was disk same keeps = record {
+  ready = subst (λ (c : Condition). IsReady c new (identity disk) (moments disk)) (sym same) keeps.ready;
+  is = same;
+}
 
 -- ---- room is made
 
@@ -178,25 +205,22 @@ module _ (w : Standing) where
       run_then w commits (places ++ settles) p r a b d first (run_then committed places settles q r b c d second third)
 
 -- A call behind others, whatever it answers.
-pub runs_behind : {T E : Type 0} (events whole : Standing → List Event) (at : Standing → Standing)
-    (old mid new : DeviceParts) (condition : Condition) (disk then_ now : DiskIdentity) (a m b : List Content)
-    (result : Result T E)
-    → ((w : Standing) → IsDevice w Conditions.Working old a → IsDevice (at w) Conditions.Working mid m)
-    → ((w : Standing) → IsDevice w Conditions.Working old a → HasRun (at w) (events (at w)) new m b → HasRun w (whole w) new a b)
-    → ((w : Standing) → IsDevice w Conditions.Working old a → HasFailed (at w) (events (at w)) new m b → HasFailed w (whole w) new a b)
-    → KeepsParts any_mode condition old new disk now b → Runs events mid new condition then_ now m b result
-    → Runs whole old new condition disk now a b result
-runs_behind events whole at old mid new condition disk then_ now a m b (Ok x) moved done failed keeps runs = record {
+pub runs_behind : {D T E : Type 0} (identity : D → DiskIdentity) (moments : D → List Content) (events whole : Standing → List Event)
+    (at : Standing → Standing) (old mid new : DeviceParts) (first middle last : D) (result : Result T E)
+    → ((w : Standing) → IsDevice w Conditions.Working old (moments first) → IsDevice (at w) Conditions.Working mid (moments middle))
+    → ((w : Standing) → IsDevice w Conditions.Working old (moments first)
+    → HasRun (at w) (events (at w)) new (moments middle) (moments last) → HasRun w (whole w) new (moments first) (moments last))
+    → ((w : Standing) → IsDevice w Conditions.Working old (moments first)
+    → HasFailed (at w) (events (at w)) new (moments middle) (moments last) → HasFailed w (whole w) new (moments first) (moments last))
+    → KeepsParts any_mode Conditions.Working old mid (identity first) (identity middle) (moments middle)
+    → Runs identity moments events mid new middle last result → Runs identity moments whole old new first last result
+runs_behind identity moments events whole at old mid new first middle last (Ok x) moved done failed keeps runs = record {
   done = λ w is. done w is (runs.done (at w) (moved w is));
   err = tt;
-  works = runs.works;
-  broken = tt;
-  keeps = keeps;
+  keeps = kept_then _ _ old mid new _ _ _ _ _ keeps runs.keeps;
 }
-runs_behind events whole at old mid new condition disk then_ now a m b (Err fault) moved done failed keeps runs = record {
+runs_behind identity moments events whole at old mid new first middle last (Err fault) moved done failed keeps runs = record {
   done = tt;
   err = λ w is. failed w is (runs.err (at w) (moved w is));
-  works = tt;
-  broken = runs.broken;
-  keeps = keeps;
+  keeps = kept_then _ _ old mid new _ _ _ _ _ keeps runs.keeps;
 }

@@ -46,9 +46,8 @@ module _ (w : Standing) (parts new : DeviceParts) (condition : Condition) (works
 
   pub done_working : {T E : Type 0} (event failed : Model.Event) (answer : T → Model.Answer) (told : T)
       → Does {E = E} any_mode event failed answer parts new a b (Ok told)
-      → IsDone any_mode w event (answer told) condition new a b
-  done_working event failed answer told does =
-      subst (λ (c : Condition). IsDone any_mode w event (answer told) c new a b) (sym works) (does.done w works_now)
+      → IsDone any_mode w event (answer told) Working new a b
+  done_working event failed answer told does = does.done w works_now
 
   pub done_failed : {T E : Type 0} (event failed : Model.Event) (answer : T → Model.Answer) (fault : E)
       → (Model.working_result w.format w.state failed).answer ≡ Model.DiskFailed

@@ -182,18 +182,15 @@ module _ (w : Standing) (condition : Condition) (parts : DeviceParts) (a : List 
 
 -- ---- for callers
 
--- What is given for a device of any condition is given whatever that is.
+-- What is given for each device is given whichever it is.
 pub serial_each : (parts : DeviceParts) (ticket : ℕ) → is_in_flight ticket parts.common.slots ≡ true → (result : Result Reply ℕ)
-    → result ≡ taken_by ticket (slot_of ticket parts.common.slots)
-    → IfOk result (λ reply. (w : Standing) (condition : Condition) (moments : List Content)
-    → IsDevice w condition parts moments → IsSerial w ticket reply)
-serial_each parts ticket there result same =
-    by result (λ w condition moments is.
+    → result ≡ taken_by ticket (slot_of ticket parts.common.slots) → (condition : Condition) (moments : List Content)
+    → IfOk result (λ reply. (w : Standing) → IsDevice w condition parts moments → IsSerial w ticket reply)
+serial_each parts ticket there result same condition moments =
+    by result (λ w is.
     subst (λ (r : Result Reply ℕ). IfOk r (IsSerial w ticket)) (sym same) (is_taken w condition parts moments is ticket there).1)
   where
-    by : (r : Result Reply ℕ)
-        → ((w : Standing) (condition : Condition) (moments : List Content) → IsDevice w condition parts moments → IfOk r (IsSerial w ticket))
-        → IfOk r (λ reply. (w : Standing) (condition : Condition) (moments : List Content)
-        → IsDevice w condition parts moments → IsSerial w ticket reply)
+    by : (r : Result Reply ℕ) → ((w : Standing) → IsDevice w condition parts moments → IfOk r (IsSerial w ticket))
+        → IfOk r (λ reply. (w : Standing) → IsDevice w condition parts moments → IsSerial w ticket reply)
     by (Ok reply) serial = serial
     by (Err back) serial = tt

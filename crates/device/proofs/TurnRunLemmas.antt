@@ -29,23 +29,19 @@ use Rattle.device.proofs.RunLemmas.{failed_then, failed_wider, one_failed, run_n
 
 -- ---- one serve
 
-module _ (w : Standing) (ticket : ℕ) (old new : DeviceParts) (condition : Condition) (a b : List Content)
+module _ (w : Standing) (ticket : ℕ) (old new : DeviceParts) (a b : List Content)
     (is : IsDevice w Conditions.Working old a) (there : is_in_flight ticket old.common.slots ≡ true)
     (writes : WritesInServe old.mode ticket old.common new.common a b) where
-  pub served_run : (served : Served) → HasServed any_mode w ticket (Ok served) condition new a b
-      → condition ≡ Conditions.Working → HasRun w (Serve ticket ∷ []) new a b
-  served_run served has works =
-      run_one w (Serve ticket) new a b
-      (subst (λ (x : Condition). HasDone any_mode w (Serve ticket) x new a b) works has.done)
-      (serve_writes w old.common a old.mode is ticket there new.common writes)
+  pub served_run : (served : Served) → HasServed any_mode w ticket (Ok served) Conditions.Working new a b
+      → HasRun w (Serve ticket ∷ []) new a b
+  served_run served has = run_one w (Serve ticket) new a b has.done (serve_writes w old.common a old.mode is ticket there new.common writes)
 
-  pub served_failed : (fault : StepFault) → HasServed any_mode w ticket (Err fault) condition new a b
-      → fault ≡ Faults.Disk → condition ≡ Conditions.Broken → HasFailed w (Serve ticket ∷ []) new a b
-  served_failed fault has disk broken =
+  pub served_failed : (fault : StepFault) → HasServed any_mode w ticket (Err fault) Conditions.Broken new a b
+      → fault ≡ Faults.Disk → HasFailed w (Serve ticket ∷ []) new a b
+  served_failed fault has disk =
       one_failed w (Serve ticket) (FailedServe ticket) new a b
       (condition_now w Conditions.Working old.mode old.common a is) refl
-      (subst (λ (x : Condition). HasDone any_mode w (FailedServe ticket) x new a b) broken
-      (subst (λ (x : StepFault). HasServed any_mode w ticket (Err x) condition new a b) disk has).done)
+      (subst (λ (x : StepFault). HasServed any_mode w ticket (Err x) Conditions.Broken new a b) disk has).done
       (serve_writes w old.common a old.mode is ticket there new.common writes)
 
 -- ---- a turn

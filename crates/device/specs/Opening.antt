@@ -13,8 +13,9 @@ use Rattle.image_judging.specs.declared.opening_fault.OpeningFault.TheVariants a
 use Rattle.image_judging.specs.Faults.{ByFormat, fault_in, fault_of}
 use Rattle.journal_device.specs.JournalOpeningOpening.{IsOfOpening, KeepsRefused, OnlySyncs}
 use Rattle.direct_opening.specs.Opening.{WritesEmptying}
-use Rattle.device_parts.specs.Device.{CanOpenRead}
+use Rattle.device_parts.specs.Device.{CanOpenRead, HasOpened}
 use Rattle.device.specs.declared.mode.DeviceParts.{DeviceParts}
+use Rattle.device.specs.Device.{any_mode}
 use Rattle.device.specs.declared.opening.OpenMode.{OpenMode}
 use Rattle.device.specs.declared.opening.OpenMode.TheVariants.{Direct, Journal}
 
@@ -22,6 +23,10 @@ use Rattle.device.specs.declared.opening.OpenMode.TheVariants.{Direct, Journal}
 abbrev pub asked_mode : OpenMode → Model.Mode
 asked_mode Direct = Model.Direct
 asked_mode Journal = Model.Journal
+
+-- The device is open in that mode on the image that reads gave, which is one that can be opened. No request is in flight.
+abbrev pub HasOpenedIn : OpenMode → Option (List ℕ) → DiskIdentity → DeviceParts → (before after : List Content) → Type 0
+HasOpenedIn mode key disk parts before after = HasOpened any_mode (asked_mode mode) key disk parts before after
 
 -- In direct mode nothing is pending once it is open.
 abbrev pub IsSettledIn : OpenMode → List Content → Type 0

@@ -6,6 +6,9 @@ use Rattle.device_model.specs.Device.{DeviceKind}
 use Rattle.device_model.specs.History.{Change, History, with_changes}
 use Rattle.device_model.specs.Progress.{Event, Submit, Serve, Step, Take, Close, FailedServe, FailedStep, FailedClose, after_events, changes_of}
 use Rattle.device_parts.specs.declared.condition.Condition.TheVariants as Conditions
+use Rattle.device_model.specs.Script.{idle_events, room_events, turn_events, whole_finish}
+use Rattle.device_parts.specs.declared.answers.Actor.{Actor}
+use Rattle.device_parts.specs.Answers.{actor_of}
 use Rattle.device.specs.declared.mode.DeviceParts.{DeviceParts}
 use Rattle.device_parts.specs.Device.{Standing}
 use Rattle.device.specs.Device.{IsDevice, kind_of}
@@ -21,6 +24,32 @@ pub record IsLeftWithin (kind : DeviceKind) (entry : Image) (h : History) (chang
 -- The same device after some events.
 abbrev pub standing_behind : Standing → List Event → Standing
 standing_behind w events = record w { state = after_events w.format w.state events }
+
+-- ---- which events
+
+abbrev pub one_serve : ℕ → Standing → List Event
+one_serve ticket w = Serve ticket ∷ []
+
+-- A serve with room made for it, where the journal is full,
+abbrev pub one_turn : ℕ → Standing → List Event
+one_turn ticket w = turn_events w.format ticket w.state
+
+-- and as long as that goes on.
+abbrev pub all_turns : ℕ → Standing → List Event
+all_turns ticket w = whole_finish w.format ticket w.state
+
+abbrev pub one_step : Actor → Standing → List Event
+one_step actor w = Step (actor_of actor) ∷ []
+
+-- Steps of an actor until it is idle,
+abbrev pub all_steps : Actor → Standing → List Event
+all_steps actor w = idle_events w.format (actor_of actor) w.state
+
+-- and those that make room.
+abbrev pub room_steps : Standing → List Event
+room_steps w = room_events w.format w.state
+
+-- ---- what a run of them leaves
 
 -- At each moment some of the first changes of these events are made.
 abbrev pub IsLeftSince : Standing → List Event → (before after : List Content) → Type 0

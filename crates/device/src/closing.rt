@@ -1,12 +1,12 @@
 //! The end of a device, in its mode.
-ghost use Rattle.std.specs.Prelude.{◌≡◌, ◌↔◌, Err, OnOk};
+ghost use Rattle.std.specs.Prelude.{◌≡◌, ◌↔◌, Err};
 ghost use Rattle.disk_model.specs.Causes.{HasCause};
-ghost use Rattle.device_model.specs.Progress.{Close, FailedClose, IsClosed};
-ghost use Rattle.device_parts.specs.Answers.{HasStepCause, answer_by, event_by};
-ghost use Rattle.device_parts.specs.Device.{Ends, HasEnded, Standing};
+ghost use Rattle.device_parts.specs.Answers.{HasStepCause};
+ghost use Rattle.device_parts.specs.Device.{Ends};
 ghost use Rattle.device_parts.specs.declared.condition.Condition.TheVariants.{Working};
-ghost use Rattle.device.specs.Answers.{IsAllPlaced, WritesInClose};
-ghost use Rattle.device.specs.Device.{IsDevice, IsReady, any_mode};
+ghost use Rattle.device.specs.Answers.{WritesInClose};
+ghost use Rattle.device.specs.Calls.{Closes, PlacesAll, WritesClosing};
+ghost use Rattle.device.specs.Device.{IsReady, any_mode};
 
 use crate::{DeviceParts, Mode};
 use device_parts::{Condition, StepFault};
@@ -26,11 +26,8 @@ pub(crate) fn close<D: Disk>(
 ) -> Result<(), StepFault>
     requires { IsReady condition parts (D.identity disk.old) (D.moments disk.old) }
 
-    ensures closed { (w : Standing) → IsDevice w condition parts.entry (D.moments disk.old)
-        → HasEnded any_mode w (event_by Close FailedClose result) (answer_by (λ done. IsClosed) result)
-        (D.moments disk.old) (D.moments disk.new) }
-    ensures placed { OnOk result ((w : Standing) → IsDevice w condition parts.entry (D.moments disk.old)
-        → IsAllPlaced parts.entry.mode w (D.moments disk.new)) }
+    ensures closed { Closes result condition parts.entry (D.moments disk.old) (D.moments disk.new) }
+    ensures placed { PlacesAll result condition parts.entry (D.moments disk.old) (D.moments disk.new) }
 
     ensures cause { HasStepCause (D.faults disk.old) (D.faults disk.new) result }
     ensures broken { (condition ≡ Condition.Broken) ↔ (result ≡ Err StepFault.Broken) }
@@ -38,8 +35,7 @@ pub(crate) fn close<D: Disk>(
     ensures identity { D.identity disk.new ≡ D.identity disk.old }
     ensures kept { condition ≡ Condition.Broken → disk.new ≡ disk.old }
 
-    ensures writes { condition ≡ Condition.Working → WritesInClose parts.entry.mode parts.entry.common
-        (D.moments disk.old) (D.moments disk.new) }
+    ensures writes { WritesClosing condition parts.entry (D.moments disk.old) (D.moments disk.new) }
 {
     match condition {
         Condition::Broken => {
@@ -62,8 +58,7 @@ fn close_in_mode<D: Disk>(disk: &mut D, parts: DeviceParts<'_>) -> Result<(), Fa
     requires { IsReady Working parts (D.identity disk.old) (D.moments disk.old) }
 
     ensures ends { Ends any_mode parts.entry (D.moments disk.old) (D.moments disk.new) result }
-    ensures placed { OnOk result ((w : Standing) → IsDevice w Working parts.entry (D.moments disk.old)
-        → IsAllPlaced parts.entry.mode w (D.moments disk.new)) }
+    ensures placed { PlacesAll result Working parts.entry (D.moments disk.old) (D.moments disk.new) }
 
     ensures cause { HasCause (D.faults disk.old) (D.faults disk.new) result }
 

@@ -1,19 +1,16 @@
 //! The device.
-ghost use Rattle.std.specs.Prelude.{◌≡◌, ◌↔◌, ◌+◌, ◌<◌, ◌^◌, Err, IfErr, IfOk, IsTrue, Ok, OnOk, suc, true};
+ghost use Rattle.std.specs.Prelude.{◌≡◌, ◌↔◌, ◌+◌, ◌<◌, ◌^◌, Err, IfErr, IfOk, IsTrue, Ok, true};
 ghost use Rattle.disk_model.specs.Identity.{IsBound};
-ghost use Rattle.device_model.specs.Progress.{Close, FailedClose, IsClosed};
 ghost use Rattle.hmac_tag.specs.TagMaker.{key_of};
 ghost use Rattle.request_slots.specs.Flight.{is_in_flight, slot_of};
-ghost use Rattle.request_slots.specs.Submitting.{after_submit};
-ghost use Rattle.request_slots.specs.Submitting as Submitting;
 ghost use Rattle.request_slots.specs.Taking.{after_take, taken_by};
-ghost use Rattle.device_parts.specs.Answers.{HasServed, HasStepCause, HasStepped, HasSubmitted, HasTaken, IsSerial, TurnsBroken};
-ghost use Rattle.device_parts.specs.Answers.{actor_of, answer_by, event_by, submit_fault, turns_left};
-ghost use Rattle.device_parts.specs.Device.{HasEnded, HasOpened, KeepsParts, Standing};
+ghost use Rattle.device_parts.specs.Answers.{HasStepCause, TurnsBroken, actor_of, after_submission, submit_result};
 ghost use Rattle.device_parts.specs.declared.answers.Served.TheVariants.{Did, NoRoom};
-ghost use Rattle.device.specs.Answers.{HasNoWork, IsAllPlaced, WritesInClose, WritesInServe, WritesInStep, steps_left};
-ghost use Rattle.device.specs.Device.{IsDevice, IsReady, any_mode, mode_of, with_slots};
-ghost use Rattle.device.specs.Opening.{HasRefusalCause, IsRefused, IsSettledIn, LeavesOpening, asked_mode};
+ghost use Rattle.device.specs.Answers.{HasNoWork, steps_left};
+ghost use Rattle.device.specs.Calls.{Closes, GivesSerial, HasFewerTurns, Keeps, PlacesAll, Serves, StaysReady, Steps};
+ghost use Rattle.device.specs.Calls.{Submits, Takes, WritesClosing, WritesServing, WritesStepping};
+ghost use Rattle.device.specs.Device.{IsReady, mode_of, with_slots};
+ghost use Rattle.device.specs.Opening.{HasOpenedIn, HasRefusalCause, IsRefused, IsSettledIn, LeavesOpening};
 
 use crate::{DeviceParts, OpenMode, Refused, closing, opening, serving, stepping, submitting};
 use device_parts::{Actor, Condition, Moved, Served, StepFault};
@@ -57,7 +54,7 @@ impl<'d, 'p, D: Disk> Device<'d, 'p, D> {
     ) -> Result<Device<'d, 'p, D>, Refused<'d, D>>
         requires { IsBound (D.identity disk.old).name }
 
-        ensures opened { IfOk result (λ d. HasOpened any_mode (asked_mode mode) (key_of hash) (D.identity disk.old) d.parts
+        ensures opened { IfOk result (λ d. HasOpenedIn mode (key_of hash) (D.identity disk.old) d.parts
             (D.moments disk.old) (D.moments d.disk.now)) }
         ensures settled { IfOk result (λ d. IsSettledIn mode (D.moments d.disk.now)) }
         ensures works { IfOk result (λ d. d.condition ≡ Condition.Working) }
@@ -70,7 +67,7 @@ impl<'d, 'p, D: Disk> Device<'d, 'p, D> {
             HasRefusalCause (D.faults disk.old) (D.faults r.disk.now) r.fault) }
         ensures refused { IfErr result (λ r. IsRefused (key_of hash) (D.identity disk.old) r.fault
             (D.moments disk.old) (D.moments r.disk.now)) }
-        ensures leaves_back { IfErr result (λ r. LeavesOpening mode (key_of hash) (D.identity disk.old)
+        ensures err { IfErr result (λ r. LeavesOpening mode (key_of hash) (D.identity disk.old)
             (D.identity r.disk.now) (D.moments disk.old) (D.moments r.disk.now)) }
         ensures same_disk_back { IfErr result (λ r. r.disk.ghost_name ≡ disk.entry.ghost_name) }
     {
@@ -125,21 +122,14 @@ impl<'d, 'p, D: Disk> Device<'d, 'p, D> {
     pub fn submit(&mut self, request: Request) -> Result<Ticket, (Request, SubmitFault)>
         requires { self.old.parts.common.slots.submitted + 1 < 2 ^ 64 }
 
-        ensures answer { result ≡
-            Submitting.answer_by (submit_fault self.old.condition self.old.parts.common.slots request)
-            (suc self.old.parts.common.slots.submitted) request }
-        ensures submitted { self.new.parts ≡ with_slots self.old.parts (after_submit
-            (submit_fault self.old.condition self.old.parts.common.slots request) request
-            self.old.parts.common.slots) }
-        ensures done { (w : Standing)
-            → IsDevice w self.old.condition self.old.parts (D.moments self.old.disk.now)
-            → HasSubmitted any_mode w request self.new.condition self.old.parts self.new.parts
-            (D.moments self.new.disk.now) }
+        ensures answer { result ≡ submit_result self.old.condition self.old.parts.common.slots request }
+        ensures submitted { self.new.parts
+            ≡ with_slots self.old.parts (after_submission self.old.condition request self.old.parts.common.slots) }
+        ensures done { Submits request self.old.condition self.old.parts self.new.parts
+            (D.moments self.old.disk.now) (D.moments self.new.disk.now) }
 
-        ensures ready { IsReady self.old.condition self.old.parts
-            (D.identity self.old.disk.now) (D.moments self.old.disk.now)
-            → IsReady self.new.condition self.new.parts
-            (D.identity self.new.disk.now) (D.moments self.new.disk.now) }
+        ensures ready { StaysReady D.identity D.moments self.old.condition self.old.parts self.new.parts
+            self.old.disk.now self.new.disk.now }
         ensures condition { self.new.condition ≡ self.old.condition }
         ensures disk { self.new.disk.now ≡ self.old.disk.now }
         ensures same_disk { self.new.disk.ghost_name ≡ self.old.disk.ghost_name }
@@ -160,12 +150,9 @@ impl<'d, 'p, D: Disk> Device<'d, 'p, D> {
             (D.identity self.old.disk.now) (D.moments self.old.disk.now) }
         requires there { is_in_flight ticket.now self.old.parts.common.slots ≡ true }
 
-        ensures served { (w : Standing)
-            → IsDevice w self.old.condition self.old.parts (D.moments self.old.disk.now)
-            → HasServed any_mode w ticket.now result self.new.condition self.new.parts
+        ensures served { Serves ticket.now result self.old.condition self.old.parts self.new.parts
             (D.moments self.old.disk.now) (D.moments self.new.disk.now) }
-        ensures goes_on { result ≡ Ok Did → turns_left ticket.now self.new.parts.common.slots
-            < turns_left ticket.now self.old.parts.common.slots }
+        ensures goes_on { result ≡ Ok Did → HasFewerTurns ticket.now self.old.parts self.new.parts }
         ensures no_room { result ≡ Ok NoRoom → (self.new.parts ≡ self.old.parts)
             × (D.moments self.new.disk.now ≡ D.moments self.old.disk.now) }
 
@@ -173,10 +160,9 @@ impl<'d, 'p, D: Disk> Device<'d, 'p, D> {
         ensures condition { TurnsBroken self.old.condition self.new.condition result
             self.old.disk.now self.new.disk.now }
 
-        ensures keeps { KeepsParts any_mode self.new.condition self.old.parts self.new.parts
+        ensures keeps { Keeps result self.old.parts self.new.parts
             (D.identity self.old.disk.now) (D.identity self.new.disk.now) (D.moments self.new.disk.now) }
-        ensures writes { self.old.condition ≡ Condition.Working
-            → WritesInServe self.old.parts.mode ticket.now self.old.parts.common self.new.parts.common
+        ensures writes { WritesServing self.old.condition ticket.now self.old.parts self.new.parts
             (D.moments self.old.disk.now) (D.moments self.new.disk.now) }
         ensures same_disk { self.new.disk.ghost_name ≡ self.old.disk.ghost_name }
     {
@@ -194,17 +180,12 @@ impl<'d, 'p, D: Disk> Device<'d, 'p, D> {
         ensures reply { result ≡ taken_by ticket (slot_of ticket self.old.parts.common.slots) }
         ensures taken { self.new.parts ≡ with_slots self.old.parts (after_take ticket
             (slot_of ticket self.old.parts.common.slots) self.old.parts.common.slots) }
-        ensures done { (w : Standing)
-            → IsDevice w self.old.condition self.old.parts (D.moments self.old.disk.now)
-            → HasTaken any_mode w ticket result self.new.condition self.new.parts (D.moments self.new.disk.now) }
-        ensures serial { IfOk result (λ reply. (w : Standing)
-            → IsDevice w self.old.condition self.old.parts (D.moments self.old.disk.now)
-            → IsSerial w ticket reply) }
+        ensures done { Takes ticket result self.old.condition self.old.parts self.new.parts
+            (D.moments self.old.disk.now) (D.moments self.new.disk.now) }
+        ensures serial { GivesSerial ticket self.old.condition self.old.parts (D.moments self.old.disk.now) result }
 
-        ensures ready { IsReady self.old.condition self.old.parts
-            (D.identity self.old.disk.now) (D.moments self.old.disk.now)
-            → IsReady self.new.condition self.new.parts
-            (D.identity self.new.disk.now) (D.moments self.new.disk.now) }
+        ensures ready { StaysReady D.identity D.moments self.old.condition self.old.parts self.new.parts
+            self.old.disk.now self.new.disk.now }
         ensures condition { self.new.condition ≡ self.old.condition }
         ensures disk { self.new.disk.now ≡ self.old.disk.now }
         ensures same_disk { self.new.disk.ghost_name ≡ self.old.disk.ghost_name }
@@ -224,9 +205,7 @@ impl<'d, 'p, D: Disk> Device<'d, 'p, D> {
         requires { IsReady self.old.condition self.old.parts
             (D.identity self.old.disk.now) (D.moments self.old.disk.now) }
 
-        ensures stepped { (w : Standing)
-            → IsDevice w self.old.condition self.old.parts (D.moments self.old.disk.now)
-            → HasStepped any_mode w (actor_of actor) result self.new.condition self.new.parts
+        ensures stepped { Steps actor result self.old.condition self.old.parts self.new.parts
             (D.moments self.old.disk.now) (D.moments self.new.disk.now) }
         ensures goes_on { result ≡ Ok Moved.Did
             → steps_left actor self.new.parts.mode < steps_left actor self.old.parts.mode }
@@ -235,13 +214,12 @@ impl<'d, 'p, D: Disk> Device<'d, 'p, D> {
         ensures condition { TurnsBroken self.old.condition self.new.condition result
             self.old.disk.now self.new.disk.now }
 
-        ensures keeps { KeepsParts any_mode self.new.condition self.old.parts self.new.parts
+        ensures keeps { Keeps result self.old.parts self.new.parts
             (D.identity self.old.disk.now) (D.identity self.new.disk.now) (D.moments self.new.disk.now) }
         ensures slots { self.new.parts.common.slots ≡ self.old.parts.common.slots }
         ensures idle { result ≡ Ok Moved.Idle
             → (self.new.parts ≡ self.old.parts) × (self.new.disk.now ≡ self.old.disk.now) }
-        ensures writes { self.old.condition ≡ Condition.Working
-            → WritesInStep self.old.parts.mode actor self.old.parts.common
+        ensures writes { WritesStepping self.old.condition actor self.old.parts
             (D.moments self.old.disk.now) (D.moments self.new.disk.now) }
         ensures quiet { HasNoWork (mode_of self.old.parts.mode) (actor_of actor)
             → self.new.disk.now ≡ self.old.disk.now }
@@ -260,13 +238,10 @@ impl<'d, 'p, D: Disk> Device<'d, 'p, D> {
     pub fn close(self) -> (Result<(), StepFault>, &'d mut D)
         requires { IsReady self.condition self.parts (D.identity self.disk.now) (D.moments self.disk.now) }
 
-        ensures closed { (w : Standing)
-            → IsDevice w self.entry.condition self.entry.parts (D.moments self.entry.disk.now)
-            → HasEnded any_mode w (event_by Close FailedClose result.0) (answer_by (λ done. IsClosed) result.0)
+        ensures closed { Closes result.0 self.entry.condition self.entry.parts
             (D.moments self.entry.disk.now) (D.moments result.1.now) }
-        ensures placed { OnOk result.0 ((w : Standing)
-            → IsDevice w self.entry.condition self.entry.parts (D.moments self.entry.disk.now)
-            → IsAllPlaced self.entry.parts.mode w (D.moments result.1.now)) }
+        ensures placed { PlacesAll result.0 self.entry.condition self.entry.parts
+            (D.moments self.entry.disk.now) (D.moments result.1.now) }
 
         ensures cause { HasStepCause (D.faults self.entry.disk.now) (D.faults result.1.now) result.0 }
         ensures broken { (self.entry.condition ≡ Condition.Broken) ↔ (result.0 ≡ Err StepFault.Broken) }
@@ -275,8 +250,7 @@ impl<'d, 'p, D: Disk> Device<'d, 'p, D> {
         ensures kept { self.entry.condition ≡ Condition.Broken → result.1.now ≡ self.entry.disk.now }
         ensures same_disk { result.1.ghost_name ≡ self.entry.disk.ghost_name }
 
-        ensures writes { self.entry.condition ≡ Condition.Working
-            → WritesInClose self.entry.parts.mode self.entry.parts.common
+        ensures writes { WritesClosing self.entry.condition self.entry.parts
             (D.moments self.entry.disk.now) (D.moments result.1.now) }
     {
         let Device {

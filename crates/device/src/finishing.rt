@@ -1,15 +1,11 @@
 //! Serving a request: once, with room made for it, and to its end.
-ghost use Rattle.std.specs.Prelude.{◌≡◌, ◌<◌, ◌∷◌, [], IfOk, Some, true};
+ghost use Rattle.std.specs.Prelude.{◌≡◌, IfOk, true};
 ghost use Rattle.disk_model.specs.Causes.{HasCause};
-ghost use Rattle.device_parts.specs.declared.condition.Condition.TheVariants.{Working};
-ghost use Rattle.device_parts.specs.Answers.{turns_left};
-ghost use Rattle.device_model.specs.Progress.{Serve, answers};
-ghost use Rattle.device_model.specs.Script.{last_answer, turn_events, whole_finish};
+ghost use Rattle.device_model.specs.Progress.{Serve};
 ghost use Rattle.request_slots.specs.Flight.{is_in_flight};
-ghost use Rattle.device_parts.specs.Answers.{served_answer};
-ghost use Rattle.device_parts.specs.Device.{Answers, Standing};
-ghost use Rattle.device.specs.Device.{IsDevice, IsReady};
-ghost use Rattle.device.specs.Calls.{Runs};
+ghost use Rattle.device_parts.specs.Answers.{condition_by, served_answer};
+ghost use Rattle.device.specs.Calls.{AnswersEvent, AnswersLast, HasFewerTurns, Runs, Works};
+ghost use Rattle.device.specs.Run.{all_turns, one_serve, one_turn};
 
 use crate::{Device, make_room};
 use device_parts::Served;
@@ -25,19 +21,16 @@ pub fn serve<'d, 'p, D: Disk>(
     device: &mut Device<'d, 'p, D>,
     ticket: &Ticket,
 ) -> Result<Served, Failed>
-    requires ready { IsReady device.old.condition device.old.parts
-        (D.identity device.old.disk.now) (D.moments device.old.disk.now) }
-    requires works { device.old.condition ≡ Working }
+    requires works { Works D.identity D.moments device.old.condition device.old.parts device.old.disk.now }
     requires there { is_in_flight ticket.now device.old.parts.common.slots ≡ true }
 
-    ensures runs { Runs (λ w. Serve ticket.now ∷ []) device.old.parts device.new.parts device.new.condition
-        (D.identity device.old.disk.now) (D.identity device.new.disk.now)
-        (D.moments device.old.disk.now) (D.moments device.new.disk.now) result }
-    ensures answers { IfOk result (λ served. (w : Standing)
-        → IsDevice w Working device.old.parts (D.moments device.old.disk.now)
-        → Answers w (Serve ticket.now) (served_answer served)) }
+    ensures runs { Runs D.identity D.moments (one_serve ticket.now) device.old.parts device.new.parts
+        device.old.disk.now device.new.disk.now result }
+    ensures turn { device.new.condition ≡ condition_by result }
+    ensures answers { AnswersEvent (Serve ticket.now) served_answer device.old.parts
+        (D.moments device.old.disk.now) result }
     ensures goes_on { IfOk result (λ served. served ≡ Served.Did
-        → turns_left ticket.now device.new.parts.common.slots < turns_left ticket.now device.old.parts.common.slots) }
+        → HasFewerTurns ticket.now device.old.parts device.new.parts) }
     ensures no_room { IfOk result (λ served. served ≡ Served.NoRoom → device.new.parts ≡ device.old.parts) }
 
     ensures cause { HasCause (D.faults device.old.disk.now) (D.faults device.new.disk.now) result }
@@ -58,20 +51,16 @@ pub fn serve_with_room<'d, 'p, D: Disk>(
     device: &mut Device<'d, 'p, D>,
     ticket: &Ticket,
 ) -> Result<Served, Failed>
-    requires ready { IsReady device.old.condition device.old.parts
-        (D.identity device.old.disk.now) (D.moments device.old.disk.now) }
-    requires works { device.old.condition ≡ Working }
+    requires works { Works D.identity D.moments device.old.condition device.old.parts device.old.disk.now }
     requires there { is_in_flight ticket.now device.old.parts.common.slots ≡ true }
 
-    ensures runs { Runs (λ w. turn_events w.format ticket.now w.state) device.old.parts device.new.parts
-        device.new.condition (D.identity device.old.disk.now) (D.identity device.new.disk.now)
-        (D.moments device.old.disk.now) (D.moments device.new.disk.now) result }
-    ensures answers { IfOk result (λ served. (w : Standing)
-        → IsDevice w Working device.old.parts (D.moments device.old.disk.now)
-        → last_answer (answers w.format w.state (turn_events w.format ticket.now w.state))
-        ≡ Some (served_answer served)) }
+    ensures runs { Runs D.identity D.moments (one_turn ticket.now) device.old.parts device.new.parts
+        device.old.disk.now device.new.disk.now result }
+    ensures turn { device.new.condition ≡ condition_by result }
+    ensures answers { AnswersLast (one_turn ticket.now) served_answer device.old.parts
+        (D.moments device.old.disk.now) result }
     ensures goes_on { IfOk result (λ served. served ≡ Served.Did
-        → turns_left ticket.now device.new.parts.common.slots < turns_left ticket.now device.old.parts.common.slots) }
+        → HasFewerTurns ticket.now device.old.parts device.new.parts) }
 
     ensures cause { HasCause (D.faults device.old.disk.now) (D.faults device.new.disk.now) result }
     ensures same_disk { device.new.disk.ghost_name ≡ device.old.disk.ghost_name }
@@ -94,14 +83,12 @@ pub fn finish<'d, 'p, D: Disk>(
     device: &mut Device<'d, 'p, D>,
     ticket: &Ticket,
 ) -> Result<(), Failed>
-    requires ready { IsReady device.old.condition device.old.parts
-        (D.identity device.old.disk.now) (D.moments device.old.disk.now) }
-    requires works { device.old.condition ≡ Working }
+    requires works { Works D.identity D.moments device.old.condition device.old.parts device.old.disk.now }
     requires there { is_in_flight ticket.now device.old.parts.common.slots ≡ true }
 
-    ensures runs { Runs (λ w. whole_finish w.format ticket.now w.state) device.old.parts device.new.parts
-        device.new.condition (D.identity device.old.disk.now) (D.identity device.new.disk.now)
-        (D.moments device.old.disk.now) (D.moments device.new.disk.now) result }
+    ensures runs { Runs D.identity D.moments (all_turns ticket.now) device.old.parts device.new.parts
+        device.old.disk.now device.new.disk.now result }
+    ensures turn { device.new.condition ≡ condition_by result }
 
     ensures cause { HasCause (D.faults device.old.disk.now) (D.faults device.new.disk.now) result }
     ensures same_disk { device.new.disk.ghost_name ≡ device.old.disk.ghost_name }

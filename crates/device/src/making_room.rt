@@ -1,14 +1,13 @@
 //! Steps of the actors of a device: one, as many as there are, and those that make room in its journal.
-ghost use Rattle.std.specs.Prelude.{◌≡◌, ◌<◌, ◌∷◌, [], IfOk};
+ghost use Rattle.std.specs.Prelude.{◌≡◌, ◌<◌, IfOk};
 ghost use Rattle.disk_model.specs.Causes.{HasCause};
-ghost use Rattle.device_parts.specs.declared.condition.Condition.TheVariants.{Working};
-ghost use Rattle.device_parts.specs.Answers.{actor_of, moved_answer};
 ghost use Rattle.device_model.specs.Progress.{Step};
-ghost use Rattle.device_model.specs.Script.{IsOfJournal, idle_events, room_events};
-ghost use Rattle.device_parts.specs.Device.{Answers, Standing};
+ghost use Rattle.device_model.specs.Script.{IsOfJournal};
+ghost use Rattle.device_parts.specs.Answers.{actor_of, condition_by, moved_answer};
 ghost use Rattle.device.specs.Answers.{HasNoWork, steps_left};
-ghost use Rattle.device.specs.Device.{IsDevice, IsReady, mode_of};
-ghost use Rattle.device.specs.Calls.{Runs};
+ghost use Rattle.device.specs.Calls.{AnswersEvent, Runs, Works};
+ghost use Rattle.device.specs.Device.{mode_of};
+ghost use Rattle.device.specs.Run.{all_steps, one_step, room_steps};
 
 use crate::Device;
 use device_parts::{Actor, Moved};
@@ -20,17 +19,14 @@ use sector_disk::{Disk, Failed};
 ///
 /// - `Failed`: the disk failed. The device is broken then.
 pub fn step<'d, 'p, D: Disk>(device: &mut Device<'d, 'p, D>, actor: Actor) -> Result<Moved, Failed>
-    requires ready { IsReady device.old.condition device.old.parts
-        (D.identity device.old.disk.now) (D.moments device.old.disk.now) }
-    requires works { device.old.condition ≡ Working }
+    requires works { Works D.identity D.moments device.old.condition device.old.parts device.old.disk.now }
 
     ensures slots { device.new.parts.common.slots ≡ device.old.parts.common.slots }
-    ensures runs { Runs (λ w. Step (actor_of actor) ∷ []) device.old.parts device.new.parts device.new.condition
-        (D.identity device.old.disk.now) (D.identity device.new.disk.now)
-        (D.moments device.old.disk.now) (D.moments device.new.disk.now) result }
-    ensures answers { IfOk result (λ moved. (w : Standing)
-        → IsDevice w Working device.old.parts (D.moments device.old.disk.now)
-        → Answers w (Step (actor_of actor)) (moved_answer moved)) }
+    ensures runs { Runs D.identity D.moments (one_step actor) device.old.parts device.new.parts
+        device.old.disk.now device.new.disk.now result }
+    ensures turn { device.new.condition ≡ condition_by result }
+    ensures answers { AnswersEvent (Step (actor_of actor)) moved_answer device.old.parts
+        (D.moments device.old.disk.now) result }
     ensures goes_on { IfOk result (λ moved. moved ≡ Moved.Did
         → steps_left actor device.new.parts.mode < steps_left actor device.old.parts.mode) }
     ensures quiet { HasNoWork (mode_of device.old.parts.mode) (actor_of actor)
@@ -54,15 +50,13 @@ pub fn step_until_idle<'d, 'p, D: Disk>(
     device: &mut Device<'d, 'p, D>,
     actor: Actor,
 ) -> Result<(), Failed>
-    requires ready { IsReady device.old.condition device.old.parts
-        (D.identity device.old.disk.now) (D.moments device.old.disk.now) }
-    requires works { device.old.condition ≡ Working }
+    requires works { Works D.identity D.moments device.old.condition device.old.parts device.old.disk.now }
     requires actor { IsOfJournal (actor_of actor) }
 
     ensures slots { device.new.parts.common.slots ≡ device.old.parts.common.slots }
-    ensures runs { Runs (λ w. idle_events w.format (actor_of actor) w.state) device.old.parts device.new.parts
-        device.new.condition (D.identity device.old.disk.now) (D.identity device.new.disk.now)
-        (D.moments device.old.disk.now) (D.moments device.new.disk.now) result }
+    ensures runs { Runs D.identity D.moments (all_steps actor) device.old.parts device.new.parts
+        device.old.disk.now device.new.disk.now result }
+    ensures turn { device.new.condition ≡ condition_by result }
 
     ensures cause { HasCause (D.faults device.old.disk.now) (D.faults device.new.disk.now) result }
     ensures same_disk { device.new.disk.ghost_name ≡ device.old.disk.ghost_name }
@@ -81,14 +75,12 @@ pub fn step_until_idle<'d, 'p, D: Disk>(
 ///
 /// - `Failed`: the disk failed. The device is broken then.
 pub fn make_room<'d, 'p, D: Disk>(device: &mut Device<'d, 'p, D>) -> Result<(), Failed>
-    requires ready { IsReady device.old.condition device.old.parts
-        (D.identity device.old.disk.now) (D.moments device.old.disk.now) }
-    requires works { device.old.condition ≡ Working }
+    requires works { Works D.identity D.moments device.old.condition device.old.parts device.old.disk.now }
 
     ensures slots { device.new.parts.common.slots ≡ device.old.parts.common.slots }
-    ensures runs { Runs (λ w. room_events w.format w.state) device.old.parts device.new.parts device.new.condition
-        (D.identity device.old.disk.now) (D.identity device.new.disk.now)
-        (D.moments device.old.disk.now) (D.moments device.new.disk.now) result }
+    ensures runs { Runs D.identity D.moments room_steps device.old.parts device.new.parts
+        device.old.disk.now device.new.disk.now result }
+    ensures turn { device.new.condition ≡ condition_by result }
 
     ensures cause { HasCause (D.faults device.old.disk.now) (D.faults device.new.disk.now) result }
     ensures same_disk { device.new.disk.ghost_name ≡ device.old.disk.ghost_name }

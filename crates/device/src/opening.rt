@@ -3,10 +3,7 @@ ghost use Rattle.std.specs.Prelude.{◌≡◌, IfErr, IfOk};
 ghost use Rattle.disk_model.specs.Identity.{IsBound};
 ghost use Rattle.hmac_tag.specs.TagMaker.{key_of};
 ghost use Rattle.image_judging.specs.Faults.{HasOpenCause};
-ghost use Rattle.device_model.specs.Mode as Modes;
-ghost use Rattle.device_parts.specs.Device.{HasOpened};
-ghost use Rattle.device.specs.Device.{any_mode};
-ghost use Rattle.device.specs.Opening.{IsRefused, IsSettledIn, LeavesOpening, asked_mode};
+ghost use Rattle.device.specs.Opening.{HasOpenedIn, IsRefused, IsSettledIn, LeavesOpening};
 
 use crate::{DeviceParts, Mode};
 use direct_opening::open_direct;
@@ -50,7 +47,7 @@ pub(crate) fn open<'p, D: Disk>(
 ) -> Result<DeviceParts<'p>, OpeningFault>
     requires { IsBound (D.identity disk.old).name }
 
-    ensures opened { IfOk result (λ parts. HasOpened any_mode (asked_mode mode) (key_of hash) (D.identity disk.old) parts
+    ensures opened { IfOk result (λ parts. HasOpenedIn mode (key_of hash) (D.identity disk.old) parts
         (D.moments disk.old) (D.moments disk.new)) }
     ensures settled { IfOk result (λ parts. IsSettledIn mode (D.moments disk.new)) }
     ensures refused { IfErr result (λ fault. IsRefused (key_of hash) (D.identity disk.old) fault
@@ -78,7 +75,7 @@ fn open_in_direct<'p, D: Disk>(
 ) -> Result<DeviceParts<'p>, OpeningFault>
     requires { IsBound (D.identity disk.old).name }
 
-    ensures opened { IfOk result (λ parts. HasOpened any_mode Modes.Direct (key_of hash) (D.identity disk.old) parts
+    ensures opened { IfOk result (λ parts. HasOpenedIn OpenMode.Direct (key_of hash) (D.identity disk.old) parts
         (D.moments disk.old) (D.moments disk.new)) }
     ensures settled { IfOk result (λ parts. IsSettledIn OpenMode.Direct (D.moments disk.new)) }
     ensures refused { IfErr result (λ fault. IsRefused (key_of hash) (D.identity disk.old) fault
@@ -107,7 +104,7 @@ fn open_in_journal<'p, D: Disk>(
 ) -> Result<DeviceParts<'p>, OpeningFault>
     requires { IsBound (D.identity disk.old).name }
 
-    ensures opened { IfOk result (λ parts. HasOpened any_mode Modes.Journal (key_of hash) (D.identity disk.old) parts
+    ensures opened { IfOk result (λ parts. HasOpenedIn OpenMode.Journal (key_of hash) (D.identity disk.old) parts
         (D.moments disk.old) (D.moments disk.new)) }
     ensures refused { IfErr result (λ fault. IsRefused (key_of hash) (D.identity disk.old) fault
         (D.moments disk.old) (D.moments disk.new)) }

@@ -1,13 +1,13 @@
 //! Serving a request, in the device's mode.
-ghost use Rattle.std.specs.Prelude.{◌≡◌, ◌<◌, Ok, true};
+ghost use Rattle.std.specs.Prelude.{◌≡◌, Ok, true};
 ghost use Rattle.disk_model.specs.Causes.{HasCause};
 ghost use Rattle.request_slots.specs.Flight.{is_in_flight};
-ghost use Rattle.device_parts.specs.Answers.{HasServed, HasStepCause, ServesNext, TurnsBroken, condition_by, turns_left};
-ghost use Rattle.device_parts.specs.Device.{KeepsParts, Standing};
+ghost use Rattle.device_parts.specs.Answers.{HasStepCause, ServesNext, TurnsBroken};
 ghost use Rattle.device_parts.specs.declared.answers.Served.TheVariants.{Did, NoRoom};
 ghost use Rattle.device_parts.specs.declared.condition.Condition.TheVariants.{Working};
 ghost use Rattle.device.specs.Answers.{WritesInServe};
-ghost use Rattle.device.specs.Device.{IsDevice, IsReady, any_mode};
+ghost use Rattle.device.specs.Calls.{HasFewerTurns, Keeps, Serves, WritesServing};
+ghost use Rattle.device.specs.Device.{IsReady, any_mode};
 
 use crate::{DeviceParts, Mode};
 use device_parts::{Condition, Served, StepFault};
@@ -29,20 +29,19 @@ pub(crate) fn serve<D: Disk>(
     requires ready { IsReady condition.old parts.old (D.identity disk.old) (D.moments disk.old) }
     requires there { is_in_flight ticket.now parts.old.common.slots ≡ true }
 
-    ensures served { (w : Standing) → IsDevice w condition.old parts.old (D.moments disk.old)
-        → HasServed any_mode w ticket.now result condition.new parts.new (D.moments disk.old) (D.moments disk.new) }
-    ensures goes_on { result ≡ Ok Did
-        → turns_left ticket.now parts.new.common.slots < turns_left ticket.now parts.old.common.slots }
+    ensures served { Serves ticket.now result condition.old parts.old parts.new
+        (D.moments disk.old) (D.moments disk.new) }
+    ensures goes_on { result ≡ Ok Did → HasFewerTurns ticket.now parts.old parts.new }
     ensures no_room { result ≡ Ok NoRoom
         → (parts.new ≡ parts.old) × (D.moments disk.new ≡ D.moments disk.old) }
 
     ensures cause { HasStepCause (D.faults disk.old) (D.faults disk.new) result }
     ensures condition { TurnsBroken condition.old condition.new result disk.old disk.new }
 
-    ensures keeps { KeepsParts any_mode condition.new parts.old parts.new
+    ensures keeps { Keeps result parts.old parts.new
         (D.identity disk.old) (D.identity disk.new) (D.moments disk.new) }
-    ensures writes { condition.old ≡ Condition.Working → WritesInServe parts.old.mode ticket.now
-        parts.old.common parts.new.common (D.moments disk.old) (D.moments disk.new) }
+    ensures writes { WritesServing condition.old ticket.now parts.old parts.new
+        (D.moments disk.old) (D.moments disk.new) }
 {
     match *condition {
         Condition::Broken => Err(StepFault::Broken),
@@ -74,7 +73,7 @@ fn serve_next<D: Disk>(
 
     ensures cause { HasCause (D.faults disk.old) (D.faults disk.new) result }
 
-    ensures keeps { KeepsParts any_mode (condition_by result) parts.old parts.new
+    ensures keeps { Keeps result parts.old parts.new
         (D.identity disk.old) (D.identity disk.new) (D.moments disk.new) }
     ensures writes { WritesInServe parts.old.mode ticket.now parts.old.common parts.new.common
         (D.moments disk.old) (D.moments disk.new) }

@@ -1,11 +1,11 @@
 //! What is done in the background, in the device's mode.
 ghost use Rattle.std.specs.Prelude.{◌≡◌, ◌<◌, IfOk, Ok};
 ghost use Rattle.disk_model.specs.Causes.{HasCause};
-ghost use Rattle.device_parts.specs.Answers.{HasStepCause, HasStepped, StepsNext, TurnsBroken, actor_of, condition_by};
-ghost use Rattle.device_parts.specs.Device.{KeepsParts, Standing};
+ghost use Rattle.device_parts.specs.Answers.{HasStepCause, StepsNext, TurnsBroken, actor_of};
 ghost use Rattle.device_parts.specs.declared.condition.Condition.TheVariants.{Working};
 ghost use Rattle.device.specs.Answers.{HasNoWork, WritesInStep, steps_left};
-ghost use Rattle.device.specs.Device.{IsDevice, IsReady, any_mode, mode_of};
+ghost use Rattle.device.specs.Calls.{Keeps, Steps, WritesStepping};
+ghost use Rattle.device.specs.Device.{IsReady, any_mode, mode_of};
 
 use crate::{DeviceParts, Mode};
 use device_parts::{Actor, Condition, Moved, StepFault};
@@ -25,20 +25,17 @@ pub(crate) fn step<D: Disk>(
 ) -> Result<Moved, StepFault>
     requires { IsReady condition.old parts.old (D.identity disk.old) (D.moments disk.old) }
 
-    ensures stepped { (w : Standing) → IsDevice w condition.old parts.old (D.moments disk.old)
-        → HasStepped any_mode w (actor_of actor) result condition.new parts.new
-        (D.moments disk.old) (D.moments disk.new) }
+    ensures stepped { Steps actor result condition.old parts.old parts.new (D.moments disk.old) (D.moments disk.new) }
     ensures goes_on { result ≡ Ok Moved.Did → steps_left actor parts.new.mode < steps_left actor parts.old.mode }
 
     ensures cause { HasStepCause (D.faults disk.old) (D.faults disk.new) result }
     ensures condition { TurnsBroken condition.old condition.new result disk.old disk.new }
 
-    ensures keeps { KeepsParts any_mode condition.new parts.old parts.new
+    ensures keeps { Keeps result parts.old parts.new
         (D.identity disk.old) (D.identity disk.new) (D.moments disk.new) }
     ensures slots { parts.new.common.slots ≡ parts.old.common.slots }
     ensures idle { result ≡ Ok Moved.Idle → (parts.new ≡ parts.old) × (disk.new ≡ disk.old) }
-    ensures writes { condition.old ≡ Condition.Working → WritesInStep parts.old.mode actor parts.old.common
-        (D.moments disk.old) (D.moments disk.new) }
+    ensures writes { WritesStepping condition.old actor parts.old (D.moments disk.old) (D.moments disk.new) }
     ensures quiet { HasNoWork (mode_of parts.old.mode) (actor_of actor) → disk.new ≡ disk.old }
 {
     match *condition {
@@ -73,7 +70,7 @@ fn step_next<D: Disk>(
 
     ensures cause { HasCause (D.faults disk.old) (D.faults disk.new) result }
 
-    ensures keeps { KeepsParts any_mode (condition_by result) parts.old parts.new
+    ensures keeps { Keeps result parts.old parts.new
         (D.identity disk.old) (D.identity disk.new) (D.moments disk.new) }
     ensures slots { parts.new.common.slots ≡ parts.old.common.slots }
     ensures writes { WritesInStep parts.old.mode actor parts.old.common (D.moments disk.old) (D.moments disk.new) }

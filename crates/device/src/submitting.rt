@@ -1,13 +1,12 @@
 //! Taking requests in, and giving replies out. No disk is called for it, and no mode matters.
-ghost use Rattle.std.specs.Prelude.{◌≡◌, ◌+◌, ◌<◌, ◌^◌, IfOk, List, suc, true};
+ghost use Rattle.std.specs.Prelude.{◌≡◌, ◌+◌, ◌<◌, ◌^◌, List, true};
 ghost use Rattle.disk_model.specs.Disk.{Content};
-ghost use Rattle.device_parts.specs.Answers.{HasSubmitted, HasTaken, IsSerial, submit_fault};
-ghost use Rattle.device_parts.specs.Device.{Standing};
-ghost use Rattle.device_parts.specs.declared.condition.Condition.{Condition};
 ghost use Rattle.request_slots.specs.Flight.{is_in_flight, slot_of};
-ghost use Rattle.request_slots.specs.Submitting.{after_submit, answer_by};
 ghost use Rattle.request_slots.specs.Taking.{after_take, taken_by};
-ghost use Rattle.device.specs.Device.{IsDevice, any_mode, with_slots};
+ghost use Rattle.device_parts.specs.Answers.{after_submission, submit_result};
+ghost use Rattle.device_parts.specs.declared.condition.Condition.{Condition};
+ghost use Rattle.device.specs.Calls.{GivesSerial, Submits, Takes};
+ghost use Rattle.device.specs.Device.{with_slots};
 
 use crate::DeviceParts;
 use device_parts::Condition;
@@ -25,12 +24,10 @@ pub(crate) fn submit(
 ) -> Result<Ticket, (Request, SubmitFault)>
     requires { parts.old.common.slots.submitted + 1 < 2 ^ 64 }
 
-    ensures answer { result ≡ answer_by (submit_fault condition parts.old.common.slots request)
-        (suc parts.old.common.slots.submitted) request }
-    ensures submitted { parts.new ≡ with_slots parts.old
-        (after_submit (submit_fault condition parts.old.common.slots request) request parts.old.common.slots) }
-    ensures done { (w : Standing) (moments : List Content) → IsDevice w condition parts.old moments
-        → HasSubmitted any_mode w request condition parts.old parts.new moments }
+    ensures answer { result ≡ submit_result condition parts.old.common.slots request }
+    ensures submitted { parts.new
+        ≡ with_slots parts.old (after_submission condition request parts.old.common.slots) }
+    ensures done { (moments : List Content) → Submits request condition parts.old parts.new moments moments }
 {
     device_parts::submit(&mut parts.common, condition, request)
 }
@@ -46,10 +43,10 @@ pub(crate) fn take(parts: &mut DeviceParts<'_>, ticket: Ticket) -> Result<Reply,
     ensures reply { result ≡ taken_by ticket (slot_of ticket parts.old.common.slots) }
     ensures taken { parts.new ≡ with_slots parts.old
         (after_take ticket (slot_of ticket parts.old.common.slots) parts.old.common.slots) }
-    ensures done { (w : Standing) (condition : Condition) (moments : List Content)
-        → IsDevice w condition parts.old moments → HasTaken any_mode w ticket result condition parts.new moments }
-    ensures serial { IfOk result (λ reply. (w : Standing) (condition : Condition) (moments : List Content)
-        → IsDevice w condition parts.old moments → IsSerial w ticket reply) }
+    ensures done { (condition : Condition) (moments : List Content)
+        → Takes ticket result condition parts.old parts.new moments moments }
+    ensures serial { (condition : Condition) (moments : List Content)
+        → GivesSerial ticket condition parts.old moments result }
 {
     device_parts::take(&mut parts.common, ticket)
 }

@@ -4,6 +4,7 @@ ghost use Rattle.command_model.specs.Exercise.{read_all};
 ghost use Rattle.command_model.specs.Workload.{workload_asks};
 ghost use Rattle.device_model.specs.Script.{AskLine};
 ghost use Rattle.device_parts.specs.declared.condition.Condition.TheVariants.{Broken, Working};
+ghost use Rattle.device.specs.Calls.{Works};
 ghost use Rattle.device.specs.Device.{IsDevice, IsReady, mode_of};
 ghost use Rattle.device_parts.specs.Device.{Standing};
 ghost use Rattle.device.specs.Run.{IsCutOff};
@@ -39,9 +40,7 @@ pub fn exercise<'d, 'p, D: Disk>(
     seed: u64,
     count: u64,
 ) -> Result<Tally, Stop>
-    requires ready { IsReady device.old.condition device.old.parts
-        (D.identity device.old.disk.now) (D.moments device.old.disk.now) }
-    requires works { device.old.condition ≡ Working }
+    requires works { Works D.identity D.moments device.old.condition device.old.parts device.old.disk.now }
     requires requests { device.old.parts.common.slots.slots ≡ [] }
     requires number { device.old.parts.common.slots.submitted + count + device.old.parts.common.slots.blocks < 2 ^ 64 }
 
@@ -85,9 +84,7 @@ fn run_workload<'d, 'p, D: Disk>(
     seed: u64,
     count: u64,
 ) -> Result<Tally, Stop>
-    requires ready { IsReady device.old.condition device.old.parts
-        (D.identity device.old.disk.now) (D.moments device.old.disk.now) }
-    requires works { device.old.condition ≡ Working }
+    requires works { Works D.identity D.moments device.old.condition device.old.parts device.old.disk.now }
     requires tickets { AreInFlight tickets.old device.old.parts.common.slots }
     requires number { device.old.parts.common.slots.submitted + count < 2 ^ 64 }
 
@@ -132,9 +129,7 @@ fn read_blocks<'d, 'p, D: Disk>(
     tickets: &mut Tickets,
     tally: &mut Tally,
 ) -> Result<(), Stop>
-    requires ready { IsReady device.old.condition device.old.parts
-        (D.identity device.old.disk.now) (D.moments device.old.disk.now) }
-    requires works { device.old.condition ≡ Working }
+    requires works { Works D.identity D.moments device.old.condition device.old.parts device.old.disk.now }
     requires tickets { AreInFlight tickets.old device.old.parts.common.slots }
     requires number { device.old.parts.common.slots.submitted + device.old.parts.common.slots.blocks < 2 ^ 64 }
     requires faults { tally.old.faults + device.old.parts.common.slots.blocks < 2 ^ 64 }
@@ -181,9 +176,7 @@ fn run_counted<'d, 'p, D: Disk>(
     tally: &mut Tally,
     ask: &Ask<'_>,
 ) -> Result<(), Stop>
-    requires ready { IsReady device.old.condition device.old.parts
-        (D.identity device.old.disk.now) (D.moments device.old.disk.now) }
-    requires works { device.old.condition ≡ Working }
+    requires works { Works D.identity D.moments device.old.condition device.old.parts device.old.disk.now }
     requires tickets { AreInFlight tickets.old device.old.parts.common.slots }
     requires number { device.old.parts.common.slots.submitted + 1 < 2 ^ 64 }
     requires faults { tally.old.faults + 1 < 2 ^ 64 }

@@ -17,7 +17,8 @@ use Rattle.request_slots.specs.declared.submit_fault.SubmitFault.TheVariants as 
 use Rattle.request_slots.specs.declared.slot.Slot.{Slot}
 use Rattle.request_slots.specs.Flight.{Flight, count_in, is_unfinished, slot_of}
 use Rattle.request_slots.specs.InFlight.{as_reply, as_submission, returned_in, submit_answer}
-use Rattle.request_slots.specs.Submitting.{fault_of}
+use Rattle.request_slots.specs.Submitting as Submitting
+use Rattle.request_slots.specs.Submitting.{after_submit, fault_of}
 use Rattle.request_slots.specs.Serving.{with_block_read, with_change, with_fault}
 use Rattle.device_parts.specs.declared.answers.Actor.{Actor}
 use Rattle.device_parts.specs.declared.answers.Actor.TheVariants as Actors
@@ -157,6 +158,14 @@ HasStepped mode w actor result condition kept before after =
 abbrev pub submit_fault : Condition → Flight → Request → Option SubmitFault
 submit_fault Conditions.Working flight request = fault_of flight request
 submit_fault Conditions.Broken flight request = Some SubmitFaults.Broken
+
+-- What a submission answers, and the requests in flight behind it.
+abbrev pub submit_result : Condition → Flight → Request → Result ℕ (Request × SubmitFault)
+submit_result condition flight request =
+    Submitting.answer_by (submit_fault condition flight request) (suc flight.submitted) request
+
+abbrev pub after_submission : Condition → Request → Flight → Flight
+after_submission condition request flight = after_submit (submit_fault condition flight request) request flight
 
 -- A reply is taken, or the request is not done.
 abbrev pub IsTaken : Result Reply ℕ → Model.Answer → Type 0

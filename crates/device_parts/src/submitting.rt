@@ -1,9 +1,8 @@
 //! Taking requests in, and giving replies out. No disk is called for it, and no mode matters.
-ghost use Rattle.std.specs.Prelude.{◌≡◌, ◌+◌, ◌<◌, ◌^◌, suc, true};
+ghost use Rattle.std.specs.Prelude.{◌≡◌, ◌+◌, ◌<◌, ◌^◌, true};
 ghost use Rattle.request_slots.specs.Flight.{is_in_flight, slot_of};
-ghost use Rattle.request_slots.specs.Submitting.{after_submit, answer_by};
 ghost use Rattle.request_slots.specs.Taking.{after_take, taken_by};
-ghost use Rattle.device_parts.specs.Answers.{submit_fault};
+ghost use Rattle.device_parts.specs.Answers.{after_submission, submit_result};
 
 use crate::{Condition, Parts};
 use request_slots::{Reply, Request, SubmitFault, Ticket};
@@ -20,12 +19,8 @@ pub fn submit(
 ) -> Result<Ticket, (Request, SubmitFault)>
     requires { parts.old.slots.submitted + 1 < 2 ^ 64 }
 
-    ensures answer { result ≡ answer_by (submit_fault condition parts.old.slots request)
-        (suc parts.old.slots.submitted) request }
-    ensures submitted { parts.new ≡ record parts.old {
-      slots =
-          after_submit (submit_fault condition parts.old.slots request) request parts.old.slots;
-    } }
+    ensures answer { result ≡ submit_result condition parts.old.slots request }
+    ensures submitted { parts.new ≡ record parts.old { slots = after_submission condition request parts.old.slots } }
 {
     match condition {
         Condition::Broken => Err((request, SubmitFault::Broken)),

@@ -2,6 +2,7 @@
 ghost use Rattle.std.specs.Prelude.{◌≡◌, IfSome};
 ghost use Rattle.disk_model.specs.Identity.{IsBound};
 ghost use Rattle.device_parts.specs.declared.condition.Condition.TheVariants.{Working};
+ghost use Rattle.device.specs.Calls.{Works};
 ghost use Rattle.device.specs.Device.{IsReady};
 
 use device::{Device, OpenMode, finish, make_room, step};
@@ -90,9 +91,7 @@ struct Filled {
 
 /// Serves a request as long as it goes on, makes room, and serves it to its end.
 fn fill<D: Disk>(device: &mut Device<'_, '_, D>, request: Request) -> Option<Filled>
-    requires ready { IsReady device.old.condition device.old.parts
-        (D.identity device.old.disk.now) (D.moments device.old.disk.now) }
-    requires works { device.old.condition ≡ Working }
+    requires works { Works D.identity D.moments device.old.condition device.old.parts device.old.disk.now }
 {
     if !device.has_ticket() {
         return None;

@@ -2,7 +2,8 @@
 ghost use Rattle.std.specs.Prelude.{◌≡◌, ◌≤◌, Err};
 ghost use Rattle.disk_model.specs.Causes.{Rose};
 ghost use Rattle.device_parts.specs.declared.condition.Condition.TheVariants.{Working};
-ghost use Rattle.device.specs.Device.{IsDevice, IsReady};
+ghost use Rattle.device.specs.Calls.{Works};
+ghost use Rattle.device.specs.Device.{IsDevice};
 ghost use Rattle.device_parts.specs.Device.{Standing};
 ghost use Rattle.integrity_tool.specs.Closing.{HasCloseCounts, close_ending, fault_ended};
 ghost use Rattle.integrity_tool.specs.Running.{IsStopped, only_close};
@@ -45,9 +46,7 @@ pub(crate) fn close<'d, 'p, D: Disk, O: Sink>(
     found: TagsFound,
     out: &mut O,
 ) -> (Result<TagsFound, CloseFault>, &'d mut D)
-    requires ready { IsReady device.condition device.parts
-        (D.identity device.disk.now) (D.moments device.disk.now) }
-    requires works { device.condition ≡ Working }
+    requires works { Works D.identity D.moments device.condition device.parts device.disk.now }
 
     ensures stopped { (w : Standing) → IsDevice w Working device.entry.parts (D.moments device.entry.disk.now)
         → IsStopped w (only_close w found) (close_ending result.0) (D.moments device.entry.disk.now)

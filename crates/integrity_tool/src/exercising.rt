@@ -7,7 +7,8 @@ ghost use Rattle.disk_model.specs.Moments.{HasNow};
 ghost use Rattle.device_model.specs.Mode.{Journal};
 ghost use Rattle.place_model.specs.Kind.{CanOpenIn};
 ghost use Rattle.device_parts.specs.declared.condition.Condition.TheVariants.{Working};
-ghost use Rattle.device.specs.Device.{IsDevice, IsReady};
+ghost use Rattle.device.specs.Calls.{Works};
+ghost use Rattle.device.specs.Device.{IsDevice};
 ghost use Rattle.device_parts.specs.Device.{Standing};
 ghost use Rattle.script_session.specs.Stop.{HasStopCause};
 ghost use Rattle.script_session.specs.Told.{finds_fault};
@@ -185,9 +186,7 @@ fn exercise_device<'d, 'p, D: Disk>(
     seed: u64,
     count: u64,
 ) -> (Result<Tally, Stop>, &'d mut D)
-    requires ready { IsReady device.condition device.parts
-        (D.identity device.disk.now) (D.moments device.disk.now) }
-    requires works { device.condition ≡ Working }
+    requires works { Works D.identity D.moments device.condition device.parts device.disk.now }
     requires requests { (device.parts.common.slots.slots ≡ [])
         × (device.parts.common.slots.submitted ≡ 0) }
     requires count { count ≤ most_requests }

@@ -3,7 +3,8 @@ ghost use Rattle.std.specs.Prelude.{◌≡◌, ◌≤◌, ◌+◌, ◌++◌, ◌
 ghost use Rattle.std.specs.Option.{ForSome, IsSomeAnd};
 ghost use Rattle.disk_model.specs.Causes.{Rose};
 ghost use Rattle.device_parts.specs.declared.condition.Condition.TheVariants.{Working};
-ghost use Rattle.device.specs.Device.{IsDevice, IsReady};
+ghost use Rattle.device.specs.Calls.{Works};
+ghost use Rattle.device.specs.Device.{IsDevice};
 ghost use Rattle.device_parts.specs.Device.{Standing};
 ghost use Rattle.script_reader.specs.Reading.{IsWithin, TakesLine};
 ghost use Rattle.script_session.specs.Tickets.{AreInFlight, Stays};
@@ -70,9 +71,7 @@ pub(crate) fn run_bytes<'d, 'p, D: Disk, O: Sink>(
     number: u64,
     out: &mut O,
 ) -> Result<TagsFound, Ended>
-    requires ready { IsReady device.old.condition device.old.parts
-        (D.identity device.old.disk.now) (D.moments device.old.disk.now) }
-    requires works { device.old.condition ≡ Working }
+    requires works { Works D.identity D.moments device.old.condition device.old.parts device.old.disk.now }
     requires tickets { AreInFlight tickets.old device.old.parts.common.slots }
     requires number { device.old.parts.common.slots.submitted + 1 < 2 ^ 64 }
 

@@ -4,6 +4,7 @@ ghost use Rattle.std.specs.Prelude.{◌≡◌, ◌≤◌, ◌||◌, [], IfErr, I
 ghost use Rattle.device_model.specs.ScriptRun.{ScriptRun, IsRunOf};
 ghost use Rattle.disk_model.specs.Causes.{Rose};
 ghost use Rattle.device_parts.specs.declared.condition.Condition.TheVariants.{Working};
+ghost use Rattle.device.specs.Calls.{Works};
 ghost use Rattle.device.specs.Device.{IsDevice, IsReady};
 ghost use Rattle.device_parts.specs.Device.{Standing};
 ghost use Rattle.script_session.specs.Told.{finds_fault};
@@ -34,9 +35,7 @@ pub(crate) fn run_lines<'d, 'p, D: Disk, S: Source, O: Sink>(
     script: &mut S,
     out: &mut O,
 ) -> Result<TagsFound, Ended>
-    requires ready { IsReady device.old.condition device.old.parts
-        (D.identity device.old.disk.now) (D.moments device.old.disk.now) }
-    requires works { device.old.condition ≡ Working }
+    requires works { Works D.identity D.moments device.old.condition device.old.parts device.old.disk.now }
     requires requests { (device.old.parts.common.slots.slots ≡ [])
         × (device.old.parts.common.slots.submitted ≡ 0) }
     requires reader { reader.old ≡ record { unread = []; line = []; taken = 0 } }

@@ -11,6 +11,11 @@ abbrev pub HasFlushedIf : Bool → JournalStanding → PlacedRing → Store → 
 HasFlushedIf true w journal store moments = HasFlushed w journal store moments
 HasFlushedIf false w journal store moments = StandsAs w journal store moments
 
+-- What the journal stands for is flushed so.
+abbrev pub FlushesIf : Bool → Store → (old new : PlacedRing) → (before after : List Content) → Type 0
+FlushesIf is_flushed store old new before after = (w : JournalStanding) → StandsAs w old store before
+    → HasFlushedIf is_flushed w new store after
+
 -- So batches of the journal are written, or nothing.
 abbrev pub WritesIf : Bool → PlacedRing → (before after : List Content) → Type 0
 WritesIf true journal before after = WritesBatches journal before after

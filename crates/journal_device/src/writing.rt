@@ -3,7 +3,7 @@ ghost use Rattle.std.specs.Prelude.{◌≡◌, false, OnOk};
 ghost use Rattle.disk_model.specs.Causes.{HasCause};
 ghost use Rattle.journal_opening.specs.Standing.{IsLeftThrough, JournalStanding, StandsAs};
 ghost use Rattle.tag_store.specs.Store.{IsStore};
-ghost use Rattle.journal_device.specs.Writing.{HasFlushedIf, WritesIf};
+ghost use Rattle.journal_device.specs.Writing.{FlushesIf, WritesIf};
 
 use journal_opening::Journal;
 use sector_disk::{Disk, Failed};
@@ -23,9 +23,8 @@ pub(crate) fn flush_if<D: Disk>(
     requires geometry { journal.old.ring.geometry ≡ tags.now.geometry }
     requires store { IsStore tags.now (D.identity disk.old) (D.moments disk.old) }
 
-    ensures done { OnOk result ((w : JournalStanding)
-        → StandsAs w journal.old tags.now (D.moments disk.old)
-        → HasFlushedIf is_flushed w journal.new tags.now (D.moments disk.new)) }
+    ensures done { OnOk result (FlushesIf is_flushed tags.now journal.old journal.new
+        (D.moments disk.old) (D.moments disk.new)) }
     ensures still { OnOk result (is_flushed ≡ false
         → (journal.new ≡ journal.old) × (D.moments disk.new ≡ D.moments disk.old)) }
 

@@ -1,11 +1,11 @@
 -- What the run of one line does, as `device_model` has it: its events, what may be left, and what is told.
-use Rattle.std.specs.Prelude.{◌≡◌, ◌≢◌, ℕ, ◌≤◌, true, false, List, Option, Some, None, Result, Err}
+use Rattle.std.specs.Prelude.{◌≡◌, ◌≢◌, ℕ, ◌≤◌, true, false, List, length, Option, Some, None, Result, Err}
 use Rattle.std.specs.Option.{option_map}
 use Rattle.disk_model.specs.Causes.{Rose}
 use Rattle.disk_model.specs.Disk.{Content}
 use Rattle.device_model.specs.Mode as Modes
 use Rattle.device_model.specs.Progress.{Event, Submit, answers, event_result}
-use Rattle.device_model.specs.Script.{Ask, AskLine, ScriptLine, ServeLine, Skip, StepLine, TakeLine, last_answer, line_events, line_outcome, meaning_fault, told_fault, told_text}
+use Rattle.device_model.specs.Script.{Ask, AskLine, ScriptLine, ServeLine, Skip, StepLine, TakeLine, finish_all_events, last_answer, line_events, line_outcome, meaning_fault, told_fault, told_text}
 use Rattle.device_model.specs.Submission.{Submission}
 use Rattle.stream_io.specs.Stream.{AddsPrefix, with_bytes}
 use Rattle.device.specs.declared.mode.DeviceParts.{DeviceParts}
@@ -46,6 +46,10 @@ TellsTicket w submission line = IsTicketOf line (event_result w.format w.state (
 -- The line is not refused.
 abbrev pub IsRunnable : Standing → ScriptLine → Type 0
 IsRunnable w line = meaning_fault w.format w.state.progress line ≡ None
+
+-- Each request in flight is served to its end, in order.
+abbrev pub all_finishes : Standing → List Event
+all_finishes w = finish_all_events w.format 1 (length w.state.progress.requests) w.state
 
 -- What a line does to a device.
 abbrev pub events_of : Standing → ScriptLine → List Event

@@ -2,7 +2,8 @@
 ghost use Rattle.std.specs.Prelude.{◌≡◌, ◌≢◌, ◌+◌, ◌<◌, ◌^◌, Err, IfErr, IfOk, None, false};
 ghost use Rattle.device_model.specs.Script.{AskLine};
 ghost use Rattle.device_parts.specs.declared.condition.Condition.TheVariants.{Broken, Working};
-ghost use Rattle.device.specs.Device.{IsDevice, IsReady};
+ghost use Rattle.device.specs.Calls.{Works};
+ghost use Rattle.device.specs.Device.{IsDevice};
 ghost use Rattle.device_parts.specs.Device.{Standing};
 ghost use Rattle.script_text.specs.Line.{ask_of};
 ghost use Rattle.script_session.specs.LineRun.{HasRunAsk, HasStopped, events_of};
@@ -34,9 +35,7 @@ pub fn run_ask<'d, 'p, D: Disk>(
     tickets: &mut Tickets,
     ask: &Ask<'_>,
 ) -> Result<Option<Reply>, Stop>
-    requires ready { IsReady device.old.condition device.old.parts
-        (D.identity device.old.disk.now) (D.moments device.old.disk.now) }
-    requires works { device.old.condition ≡ Working }
+    requires works { Works D.identity D.moments device.old.condition device.old.parts device.old.disk.now }
     requires tickets { AreInFlight tickets.old device.old.parts.common.slots }
     requires number { device.old.parts.common.slots.submitted + 1 < 2 ^ 64 }
     requires runnable { fault_on device.old.parts.common.slots.blocks device.old.parts.common.slots.block_size

@@ -7,7 +7,8 @@ ghost use Rattle.device_parts.specs.Answers as Core;
 ghost use Rattle.device_parts.specs.declared.condition.Condition.TheVariants.{Broken, Working};
 ghost use Rattle.device.specs.Answers.{HasNoWork};
 ghost use Rattle.device_parts.specs.Device.{KeepsParts};
-ghost use Rattle.device.specs.Device.{IsDevice, IsReady, any_mode, mode_of};
+ghost use Rattle.device.specs.Calls.{Works};
+ghost use Rattle.device.specs.Device.{IsDevice, any_mode, mode_of};
 ghost use Rattle.device_parts.specs.Device.{Standing};
 ghost use Rattle.device.specs.Run.{HasFailed};
 ghost use Rattle.request_slots.specs.Flight.{count_in, first_in};
@@ -21,9 +22,8 @@ ghost use Rattle.script_session.specs.Tickets.{AreInFlight, Stays, is_of};
 use crate::Tickets;
 use crate::line_answer::LineAnswer;
 use crate::tickets::Waiting;
-use device_parts::{Actor, Moved};
 use device::{Device, serve};
-use device_parts::Served;
+use device_parts::{Actor, Moved, Served};
 use request_slots::{Request, SubmitFault};
 use sector_disk::{Disk, Failed};
 
@@ -33,9 +33,7 @@ pub(crate) fn submit<'d, 'p, D: Disk>(
     tickets: &mut Tickets,
     request: Request,
 ) -> LineAnswer
-    requires ready { IsReady device.old.condition device.old.parts
-        (D.identity device.old.disk.now) (D.moments device.old.disk.now) }
-    requires works { device.old.condition ≡ Working }
+    requires works { Works D.identity D.moments device.old.condition device.old.parts device.old.disk.now }
     requires tickets { AreInFlight tickets.old device.old.parts.common.slots }
     requires room { vec_len tickets.old.waiting < vec_capacity tickets.old.waiting }
     requires number { device.old.parts.common.slots.submitted + 1 < 2 ^ 64 }
@@ -79,9 +77,7 @@ pub(crate) fn serve_one<'d, 'p, D: Disk>(
     tickets: &Tickets,
     number: u64,
 ) -> Result<LineAnswer, Failed>
-    requires ready { IsReady device.old.condition device.old.parts
-        (D.identity device.old.disk.now) (D.moments device.old.disk.now) }
-    requires works { device.old.condition ≡ Working }
+    requires works { Works D.identity D.moments device.old.condition device.old.parts device.old.disk.now }
     requires tickets { AreInFlight tickets.now device.old.parts.common.slots }
     requires number { list_any (is_of number) tickets.now.waiting.items ≡ true }
 
@@ -112,9 +108,7 @@ pub(crate) fn take<'d, 'p, D: Disk>(
     tickets: &mut Tickets,
     number: u64,
 ) -> LineAnswer
-    requires ready { IsReady device.old.condition device.old.parts
-        (D.identity device.old.disk.now) (D.moments device.old.disk.now) }
-    requires works { device.old.condition ≡ Working }
+    requires works { Works D.identity D.moments device.old.condition device.old.parts device.old.disk.now }
     requires tickets { AreInFlight tickets.old device.old.parts.common.slots }
     requires number { list_any (is_of number) tickets.old.waiting.items ≡ true }
 
@@ -162,9 +156,7 @@ pub(crate) fn step<'d, 'p, D: Disk>(
     device: &mut Device<'d, 'p, D>,
     actor: script_text::Actor,
 ) -> Result<LineAnswer, Failed>
-    requires ready { IsReady device.old.condition device.old.parts
-        (D.identity device.old.disk.now) (D.moments device.old.disk.now) }
-    requires works { device.old.condition ≡ Working }
+    requires works { Works D.identity D.moments device.old.condition device.old.parts device.old.disk.now }
 
     ensures answered { IfOk result (λ answer. (w : Standing)
         → IsDevice w Working device.old.parts (D.moments device.old.disk.now)

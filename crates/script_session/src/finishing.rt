@@ -1,10 +1,9 @@
 //! Serves the requests in flight until they are done.
-ghost use Rattle.std.specs.Prelude.{◌≡◌, length};
+ghost use Rattle.std.specs.Prelude.{◌≡◌};
 ghost use Rattle.disk_model.specs.Causes.{HasCause};
-ghost use Rattle.device_parts.specs.declared.condition.Condition.TheVariants.{Working};
-ghost use Rattle.device_model.specs.Script.{finish_all_events};
-ghost use Rattle.device.specs.Device.{IsReady};
-ghost use Rattle.device.specs.Calls.{Runs};
+ghost use Rattle.device_parts.specs.Answers.{condition_by};
+ghost use Rattle.device.specs.Calls.{Runs, Works};
+ghost use Rattle.script_session.specs.LineRun.{all_finishes};
 ghost use Rattle.script_session.specs.Tickets.{AreInFlight};
 
 use crate::Tickets;
@@ -20,15 +19,12 @@ pub(crate) fn finish_all<'d, 'p, D: Disk>(
     device: &mut Device<'d, 'p, D>,
     tickets: &Tickets,
 ) -> Result<(), Failed>
-    requires ready { IsReady device.old.condition device.old.parts
-        (D.identity device.old.disk.now) (D.moments device.old.disk.now) }
-    requires works { device.old.condition ≡ Working }
+    requires works { Works D.identity D.moments device.old.condition device.old.parts device.old.disk.now }
     requires tickets { AreInFlight tickets.now device.old.parts.common.slots }
 
-    ensures runs { Runs (λ w. finish_all_events w.format 1 (length w.state.progress.requests) w.state)
-        device.old.parts device.new.parts device.new.condition
-        (D.identity device.old.disk.now) (D.identity device.new.disk.now)
-        (D.moments device.old.disk.now) (D.moments device.new.disk.now) result }
+    ensures runs { Runs D.identity D.moments all_finishes device.old.parts device.new.parts
+        device.old.disk.now device.new.disk.now result }
+    ensures turn { device.new.condition ≡ condition_by result }
 
     ensures cause { HasCause (D.faults device.old.disk.now) (D.faults device.new.disk.now) result }
     ensures same_disk { device.new.disk.ghost_name ≡ device.old.disk.ghost_name }

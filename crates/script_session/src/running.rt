@@ -5,7 +5,8 @@ ghost use Rattle.device_model.specs.Progress.{Submit};
 ghost use Rattle.device_model.specs.Script.{AskLine, submission_of};
 ghost use Rattle.disk_model.specs.Causes.{HasCause};
 ghost use Rattle.device_parts.specs.declared.condition.Condition.TheVariants.{Broken, Working};
-ghost use Rattle.device.specs.Device.{IsDevice, IsReady, mode_of};
+ghost use Rattle.device.specs.Calls.{Works};
+ghost use Rattle.device.specs.Device.{IsDevice, mode_of};
 ghost use Rattle.device_parts.specs.Device.{Standing};
 ghost use Rattle.device.specs.Run.{HasBegun, HasFailed};
 ghost use Rattle.script_text.specs.Line.{ask_of, line_of};
@@ -47,9 +48,7 @@ pub fn run_line<'d, 'p, D: Disk, O: Sink>(
     line: &Line<'_>,
     out: &mut O,
 ) -> Result<TagsFound, LineEnd>
-    requires ready { IsReady device.old.condition device.old.parts
-        (D.identity device.old.disk.now) (D.moments device.old.disk.now) }
-    requires works { device.old.condition ≡ Working }
+    requires works { Works D.identity D.moments device.old.condition device.old.parts device.old.disk.now }
     requires tickets { AreInFlight tickets.old device.old.parts.common.slots }
     requires number { device.old.parts.common.slots.submitted + 1 < 2 ^ 64 }
 
@@ -102,9 +101,7 @@ fn answer_of<'d, 'p, D: Disk>(
     tickets: &mut Tickets,
     line: &Line<'_>,
 ) -> Result<LineAnswer, Stop>
-    requires ready { IsReady device.old.condition device.old.parts
-        (D.identity device.old.disk.now) (D.moments device.old.disk.now) }
-    requires works { device.old.condition ≡ Working }
+    requires works { Works D.identity D.moments device.old.condition device.old.parts device.old.disk.now }
     requires tickets { AreInFlight tickets.old device.old.parts.common.slots }
     requires number { device.old.parts.common.slots.submitted + 1 < 2 ^ 64 }
     requires runnable { fault_on device.old.parts.common.slots.blocks device.old.parts.common.slots.block_size
@@ -154,9 +151,7 @@ pub(crate) fn ask_whole<'d, 'p, D: Disk>(
     tickets: &mut Tickets,
     ask: &Ask<'_>,
 ) -> Result<LineAnswer, Stop>
-    requires ready { IsReady device.old.condition device.old.parts
-        (D.identity device.old.disk.now) (D.moments device.old.disk.now) }
-    requires works { device.old.condition ≡ Working }
+    requires works { Works D.identity D.moments device.old.condition device.old.parts device.old.disk.now }
     requires tickets { AreInFlight tickets.old device.old.parts.common.slots }
     requires number { device.old.parts.common.slots.submitted + 1 < 2 ^ 64 }
 
@@ -201,9 +196,7 @@ fn start<'d, 'p, D: Disk>(
     tickets: &mut Tickets,
     ask: &Ask<'_>,
 ) -> Result<LineAnswer, Memory>
-    requires ready { IsReady device.old.condition device.old.parts
-        (D.identity device.old.disk.now) (D.moments device.old.disk.now) }
-    requires works { device.old.condition ≡ Working }
+    requires works { Works D.identity D.moments device.old.condition device.old.parts device.old.disk.now }
     requires tickets { AreInFlight tickets.old device.old.parts.common.slots }
     requires number { device.old.parts.common.slots.submitted + 1 < 2 ^ 64 }
 

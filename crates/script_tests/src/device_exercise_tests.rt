@@ -2,6 +2,7 @@
 ghost use Rattle.std.specs.Prelude.{◌≡◌, ◌≤◌, []};
 ghost use Rattle.disk_model.specs.Identity.{IsBound};
 ghost use Rattle.device_parts.specs.declared.condition.Condition.TheVariants.{Working};
+ghost use Rattle.device.specs.Calls.{Works};
 ghost use Rattle.device.specs.Device.{IsReady};
 
 use device::{Device, OpenMode};
@@ -54,9 +55,7 @@ fn exercise_of<'d, 'p, D: Disk>(
     seed: u64,
     count: u64,
 ) -> Option<Result<Tally, Stop>>
-    requires ready { IsReady device.old.condition device.old.parts
-        (D.identity device.old.disk.now) (D.moments device.old.disk.now) }
-    requires works { device.old.condition ≡ Working }
+    requires works { Works D.identity D.moments device.old.condition device.old.parts device.old.disk.now }
     requires requests { device.old.parts.common.slots.slots ≡ [] }
     requires submitted { device.old.parts.common.slots.submitted ≡ 0 }
     requires count { count ≤ 1000 }

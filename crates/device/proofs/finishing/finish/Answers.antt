@@ -1,23 +1,23 @@
-use Rattle.std.proofs.Common.{◌≡◌, Some, inl, inr, ap, subst, ◌∙◌}
+use Rattle.std.proofs.Common.{◌≡◌, Some, inl, inr, ap, subst, ◌∙◌, refl}
 use Rattle.std.proofs.lemmas.Result.{err_from_is_err_and}
 use Rattle.device_model.specs.Progress.{answers}
 use Rattle.device_model.specs.Script.{last_answer, turn_events}
 use Rattle.device_parts.specs.declared.answers.Served.{Served}
 use Rattle.device_parts.specs.Answers.{served_answer}
 use Rattle.device.specs.Run.{standing_behind}
-use Rattle.device.proofs.CallLemmas.{kept_then, runs_failed}
+use Rattle.device.proofs.CallLemmas.{keeps_none, kept_then, runs_failed, turn_broken, works_then}
 use Rattle.device.proofs.FinishLemmas.{more_by}
-use Rattle.device.proofs.TurnRunLemmas.{way_cut, way_ends, way_goes_on}
+use Rattle.device.proofs.TurnRunLemmas.{way_begins, way_cut, way_ends, way_goes_on}
 use Rattle.device.proofs.finishing.finish.Goals as goal
 
 pub returns-in_err-serve_with_room-clause-runs : goal.returns-in_err-serve_with_room-clause-runs
 returns-in_err-serve_with_room-clause-runs g c =
     let p = err_from_is_err_and c.from_residual.result c.from_residual.ensures.1 in
     let runs = c.in_err-serve_with_room.ensures.runs in
-    runs_failed _ _ _ _ _ _ _ _ c.from_residual.result p.0 p.1
+    runs_failed g.D.Disk.identity g.D.Disk.moments _ _ _ _ _ c.from_residual.result p.0 p.1
     (λ w is.
     let way = c.turns.invariant.way w is in
-    way_cut w c.args.ticket.now _ _ _ _ _ way c.turns.invariant.there (runs.err _ way.run.device)) runs.broken
+    way_cut w c.args.ticket.now _ _ _ _ _ way c.turns.invariant.there (runs.err _ way.run.device))
     (kept_then _ _ _ _ _ _ _ _ _ _ c.turns.invariant.keeps runs.keeps)
 
 pub turns-preserved : goal.turns-preserved
@@ -25,7 +25,7 @@ turns-preserved g c =
     let t = c.args.ticket.now in
     let runs = c.in_ok-serve_with_room.ensures.runs in
     record {
-      works = runs.works;
+      works = works_then g.D.Disk.identity g.D.Disk.moments _ _ _ _ _ c.in_ok-serve_with_room.ensures.turn runs.keeps;
       there = runs.keeps.flight.same t ∙ c.turns.invariant.there;
       keeps = kept_then _ _ _ _ _ _ _ _ _ _ c.turns.invariant.keeps runs.keeps;
       faults = c.in_ok-serve_with_room.ensures.cause.passed ∙ c.turns.invariant.faults;
@@ -54,7 +54,23 @@ returns-in-Held-clause-runs g c =
             ]
           ]) (c.in_ok-serve_with_room.ensures.answers _ way.run.device) (runs.done _ way.run.device);
       err = tt;
-      works = runs.works;
-      broken = tt;
       keeps = kept_then _ _ _ _ _ _ _ _ _ _ c.turns.invariant.keeps runs.keeps;
     }
+
+pub turns-init : goal.turns-init
+turns-init g c = record {
+  works = c.requires.works;
+  there = c.requires.there;
+  keeps = keeps_none g.D.Disk.identity g.D.Disk.moments _ _ _ c.requires.works;
+  faults = refl;
+  same_disk = refl;
+  way = λ w is. way_begins w c.args.ticket.now _ _ is;
+}
+
+pub returns-in_err-serve_with_room-clause-turn : goal.returns-in_err-serve_with_room-clause-turn
+returns-in_err-serve_with_room-clause-turn g c =
+    let p = err_from_is_err_and c.from_residual.result c.from_residual.ensures.1 in
+    turn_broken _ c.from_residual.result p.0 p.1 c.in_err-serve_with_room.ensures.turn
+
+pub returns-in-Held-clause-turn : goal.returns-in-Held-clause-turn
+returns-in-Held-clause-turn g c = c.in_ok-serve_with_room.ensures.turn

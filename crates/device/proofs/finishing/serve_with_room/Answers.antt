@@ -1,11 +1,11 @@
 use Rattle.std.proofs.Common.{subst}
 use Rattle.std.proofs.lemmas.Result.{err_from_is_err_and}
 use Rattle.device_model.specs.Progress.{Serve}
-use Rattle.device_model.specs.Script.{turn_events}
 use Rattle.device_parts.specs.declared.answers.Served.{Served}
 use Rattle.device_parts.specs.Answers.{served_answer}
 use Rattle.device_parts.specs.Device.{Answers}
-use Rattle.device.proofs.CallLemmas.{kept_then, runs_behind, runs_failed}
+use Rattle.device.specs.Run.{one_serve, one_turn}
+use Rattle.device.proofs.CallLemmas.{kept_then, runs_behind, runs_failed, turn_broken}
 use Rattle.device.proofs.ModeLemmas.{if_ok_each}
 use Rattle.device.proofs.FinishLemmas.{answer-with_room}
 use Rattle.device.proofs.TurnRunLemmas.{roomy, turn_failed, turn_failed_again, turn_failed_in_room, turn_with_room}
@@ -15,18 +15,18 @@ pub returns-in_err-served-clause-runs : goal.returns-in_err-served-clause-runs
 returns-in_err-served-clause-runs g c =
     let p = err_from_is_err_and c.from_residual.result c.from_residual.ensures.1 in
     let runs = c.in_err-served.ensures.runs in
-    runs_failed _ _ _ _ _ _ _ _ c.from_residual.result p.0 p.1
-    (λ w is. turn_failed w c.args.ticket.now _ _ _ (runs.err w is)) runs.broken runs.keeps
+    runs_failed g.D.Disk.identity g.D.Disk.moments _ _ _ _ _ c.from_residual.result p.0 p.1
+    (λ w is. turn_failed w c.args.ticket.now _ _ _ (runs.err w is)) runs.keeps
 
 pub returns-in_err-make_room-in-NoRoom-clause-runs : goal.returns-in_err-make_room-in-NoRoom-clause-runs
 returns-in_err-make_room-in-NoRoom-clause-runs g c =
     let p = err_from_is_err_and c.from_residual-in_err-make_room-in-NoRoom.result c.from_residual-in_err-make_room-in-NoRoom.ensures.1 in
     let first = c.in_ok-served.ensures.runs in
     let runs = c.in_err-make_room-in-NoRoom.ensures.runs in
-    runs_failed _ _ _ _ _ _ _ _ c.from_residual-in_err-make_room-in-NoRoom.result p.0 p.1
+    runs_failed g.D.Disk.identity g.D.Disk.moments _ _ _ _ _ c.from_residual-in_err-make_room-in-NoRoom.result p.0 p.1
     (λ w is.
     let full = subst (λ (x : Served). Answers w (Serve c.args.ticket.now) (served_answer x)) c.in-NoRoom.is (c.in_ok-served.ensures.answers w is) in
-    turn_failed_in_room w c.args.ticket.now full _ _ _ _ _ (first.done w is) (runs.err _ (first.done w is).device)) runs.broken
+    turn_failed_in_room w c.args.ticket.now full _ _ _ _ _ (first.done w is) (runs.err _ (first.done w is).device))
     (kept_then _ _ _ _ _ _ _ _ _ _ first.keeps runs.keeps)
 
 pub returns-in_ok-make_room-in-NoRoom-clause-runs : goal.returns-in_ok-make_room-in-NoRoom-clause-runs
@@ -34,8 +34,7 @@ returns-in_ok-make_room-in-NoRoom-clause-runs g c =
     let t = c.args.ticket.now in
     let first = c.in_ok-served.ensures.runs in
     let second = c.in_ok-make_room-in-NoRoom.ensures.runs in
-    let third = c.serve-in-NoRoom.ensures.runs in
-    runs_behind _ (λ w. turn_events w.format t w.state) (λ w. roomy w t) _ _ _ _ _ _ _ _ _ _ c.serve-in-NoRoom.result
+    runs_behind g.D.Disk.identity g.D.Disk.moments (one_serve t) (one_turn t) (λ w. roomy w t) _ _ _ _ _ _ c.serve-in-NoRoom.result
     (λ w is. (second.done _ (first.done w is).device).device)
     (λ w is last.
     let full = subst (λ (x : Served). Answers w (Serve t) (served_answer x)) c.in-NoRoom.is (c.in_ok-served.ensures.answers w is) in
@@ -45,7 +44,7 @@ returns-in_ok-make_room-in-NoRoom-clause-runs g c =
     let full = subst (λ (x : Served). Answers w (Serve t) (served_answer x)) c.in-NoRoom.is (c.in_ok-served.ensures.answers w is) in
     let one = first.done w is in
     turn_failed_again w t full _ _ _ _ _ _ _ one (second.done _ one.device) last)
-    (kept_then _ _ _ _ _ _ _ _ _ _ (kept_then _ _ _ _ _ _ _ _ _ _ first.keeps second.keeps) third.keeps) third
+    (kept_then _ _ _ _ _ _ _ _ _ _ first.keeps second.keeps) c.serve-in-NoRoom.ensures.runs
 
 pub returns-in_ok-make_room-in-NoRoom-clause-answers : goal.returns-in_ok-make_room-in-NoRoom-clause-answers
 returns-in_ok-make_room-in-NoRoom-clause-answers g c =
@@ -56,3 +55,13 @@ returns-in_ok-make_room-in-NoRoom-clause-answers g c =
     let full = subst (λ (x : Served). Answers w (Serve t) (served_answer x)) c.in-NoRoom.is (c.in_ok-served.ensures.answers w is) in
     answer-with_room w.format w.state t full served (told _ (second.done _ (first.done w is).device).device))
     c.serve-in-NoRoom.ensures.answers
+
+pub returns-in_err-served-clause-turn : goal.returns-in_err-served-clause-turn
+returns-in_err-served-clause-turn g c =
+    let p = err_from_is_err_and c.from_residual.result c.from_residual.ensures.1 in
+    turn_broken _ c.from_residual.result p.0 p.1 c.in_err-served.ensures.turn
+
+pub returns-in_err-make_room-in-NoRoom-clause-turn : goal.returns-in_err-make_room-in-NoRoom-clause-turn
+returns-in_err-make_room-in-NoRoom-clause-turn g c =
+    let p = err_from_is_err_and c.from_residual-in_err-make_room-in-NoRoom.result c.from_residual-in_err-make_room-in-NoRoom.ensures.1 in
+    turn_broken _ c.from_residual-in_err-make_room-in-NoRoom.result p.0 p.1 c.in_err-make_room-in-NoRoom.ensures.turn

@@ -3,6 +3,7 @@ use Rattle.device_parts.specs.declared.condition.Condition.TheVariants.{Working}
 use Rattle.device_parts.specs.Answers.{actor_of}
 use Rattle.device.specs.Answers.{steps_left}
 use Rattle.device_parts.specs.Device.{KeepsParts}
+use Rattle.device.specs.Calls.{Works}
 use Rattle.device.specs.Device.{IsDevice, any_mode}
 use Rattle.device_parts.specs.Device.{Standing}
 use Rattle.device.proofs.CallLemmas.{IsOnWay}
@@ -10,9 +11,9 @@ use Rattle.device.proofs.making_room.step_until_idle.Given as goal
 
 abbrev pub invariant-steps : goal.invariant-steps
 invariant-steps g l = record {
-  works : l.device.condition ≡ Working;
+  works : Works g.D.Disk.identity g.D.Disk.moments l.device.condition l.device.parts l.device.disk.now;
   slots : l.device.parts.common.slots ≡ l.initial.device.parts.common.slots;
-  keeps : KeepsParts any_mode l.device.condition l.initial.device.parts l.device.parts
+  keeps : KeepsParts any_mode Working l.initial.device.parts l.device.parts
       (g.D.Disk.identity l.initial.device.disk.now) (g.D.Disk.identity l.device.disk.now) (g.D.Disk.moments l.device.disk.now);
   faults : g.D.Counted.faults l.device.disk.now ≡ g.D.Counted.faults l.initial.device.disk.now;
   same_disk : l.device.disk.ghost_name ≡ l.initial.device.disk.ghost_name;

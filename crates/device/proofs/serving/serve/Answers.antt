@@ -1,10 +1,9 @@
-use Rattle.std.proofs.Common.{refl, sym, subst}
-use Rattle.device_model.specs.Progress.{FailedServe, IsBroken, Serve}
+use Rattle.std.proofs.Common.{refl, subst}
+use Rattle.device_model.specs.Progress.{FailedServe, Serve}
 use Rattle.device_parts.specs.declared.condition.Condition.{Condition}
 use Rattle.device_parts.specs.Answers.{served_answer}
-use Rattle.device_parts.specs.Device.{IsDone, KeepsParts}
 use Rattle.device_parts.proofs.ReadyLemmas.{same_flight}
-use Rattle.device.specs.Device.{IsDevice, any_mode}
+use Rattle.device.specs.Device.{IsDevice, IsReady}
 use Rattle.device.proofs.JudgedLemmas.{done_failed, done_working, not_both, turns_broken, turns_failed, turns_none}
 use Rattle.device.proofs.RequestLemmas.{broken_serve}
 use Rattle.device.proofs.serving.serve.Goals as goal
@@ -15,15 +14,15 @@ pub returns-in-Broken-clause-served : goal.returns-in-Broken-clause-served
 returns-in-Broken-clause-served g c w is =
     let parts = c.args.parts.now in
     let a = g.D.Disk.moments c.args.disk.now in
-    subst (λ (x : Condition). IsDone any_mode w (Serve c.args.ticket.now) IsBroken x parts a a) (sym c.in-Broken.is)
-    (broken_serve w parts a (subst (λ (x : Condition). IsDevice w x parts a) c.in-Broken.is is) c.args.ticket.now)
+    broken_serve w parts a (subst (λ (x : Condition). IsDevice w x parts a) c.in-Broken.is is) c.args.ticket.now
 
 pub returns-in-Broken-clause-condition : goal.returns-in-Broken-clause-condition
 returns-in-Broken-clause-condition g c = turns_broken c.args.condition.now c.args.disk.now c.in-Broken.is
 
 pub returns-in-Broken-clause-keeps : goal.returns-in-Broken-clause-keeps
 returns-in-Broken-clause-keeps g c = record {
-  ready = c.requires.ready;
+  ready = subst (λ (x : Condition). IsReady x c.args.parts.now (g.D.Disk.identity c.args.disk.now) (g.D.Disk.moments c.args.disk.now))
+      c.in-Broken.is c.requires.ready;
   same_mode = refl;
   flight = same_flight c.args.parts.now.common.slots;
   identity = refl;
@@ -42,12 +41,6 @@ returns-in-Ok-clause-served g c w is =
 
 pub returns-in-Ok-clause-condition : goal.returns-in-Ok-clause-condition
 returns-in-Ok-clause-condition g c = turns_none c.args.condition.now c.in-Ok.served _ _ c.in-Working.is
-
-pub returns-in-Ok-clause-keeps : goal.returns-in-Ok-clause-keeps
-returns-in-Ok-clause-keeps g c =
-    let disk = c.serve_next.new.disk in
-    subst (λ (x : Condition). KeepsParts any_mode x c.args.parts.now c.serve_next.new.parts (g.D.Disk.identity c.args.disk.now)
-    (g.D.Disk.identity disk) (g.D.Disk.moments disk)) (sym c.in-Working.is) c.in-Ok.ensures.keeps
 
 -- ---- one whose disk fails
 

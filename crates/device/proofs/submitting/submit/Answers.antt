@@ -6,7 +6,7 @@ use Rattle.device.proofs.RequestLemmas.{is_submitted}
 use Rattle.device.proofs.submitting.submit.Goals as goal
 
 pub returns-clause-done : goal.returns-clause-done
-returns-clause-done c w moments is =
+returns-clause-done c moments w is =
     let parts = c.args.parts.now in
     subst (λ (p : Parts). HasSubmitted any_mode w c.args.request c.args.condition parts (record parts { common = p }) moments)
     (sym c.submit.ensures.submitted) (is_submitted w parts moments c.args.request c.args.condition is)

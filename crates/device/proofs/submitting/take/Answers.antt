@@ -9,7 +9,7 @@ use Rattle.device.proofs.RequestLemmas.{is_taken, serial_each}
 use Rattle.device.proofs.submitting.take.Goals as goal
 
 pub returns-clause-done : goal.returns-clause-done
-returns-clause-done c w condition moments is =
+returns-clause-done c condition moments w is =
     let parts = c.args.parts.now in
     let ticket = c.args.ticket in
     let slots = parts.common.slots in
@@ -19,4 +19,5 @@ returns-clause-done c w condition moments is =
     (is_taken w condition parts moments is ticket c.requires.there).0)
 
 pub returns-clause-serial : goal.returns-clause-serial
-returns-clause-serial c = serial_each c.args.parts.now c.args.ticket c.requires.there c.take.result c.take.ensures.reply
+returns-clause-serial c condition moments =
+    serial_each c.args.parts.now c.args.ticket c.requires.there c.take.result c.take.ensures.reply condition moments

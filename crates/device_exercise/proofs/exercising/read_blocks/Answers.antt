@@ -9,8 +9,8 @@ use Rattle.device_exercise.proofs.exercising.read_blocks.Goals as goal
 
 pub loop-block-init : goal.loop-block-init
 loop-block-init g c = record {
-  works = c.requires.works;
-  stays = stays_none _ _ _ _ _ c.requires.ready c.requires.tickets;
+  works = c.requires.works.is;
+  stays = stays_none _ _ _ _ _ c.requires.works.ready c.requires.tickets;
   disk_same = refl;
   same_disk = refl;
   faults = omega arith;

@@ -12,13 +12,13 @@ use Rattle.device_exercise.proofs.exercising.run_workload.Goals as goal
 
 pub new-workload-requires : goal.new-workload-requires
 new-workload-requires g c =
-    let some = some_blocks _ _ _ _ c.requires.works c.requires.ready in
+    let some = some_blocks _ _ _ _ c.requires.works.is c.requires.works.ready in
     let is = c.blocks-2.ensures in omega (arith, some, is)
 
 pub loop-made-init : goal.loop-made-init
 loop-made-init g c = record {
-  works = c.requires.works;
-  stays = stays_none _ _ _ _ _ c.requires.ready c.requires.tickets;
+  works = c.requires.works.is;
+  stays = stays_none _ _ _ _ _ c.requires.works.ready c.requires.tickets;
   disk_same = refl;
   same_disk = refl;
   blocks = ap (λ (x : WorkloadState). x.blocks) c.new-workload.ensures ∙ c.blocks-2.ensures;
@@ -33,7 +33,7 @@ loop-made-init g c = record {
 pub run_counted-requires-clause-runnable : goal.run_counted-requires-clause-runnable
 run_counted-requires-clause-runnable g c =
     let kept = c.loop-made.invariant in
-    let some = some_blocks _ _ _ _ c.requires.works c.requires.ready in
+    let some = some_blocks _ _ _ _ c.requires.works.is c.requires.works.ready in
     let is = kept.blocks in
     workload_fits c.next_ask-ask.new.self.number c.loop-made.workload.blocks _ _ (ask_of c.next_ask-ask.result)
     c.next_ask-ask.ensures.ask

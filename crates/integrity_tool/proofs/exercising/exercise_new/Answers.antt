@@ -12,7 +12,7 @@ returns-in-Err-clause-exercised g c made told can =
     let disk = g.D.Disk.identity c.args.disk.now in
     let before = g.D.Disk.moments c.args.disk.now in
     let refused = not_opened c.images_that_open_have_no_fault.ensures disk _ c.args.count c.args.seed before _ made told can
-    c.in-Err.ensures.leaves_back c.in-Err.refused.fault c.in-Err.ensures.refused in
+    c.in-Err.ensures.err c.in-Err.refused.fault c.in-Err.ensures.refused in
     subst (λ (m : List Content). IsExercisedOn disk.sectors c.args.count c.args.seed made (Err c.ended_by_opening.result) before m)
     (sym (ap g.D.Disk.moments c.handed_back-fault.ensures.disk))
     (subst (λ (e : Ended). IsExercisedOn disk.sectors c.args.count c.args.seed made (Err e) before (g.D.Disk.moments c.in-Err.refused.disk.now))

@@ -8,8 +8,8 @@ use Rattle.integrity_tool.proofs.running.run_lines.Goals as goal
 
 pub loop-tickets-init : goal.loop-tickets-init
 loop-tickets-init g c = record {
-  ready = c.requires.ready;
-  works = c.requires.works;
+  ready = c.requires.works.ready;
+  works = c.requires.works.is;
   flight = none_in_flight _ _ c.new-tickets.ensures c.requires.requests.0;
   submitted = let none = c.requires.requests.1 in omega (arith, none);
   number = omega arith;

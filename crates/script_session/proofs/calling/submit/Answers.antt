@@ -20,11 +20,11 @@ returns-in-Ok-clause-answered g c w is =
     let fault = submit_fault Working old.common.slots c.args.request in
     subst (λ (m : List Content). HasAnswered w (Submit (as_submission c.args.request) ∷ []) (Lines.Ticket c.number-number.result) c.submit.new.self.parts m (g.D.Disk.moments c.submit.new.self.disk.now)) (ap g.D.Disk.moments c.submit.ensures.disk)
     (submit_told w c.args.request fault (suc old.common.slots.submitted) _ Working c.submit.new.self.parts _
-    (subst (λ (x : Condition). HasSubmitted any_mode w c.args.request x old c.submit.new.self.parts (g.D.Disk.moments c.submit.new.self.disk.now)) (c.submit.ensures.condition ∙ c.requires.works)
-    (c.submit.ensures.done w (device_works w _ _ _ c.requires.works is))) refl
+    (subst (λ (x : Condition). HasSubmitted any_mode w c.args.request x old c.submit.new.self.parts (g.D.Disk.moments c.submit.new.self.disk.now)) c.requires.works.is
+    (c.submit.ensures.done w (device_works w _ _ _ c.requires.works.is is))) refl
     (ap Lines.Ticket c.number-number.ensures
     ∙ submit_ok fault (suc old.common.slots.submitted) c.in-Ok.ticket c.args.request
-    (c.in-Ok.ensures.answer ∙ ap (λ (x : Condition). answer_by (submit_fault x old.common.slots c.args.request) (suc old.common.slots.submitted) c.args.request) c.requires.works)))
+    (c.in-Ok.ensures.answer ∙ ap (λ (x : Condition). answer_by (submit_fault x old.common.slots c.args.request) (suc old.common.slots.submitted) c.args.request) c.requires.works.is)))
 
 pub returns-in-Err-clause-answered : goal.returns-in-Err-clause-answered
 returns-in-Err-clause-answered g c w is =
@@ -32,30 +32,30 @@ returns-in-Err-clause-answered g c w is =
     let fault = submit_fault Working old.common.slots c.args.request in
     subst (λ (m : List Content). HasAnswered w (Submit (as_submission c.args.request) ∷ []) (c.refused.result) c.submit.new.self.parts m (g.D.Disk.moments c.submit.new.self.disk.now)) (ap g.D.Disk.moments c.submit.ensures.disk)
     (submit_told w c.args.request fault (suc old.common.slots.submitted) _ Working c.submit.new.self.parts _
-    (subst (λ (x : Condition). HasSubmitted any_mode w c.args.request x old c.submit.new.self.parts (g.D.Disk.moments c.submit.new.self.disk.now)) (c.submit.ensures.condition ∙ c.requires.works)
-    (c.submit.ensures.done w (device_works w _ _ _ c.requires.works is))) refl
+    (subst (λ (x : Condition). HasSubmitted any_mode w c.args.request x old c.submit.new.self.parts (g.D.Disk.moments c.submit.new.self.disk.now)) c.requires.works.is
+    (c.submit.ensures.done w (device_works w _ _ _ c.requires.works.is is))) refl
     (c.refused.ensures
     ∙ submit_err fault (suc old.common.slots.submitted) c.args.request c.in-Err.refusal
-    (c.in-Err.ensures.answer ∙ ap (λ (x : Condition). answer_by (submit_fault x old.common.slots c.args.request) (suc old.common.slots.submitted) c.args.request) c.requires.works)))
+    (c.in-Err.ensures.answer ∙ ap (λ (x : Condition). answer_by (submit_fault x old.common.slots c.args.request) (suc old.common.slots.submitted) c.args.request) c.requires.works.is)))
 
 pub returns-in-Ok-clause-ticket : goal.returns-in-Ok-clause-ticket
 returns-in-Ok-clause-ticket g c w is =
     let old = c.args.device.now.parts in
     let fault = submit_fault Working old.common.slots c.args.request in
-    let done = subst (λ (x : Condition). HasSubmitted any_mode w c.args.request x old c.submit.new.self.parts (g.D.Disk.moments c.submit.new.self.disk.now)) (c.submit.ensures.condition ∙ c.requires.works)
-    (c.submit.ensures.done w (device_works w _ _ _ c.requires.works is)) in
+    let done = subst (λ (x : Condition). HasSubmitted any_mode w c.args.request x old c.submit.new.self.parts (g.D.Disk.moments c.submit.new.self.disk.now)) c.requires.works.is
+    (c.submit.ensures.done w (device_works w _ _ _ c.requires.works.is is)) in
     submitted_ticket fault (suc old.common.slots.submitted) (Lines.Ticket c.number-number.result) _
     (ap Lines.Ticket c.number-number.ensures
     ∙ submit_ok fault (suc old.common.slots.submitted) c.in-Ok.ticket c.args.request
-    (c.in-Ok.ensures.answer ∙ ap (λ (x : Condition). answer_by (submit_fault x old.common.slots c.args.request) (suc old.common.slots.submitted) c.args.request) c.requires.works)) done.answers
+    (c.in-Ok.ensures.answer ∙ ap (λ (x : Condition). answer_by (submit_fault x old.common.slots c.args.request) (suc old.common.slots.submitted) c.args.request) c.requires.works.is)) done.answers
 
 pub returns-in-Err-clause-ticket : goal.returns-in-Err-clause-ticket
 returns-in-Err-clause-ticket g c w is =
     let old = c.args.device.now.parts in
     let fault = submit_fault Working old.common.slots c.args.request in
-    let done = subst (λ (x : Condition). HasSubmitted any_mode w c.args.request x old c.submit.new.self.parts (g.D.Disk.moments c.submit.new.self.disk.now)) (c.submit.ensures.condition ∙ c.requires.works)
-    (c.submit.ensures.done w (device_works w _ _ _ c.requires.works is)) in
+    let done = subst (λ (x : Condition). HasSubmitted any_mode w c.args.request x old c.submit.new.self.parts (g.D.Disk.moments c.submit.new.self.disk.now)) c.requires.works.is
+    (c.submit.ensures.done w (device_works w _ _ _ c.requires.works.is is)) in
     submitted_ticket fault (suc old.common.slots.submitted) c.refused.result _
     (c.refused.ensures
     ∙ submit_err fault (suc old.common.slots.submitted) c.args.request c.in-Err.refusal
-    (c.in-Err.ensures.answer ∙ ap (λ (x : Condition). answer_by (submit_fault x old.common.slots c.args.request) (suc old.common.slots.submitted) c.args.request) c.requires.works)) done.answers
+    (c.in-Err.ensures.answer ∙ ap (λ (x : Condition). answer_by (submit_fault x old.common.slots c.args.request) (suc old.common.slots.submitted) c.args.request) c.requires.works.is)) done.answers

@@ -1,10 +1,11 @@
-use Rattle.std.proofs.Common.{ℕ, List, [], ◌∷◌, refl, ◌∙◌, ap, subst, arith}
+use Rattle.std.proofs.Common.{ℕ, List, [], ◌∷◌, refl, sym, ◌∙◌, ap, subst, arith}
 use Rattle.device_model.specs.Progress.{Take}
 use Rattle.request_slots.specs.Flight.{Flight, slot_of}
 use Rattle.request_slots.specs.Taking.{without}
 use Rattle.disk_model.specs.Disk.{Content}
 use Rattle.script_session.specs.declared.line_answer.LineAnswer.TheVariants as Lines
-use Rattle.device.specs.Device.{with_slots}
+use Rattle.device_parts.specs.declared.condition.Condition.{Condition}
+use Rattle.device.specs.Device.{IsReady, with_slots}
 use Rattle.device.proofs.ModeLemmas.{flight_now}
 use Rattle.device_parts.specs.declared.condition.Condition.TheVariants.{Working}
 use Rattle.device.proofs.CallLemmas.{device_works}
@@ -37,8 +38,8 @@ returns-in-Ok-clause-answered g c w is =
     let after = g.D.Disk.moments c.take.new.self.disk.now in
     let number = own_number tickets parts.common.slots c.requires.tickets c.args.number c.requires.number c.place_of-place.result c.place_of-place.ensures own c.remove-ticket.ensures.value in
     let asked = own_asked tickets parts.common.slots c.requires.tickets c.args.number c.requires.number c.place_of-place.result c.place_of-place.ensures own c.remove-ticket.ensures.value w.state.progress.requests (flight_now w Working parts.mode parts.common before is).slots in
-    let told = taken_told w parts before is own asked c.take.new.self.condition c.take.new.self.parts after (c.take.ensures.condition ∙ c.requires.works) c.in-Ok.reply c.in-Ok.ensures.reply
-    (c.in-Ok.ensures.done w (device_works w _ _ _ c.requires.works is)) in
+    let told = taken_told w parts before is own asked c.args.device.now.condition c.take.new.self.parts after c.requires.works.is c.in-Ok.reply c.in-Ok.ensures.reply
+    (c.in-Ok.ensures.done w (device_works w _ _ _ c.requires.works.is is)) in
     subst (λ (m : List Content). HasAnswered w (Take c.args.number ∷ []) (Lines.Replied own.first own.count c.in-Ok.reply) c.take.new.self.parts m after) (ap g.D.Disk.moments c.take.ensures.disk)
     (subst (λ (t : ℕ). HasAnswered w (Take t ∷ []) (Lines.Replied own.first own.count c.in-Ok.reply) c.take.new.self.parts after after) number told)
 
@@ -50,7 +51,8 @@ returns-in-Ok-clause-stays g c =
     let slots : Flight = record parts.common.slots { slots = without own.ticket parts.common.slots.slots } in
     stays_slots _ parts c.take.new.self.parts slots _ _ _ _
     (c.take.ensures.taken ∙ ap (λ (x : Flight). with_slots parts x) (after_taken own.ticket (slot_of own.ticket parts.common.slots) c.in-Ok.reply parts.common.slots c.in-Ok.ensures.reply))
-    (c.take.ensures.ready c.requires.ready)
+    (subst (λ (x : Condition). IsReady x c.take.new.self.parts (g.D.Disk.identity c.take.new.self.disk.now) (g.D.Disk.moments c.take.new.self.disk.now))
+    (sym c.take.ensures.condition) (c.take.ensures.ready c.requires.works.ready))
     (record { asks = rest_asks tickets parts.common.slots c.requires.tickets c.args.number c.requires.number c.place_of-place.result c.place_of-place.ensures own c.remove-ticket.ensures.value c.remove-ticket.new.self.items c.remove-ticket.ensures.items })
     refl refl refl (ap g.D.Disk.identity c.take.ensures.disk)
 
@@ -61,7 +63,7 @@ returns-in-Err-clause-answered g c w is =
     let own = c.remove-ticket.result in
     let after = g.D.Disk.moments c.take.new.self.disk.now in
     let number = own_number tickets parts.common.slots c.requires.tickets c.args.number c.requires.number c.place_of-place.result c.place_of-place.ensures own c.remove-ticket.ensures.value in
-    let told = untaken_told w own.ticket c.in-Err.ticket c.take.new.self.condition c.take.new.self.parts after (c.take.ensures.condition ∙ c.requires.works)
-    (c.in-Err.ensures.done w (device_works w _ _ _ c.requires.works is)) in
+    let told = untaken_told w own.ticket c.in-Err.ticket c.args.device.now.condition c.take.new.self.parts after c.requires.works.is
+    (c.in-Err.ensures.done w (device_works w _ _ _ c.requires.works.is is)) in
     subst (λ (m : List Content). HasAnswered w (Take c.args.number ∷ []) Lines.NotDone c.take.new.self.parts m after) (ap g.D.Disk.moments c.take.ensures.disk)
     (subst (λ (t : ℕ). HasAnswered w (Take t ∷ []) Lines.NotDone c.take.new.self.parts after after) number told)
