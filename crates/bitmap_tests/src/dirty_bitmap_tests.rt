@@ -4,13 +4,12 @@ ghost use Rattle.std.specs.Prelude.{◌≡◌, IfOk};
 ghost use Rattle.disk_model.specs.Identity.{IsBound};
 ghost use Rattle.image_model.specs.Geometry.{IsGeometry, bitmap_sectors, journal_sectors};
 
+use crate::places::{byte_of, geometry_on};
 use dirty_bitmap::{Bits, BitsFault, RegionSet};
-use layout::Geometry;
 use sector_disk::{Disk, Failed, MemDisk};
 use std::alloc::Global;
-use std::process::Abort;
 use std::test::Fail;
-use superblock::{Super, judge};
+use superblock::Super;
 
 /// The fields of an image with a bit for each of its blocks, in which an area has 4096 data sectors.
 const BLOCKS: Super = Super {
@@ -18,7 +17,7 @@ const BLOCKS: Super = Super {
     log2_interleave: 12,
     tag_size: 1,
     sections: 1,
-    provided: 5000,
+    provided: 33000,
     flags: 0xc,
     log2_spb: 0,
     log2_region: 0,
@@ -27,22 +26,7 @@ const BLOCKS: Super = Super {
 };
 
 /// By the formulas of the layout the journal has 176 sectors, and an area 8 sectors of tags.
-const SECTORS: u64 = 5200;
-
-/// Where all lies, where the bitmap fits the journal.
-fn geometry_on<D: Disk>(disk: &D, fields: &Super) -> Result<Geometry, Fail>
-    requires { IsBound (D.identity disk.now).name }
-
-    ensures places { IfOk result (λ geometry. IsGeometry geometry (D.identity disk.now).sectors) }
-    ensures fits { IfOk result (λ geometry. bitmap_sectors geometry ≤ journal_sectors geometry) }
-{
-    judge(fields)?;
-    let geometry = Geometry::new(fields, disk.sectors())?;
-    if geometry.bitmap_sectors() + 8 > geometry.initial() {
-        return Err(Failed.into());
-    }
-    Ok(geometry)
-}
+const SECTORS: u64 = 33300;
 
 /// The bits of a disk.
 fn load<D: Disk>(alloc: Global, disk: &mut D, fields: &Super) -> Result<Bits, Fail>
@@ -88,74 +72,34 @@ fn is_set(bits: &Bits, region: u64) -> bool {
     region < bits.regions().size() && bits.is_set(region)
 }
 
-/// A byte of a sector, as the disk itself reads it.
-fn byte_of<D: Disk>(disk: &mut D, at: u64, byte: usize) -> Result<u8, Failed>
-    requires { IsBound (D.identity disk.old).name }
-
-    ensures identity { D.identity disk.new ≡ D.identity disk.old }
-    ensures kept { D.moments disk.new ≡ D.moments disk.old }
-{
-    let mut sector = [0; 512];
-    if at >= disk.sectors() || byte >= 512 {
-        return Err(Failed);
-    }
-    disk.read_run(at, &mut sector)?;
-    Ok(sector[byte])
-}
-
-/// A region, and where its bit lies: the sector, the byte in it, and the byte's value with that bit alone.
-#[derive(Clone, Copy)]
-struct Place {
-    region: u64,
-    at: u64,
-    byte: usize,
-    value: u8,
-}
-
+/// Regions at the edges of bytes, of sectors and of groups of eight sectors, and where their bits lie: the sector, the byte
+/// in it, and the byte's value with that bit alone.
 // Own: computed from the order of bits, bit r mod 8 of byte r div 8, from sector 8 on.
-const SEVENTH: Place = Place {
-    region: 7,
-    at: 8,
-    byte: 0,
-    value: 0x80,
-};
+const EDGES: [(u64, u64, usize, u8); 6] = [
+    (7, 8, 0, 0x80),
+    (8, 8, 1, 0x01),
+    (4095, 8, 511, 0x80),
+    (4096, 9, 0, 0x01),
+    (32767, 15, 511, 0x80),
+    (32768, 16, 0, 0x01),
+];
 
-const EIGHTH: Place = Place {
-    region: 8,
-    at: 8,
-    byte: 1,
-    value: 0x01,
-};
-
-const LAST_OF_A_SECTOR: Place = Place {
-    region: 4095,
-    at: 8,
-    byte: 511,
-    value: 0x80,
-};
-
-const FIRST_OF_THE_NEXT: Place = Place {
-    region: 4096,
-    at: 9,
-    byte: 0,
-    value: 0x01,
-};
-
-/// Sets the bit of a region, and tells whether it lies in its place.
-fn comes_to_lie<D: Disk>(bits: &mut Bits, disk: &mut D, place: Place) -> Result<bool, Failed>
+/// Sets the bits of these regions, and tells the first that does not lie in its place.
+fn misplaced<D: Disk>(bits: &mut Bits, disk: &mut D) -> Result<Option<u64>, Failed>
     requires bound { IsBound (D.identity disk.old).name }
     requires places { IsGeometry bits.old.geometry (D.identity disk.old).sectors }
 
     ensures geometry { bits.new.geometry ≡ bits.old.geometry }
     ensures identity { D.identity disk.new ≡ D.identity disk.old }
 {
-    make_dirty(bits, disk, place.region)?;
-    let value = byte_of(disk, place.at, place.byte)?;
-    Ok(
-        value == place.value
-            && is_set(bits, place.region)
-            && bits.next_set(place.region) == Some(place.region),
-    )
+    for (region, at, byte, value) in EDGES {
+        make_dirty(bits, disk, region)?;
+        let is_there = byte_of(disk, at, byte)? == value;
+        if !is_there || !is_set(bits, region) || bits.next_set(region) != Some(region) {
+            return Ok(Some(region));
+        }
+    }
+    Ok(None)
 }
 
 #[test]
@@ -163,18 +107,15 @@ fn bits_lie_in_their_bytes(rt: HostRuntime) -> Result<(), Fail> {
     let alloc = rt.alloc();
     let mut disk = MemDisk::new(alloc, SECTORS, 20)?;
     let mut bits = load(alloc, &mut disk, &BLOCKS)?;
-    assert_eq!(rt; bits.regions().size(), 5000);
-    assert!(rt; comes_to_lie(&mut bits, &mut disk, SEVENTH)?);
-    assert!(rt; comes_to_lie(&mut bits, &mut disk, EIGHTH)?);
-    assert!(rt; comes_to_lie(&mut bits, &mut disk, LAST_OF_A_SECTOR)?);
-    assert!(rt; comes_to_lie(&mut bits, &mut disk, FIRST_OF_THE_NEXT)?);
-    assert_eq!(rt; bits.count(), 4);
-    assert_eq!(rt; bits.next_set(4097), None);
+    assert_eq!(rt; bits.regions().size(), 33000);
+    assert_eq!(rt; misplaced(&mut bits, &mut disk)?, None);
+    assert_eq!(rt; bits.count(), 6);
+    assert_eq!(rt; bits.next_set(32769), None);
     clear(&mut bits, &mut disk, 4095)?;
     assert_eq!(rt; byte_of(&mut disk, 8, 511)?, 0);
     assert_eq!(rt; byte_of(&mut disk, 8, 0)?, 0x80);
     let again = load(alloc, &mut disk, &BLOCKS)?;
-    assert_eq!(rt; again.count(), 3);
+    assert_eq!(rt; again.count(), 5);
     assert_eq!(rt; again.next_set(9), Some(4096));
     Ok(())
 }
@@ -230,9 +171,9 @@ fn none_is_set_at_first(rt: HostRuntime) -> Result<(), Fail> {
     let disk = MemDisk::new(alloc, SECTORS, 1)?;
     let geometry = geometry_on(&disk, &BLOCKS)?;
     let bits = Bits::none(alloc, geometry)?;
-    assert_eq!(rt; bits.regions().size(), 5000);
+    assert_eq!(rt; bits.regions().size(), 33000);
     assert_eq!(rt; bits.count(), 0);
-    assert!(rt; !is_set(&bits, 4999));
+    assert!(rt; !is_set(&bits, 32999));
     Ok(())
 }
 
@@ -395,14 +336,27 @@ fn a_set_has_what_was_put_in(rt: HostRuntime) -> Result<(), Fail> {
 #[test]
 fn a_set_is_walked_from_word_to_word(rt: HostRuntime) -> Result<(), Fail> {
     let mut set = RegionSet::none(rt.alloc(), 40000)?;
-    set.insert(4095);
-    set.insert(4096);
-    set.insert(32767);
-    set.insert(32768);
-    assert_eq!(rt; set.count(), 4);
-    assert_eq!(rt; set.next(0), Some(4095));
+    for (region, _, _, _) in EDGES {
+        if region < set.size() {
+            set.insert(region);
+        }
+    }
+    assert_eq!(rt; set.count(), 6);
+    assert_eq!(rt; set.next(9), Some(4095));
     assert_eq!(rt; set.next(4097), Some(32767));
     assert_eq!(rt; set.next(32768), Some(32768));
     assert_eq!(rt; set.next(32769), None);
+    Ok(())
+}
+
+#[test]
+fn a_set_has_all_from_a_region_on(rt: HostRuntime) -> Result<(), Fail> {
+    for (first, _, _, _) in EDGES {
+        let set = RegionSet::from_region(rt.alloc(), 33000, first)?;
+        assert_eq!(rt; set.count().wrapping_add(first), 33000, "{first}");
+        assert_eq!(rt; set.next(0), Some(first), "{first}");
+    }
+    let none = RegionSet::from_region(rt.alloc(), 33000, 33000)?;
+    assert_eq!(rt; none.count(), 0);
     Ok(())
 }
