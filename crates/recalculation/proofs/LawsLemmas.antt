@@ -23,6 +23,7 @@ use Rattle.recalculation.specs.declared.places.Places.{Places}
 use Rattle.recalculation.specs.Rule.{tagger_by}
 use Rattle.recalculation.specs.Awaiting.{AwaitingRegions, awaiting_blocks, awaiting_of, is_left, left_blocks, opening_blocks}
 use Rattle.recalculation.specs.Places.{awaits_from}
+use Rattle.recalculation.specs.Taking.{GivesBetween}
 use Rattle.recalculation.proofs.AwaitingLemmas.{position_blocks}
 use Rattle.recalculation.specs.Laws.{BitmapBlocksLaw, OpenedBitsLaw, OpenedPositionLaw, PositionBlocksLaw, SameBlocksLaw, SameMomentsLaw}
 
@@ -55,6 +56,15 @@ same_moments_law tag g one other region tags a b same adds =
     (λ start. OnlyAdds (IsOfTags g (tags start) (region_tags tag g other region start (tags start))) start)
     (λ start c told some. OnlyAdds-wider (IsOfTags g (tags start) (region_tags tag g one region start (tags start))) (IsOfTags g (tags start) (region_tags tag g other region start (tags start)))
     (λ s x of. of_same g (tags start) _ _ s x (λ n low. region_tags-same tag g one other region start (tags start) n (same n low)) of) start c some)) adds
+
+-- what a store gives where it fails,
+pub between_same : (tag : Tagger) (g : Geometry) (one other : ℕ → Bool) (region : ℕ) (tags now : Content → ℕ → List ℕ) (a b : List Content) → ((n : ℕ) → n < g.blocks → region_of g n ≡ region → one n ≡ other n)
+    → GivesBetween g tags (λ c. region_tags tag g one region c (tags c)) now a b → GivesBetween g tags (λ c. region_tags tag g other region c (tags c)) now a b
+between_same tag g one other region tags now a b same gives = record {
+  each = λ start told c told_c n i low i_low. ⊎_elim inl
+      (λ e. inr (e ∙ ap (λ (t : List ℕ). slice_index t i) (region_tags-same tag g one other region start (tags start) n (same n low))))
+      (gives.each start told c told_c n i low i_low);
+}
 
 -- and the whole.
 pub same_blocks_law : SameBlocksLaw
@@ -115,6 +125,12 @@ module _ (rule : TagRule) (region : ℕ) (tags : Content → ℕ → List ℕ) (
   seen_adds l is adds =
       subst (λ (x : AwaitingRegions). AddsTags x.geometry tags (λ c. region_tags (tagger_by rule x.geometry) x.geometry (awaiting_blocks x) region c (tags c)) a b) view
       (subst (λ (o : Option Left). AddsTags places.geometry tags (λ c. region_tags (tagger_by rule places.geometry) places.geometry (left_blocks places.geometry places.first (is_left (option_map (λ (k : Left). k.set) o))) region c (tags c)) a b) (sym is) adds)
+
+  pub seen_between : (now : Content → ℕ → List ℕ) (l : Left) → left ≡ Some l → GivesBetween places.geometry tags (λ c. region_tags (tagger_by rule places.geometry) places.geometry (left_blocks places.geometry places.first (has_region l.set)) region c (tags c)) now a b
+      → GivesBetween v.geometry tags (λ c. region_tags (tagger_by rule v.geometry) v.geometry (awaiting_blocks v) region c (tags c)) now a b
+  seen_between now l is gives =
+      subst (λ (x : AwaitingRegions). GivesBetween x.geometry tags (λ c. region_tags (tagger_by rule x.geometry) x.geometry (awaiting_blocks x) region c (tags c)) now a b) view
+      (subst (λ (o : Option Left). GivesBetween places.geometry tags (λ c. region_tags (tagger_by rule places.geometry) places.geometry (left_blocks places.geometry places.first (is_left (option_map (λ (k : Left). k.set) o))) region c (tags c)) now a b) (sym is) gives)
 
   pub seen_nothing : left ≡ None → (n : ℕ) → awaiting_blocks v n ≡ false
   seen_nothing is n =

@@ -51,7 +51,7 @@ KeepsRest-then old mid new a m b first second = record {
 -- ---- a put
 
 -- Each sector that a store gives is whole where those are that reads give.
-given-whole : (store : Store) (disk : DiskIdentity) (m : List Content) (c : Content) → IsStore store disk m → AreWhole disk.sectors (last_image c) → AreWhole disk.sectors (given store c)
+pub given-whole : (store : Store) (disk : DiskIdentity) (m : List Content) (c : Content) → IsStore store disk m → AreWhole disk.sectors (last_image c) → AreWhole disk.sectors (given store c)
 given-whole store disk m c is whole sector low = by_held (held_in store.sectors sector) refl
   where
     by_held : (o : Option Held) → held_in store.sectors sector ≡ o → length (held_or o (last_image c sector)) ≡ 512

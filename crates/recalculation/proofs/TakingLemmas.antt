@@ -1,22 +1,27 @@
 -- A region that is recalculated, block by block.
-use Rattle.std.proofs.Common.{◌≡◌, ◌⊎◌, ⊎_elim, ℕ, ◌+◌, ◌*◌, ◌<◌, ◌≤◌, Bool, true, List, length, Some, sym, ◌∙◌, ap, subst, arith}
-use Rattle.std.proofs.lemmas.Bool.{leb-true, le-leb}
+use Rattle.std.proofs.Common.{◌≡◌, ◌⊎◌, inl, inr, ⊎_elim, refl, nat_lt, if◌then◌else◌, slice_index, ℕ, ◌+◌, ◌*◌, ◌<◌, ◌≤◌, Bool, true, List, length, Some, sym, ◌∙◌, ap, subst, arith}
+use Rattle.std.proofs.lemmas.Bool.{cases_Bool, leb-true, le-leb}
+use Rattle.std.proofs.lemmas.Option.{same_Some}
 use Rattle.disk_model.specs.Disk.{Content, OnlyAdds, last_image}
 use Rattle.disk_model.specs.Identity.{DiskIdentity}
 use Rattle.disk_model.specs.Moments.{EachSince, HasNow, content_now}
+use Rattle.disk_model.proofs.MomentsLemmas.{no_moment}
 use Rattle.image_model.specs.Cells.{placed_cells_of}
 use Rattle.image_model.specs.Geometry.{Geometry, IsGeometry, region_of}
 use Rattle.image_model.specs.Tag.{tag_of}
 use Rattle.image_model.proofs.TagLemmas.{length-tag_of}
 use Rattle.hmac_tag.specs.TagMaker.{TagRule}
 use Rattle.device_model.specs.History.{Tagger}
-use Rattle.place_model.specs.Tags.{IsOfTags, with_block_tag}
+use Rattle.place_model.specs.Tags.{IsOfTags, tag_byte_at, with_block_tag}
+use Rattle.place_model.proofs.PlacedLemmas.{placed_tag-byte}
 use Rattle.direct_laws.specs.CallLaws.{AddsTags, ReadsImage}
 use Rattle.direct_laws.specs.ServeLaws.{PutsTag}
 use Rattle.direct_mode.proofs.StoreCalls.{ReadsWhole, adds_put, puts_tag}
-use Rattle.tag_store.specs.Store.{IsOfPut, IsStore, KeepsButTag, Store, StoresTag, given_tags}
+use Rattle.tag_store.specs.StoreLaws.{AreWhole}
+use Rattle.tag_store.proofs.PutLemmas.{with_tag-byte}
+use Rattle.tag_store.specs.Store.{IsOfPut, IsStore, KeepsButTag, Store, StoresFirst, StoresTag, given, given_tags, tags_in}
 use Rattle.bitmap_laws.specs.CallLaws.{region_tags}
-use Rattle.bitmap_laws.specs.RecalcLaws.{TakesBelow}
+use Rattle.bitmap_laws.specs.RecalcLaws.{TakesBelow, tags_below}
 use Rattle.bitmap_laws.specs.ServeLaws.{Recalculates}
 use Rattle.bitmap_laws.proofs.CallLemmas.{start_told}
 use Rattle.bitmap_laws.proofs.RecalcLemmas.{take_begins_law, take_ends_law, take_fails_law, take_turn_law}
@@ -24,8 +29,17 @@ use Rattle.recalculation.specs.Places.{IsSpan, awaits_from}
 use Rattle.recalculation.specs.declared.block_run.BlockRun.{BlockRun}
 use Rattle.recalculation.specs.Rule.{tagger_by}
 use Rattle.recalculation.specs.Run.{ShowsDisk}
-use Rattle.recalculation.specs.Taking.{AddsPlacedTag, IsPlacedTag, TakesBlock}
+use Rattle.recalculation.specs.Taking.{AddsPlacedTag, FailsBlock, GivesBetween, IsPlacedTag, TakesBlock}
+use Rattle.recalculation.proofs.RestLemmas.{given-whole}
 use Rattle.recalculation.proofs.RunLemmas.{shows_after}
+
+-- A put, by the tags that a store would give behind it.
+put_still : (g : Geometry) (block : ℕ) (put : List ℕ) (mid : Content → ℕ → List ℕ) (m : List Content) → PutsTag g block put mid (λ x. with_block_tag block put (mid x)) m m
+put_still g block put mid m = record {
+  adds = no_moment m _;
+  others = λ start told c told_c. record { each = λ sector none. ap (λ (x : Content). last_image x sector) (same_Some c start (sym told_c ∙ told)) };
+  gives = λ start told c told_c n n_low. ap (λ (x : Content). with_block_tag block put (mid x) n) (same_Some c start (sym told_c ∙ told));
+}
 
 module _ (tag : Tagger) (g : Geometry) (sectors first region begin end : ℕ) (geometry : IsGeometry g sectors) (span : IsSpan g first region begin end) (tags : Content → ℕ → List ℕ) (a : List Content) where
   -- Before its first block none is done,
@@ -48,6 +62,42 @@ module _ (tag : Tagger) (g : Geometry) (sectors first region begin end : ℕ) (g
     taking_fails b adds = ⊎_elim
         (λ same. subst (λ (x : List Content). AddsTags g tags (λ c. region_tags tag g (awaits_from first) region c (tags c)) a x) (sym same) taken.adds)
         (λ some. take_fails_law tag g (awaits_from first) sectors region block some.put tags mid a m b geometry low within.0 (le-leb first block within.1) taken some.is some.adds) adds
+
+    -- where each tag that the store gives is of the old ones or of the region's.
+    below_either : (count : ℕ) (start : Content) (n : ℕ) → (tags_below tag g (awaits_from first) region count start (tags start) n ≡ tags start n)
+        ⊎ (tags_below tag g (awaits_from first) region count start (tags start) n ≡ region_tags tag g (awaits_from first) region start (tags start) n)
+    below_either count start n = elim (cases_Bool (nat_lt n count)) [
+      | inl under ↦ inr (ap (λ (t : Bool). if t then region_tags tag g (awaits_from first) region start (tags start) n else tags start n) under)
+      | inr above ↦ inl (ap (λ (t : Bool). if t then region_tags tag g (awaits_from first) region start (tags start) n else tags start n) above)
+    ]
+
+    of_either : (told x : List ℕ) (count i : ℕ) (start : Content) (n : ℕ) → slice_index x i ≡ slice_index told i → told ≡ tags_below tag g (awaits_from first) region count start (tags start) n
+        → (slice_index x i ≡ slice_index (tags start n) i) ⊎ (slice_index x i ≡ slice_index (region_tags tag g (awaits_from first) region start (tags start) n) i)
+    of_either told x count i start n e is =
+        ⊎_elim (λ f. inl (e ∙ ap (λ (t : List ℕ). slice_index t i) (is ∙ f))) (λ f. inr (e ∙ ap (λ (t : List ℕ). slice_index t i) (is ∙ f))) (below_either count start n)
+
+    before : (b : List Content) → (b ≡ m) ⊎ AddsPlacedTag tag g block mid m b → (c : Content) → content_now b ≡ Some c → (middle : Content) × (content_now m ≡ Some middle)
+    before b adds c told = ⊎_elim (λ e. (c, ap content_now (sym e) ∙ told))
+        (λ some. start_told (λ x. OnlyAdds (IsOfTags g (mid x) (with_block_tag block some.put (mid x))) x) c some.adds told) adds
+
+    pub taking_left : (now : Content → ℕ → List ℕ) (b : List Content) → (b ≡ m) ⊎ AddsPlacedTag tag g block mid m b → ((b ≡ m) × (now ≡ mid)) ⊎ FailsBlock tag g block mid now m b
+        → GivesBetween g tags (λ c. region_tags tag g (awaits_from first) region c (tags c)) now a b
+    taking_left now b adds left = record {
+      each = λ start told c told_c n i n_low i_low.
+          let middle = before b adds c told_c in
+          let done = taken.gives start told middle.0 middle.1 n n_low in
+          let kept : ((b ≡ m) × (now ≡ mid)) → slice_index (now c n) i ≡ slice_index (mid middle.0 n) i = λ same.
+          ap (λ (t : Content → ℕ → List ℕ). slice_index (t c n) i) same.1 ∙ ap (λ (x : Content). slice_index (mid x n) i) (same_Some c middle.0 (sym told_c ∙ ap content_now same.0 ∙ middle.1)) in
+          ⊎_elim
+          (λ same. of_either (mid middle.0 n) (now c n) block i start n (kept same) done)
+          (λ fails.
+          let next = take_turn_law tag g (awaits_from first) sectors region block fails.put tags mid (λ x. with_block_tag block fails.put (mid x)) a m m geometry low within.0 (le-leb first block within.1) taken fails.is
+          (put_still g block fails.put mid m) in
+          ⊎_elim
+          (λ e. of_either (mid middle.0 n) (now c n) block i start n e done)
+          (λ e. of_either (with_block_tag block fails.put (mid middle.0) n) (now c n) (block + 1) i start n e (next.gives start told middle.0 middle.1 n n_low))
+          (fails.gives.each middle.0 middle.1 c told_c n i n_low i_low)) left;
+    }
 
   -- and behind the last one the region is.
   pub taking_ends : (count : ℕ) (now : Content → ℕ → List ℕ) (b : List Content) → end ≤ count → ReadsImage a → TakesBelow tag g (awaits_from first) region count tags now a b → Recalculates tag g (awaits_from first) region tags now a b
@@ -99,6 +149,33 @@ module _ (rule : TagRule) (g : Geometry) (old new : Store) (disk now : DiskIdent
     puts = subst (λ (x : Geometry). PutsTag x block put (given_tags old) (given_tags new) a b) same
         (puts_tag old new disk now is is_new whole block put low_ size_ (subst (λ (x : List Content). StoresTag block put old new x b) kept stored) keeps moments_);
   }
+
+  -- Where that fails, each byte of a tag that the store gives is an old one or of that tag.
+  byte_given : (store : Store) (sectors : ℕ) (d : Content) (n i : ℕ) → IsGeometry old.geometry sectors → AreWhole sectors (given store d) → store.geometry ≡ old.geometry → n < old.geometry.blocks → i < old.geometry.shape.tag_size
+      → slice_index (given_tags store d n) i ≡ slice_index (given store d (tag_byte_at old.geometry n i).0) (tag_byte_at old.geometry n i).1
+  byte_given store sectors d n i geometry all same_ n_low i_low =
+      ap (λ (x : Geometry). slice_index (tags_in x (given store d) n) i) same_
+      ∙ placed_tag-byte old.geometry sectors geometry (given store d) all n n_low (placed_cells_of old.geometry (given store d) n) i i_low
+
+  pub block_fails : ReadsWhole now b → new.geometry ≡ old.geometry → StoresFirst block put old new m b → FailsBlock (tagger_by rule g) g block (given_tags old) (given_tags new) a b
+  block_fails whole_new same_new first = record {
+    put = put;
+    is = is_;
+    gives = subst (λ (x : Geometry). GivesBetween x (given_tags old) (λ c. with_block_tag block put (given_tags old c)) (given_tags new) a b) same (record {
+      each = λ start told c told_c n i n_low i_low.
+          let at = tag_byte_at old.geometry n i in
+          let all = given-whole old disk a start is (whole start told) in
+          let now_fits : IsGeometry old.geometry now.sectors = subst (λ (x : Geometry). IsGeometry x now.sectors) same_new is_new.geometry in
+          let byte = byte_given new now.sectors c n i now_fits (given-whole new now b c is_new (whole_new c told_c)) same_new n_low i_low in
+          ⊎_elim
+          (λ e. inl (byte ∙ ap (λ (xs : List ℕ). slice_index xs at.1) e ∙ sym (byte_given old disk.sectors start n i is.geometry all refl n_low i_low)))
+          (λ two. inr (byte ∙ ap (λ (xs : List ℕ). slice_index xs at.1) two.1 ∙ with_tag-byte old.geometry disk.sectors block put (given old start) is.geometry all low_ size_ n i n_low i_low))
+          (first_.given_ start told c told_c at.0);
+    });
+  }
+    where
+      first_ : StoresFirst block put old new a b
+      first_ = subst (λ (x : List Content). StoresFirst block put old new x b) kept first
 
   -- The run shows what it did.
   pub block_shows : (run : BlockRun) → ShowsDisk g run m → StoresTag block put old new m b → KeepsButTag block old new → ShowsDisk g run b

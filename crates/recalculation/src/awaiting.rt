@@ -12,6 +12,7 @@ ghost use Rattle.recalculation.specs.Awaiting.{IsOpening, NoneAwaits, awaiting_b
 ghost use Rattle.recalculation.specs.Places.{TellsAreas};
 ghost use Rattle.recalculation.specs.Rest.{KeepsRest};
 ghost use Rattle.recalculation.specs.Rule.{tagger_by};
+ghost use Rattle.recalculation.specs.Taking.{GivesBetween};
 
 use crate::left::Left;
 use crate::places::Places;
@@ -106,7 +107,8 @@ impl Awaiting {
     ///
     /// # Errors
     ///
-    /// - `Failed`: the disk failed. The regions await that did, and some blocks of this one may have got their tags.
+    /// - `Failed`: the disk failed. The regions await that did, and some blocks of this one may have got their tags, the
+    ///   last of them in part.
     pub fn recalc_region<D: Disk>(
         &mut self,
         disk: &mut D,
@@ -127,6 +129,9 @@ impl Awaiting {
 
         ensures cause { HasCause (D.faults disk.old) (D.faults disk.new) result }
         ensures err { OnErr result (self.new ≡ self.old) }
+        ensures between { let g = self.old.geometry in OnErr result (GivesBetween g (given_tags tags.old)
+            (λ c. region_tags (tagger_by maker.now g) g (awaiting_blocks self.old) region c (given_tags tags.old c))
+            (given_tags tags.new) (D.moments disk.old) (D.moments disk.new)) }
 
         ensures geometry { self.new.geometry ≡ self.old.geometry }
         ensures first { self.new.first ≡ self.old.first }

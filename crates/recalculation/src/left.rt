@@ -13,6 +13,7 @@ ghost use Rattle.recalculation.specs.Places.{IsPlaces};
 ghost use Rattle.recalculation.specs.Rest.{KeepsRest};
 ghost use Rattle.recalculation.specs.Rule.{tagger_by};
 ghost use Rattle.recalculation.specs.Run.{HasBuffer};
+ghost use Rattle.recalculation.specs.Taking.{GivesBetween};
 
 use crate::block_run::BlockRun;
 use crate::places::Places;
@@ -72,6 +73,9 @@ impl Left {
 
         ensures cause { HasCause (D.faults disk.old) (D.faults disk.new) result }
         ensures err { OnErr result (self.new.set ≡ self.old.set) }
+        ensures between { let g = places.now.geometry in OnErr result (GivesBetween g (given_tags tags.old)
+            (λ c. region_tags (tagger_by maker.now g) g (left_blocks g places.now.first (has_region self.old.set)) region c
+            (given_tags tags.old c)) (given_tags tags.new) (D.moments disk.old) (D.moments disk.new)) }
 
         ensures left { IsLeft places.now.geometry self.new }
         ensures store { IsStore tags.new (D.identity disk.new) (D.moments disk.new) }

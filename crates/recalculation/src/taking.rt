@@ -1,5 +1,5 @@
 //! The recalculation of a region, block by block: it is read, and its tag put.
-ghost use Rattle.std.specs.Prelude.{◌≡◌, ◌⊎◌, ◌<◌, ◌≤◌, OnOk};
+ghost use Rattle.std.specs.Prelude.{◌≡◌, ◌⊎◌, ◌<◌, ◌≤◌, OnErr, OnOk};
 ghost use Rattle.disk_model.specs.Causes.{HasCause};
 ghost use Rattle.image_model.specs.Geometry.{regions};
 ghost use Rattle.direct_laws.specs.CallLaws.{AddsTags};
@@ -10,7 +10,7 @@ ghost use Rattle.recalculation.specs.Places.{IsPlaces, awaits_from};
 ghost use Rattle.recalculation.specs.Rest.{KeepsRest};
 ghost use Rattle.recalculation.specs.Rule.{tagger_by};
 ghost use Rattle.recalculation.specs.Run.{HasBuffer, ShowsDisk};
-ghost use Rattle.recalculation.specs.Taking.{AddsPlacedTag, TakesBlock};
+ghost use Rattle.recalculation.specs.Taking.{AddsPlacedTag, FailsBlock, GivesBetween, TakesBlock};
 
 use crate::block_run::BlockRun;
 use crate::places::Places;
@@ -43,6 +43,9 @@ pub(crate) fn take_region<D: Disk>(
         (D.moments disk.old) (D.moments disk.new)) }
 
     ensures cause { HasCause (D.faults disk.old) (D.faults disk.new) result }
+    ensures err { let g = places.now.geometry in OnErr result (GivesBetween g (given_tags tags.old)
+        (λ c. region_tags (tagger_by maker.now g) g (awaits_from places.now.first) region c (given_tags tags.old c))
+        (given_tags tags.new) (D.moments disk.old) (D.moments disk.new)) }
 
     ensures buffer { HasBuffer run.new }
     ensures store { IsStore tags.new (D.identity disk.new) (D.moments disk.new) }
@@ -89,6 +92,9 @@ fn take_block<D: Disk>(
         (given_tags tags.old) (given_tags tags.new) (D.moments disk.old) (D.moments disk.new)) }
 
     ensures cause { HasCause (D.faults disk.old) (D.faults disk.new) result }
+    ensures err { let g = places.now.geometry in OnErr result (((D.moments disk.new ≡ D.moments disk.old)
+        × (tags.new ≡ tags.old)) ⊎ FailsBlock (tagger_by maker.now g) g block
+        (given_tags tags.old) (given_tags tags.new) (D.moments disk.old) (D.moments disk.new)) }
 
     ensures run { OnOk result (ShowsDisk places.now.geometry run.new (D.moments disk.new)) }
     ensures buffer { HasBuffer run.new }

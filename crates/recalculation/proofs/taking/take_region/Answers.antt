@@ -1,9 +1,10 @@
-use Rattle.std.proofs.Common.{rules, refl, ◌∙◌, subst, arith}
+use Rattle.std.proofs.Common.{rules, refl, inl, inr, ⊎_elim, ap, ◌∙◌, subst, arith}
 use Rattle.image_model.specs.Geometry.{Geometry, IsGeometry}
+use Rattle.direct_mode.proofs.ServingLemmas.{on_err_always}
 use Rattle.tag_store.specs.Store.{given_tags}
 use Rattle.recalculation.specs.Rule.{tagger_by}
 use Rattle.recalculation.proofs.RestLemmas.{KeepsRest-still, KeepsRest-then}
-use Rattle.recalculation.proofs.TakingLemmas.{taking_begins, taking_ends, taking_fails, taking_next}
+use Rattle.recalculation.proofs.TakingLemmas.{taking_begins, taking_ends, taking_fails, taking_left, taking_next}
 use Rattle.recalculation.proofs.taking.take_region.Goals as goal
 
 pub loop-block-init : goal.loop-block-init
@@ -30,6 +31,17 @@ returns-in_err-take_block-clause-moments g c =
     (subst (λ (x : Geometry). IsGeometry x sectors) c.requires.same c.requires.store.geometry) c.span-begin.ensures (given_tags c.args.tags.now) (g.D.Disk.moments c.args.disk.now)
     c.loop-block.block (given_tags c.loop-block.tags) (g.D.Disk.moments c.loop-block.disk) c.loop-block.invariant.above c.loop-block-test.true c.loop-block.invariant.taken
     (g.D.Disk.moments c.take_block.new.disk) c.take_block.ensures.moments
+
+pub returns-in_err-take_block-clause-err : goal.returns-in_err-take_block-clause-err
+returns-in_err-take_block-clause-err g c =
+    let places = c.args.places.now in
+    let sectors = (g.D.Disk.identity c.args.disk.now).sectors in
+    on_err_always c.from_residual.result (
+    taking_left (tagger_by c.args.maker.now places.geometry) places.geometry sectors places.first c.args.region c.span-begin.result.0 c.span-begin.result.1
+    (subst (λ (x : Geometry). IsGeometry x sectors) c.requires.same c.requires.store.geometry) c.span-begin.ensures (given_tags c.args.tags.now) (g.D.Disk.moments c.args.disk.now)
+    c.loop-block.block (given_tags c.loop-block.tags) (g.D.Disk.moments c.loop-block.disk) c.loop-block.invariant.above c.loop-block-test.true c.loop-block.invariant.taken
+    (given_tags c.take_block.new.tags) (g.D.Disk.moments c.take_block.new.disk) c.take_block.ensures.moments
+    (⊎_elim (λ still. inl (still.0, ap given_tags still.1)) (λ fails. inr fails) c.in_err-take_block.ensures.err))
 
 pub returns-in_err-take_block-clause-rest : goal.returns-in_err-take_block-clause-rest
 returns-in_err-take_block-clause-rest g c =

@@ -1,11 +1,11 @@
 use Rattle.std.proofs.Common.{refl, sym, ◌∙◌}
 use Rattle.std.proofs.lemmas.Bool.{true≢false}
-use Rattle.std.proofs.lemmas.Result.{on_ok_weaker}
+use Rattle.std.proofs.lemmas.Result.{on_err_weaker, on_ok_weaker}
 use Rattle.disk_model.proofs.MomentsLemmas.{no_moment}
 use Rattle.tag_store.specs.Store.{given_tags}
 use Rattle.recalculation.specs.Awaiting.{awaiting_blocks}
 use Rattle.recalculation.specs.Rule.{tagger_by}
-use Rattle.recalculation.proofs.LawsLemmas.{seen_adds, seen_nothing, seen_taken}
+use Rattle.recalculation.proofs.LawsLemmas.{seen_adds, seen_between, seen_nothing, seen_taken}
 use Rattle.recalculation.proofs.RestLemmas.{KeepsRest-still}
 use Rattle.recalculation.proofs.TakingLemmas.{nothing_taken}
 use Rattle.recalculation.proofs.awaiting.Awaiting.recalc_region.Goals as goal
@@ -34,4 +34,12 @@ pub returns-clause-rest : goal.returns-clause-rest
 returns-clause-rest g c = elim c.match-self.branch [
   | in-Some w ↦ rw (w.tags-is, w.disk-is) w.take.ensures.rest
   | in-None w ↦ rw (w.tags-is, w.disk-is) (KeepsRest-still c.args.tags.now (g.D.Disk.moments c.args.disk.now) (g.D.Disk.moments c.args.disk.now) refl)
+]
+
+pub returns-clause-between : goal.returns-clause-between
+returns-clause-between g c = elim c.match-self.branch [
+  | in-Some w ↦ rw (w.result-is, w.tags-is, w.disk-is) (on_err_weaker w.take.result (λ gives.
+      seen_between c.args.maker.now c.args.region (given_tags c.args.tags.now) (g.D.Disk.moments c.args.disk.now) _ c.self.inside.places c.self.inside.left c.args.self.now c.self.view_is
+      _ _ w.in-Some.is gives) w.take.ensures.between)
+  | in-None w ↦ rw w.result-is tt
 ]
