@@ -305,54 +305,107 @@ fn sector_of<D: Disk>(disk: &mut D, at: u64) -> Result<[u8; 512], Failed>
     Ok(sector)
 }
 
+/// What awaits by these bits, or by the position.
+fn awaiting_by(
+    alloc: Global,
+    fields: &Super,
+    geometry: Geometry,
+    bits: &Bits,
+    by_bits: bool,
+) -> Result<Awaiting, Fail>
+    requires layout { geometry ≡ layout_of fields.now }
+    requires areas { TellsAreas fields.now }
+    requires bits { bits.now.geometry ≡ geometry }
+
+    ensures { IfOk result (λ awaiting. awaiting.geometry ≡ geometry) }
+{
+    if by_bits {
+        Ok(Awaiting::of(alloc, fields, &geometry, Some(bits))?)
+    } else {
+        Ok(Awaiting::of(alloc, fields, &geometry, None)?)
+    }
+}
+
+/// What stands on a disk once region 1 is recalculated and all tags are written back.
+#[derive(Drop)]
+struct Taken {
+    /// The first of its blocks whose tag is another one.
+    wrong: Option<u64>,
+    /// Its sector of tags, and the first one of its data.
+    tags: [u8; 512],
+    data: [u8; 512],
+    /// The region that awaits then.
+    next: Option<u64>,
+}
+
+/// Recalculates region 1 of a disk whose tags are wrong: by the bits all its blocks, and by the position those from block 5
+/// on, which has it inside.
+fn take_region<D: Disk>(
+    alloc: Global,
+    disk: &mut D,
+    by_bits: bool,
+    first: u64,
+) -> Result<Taken, Fail>
+    requires { IsBound (D.identity disk.old).name }
+{
+    let fields = small(2);
+    let geometry = geometry_on(disk, &fields)?;
+    let bits = bits_on(alloc, disk, geometry, &[1])?;
+    write_sector(disk, 272, &[0xee; 512])?;
+    let mut tags = store_over(alloc, disk, geometry)?;
+    fill_blocks(disk, &tags, geometry)?;
+    let moved = positioned(&fields, FIXED_PADDING | RECALCULATING, 11)?;
+    let mut awaiting = awaiting_by(alloc, &moved, geometry, &bits, by_bits)?;
+    recalculate(&mut awaiting, disk, &mut tags, geometry, 1)?;
+    let wrong = untagged(disk, &mut tags, geometry, first)?;
+    tags.write_back(disk)?;
+    Ok(Taken {
+        wrong,
+        tags: sector_of(disk, 272)?,
+        data: sector_of(disk, 280)?,
+        next: awaiting.next(),
+    })
+}
+
 #[test]
 fn a_region_gets_the_tags_of_its_blocks_that_await(rt: HostRuntime) -> Result<(), Fail> {
     let alloc = rt.alloc();
-    // By the bits all blocks of region 1, and by the position those from block 5 on, which has it inside.
-    for (by_bits, first) in [(true, 4), (false, 5)] {
+    for (by_bits, first, next) in [(true, 4, None), (false, 5, Some(2))] {
         let mut disk = MemDisk::new(alloc, SECTORS, 100)?;
-        let fields = small(2);
-        let geometry = geometry_on(&disk, &fields)?;
-        let set = bits_on(alloc, &mut disk, geometry, &[1])?;
-        write_sector(&mut disk, 272, &[0xee; 512])?;
-        let mut tags = store_over(alloc, &disk, geometry)?;
-        fill_blocks(&mut disk, &tags, geometry)?;
-        let moved = positioned(&fields, FIXED_PADDING | RECALCULATING, 11)?;
-        let bits = if by_bits { Some(&set) } else { None };
-        let mut awaiting = Awaiting::of(alloc, &moved, &geometry, bits)?;
-        recalculate(&mut awaiting, &mut disk, &mut tags, geometry, 1)?;
-        let wrong = untagged(&mut disk, &mut tags, geometry, first)?;
-        assert_eq!(rt; wrong, None, "{by_bits}");
-        tags.write_back(&mut disk)?;
-        let sector = sector_of(&mut disk, 272)?;
-        assert!(rt; sector[16..] == [0xee; 496][..], "behind the tags");
-        assert_eq!(rt; sector_of(&mut disk, 280)?, [0xa4; 512], "the data");
-        assert!(rt; awaiting.next() != Some(1));
+        let taken = take_region(alloc, &mut disk, by_bits, first)?;
+        assert_eq!(rt; taken.wrong, None, "{by_bits}");
+        assert!(rt; taken.tags[16..] == [0xee; 496][..], "behind the tags");
+        assert_eq!(rt; taken.data, [0xa4; 512]);
+        assert_eq!(rt; taken.next, next, "{by_bits}");
     }
     Ok(())
 }
 
-/// Whether a recalculation fails of whose calls of the disk this one does. Then the region awaits still, and is recalculated
-/// by another call.
-fn fails_at(alloc: Global, fields: &Super, region: u64, call: u64) -> Result<bool, Fail> {
-    let mut disk = MemDisk::new(alloc, SECTORS, 1)?;
-    disk.fail_at(&[call]);
-    let geometry = geometry_on(&disk, fields)?;
-    let mut tags = store_over(alloc, &disk, geometry)?;
+/// Recalculates a region of a disk of zeros, twice, and tells whether the first call failed. Where it did the region awaits
+/// still, and the second takes it.
+fn fails<D: Disk>(alloc: Global, disk: &mut D, fields: &Super, region: u64) -> Result<bool, Fail>
+    requires { IsBound (D.identity disk.old).name }
+{
+    let geometry = geometry_on(disk, fields)?;
+    let mut tags = store_over(alloc, disk, geometry)?;
     let moved = positioned(fields, FIXED_PADDING | RECALCULATING, 0)?;
     let mut awaiting = Awaiting::of(alloc, &moved, &geometry, None)?;
     let all = count_awaiting(&awaiting, geometry);
-    let failed = recalculate(&mut awaiting, &mut disk, &mut tags, geometry, region).is_err();
-    if failed {
-        if count_awaiting(&awaiting, geometry) != all {
-            return Err(Failed.into());
-        }
-        recalculate(&mut awaiting, &mut disk, &mut tags, geometry, region)?;
-    }
-    if count_awaiting(&awaiting, geometry).wrapping_add(1) != all {
+    let failed = recalculate(&mut awaiting, disk, &mut tags, geometry, region).is_err();
+    let left = count_awaiting(&awaiting, geometry);
+    recalculate(&mut awaiting, disk, &mut tags, geometry, region)?;
+    let rest = count_awaiting(&awaiting, geometry);
+    if rest.wrapping_add(1) != all || left != if failed { all } else { rest } {
         return Err(Failed.into());
     }
     Ok(failed)
+}
+
+/// Whether a recalculation of a new disk fails of whose calls of the disk this one does.
+fn fails_at(alloc: Global, fields: &Super, region: u64, call: u64) -> Result<bool, Fail> {
+    let mut disk = MemDisk::new(alloc, SECTORS, 1)?;
+    disk.fail_at(&[call]);
+    fails(alloc, &mut disk, fields, region)
 }
 
 #[test]

@@ -1,5 +1,5 @@
-use Rattle.std.proofs.Common.{◌≡◌, ◌^◌, ◌*◌, ◌-◌, ◌/◌, ◌==◌, ap, not, ℕ, Bool, if◌then◌else◌}
-use Rattle.image_model.specs.Geometry.{Geometry, layout_of, round_up, tag_run_of}
+use Rattle.std.proofs.Common.{◌^◌, ◌*◌, ◌-◌, ◌/◌, ◌==◌, ap, not, ℕ, if◌then◌else◌}
+use Rattle.image_model.specs.Geometry.{Geometry, round_up, tag_run_of}
 use Rattle.bitmap_tests.proofs.recalculation_tests.positioned.Goals as goal
 
 -- The sectors of tags follow from one flag.
