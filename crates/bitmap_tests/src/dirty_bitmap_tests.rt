@@ -72,8 +72,8 @@ fn is_set(bits: &Bits, region: u64) -> bool {
     region < bits.regions().size() && bits.is_set(region)
 }
 
-/// Regions at the edges of bytes, of sectors and of groups of eight sectors, and where their bits lie: the sector, the byte
-/// in it, and the byte's value with that bit alone.
+/// Regions at the edges of bytes, of sectors and of groups of eight sectors, and where their bits lie: the sector, the
+/// byte in it, and the byte's value with that bit alone.
 // Own: computed from the order of bits, bit r mod 8 of byte r div 8, from sector 8 on.
 const EDGES: [(u64, u64, usize, u8); 6] = [
     (7, 8, 0, 0x80),
@@ -194,9 +194,9 @@ struct Left<'a> {
     next: Option<u64>,
 }
 
-// Source: images that Linux 6.1.192 left in bitmap mode, cut with writes in flight; bits of no region are as the journal
-// had them.
 /// Each has bits of no region in its last byte.
+// Source: images that Linux 6.1.192 left in bitmap mode, cut with writes in flight; bits of no region are as the
+// journal had them.
 const KERNEL_IMAGES: [Left<'static>; 4] = [
     Left {
         name: "hmac, regions of 16 blocks",

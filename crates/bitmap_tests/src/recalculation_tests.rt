@@ -245,8 +245,8 @@ fn tag_of<D: Disk>(
 }
 
 /// The tags of blocks 4 to 7 once the whole region is recalculated.
-// Source: python3's hashlib, the first four bytes of sha256 over the block's first sector in 8 bytes, the least first, and
-// then its bytes.
+// Source: python3's hashlib, the first four bytes of sha256 over the block's first sector in 8 bytes, the least first,
+// and then its bytes.
 const REGION_TAGS: [(u64, [u8; 4]); 4] = [
     (4, [0x07, 0x0b, 0xda, 0xd4]),
     (5, [0x21, 0x83, 0xf1, 0xc3]),
@@ -338,8 +338,8 @@ struct Taken {
     next: Option<u64>,
 }
 
-/// Recalculates region 1 of a disk whose tags are wrong: by the bits all its blocks, and by the position those from block 5
-/// on, which has it inside.
+/// Recalculates region 1 of a disk whose tags are wrong: by the bits all its blocks, and by the position those from
+/// block 5 on, which has it inside.
 fn take_region<D: Disk>(
     alloc: Global,
     disk: &mut D,
@@ -381,8 +381,8 @@ fn a_region_gets_the_tags_of_its_blocks_that_await(rt: HostRuntime) -> Result<()
     Ok(())
 }
 
-/// Recalculates a region of a disk of zeros, twice, and tells whether the first call failed. Where it did the region awaits
-/// still, and the second takes it.
+/// Recalculates a region of a disk of zeros, twice, and tells whether the first call failed. Where it did the region
+/// awaits still, and the second takes it.
 fn fails<D: Disk>(alloc: Global, disk: &mut D, fields: &Super, region: u64) -> Result<bool, Fail>
     requires { IsBound (D.identity disk.old).name }
 {

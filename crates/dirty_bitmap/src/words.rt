@@ -1,5 +1,6 @@
 //! Bits of bytes, over words of 64 bits. Bit r is bit `r % 8` of byte `r / 8`.
-ghost use Rattle.std.specs.Prelude.{◌≡◌, ◌+◌, ◌-◌, ◌*◌, ◌/◌, ◌^◌, ◌<◌, ◌≤◌, ◌==◌, ℕ, find, length, nat_lt, if◌then◌else◌, false, true, MatchOption};
+ghost use Rattle.std.specs.Prelude.{◌≡◌, ◌+◌, ◌-◌, ◌*◌, ◌/◌, ◌^◌, ◌<◌, ◌≤◌, ◌==◌, ℕ, find, length, nat_lt};
+ghost use Rattle.std.specs.Prelude.{if◌then◌else◌, false, true, MatchOption};
 ghost use Rattle.std.specs.Int.{bit_at};
 ghost use Rattle.std.specs.List.{count_by, range_with_len};
 ghost use Rattle.image_model.specs.Bitmap.{is_bit_set};

@@ -10,7 +10,8 @@ use Rattle.direct_laws.specs.CallLaws.{AddsTags}
 use Rattle.bitmap_laws.specs.CallLaws.{AreSameBits, every_block, region_tags}
 use Rattle.bitmap_laws.specs.ServeLaws.{Recalculates}
 use Rattle.dirty_bitmap.specs.Bits.{RegionBits, bits_of}
-use Rattle.recalculation.specs.Awaiting.{AwaitingRegions, awaiting_blocks, awaiting_of, opening_blocks, opening_first, opening_regions}
+use Rattle.recalculation.specs.Awaiting.{AwaitingRegions, awaiting_blocks, awaiting_of}
+use Rattle.recalculation.specs.Awaiting.{opening_blocks, opening_first, opening_regions}
 
 -- ---- at opening
 

@@ -12,7 +12,8 @@ IsUntagged g sector at = (b : ℕ) → b < g.blocks → IsNoByteOf g b sector at
 
 -- Each of these bytes is as the store gave it.
 pub record HasRest (store : Store) (start : Content) (sector : ℕ) (x : List ℕ) : Type 0 where
-  pub each : (at : ℕ) → IsUntagged store.geometry sector at → slice_index x at ≡ slice_index (given store start sector) at
+  pub each : (at : ℕ) → IsUntagged store.geometry sector at
+      → slice_index x at ≡ slice_index (given store start sector) at
 
 -- The store gives each of them as before, and at each moment of a call no candidate with another one was added.
 pub record KeepsRest (old new : Store) (before after : List Content) : Type 0 where

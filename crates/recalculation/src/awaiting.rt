@@ -1,5 +1,6 @@
 //! The regions that await.
-ghost use Rattle.std.specs.Prelude.{◌≡◌, ◌<◌, ◌≤◌, ◌*◌, ℕ, None, false, Some, option_map, IfOk, IfSome, OnErr, OnOk, IsOk};
+ghost use Rattle.std.specs.Prelude.{◌≡◌, ◌<◌, ◌≤◌, ◌*◌, ℕ, None, false, Some, option_map, IfOk, IfSome};
+ghost use Rattle.std.specs.Prelude.{IsOk, OnErr, OnOk};
 ghost use Rattle.disk_model.specs.Causes.{HasCause};
 ghost use Rattle.image_model.specs.Geometry.{layout_of, region_of, regions};
 ghost use Rattle.device_model.specs.Regions.{least_region, with_region};
@@ -54,8 +55,8 @@ impl Model for Awaiting {
 }
 
 impl Awaiting {
-    /// The regions that await when an image is opened. With a bitmap its bits alone decide. Without one each region awaits
-    /// that has a block with a sector at or above `recalc_sector`, where `RECALCULATING` is set.
+    /// The regions that await when an image is opened. With a bitmap its bits alone decide. Without one each region
+    /// awaits that has a block with a sector at or above `recalc_sector`, where `RECALCULATING` is set.
     ///
     /// # Errors
     ///
@@ -102,13 +103,13 @@ impl Awaiting {
     }
 
     /// Recalculates a region: each of its blocks that awaits gets the tag of the bytes in its place, and no other block
-    /// does. Then the region does not await any more. No data are written, nothing is synced, and every byte that no tag
-    /// takes stays.
+    /// does. Then the region does not await any more. No data are written, nothing is synced, and every byte that no
+    /// tag takes stays.
     ///
     /// # Errors
     ///
-    /// - `Failed`: the disk failed. The regions await that did, and some blocks of this one may have got their tags, the
-    ///   last of them in part.
+    /// - `Failed`: the disk failed. The regions await that did, and some blocks of this one may have got their tags,
+    ///   the last of them in part.
     pub fn recalc_region<D: Disk>(
         &mut self,
         disk: &mut D,

@@ -10,8 +10,8 @@ pub fn regions_await()
     ensures position { OpenedPositionLaw }
 {}
 
-/// A recalculation is the same by any test that tells the region's blocks alike: with a bitmap each block of a region that
-/// awaits does, and without one each that is to be recalculated.
+/// A recalculation is the same by any test that tells the region's blocks alike: with a bitmap each block of a region
+/// that awaits does, and without one each that is to be recalculated.
 pub fn region_is_recalculated()
     ensures blocks { SameBlocksLaw }
     ensures moments { SameMomentsLaw }

@@ -68,14 +68,14 @@ impl Left {
         ensures done { OnOk result ((r : ℕ) → has_region self.new.set r
             ≡ with_region region false (has_region self.old.set) r) }
         ensures taken { let g = places.now.geometry in OnOk result (Recalculates (tagger_by maker.now g) g
-            (left_blocks g places.now.first (has_region self.old.set)) region (given_tags tags.old) (given_tags tags.new)
-            (D.moments disk.old) (D.moments disk.new)) }
+            (left_blocks g places.now.first (has_region self.old.set)) region (given_tags tags.old)
+            (given_tags tags.new) (D.moments disk.old) (D.moments disk.new)) }
 
         ensures cause { HasCause (D.faults disk.old) (D.faults disk.new) result }
         ensures err { OnErr result (self.new.set ≡ self.old.set) }
         ensures between { let g = places.now.geometry in OnErr result (GivesBetween g (given_tags tags.old)
-            (λ c. region_tags (tagger_by maker.now g) g (left_blocks g places.now.first (has_region self.old.set)) region c
-            (given_tags tags.old c)) (given_tags tags.new) (D.moments disk.old) (D.moments disk.new)) }
+            (λ c. region_tags (tagger_by maker.now g) g (left_blocks g places.now.first (has_region self.old.set))
+            region c (given_tags tags.old c)) (given_tags tags.new) (D.moments disk.old) (D.moments disk.new)) }
 
         ensures left { IsLeft places.now.geometry self.new }
         ensures store { IsStore tags.new (D.identity disk.new) (D.moments disk.new) }
@@ -84,8 +84,8 @@ impl Left {
         ensures identity { D.identity disk.new ≡ D.identity disk.old }
 
         ensures moments { let g = places.now.geometry in AddsTags g (given_tags tags.old)
-            (λ c. region_tags (tagger_by maker.now g) g (left_blocks g places.now.first (has_region self.old.set)) region c
-            (given_tags tags.old c)) (D.moments disk.old) (D.moments disk.new) }
+            (λ c. region_tags (tagger_by maker.now g) g (left_blocks g places.now.first (has_region self.old.set))
+            region c (given_tags tags.old c)) (D.moments disk.old) (D.moments disk.new) }
     {
         if !self.set.has(region) {
             return Ok(());
