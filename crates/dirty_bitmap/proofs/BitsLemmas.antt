@@ -1,23 +1,23 @@
 -- What the calls of a `Bits` leave on a disk.
-use Rattle.std.proofs.Common.{◌≡◌, ◌≢◌, ◌⊎◌, inl, inr, ⊎_elim, ℕ, ◌+◌, ◌-◌, ◌*◌, ◌/◌, ◌%◌, ◌^◌, ◌<◌, ◌≤◌, ◌==◌, if◌then◌else◌, Bool, true, false, refl, sym, ◌∙◌, ap, subst, arith, Option, Some, None, List, [], ◌∷◌, ◌++◌, length}
+use Rattle.std.proofs.Common.{◌≡◌, inl, inr, ⊎_elim, ℕ, ◌-◌, ◌*◌, ◌/◌, ◌^◌, ◌<◌, ◌≤◌, ◌==◌, if◌then◌else◌, Bool, true, false, refl, sym, ◌∙◌, ap, subst, arith, Some, List, length}
 use Rattle.std.specs.List.{Contains}
-use Rattle.std.specs.Option.{ForSome, option_map}
+use Rattle.std.specs.Option.{option_map}
 use Rattle.std.proofs.lemmas.Bool.{cases_eq, true≢false}
 use Rattle.std.proofs.lemmas.Option.{same_Some}
 use Rattle.std.proofs.Math.Nat.{div-le_self}
-use Rattle.disk_model.specs.Disk.{Content, AddsSome, EachImage, HasNothingPending, IsImage, IsOfRun, IsRun, OnlyAdds, Reads, last_image, newest_only, sector_in, with_run}
-use Rattle.disk_model.specs.Moments.{EachMoment, FromStart, HasNow, IsChangedBy, content_now}
+use Rattle.disk_model.specs.Disk.{Content, AddsSome, EachImage, HasNothingPending, IsOfRun, IsRun, OnlyAdds, Reads, last_image, newest_only, with_run}
+use Rattle.disk_model.specs.Moments.{EachMoment, FromStart, IsChangedBy, content_now}
 use Rattle.disk_model.proofs.DiskLemmas.{AddsSome-adds, AddsSome-all, IsOfRun-one, last_image-with_one, last_image-with_other, only_candidate}
 use Rattle.disk_model.proofs.MomentsLemmas.{EachMoment-join, EachMoment-weaker, FromStart-weaker, adds_wider}
 use Rattle.image_model.specs.Bitmap.{is_bit_set, is_dirty}
-use Rattle.image_model.specs.Geometry.{Geometry, IsGeometry, bitmap_sectors, bitmap_sectors_for, initial, journal_sectors, regions, regions_for}
+use Rattle.image_model.specs.Geometry.{Geometry, IsGeometry, bitmap_sectors, bitmap_sectors_for, journal_sectors, regions}
 use Rattle.image_model.proofs.Regions.{blocks-low, regions_for-is}
 use Rattle.image_model.proofs.SectorLemmas.{bytes_at_read}
 use Rattle.device_model.specs.Regions.{with_region}
-use Rattle.bitmap_model.specs.BitmapDisk.{HasBits, bit_in, bit_sector}
+use Rattle.bitmap_model.specs.BitmapDisk.{bit_in, bit_sector}
 use Rattle.bitmap_model.specs.Steps.{AreBits, ReadsBits}
 use Rattle.bitmap_model.proofs.BitLemmas.{bit_sector-at, is_dirty-at, with_region-here, with_region-other}
-use Rattle.bitmap_laws.specs.CallLaws.{AddsBits, AreSameBits, IsBitmapSector, IsCleared, IsDirtied, IsNowBy, KeepsElsewhere}
+use Rattle.bitmap_laws.specs.CallLaws.{AddsBits, AreSameBits, IsBitmapSector, KeepsElsewhere}
 use Rattle.bitmap_laws.proofs.CallLemmas.{end_from, start_told}
 use Rattle.dirty_bitmap.specs.Bits.{AddsToSector, HoldsBits, HoldsBitsNow, IsSetOf, RegionBits, bits_of}
 use Rattle.dirty_bitmap.specs.Regions.{IsSectorOf, KeepsBut, Regions, has_region, sector_of, set_sectors}

@@ -1,8 +1,8 @@
 -- What is found and counted in a range of numbers.
-use Rattle.std.proofs.Common.{◌≡◌, inl, inr, ℕ, zero, suc, ◌+◌, ◌-◌, ◌*◌, ◌/◌, ◌%◌, ◌^◌, ◌<◌, ◌≤◌, ◌==◌, Bool, true, false, cond, if◌then◌else◌, refl, sym, ◌∙◌, ap, subst, arith, Option, Some, None, find, count_ones, add_assoc}
+use Rattle.std.proofs.Common.{◌≡◌, inl, inr, ℕ, zero, suc, ◌+◌, ◌-◌, ◌*◌, ◌/◌, ◌%◌, ◌^◌, ◌<◌, ◌≤◌, ◌==◌, Bool, true, false, cond, refl, sym, ◌∙◌, ap, arith, Option, Some, None, find, count_ones, add_assoc}
 use Rattle.std.specs.Int.{bit_at}
 use Rattle.std.specs.List.{count_by, range_with_len}
-use Rattle.std.proofs.lemmas.Bool.{cases_Bool, cases_eq}
+use Rattle.std.proofs.lemmas.Bool.{cases_eq}
 use Rattle.std.proofs.lemmas.Nat.Bits.{bit_at_lowest, bit_at-suc}
 use Rattle.std.proofs.Math.Nat.{pow-suc}
 use Rattle.std.proofs.lemmas.List.Sums.{sum_by-cons}

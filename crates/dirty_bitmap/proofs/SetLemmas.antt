@@ -1,14 +1,13 @@
 -- A set of regions by the bytes of its bitmap.
-use Rattle.std.proofs.Common.{◌≡◌, ◌∙◌, inl, inr, ℕ, ◌+◌, ◌-◌, ◌*◌, ◌/◌, ◌%◌, ◌^◌, ◌<◌, ◌≤◌, ◌≢◌, ◌==◌, Bool, true, false, refl, sym, ap, subst, arith, List, length, take, drop, slice_index, slice_set, find, length-set}
+use Rattle.std.proofs.Common.{◌≡◌, ◌∙◌, ℕ, ◌+◌, ◌-◌, ◌*◌, ◌/◌, ◌%◌, ◌^◌, ◌<◌, ◌≤◌, ◌==◌, Bool, sym, ap, subst, arith, List, length, take, drop, slice_index, find}
 use Rattle.std.specs.Int.{bit_at}
 use Rattle.std.specs.List.{count_by, range_with_len}
-use Rattle.std.proofs.lemmas.Bool.{cases_eq}
 use Rattle.std.proofs.lemmas.List.{get_or-drop, get_or-take}
 use Rattle.image_model.specs.Bitmap.{is_bit_set}
 use Rattle.image_model.proofs.SectorLemmas.{length-piece}
 use Rattle.device_model.specs.Regions.{with_region}
-use Rattle.bitmap_model.proofs.BitLemmas.{with_region-here, with_region-other}
-use Rattle.dirty_bitmap.specs.Regions.{IsBitmap, IsSectorOf, Regions, count_in, has_region, next_in, set_sectors}
+use Rattle.bitmap_model.proofs.BitLemmas.{with_region-other}
+use Rattle.dirty_bitmap.specs.Regions.{IsBitmap, IsSectorOf, Regions, count_in, next_in, set_sectors}
 use Rattle.dirty_bitmap.proofs.RangeLemmas.{count_to, find_to}
 
 -- A region has its bit in the bytes.

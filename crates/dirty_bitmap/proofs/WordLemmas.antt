@@ -1,10 +1,11 @@
 -- Bits of bytes, of the words that they make, and of bytes that are changed.
-use Rattle.std.proofs.Common.{◌≡◌, ◌≢◌, ◌⊎◌, inl, inr, ℕ, zero, suc, ◌+◌, ◌-◌, ◌*◌, ◌/◌, ◌%◌, ◌^◌, ◌<◌, ◌≤◌, ◌==◌, min, Bool, true, false, if◌then◌else◌, nat_lt, refl, sym, ◌∙◌, ap, subst, arith, List, [], ◌++◌, length, take, drop, replicate, slice_index, slice_set, bit_and, bit_or, length-take, Some, find, count_ones}
+use Rattle.std.proofs.Common.{◌≡◌, ◌≢◌, ◌⊎◌, inl, inr, ℕ, zero, suc, ◌+◌, ◌-◌, ◌*◌, ◌/◌, ◌%◌, ◌^◌, ◌<◌, ◌≤◌, ◌==◌, max, min, Bool, true, false, if◌then◌else◌, nat_lt, sym, ◌∙◌, ap, subst, arith, List, [], ◌++◌, length, take, drop, replicate, slice_index, slice_set, bit_and, bit_or, length-append, length-take, Some, find, count_ones}
 use Rattle.std.specs.List.{count_by, range_with_len}
-use Rattle.std.specs.Int.{bit_at, bit_not, w8}
+use Rattle.std.specs.Int.{bit_at, w8}
 use Rattle.std.proofs.lemmas.Bool.{cases_eq, cases_lt, lt-ltb, ltb-true, false_from_ne_true}
 use Rattle.std.proofs.lemmas.List.{get_or-drop, get_or-set_same, get_or-set_other, get_or_append_left, get_or-append-add, get_or-take, get_or-replicate, get_or_past, append-nil, length-set, length-replicate}
-use Rattle.std.proofs.lemmas.Nat.Bits.{bit_at-lt, bit_at_mask_inside, bit_at_mask_below, ones_shl, bit_at_cat_low, bit_at_cat_high, bit_at_set_same, bit_at_set_other, bit_at_clear_same, bit_at_clear_other, bit_at_and, bit_at_ones, bit_at_ones_above, bit_at-zero}
+use Rattle.std.proofs.lemmas.Nat.{pow_pos}
+use Rattle.std.proofs.lemmas.Nat.Bits.{bit_at-lt, bit_at_mask_inside, bit_at_mask_below, ones_shl, bit_at_cat_low, bit_at_cat_high, bit_at_set_same, bit_at_set_other, bit_at_clear_same, bit_at_clear_other, bit_at_and, bit_at_or, bit_at_ones, bit_at_ones_above, bit_at-zero}
 use Rattle.byteorder.specs.Endian.{little_from}
 use Rattle.image_model.specs.Bitmap.{is_bit_set}
 use Rattle.device_model.specs.Regions.{with_region}
@@ -223,24 +224,74 @@ is_bit_set-below old new from before here behind r = elim (cases_lt r from) [
       ]
 ]
 
--- Bytes of which one is changed, and those behind it are zeros.
+-- Bytes of which one is changed, and those behind it are all one byte.
+pub slice_index-filled : (bytes same rest new : List ℕ) (at y byte : ℕ) → at < length bytes → same ≡ replicate (length same) byte → rest ≡ []
+    → new ≡ take (at + 1) (slice_set bytes at y) ++ (same ++ rest)
+    → ((i : ℕ) → i < at → slice_index new i ≡ slice_index bytes i) × (slice_index new at ≡ y) × ((i : ℕ) → at < i → i < length new → slice_index new i ≡ byte)
+    × (length new ≡ at + 1 + length same)
+slice_index-filled bytes same rest new at y byte inside are none is =
+    let changed = slice_set bytes at y in
+    let first = take (at + 1) changed in
+    let long : length first ≡ at + 1 = omega (arith, length-take (at + 1) changed, length-set bytes at y) in
+    let all : new ≡ first ++ same = is ∙ ap (λ (xs : List ℕ). first ++ (same ++ xs)) none ∙ ap (λ (xs : List ℕ). first ++ xs) (append-nil same) in
+    let size : length new ≡ length first + length same = ap (λ (xs : List ℕ). length xs) all ∙ length-append first same in
+    let head : (i : ℕ) → i < at + 1 → slice_index new i ≡ slice_index changed i = λ i low.
+    ap (λ (xs : List ℕ). slice_index xs i) all ∙ get_or_append_left first same 0 i (omega (arith, long, low)) ∙ get_or-take (at + 1) changed i 0 low in (
+      λ i low. head i (omega arith) ∙ get_or-set_other bytes at i y 0 (λ e. omega (arith, e)),
+      head at (omega arith) ∙ get_or-set_same bytes at y 0 inside,
+      λ i above under.
+          let place : i ≡ length first + (i - (at + 1)) = omega (arith, long) in
+          ap (λ (xs : List ℕ). slice_index xs i) all ∙ ap (slice_index (first ++ same)) place ∙ get_or-append-add first same (i - (at + 1)) 0
+          ∙ ap (λ (xs : List ℕ). slice_index xs (i - (at + 1))) are
+          ∙ get_or-replicate (length same) (i - (at + 1)) byte 0 (omega (arith, long, size, under)),
+      omega (arith, long, size),
+    )
+
+-- So where they are zeros, of which there are no end.
 pub slice_index-cleared : (bytes zeros rest new : List ℕ) (at y : ℕ) → at < length bytes → zeros ≡ replicate (length zeros) 0 → rest ≡ []
     → new ≡ take (at + 1) (slice_set bytes at y) ++ (zeros ++ rest)
     → ((i : ℕ) → i < at → slice_index new i ≡ slice_index bytes i) × (slice_index new at ≡ y) × ((i : ℕ) → at < i → slice_index new i ≡ 0)
 slice_index-cleared bytes zeros rest new at y inside are none is =
-    let changed = slice_set bytes at y in
-    let first = take (at + 1) changed in
-    let long : length first ≡ at + 1 = omega (arith, length-take (at + 1) changed, length-set bytes at y) in
-    let head : (i : ℕ) → i < at + 1 → slice_index new i ≡ slice_index changed i = λ i low.
-    ap (λ (xs : List ℕ). slice_index xs i) is ∙ get_or_append_left first (zeros ++ rest) 0 i (omega (arith, long, low)) ∙ get_or-take (at + 1) changed i 0 low in (
-      λ i low. head i (omega arith) ∙ get_or-set_other bytes at i y 0 (λ e. omega (arith, e)),
-      head at (omega arith) ∙ get_or-set_same bytes at y 0 inside,
-      λ i above.
-          let place : i ≡ length first + (i - (at + 1)) = omega (arith, long) in
-          ap (λ (xs : List ℕ). slice_index xs i) is ∙ ap (slice_index (first ++ (zeros ++ rest))) place ∙ get_or-append-add first (zeros ++ rest) (i - (at + 1)) 0
-          ∙ ap (λ (xs : List ℕ). slice_index (zeros ++ xs) (i - (at + 1))) none ∙ ap (λ (xs : List ℕ). slice_index xs (i - (at + 1))) (append-nil zeros ∙ are)
-          ∙ of_zeros (length zeros) (i - (at + 1)),
-    )
+    let parts = slice_index-filled bytes zeros rest new at y 0 inside are none is in
+    (parts.0, parts.1, λ i above. elim (cases_lt i (length new)) [ inl under ↦ parts.2 i above under | inr past ↦ get_or_past new i 0 past ])
+
+-- Bytes whose bits from `from` on are set.
+pub is_bit_set-above : (old new : List ℕ) (from low : ℕ) → low ≡ 2 ^ (from % 8) - 1 → ((i : ℕ) → i < from / 8 → slice_index new i ≡ slice_index old i)
+    → slice_index new (from / 8) ≡ bit_or (slice_index old (from / 8)) (255 - low)
+    → ((i : ℕ) → from / 8 < i → i < length new → slice_index new i ≡ 255)
+    → (r : ℕ) → r < 8 * length new → is_bit_set new r ≡ (if nat_lt r from then is_bit_set old r else true)
+unfolding is_bit_set
+is_bit_set-above old new from low low_is before here behind r inside =
+    let k : ℕ = from % 8 in
+    let some : 0 < 2 ^ k = pow_pos k in
+    let mask : 255 - low ≡ 2 ^ 8 - 2 ^ k = omega (arith, low_is, some) in
+    let byte = slice_index old (from / 8) in
+    let read : bit_at (slice_index new (from / 8)) (r % 8) ≡ max (bit_at byte (r % 8)) (bit_at (2 ^ 8 - 2 ^ k) (r % 8)) =
+    ap (λ (x : ℕ). bit_at x (r % 8)) (here ∙ ap (bit_or byte) mask) ∙ bit_at_or byte (2 ^ 8 - 2 ^ k) (r % 8) in
+    let one : bit_at byte (r % 8) < 2 = bit_at-lt byte (r % 8) in
+    elim (cases_lt r from) [
+      | inl under ↦
+          let is : nat_lt r from ≡ true = lt-ltb r from under in
+          elim (cases_eq (r / 8) (from / 8)) [
+            | inl same ↦
+                let kept : max (bit_at byte (r % 8)) (bit_at (2 ^ 8 - 2 ^ k) (r % 8)) ≡ bit_at byte (r % 8) = ap (max (bit_at byte (r % 8))) (bit_at_mask_below k 8 (r % 8) (omega arith)) ∙ omega arith in
+                ap (λ (n : ℕ). bit_at (slice_index new n) (r % 8) == 1) same ∙ ap (λ (x : ℕ). x == 1) (read ∙ kept)
+                ∙ ap (λ (n : ℕ). bit_at (slice_index old n) (r % 8) == 1) (sym same) ∙ sym (ap (λ (t : Bool). if t then is_bit_set old r else true) is)
+            | inr other ↦
+                ap (λ (x : ℕ). bit_at x (r % 8) == 1) (before (r / 8) (omega (arith, other))) ∙ sym (ap (λ (t : Bool). if t then is_bit_set old r else true) is)
+          ]
+      | inr above ↦
+          let is : nat_lt r from ≡ false = false_from_ne_true (nat_lt r from) (λ e. let under = ltb-true r from e in absurd (omega arith)) in
+          elim (cases_eq (r / 8) (from / 8)) [
+            | inl same ↦
+                let set : max (bit_at byte (r % 8)) (bit_at (2 ^ 8 - 2 ^ k) (r % 8)) ≡ 1 = ap (max (bit_at byte (r % 8))) (bit_at_mask_inside k 8 (r % 8) (omega arith) (omega arith)) ∙ omega (arith, one) in
+                ap (λ (n : ℕ). bit_at (slice_index new n) (r % 8) == 1) same ∙ ap (λ (x : ℕ). x == 1) (read ∙ set)
+                ∙ sym (ap (λ (t : Bool). if t then is_bit_set old r else true) is)
+            | inr other ↦
+                ap (λ (x : ℕ). bit_at x (r % 8) == 1) (behind (r / 8) (omega (arith, other)) (omega arith)) ∙ ap (λ (x : ℕ). x == 1) (bit_at_ones 8 (r % 8) (omega arith))
+                ∙ sym (ap (λ (t : Bool). if t then is_bit_set old r else true) is)
+          ]
+    ]
 
 -- Where all bytes are before `from` nothing is cleared.
 pub is_bit_set-short : (bytes : List ℕ) (from : ℕ) → length bytes ≤ from / 8 → (r : ℕ) → is_bit_set bytes r ≡ (if nat_lt r from then is_bit_set bytes r else false)

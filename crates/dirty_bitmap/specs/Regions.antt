@@ -1,6 +1,6 @@
 -- What a contract sees of a set of regions, and how it stands in memory.
 -- Own: in memory it stands as its bitmap does on a disk.
-use Rattle.std.specs.Prelude.{◌≡◌, ◌≢◌, ℕ, ◌+◌, ◌-◌, ◌*◌, ◌^◌, ◌<◌, ◌≤◌, Bool, true, false, List, length, find, Option}
+use Rattle.std.specs.Prelude.{◌≡◌, ◌≢◌, ℕ, ◌+◌, ◌-◌, ◌*◌, ◌^◌, ◌<◌, ◌≤◌, Bool, false, List, length, find, Option}
 use Rattle.std.specs.List.{count_by, range_with_len}
 use Rattle.disk_model.specs.Disk.{Content, last_image, sector_in}
 use Rattle.image_model.specs.Bitmap.{is_bit_set}

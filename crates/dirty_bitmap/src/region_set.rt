@@ -1,10 +1,10 @@
 //! A set of regions in memory.
-ghost use Rattle.std.specs.Prelude.{◌≡◌, ◌*◌, ◌^◌, ◌<◌, ◌≤◌, ℕ, true, false, length, IfOk};
+ghost use Rattle.std.specs.Prelude.{◌≡◌, ◌*◌, ◌^◌, ◌<◌, ◌≤◌, ℕ, true, false, length, nat_le, IfOk};
 ghost use Rattle.image_model.specs.Bitmap.{is_bit_set};
 ghost use Rattle.device_model.specs.Regions.{with_region};
 ghost use Rattle.dirty_bitmap.specs.Regions.{IsSectorOf, count_in, has_region, next_in, sector_of, set_sectors};
 
-use crate::words::{clear_from, count_bits, next_bit};
+use crate::words::{clear_from, count_bits, next_bit, set_from};
 use image_model::SECTOR_SIZE;
 use sector_disk::Memory;
 use std::alloc::Global;
@@ -51,6 +51,23 @@ impl RegionSet {
     {
         let bytes = zero_bitmap(alloc, size)?;
         Ok(RegionSet { size, bytes })
+    }
+
+    /// Makes a set of so many regions that has those from `first` on, in whole words.
+    ///
+    /// # Errors
+    ///
+    /// - `Memory`: there is none for it.
+    pub fn from_region(alloc: Global, size: u64, first: u64) -> Result<RegionSet, Memory>
+        requires { size ≤ 2 ^ 48 }
+
+        ensures size { IfOk result (λ set. set.size ≡ size) }
+        ensures has { IfOk result (λ set. (region : ℕ) → region < size
+            → has_region set region ≡ nat_le first region) }
+    {
+        let mut bytes = zero_bitmap(alloc, size)?;
+        set_from(bytes.as_mut_slice(), first as usize);
+        Ok(RegionSet::from_bitmap(size, bytes))
     }
 
     /// The set that a bitmap of so many regions tells. Bits of no region are cleared.

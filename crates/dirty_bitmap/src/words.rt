@@ -1,5 +1,6 @@
 //! Bits of bytes, over words of 64 bits. Bit r is bit `r % 8` of byte `r / 8`.
-ghost use Rattle.std.specs.Prelude.{◌≡◌, ◌+◌, ◌-◌, ◌*◌, ◌/◌, ◌^◌, ◌<◌, ◌≤◌, ◌==◌, ℕ, find, length, nat_lt, if◌then◌else◌, false, MatchOption};
+ghost use Rattle.std.specs.Prelude.{◌≡◌, ◌+◌, ◌-◌, ◌*◌, ◌/◌, ◌^◌, ◌<◌, ◌≤◌, ◌==◌, ℕ, find, length, nat_lt};
+ghost use Rattle.std.specs.Prelude.{if◌then◌else◌, false, true, MatchOption};
 ghost use Rattle.std.specs.Int.{bit_at};
 ghost use Rattle.std.specs.List.{count_by, range_with_len};
 ghost use Rattle.image_model.specs.Bitmap.{is_bit_set};
@@ -81,6 +82,19 @@ pub(crate) fn clear_from(bytes: &mut [u8], from: usize)
     }
     bytes[at] &= low_bits(from % 8);
     bytes[at + 1..].fill(0);
+}
+
+/// Sets each bit from `from` on.
+pub(crate) fn set_from(bytes: &mut [u8], from: usize)
+    ensures { (r : ℕ) → r < 8 * length bytes.old → is_bit_set bytes.new r
+        ≡ (if nat_lt r from then is_bit_set bytes.old r else true) }
+{
+    let at = from / 8;
+    if at >= bytes.len() {
+        return;
+    }
+    bytes[at] |= !low_bits(from % 8);
+    bytes[at + 1..].fill(0xff);
 }
 
 /// A byte whose lowest bits are set, so many of them.

@@ -1,4 +1,4 @@
-use Rattle.std.proofs.Common.{◌≡◌, ap, ◌∙◌, ℕ, List, false}
+use Rattle.std.proofs.Common.{ap, ◌∙◌, ℕ, List}
 use Rattle.image_model.specs.Bitmap.{is_bit_set}
 use Rattle.dirty_bitmap.proofs.WordLemmas.{is_bit_set-zeros}
 use Rattle.dirty_bitmap.proofs.region_set.zero_bitmap.Goals as goal

@@ -1,4 +1,4 @@
-use Rattle.std.proofs.Common.{◌≡◌, ◌+◌, ◌-◌, ◌/◌, ◌%◌, ◌^◌, ◌∙◌, ap, arith, sym, ℕ, List, [], length, drop, replicate, slice_index, slice_set, bit_and, refl, length-set, length-drop}
+use Rattle.std.proofs.Common.{◌≡◌, ◌+◌, ◌-◌, ◌/◌, ◌∙◌, ap, arith, sym, ℕ, [], length, drop, replicate, slice_index, slice_set, bit_and, refl, length-drop}
 use Rattle.std.proofs.lemmas.List.{drop_all}
 use Rattle.dirty_bitmap.proofs.WordLemmas.{is_bit_set-below, is_bit_set-short, slice_index-cleared}
 use Rattle.dirty_bitmap.proofs.words.clear_from.Goals as goal

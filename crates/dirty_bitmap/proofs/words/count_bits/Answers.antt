@@ -1,4 +1,4 @@
-use Rattle.std.proofs.Common.{◌+◌, ◌∙◌, ap, arith, sym, ℕ}
+use Rattle.std.proofs.Common.{arith}
 use lib.Count.{ones-le}
 use Rattle.dirty_bitmap.proofs.WordLemmas.{word_counted}
 use Rattle.dirty_bitmap.proofs.words.count_bits.Goals as goal

@@ -1,8 +1,8 @@
-use Rattle.std.proofs.Common.{◌∙◌, ap, sym, subst, List, ℕ, length, ◌≡◌, ◌/◌}
+use Rattle.std.proofs.Common.{subst, List, ℕ, ◌/◌}
 use Rattle.disk_model.specs.Disk.{IsOfRun}
 use Rattle.disk_model.proofs.MomentsLemmas.{write_adds}
 use Rattle.bitmap_model.specs.BitmapDisk.{bit_sector}
-use Rattle.dirty_bitmap.specs.Regions.{IsSectorOf, sector_of}
+use Rattle.dirty_bitmap.specs.Regions.{sector_of}
 use Rattle.dirty_bitmap.proofs.BitsLemmas.{write_keeps}
 use Rattle.dirty_bitmap.proofs.writing.write_bit.Goals as goal
 

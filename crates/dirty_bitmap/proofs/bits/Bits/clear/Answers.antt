@@ -1,9 +1,6 @@
-use Rattle.std.proofs.Common.{◌≡◌, ◌∙◌, ◌/◌, ap, inr, sym, false}
-use Rattle.disk_model.specs.Disk.{Content, newest_only, with_run}
-use Rattle.bitmap_model.specs.BitmapDisk.{bit_sector}
-use Rattle.dirty_bitmap.specs.Regions.{has_region, sector_of}
-use Rattle.dirty_bitmap.proofs.BitsLemmas.{HoldsBits-cleared, HoldsBits-synced, are_told, call_adds, call_adds_to, changed_to, has_told, holds_after, images_dirty, keeps_elsewhere, sector_inside, seen_bits, seen_set}
-use Rattle.bitmap_model.proofs.BitLemmas.{with_region-here}
+use Rattle.std.proofs.Common.{◌/◌, false}
+use Rattle.dirty_bitmap.specs.Regions.{sector_of}
+use Rattle.dirty_bitmap.proofs.BitsLemmas.{HoldsBits-cleared, are_told, call_adds, call_adds_to, changed_to, holds_after, keeps_elsewhere, sector_inside}
 use Rattle.dirty_bitmap.proofs.bits.Bits.clear.Goals as goal
 
 pub write_bit-requires-clause-inside : goal.write_bit-requires-clause-inside

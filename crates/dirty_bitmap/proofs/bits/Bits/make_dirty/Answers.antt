@@ -1,10 +1,8 @@
-use Rattle.std.proofs.Common.{◌≡◌, ◌∙◌, ◌/◌, ◌<◌, ap, inr, refl, sym, subst, true}
-use Rattle.disk_model.specs.Disk.{Content, newest_only, with_run}
+use Rattle.std.proofs.Common.{◌∙◌, ◌/◌, ◌<◌, inr, refl, sym, subst, true}
 use Rattle.disk_model.specs.Identity.{DiskIdentity}
-use Rattle.bitmap_model.specs.BitmapDisk.{bit_sector}
 use Rattle.dirty_bitmap.specs.Bits.{bits_of}
 use Rattle.dirty_bitmap.specs.Regions.{has_region, sector_of}
-use Rattle.dirty_bitmap.proofs.BitsLemmas.{HoldsBits-cleared, HoldsBits-synced, are_told, call_adds, call_adds_to, changed_to, has_told, holds_after, images_dirty, keeps_elsewhere, sector_inside, seen_bits, seen_set}
+use Rattle.dirty_bitmap.proofs.BitsLemmas.{HoldsBits-synced, are_told, call_adds, call_adds_to, changed_to, has_told, holds_after, images_dirty, keeps_elsewhere, sector_inside, seen_bits, seen_set}
 use Rattle.bitmap_model.proofs.BitLemmas.{with_region-here}
 use Rattle.dirty_bitmap.proofs.bits.Bits.make_dirty.Goals as goal
 

@@ -1,6 +1,5 @@
-use Rattle.std.proofs.Common.{◌≡◌, ◌<◌, ◌/◌, ◌%◌, ◌*◌, ◌^◌, ◌∙◌, ap, arith, ℕ, Bool, false, sym, slice_index, slice_set, bit_and, length-set}
+use Rattle.std.proofs.Common.{◌<◌, ◌/◌, ◌∙◌, ap, arith, false, length-set}
 use Rattle.std.proofs.lemmas.List.{get_or_read}
-use Rattle.image_model.specs.Bitmap.{is_bit_set}
 use Rattle.device_model.specs.Regions.{with_region}
 use Rattle.dirty_bitmap.specs.Regions.{Regions, has_region}
 use Rattle.dirty_bitmap.proofs.SetLemmas.{IsBitmap-with, byte_inside}

@@ -1,5 +1,5 @@
-use Rattle.std.proofs.Common.{◌≡◌, ◌*◌, ◌+◌, ◌-◌, ◌∙◌, ap, arith, ℕ, List, sym, subst, take, drop}
-use Rattle.dirty_bitmap.specs.Regions.{IsSectorOf, Regions, sector_of}
+use Rattle.std.proofs.Common.{◌≡◌, ◌*◌, ◌+◌, ◌-◌, ◌∙◌, ap, arith, ℕ, List, take, drop}
+use Rattle.dirty_bitmap.specs.Regions.{Regions, sector_of}
 use Rattle.dirty_bitmap.proofs.SetLemmas.{sector_shown}
 use Rattle.dirty_bitmap.proofs.region_set.RegionSet.sector.Goals as goal
 

@@ -1,0 +1,9 @@
+use Rattle.std.proofs.Common.{◌≡◌}
+use Rattle.tag_store.specs.Store.{IsStore}
+use Rattle.bitmap_tests.proofs.recalculation_tests.fill_blocks.Given as goal
+
+abbrev pub invariant-loop-block : goal.invariant-loop-block
+invariant-loop-block g l = record {
+  store : IsStore l.tags (g.D.Disk.identity l.disk) (g.D.Disk.moments l.disk);
+  identity : g.D.Disk.identity l.disk ≡ g.D.Disk.identity l.fn.disk;
+}

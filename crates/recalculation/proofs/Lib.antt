@@ -1,0 +1,7 @@
+pub mod PlacesLemmas
+pub mod RunLemmas
+pub mod RestLemmas
+pub mod TakingLemmas
+pub mod AwaitingLemmas
+pub mod LawsLemmas
+mod ScratchServes

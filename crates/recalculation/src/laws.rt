@@ -1,0 +1,20 @@
+//! What the words of the contracts say, for the layers of every mode: each law is the contract of a function that does
+//! nothing.
+
+ghost use Rattle.recalculation.specs.Laws.{BitmapBlocksLaw, OpenedBitsLaw, OpenedPositionLaw, PositionBlocksLaw};
+ghost use Rattle.recalculation.specs.Laws.{SameBlocksLaw, SameMomentsLaw};
+
+/// At opening those regions and blocks await that the image tells, with a bitmap and without one.
+pub fn regions_await()
+    ensures bits { OpenedBitsLaw }
+    ensures position { OpenedPositionLaw }
+{}
+
+/// A recalculation is the same by any test that tells the region's blocks alike: with a bitmap each block of a region
+/// that awaits does, and without one each that is to be recalculated.
+pub fn region_is_recalculated()
+    ensures blocks { SameBlocksLaw }
+    ensures moments { SameMomentsLaw }
+    ensures bitmap { BitmapBlocksLaw }
+    ensures position { PositionBlocksLaw }
+{}
