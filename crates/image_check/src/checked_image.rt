@@ -17,7 +17,7 @@ use crate::opening::{read_journal, tag_maker};
 use crate::{Bad, What};
 use hmac_tag::{Hash, TagMaker};
 use image_opening::{ImageFormat, read_direct_format};
-use journal_overlay::Overlay;
+use journal_reading::NewestEntries;
 use opening_fault::OpeningFault;
 use sector_disk::{Disk, Failed};
 use sector_window::SectorWindow;
@@ -42,7 +42,7 @@ pub struct CheckedImage {
     format: ImageFormat,
     maker: TagMaker,
     /// Which blocks have an entry in the journal, where that is looked at.
-    journal: Option<Overlay>,
+    journal: Option<NewestEntries>,
     tags: SectorWindow,
     blocks: SectorWindow,
 }
