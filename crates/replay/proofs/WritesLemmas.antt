@@ -56,6 +56,10 @@ put_in_tags store disk block tag {a} is low m =
     (λ first. HoldsTag-span store.geometry block store.geometry.shape.tag_size s low refl
     (first_in_span (tag_at store.geometry block).0 (tag_at store.geometry block).1 store.geometry.shape.tag_size s span.begins span.some first.0.is)) of) start c adds)) m
 
+-- Tags that are written back.
+pub tags_add : (g : Geometry) (store : Store) (P : Entry → Type 0) {a b : List Content} → g ≡ store.geometry → EachSince (OnlyAdds (IsMarkedTags store)) a b → EachSince (OnlyAdds (IsOfPlacing g P)) a b
+tags_add g store P same m = adds_wider (IsMarkedTags store) (IsOfPlacing g P) (λ s x of. inr (subst (λ (y : Geometry). HoldsTag y s) (sym same) of.tags)) m
+
 -- Sections that are emptied.
 pub empty_adds : (g : Geometry) (number : ℕ) (bytes : List ℕ) {a b : List Content} → AreEmptySections g number bytes → EachSince (OnlyAdds (IsOfRun (section_at g 0) bytes)) a b → EachSince (OnlyAdds (IsOfEmptyJournal g)) a b
 empty_adds g number bytes empty m = adds_wider (IsOfRun (section_at g 0) bytes) (IsOfEmptyJournal g)
