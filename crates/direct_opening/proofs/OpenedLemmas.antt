@@ -8,9 +8,7 @@ use Rattle.disk_model.specs.Moments.{EachMoment, EachSince, HasNow, content_now}
 use Rattle.disk_model.proofs.MomentsLemmas.{EachMoment-weaker, FromStart-weaker}
 use Rattle.image_model.specs.declared.flags.TheConstants.{DIRTY_BITMAP, RECALCULATING}
 use Rattle.image_model.specs.Bitmap.{is_to_recalculate, region_awaits}
-use Rattle.image_model.specs.Cells.{salt_of}
 use Rattle.image_model.specs.Geometry.{Geometry}
-use Rattle.image_model.specs.Openable.{journal_fault_of}
 use Rattle.image_model.specs.Superblock.{Superblock, has_flag}
 use Rattle.image_model.proofs.BitmapLemmas.{awaits-journal, region_awaits_found}
 use Rattle.image_model.proofs.OpenableLemmas.{IsReadable-accepted}
@@ -33,13 +31,14 @@ use Rattle.journal_model.specs.Opening.{opened_disk}
 use Rattle.journal_model.proofs.OpeningLemmas.{opened_cells_law}
 use Rattle.tag_store.specs.Store.{given_tags}
 use Rattle.image_format.specs.declared.reading.ImageFormat.{ImageFormat}
-use Rattle.image_format.specs.Format.{IsOpenedNow, IsReadNow, direct_format_of, disk_format}
-use Rattle.image_judging.specs.FaultLaws.{OpensLaw}
+use Rattle.image_format.specs.Format.{IsReadNow, disk_format}
 use Rattle.replay.specs.declared.recovered.Recovered.{Recovered}
 use Rattle.replay.specs.Emptied.{HasEmptyJournal, IsEmptyJournal}
 use Rattle.replay.specs.Recovery.{LeavesRecovered}
 use Rattle.journal_opening.specs.Opening.{IsOfOpening, KeepsImage, WritesRecovery}
-use Rattle.journal_opening.proofs.OpenedLemmas.{fault_now}
+use Rattle.journal_opening.specs.declared.judging.JudgedImage.{JudgedImage}
+use Rattle.journal_opening.specs.Judged.{HasJudged, judged_format}
+use Rattle.journal_opening.proofs.OpenedLemmas.{can_read, reads_now}
 use Rattle.journal_opening.proofs.OpeningLemmas.{since_from}
 use Rattle.request_slots.specs.Flight.{Flight, no_requests}
 use Rattle.device_parts.specs.declared.condition.Condition.TheVariants.{Working}
@@ -179,16 +178,17 @@ module _ (key : Option (List ℕ)) (sectors : ℕ) (format : ImageFormat) (a b :
   pub own_writes : WritesRecovery format.geometry a b → EachSince (KeepsEmpty format.geometry) a b → WritesEmptying key sectors a b
   own_writes recovers keeps = record { recovers = own_since IsOfOpening recovers; keeps = own_since KeepsEmpty keeps }
 
--- ---- behind the read of the first sector, which leaves the disk as it was
+-- ---- behind the judging, which leaves the disk as it was
 
--- What was not refused is open.
-pub has_opened : (key : Option (List ℕ)) (disk : DiskIdentity) (format : ImageFormat) (a b : List Content) → HasNow (IsOpenedNow key disk.sectors format) a → HasNow (λ c. Ok format ≡ direct_format_of disk.sectors (last_image c)) a
-    → OpensLaw → (parts : Parts) → HasNow (λ start. IsOpenOn (disk_format key disk.sectors format) (last_image start) parts b) a → IsReady parts disk b
-    → parts.slots ≡ no_requests parts.tags.geometry.blocks (512 * parts.tags.geometry.shape.spb)
-    → HasNow (λ c. None ≡ journal_fault_of key (salt_of format.fields) format.geometry (last_image c)) a → HasOpened key disk parts a b
-has_opened key disk format a b opens told law parts device ready requests right = record {
-  device = λ start at. subst (λ (f : DiskFormat). IsOpenOn f (last_image start) parts b) (sym (opens start at).read.own) (device start at);
+-- What was judged is open.
+pub has_opened : (key : Option (List ℕ)) (disk : DiskIdentity) (image : JudgedImage) (a b : List Content) → HasJudged disk.sectors image a → image.maker.key ≡ key
+    → (parts : Parts) → HasNow (λ start. IsOpenOn (judged_format disk.sectors image) (last_image start) parts b) a → IsReady parts disk b
+    → parts.slots ≡ no_requests parts.tags.geometry.blocks (512 * parts.tags.geometry.shape.spb) → HasOpened key disk parts a b
+has_opened key disk image a b judged same parts device ready requests = record {
+  device = λ start at.
+      subst (λ (f : DiskFormat). IsOpenOn f (last_image start) parts b)
+      (ap (λ (k : Option (List ℕ)). disk_format k disk.sectors image.format) same ∙ sym (reads_now key disk image a judged same start at).own) (device start at);
   ready = ready;
   requests = requests;
-  can = λ c at. (law key disk.sectors (last_image c)).0 (sym (fault_now key disk format a b opens told None right c at));
+  can = can_read key disk image a judged same;
 }

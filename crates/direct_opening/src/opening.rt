@@ -1,15 +1,13 @@
-//! Opening: the first sector is read and judged, all memory is taken, and the image is recovered and emptied.
+//! Opening: the image is judged, all memory is taken, and the image is recovered and emptied.
 ghost use Rattle.std.specs.Prelude.{◌≡◌, ◌≢◌, ◌*◌, Err, IfOk, IsErr, Some};
+ghost use Rattle.disk_model.specs.Causes.{HasCause};
 ghost use Rattle.disk_model.specs.Disk.{last_image};
 ghost use Rattle.disk_model.specs.Identity.{IsBound};
 ghost use Rattle.disk_model.specs.Moments.{EachSince, HasNow};
-ghost use Rattle.image_model.specs.Cells.{salt_of};
-ghost use Rattle.image_model.specs.Openable.{journal_fault_of};
 ghost use Rattle.hmac_tag.specs.TagMaker.{key_of};
 ghost use Rattle.image_format.specs.declared.open_fault.OpenFault.{OpenFault as FormatFault};
-ghost use Rattle.image_format.specs.Format.{IsDirectFormat, IsReadNow, disk_format};
-ghost use Rattle.journal_reading.specs.Faults.{HasReplayCause, refusal_in};
 ghost use Rattle.image_judging.specs.Faults.{ByFormat, HasOpenCause, fault_in, fault_of};
+ghost use Rattle.journal_opening.specs.Judged.{HasJudged, judged_format};
 ghost use Rattle.journal_opening.specs.Opening.{KeepsImage, KeepsRefused, OnlySyncs, WritesRecovery};
 ghost use Rattle.request_slots.specs.Flight.{no_requests};
 ghost use Rattle.device_parts.specs.Device.{IsReady};
@@ -19,10 +17,9 @@ use crate::emptying::recover_emptied;
 use crate::room::DirectRoom;
 use device_parts::Parts;
 use hmac_tag::Hash;
-use image_format::{ImageFormat, read_direct_format};
-use image_judging::{OpeningFault, images_that_open_have_no_fault};
-use replay::ReplayFault;
-use sector_disk::Disk;
+use image_judging::OpeningFault;
+use journal_opening::{JudgedImage, judge_image};
+use sector_disk::{Disk, Failed};
 use sector_pool::Region;
 use std::alloc::Global;
 
@@ -31,20 +28,20 @@ use std::alloc::Global;
 /// place of those that it had: in them the journal is read and emptied.
 ///
 /// 1. The first sector is read and judged.
-/// 2. Memory is taken for the journal's sectors, for tags and for requests.
-/// 3. The disk is synced, so that nothing of an earlier run is pending.
-/// 4. The image is recovered.
-/// 5. Its journal is emptied.
+/// 2. The journal is read in runs and judged, with memory for what is kept of it.
+/// 3. Memory is taken for the journal's sectors, for tags and for requests.
+/// 4. The disk is synced, so that nothing of an earlier run is pending.
+/// 5. The image is recovered: where its journal has entries that count it is read once more, into the region.
+/// 6. Its journal is emptied.
 ///
 /// # Errors
 ///
 /// `Memory` and `Disk` come whenever they hold, and of the others the first that holds:
 ///
-/// - `Memory`: there is none for what the device needs, or for what the journal's sectors bear. No sector was written.
+/// - `Memory`: there is none for what is kept of the journal, or for what the device needs. Nothing was done.
 /// - `Disk`: the disk failed. Every image has the cells of the image at the entry, where that can be opened.
 /// - `Super`, `Geom`, `Mode`: as `read_direct_format` tells them. Nothing was done.
-/// - `Journal`: the journal is refused, by its scan or for the first entry in the order of the replay. No sector was
-///   written.
+/// - `Journal`: the journal is refused, by its scan or for the first entry in the order of the replay. Nothing was done.
 pub fn open_direct<D: Disk>(
     alloc: Global,
     disk: &mut D,
@@ -66,6 +63,8 @@ pub fn open_direct<D: Disk>(
         → OnlySyncs (D.moments disk.old) (D.moments disk.new) }
     ensures judged { KeepsRefused (fault_of (key_of hash) (D.identity disk.old).sectors)
         (D.moments disk.old) (D.moments disk.new) }
+    // Not even a sync is made of an image that is refused, nor where there is no memory.
+    ensures untouched { result ≢ Err OpeningFault.Disk → IsErr result → D.moments disk.new ≡ D.moments disk.old }
 
     ensures identity { D.identity disk.new ≡ D.identity disk.old }
 
@@ -74,55 +73,41 @@ pub fn open_direct<D: Disk>(
     ensures moments { WritesEmptying (key_of hash) (D.identity disk.old).sectors
         (D.moments disk.old) (D.moments disk.new) }
 {
-    let format = read_direct_format(disk)?;
-    let room = DirectRoom::new(alloc, format.geometry, pool)?;
-    let parts = open_format(alloc, disk, &format, hash, room)?;
-    // What was not refused can be opened.
-    images_that_open_have_no_fault();
+    let image = judge_image(alloc, disk, hash)?;
+    let room = DirectRoom::new(alloc, image.geometry(), pool)?;
+    let parts = open_judged(disk, image, room)?;
     Ok(parts)
 }
 
-/// Opens a device in direct mode on a disk of which this format was read, with memory that was taken for it.
+/// Opens a device in direct mode on a disk whose image was judged, with memory that was taken for it.
 ///
 /// # Errors
 ///
-/// - `Memory`: there is none for what the journal's sectors bear. No sector was written.
-/// - `Disk`: the disk failed. Every image has the cells of the image at the entry.
-/// - `Journal`: the journal is refused. No sector was written.
-fn open_format<D: Disk>(
-    alloc: Global,
+/// - `Failed`: the disk failed. Every image has the cells of the image at the entry.
+fn open_judged<D: Disk>(
     disk: &mut D,
-    format: &ImageFormat,
-    hash: Hash,
+    image: JudgedImage,
     room: DirectRoom<'_>,
-) -> Result<Parts, ReplayFault>
+) -> Result<Parts, Failed>
     requires bound { IsBound (D.identity disk.old).name }
-    requires format { IsDirectFormat (D.identity disk.old).sectors format.now }
-    requires reads { HasNow (IsReadNow (key_of hash) (D.identity disk.old).sectors format.now) (D.moments disk.old) }
-    requires room { IsRoomFor format.now.geometry room }
+    requires judged { HasJudged (D.identity disk.old).sectors image (D.moments disk.old) }
+    requires room { IsRoomFor image.format.geometry room }
 
     ensures opened { IfOk result (λ parts. HasNow (λ start. IsOpenOn
-        (disk_format (key_of hash) (D.identity disk.old).sectors format.now) (last_image start) parts
-        (D.moments disk.new)) (D.moments disk.old)) }
+        (judged_format (D.identity disk.old).sectors image) (last_image start) parts (D.moments disk.new))
+        (D.moments disk.old)) }
     ensures ready { IfOk result (λ parts. IsReady parts (D.identity disk.new) (D.moments disk.new)) }
     ensures requests { IfOk result (λ parts. parts.slots ≡ no_requests parts.tags.geometry.blocks
         (512 * parts.tags.geometry.shape.spb)) }
 
-    ensures refused { result ≢ Err ReplayFault.Memory → result ≢ Err ReplayFault.Disk
-        → HasNow (λ c. refusal_in result ≡ journal_fault_of (key_of hash) (salt_of format.now.fields)
-        format.now.geometry (last_image c)) (D.moments disk.old) }
-    ensures cause { HasReplayCause (D.faults disk.old) (D.faults disk.new) result }
-    ensures nothing { result ≢ Err ReplayFault.Disk → IsErr result
-        → OnlySyncs (D.moments disk.old) (D.moments disk.new) }
-    ensures judged { KeepsRefused (λ image. journal_fault_of (key_of hash) (salt_of format.now.fields)
-        format.now.geometry image) (D.moments disk.old) (D.moments disk.new) }
+    ensures cause { HasCause (D.faults disk.old) (D.faults disk.new) result }
 
     ensures identity { D.identity disk.new ≡ D.identity disk.old }
 
-    ensures cuts { KeepsImage (disk_format (key_of hash) (D.identity disk.old).sectors format.now)
+    ensures cuts { KeepsImage (judged_format (D.identity disk.old).sectors image)
         (D.moments disk.old) (D.moments disk.new) }
-    ensures moments { WritesRecovery format.now.geometry (D.moments disk.old) (D.moments disk.new) }
-    ensures keeps { EachSince (KeepsEmpty format.now.geometry) (D.moments disk.old) (D.moments disk.new) }
+    ensures moments { WritesRecovery image.format.geometry (D.moments disk.old) (D.moments disk.new) }
+    ensures keeps { EachSince (KeepsEmpty image.format.geometry) (D.moments disk.old) (D.moments disk.new) }
 {
     let DirectRoom {
         cache,
@@ -130,12 +115,13 @@ fn open_format<D: Disk>(
         slots,
         buffer,
     } = room;
-    let image = recover_emptied(alloc, disk, format, hash, cache, &mut pool)?;
+    let spb = image.geometry().shape().spb;
+    let recovered = recover_emptied(disk, image, cache, &mut pool)?;
     Ok(Parts {
-        tags: image.tags,
-        maker: image.maker,
+        tags: recovered.tags,
+        maker: recovered.maker,
         slots,
-        spb: format.geometry.shape().spb,
+        spb,
         buffer,
     })
 }

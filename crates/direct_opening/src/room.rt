@@ -15,12 +15,12 @@ use std::alloc::Global;
 /// Source: Linux, `drivers/md/dm-integrity.c`, `SB_SECTORS`.
 const JOURNAL_AT: u64 = 8;
 
-/// What is allocated before the disk is synced.
+/// What is allocated once the image is judged, before the disk is synced.
 #[derive(Drop)]
 pub struct DirectRoom<'p> {
     /// What holds sectors of tags, none yet.
     pub cache: Cache,
-    /// As many sectors as the journal has, in which it is read and emptied.
+    /// As many sectors as the journal has, in which it is replayed and emptied.
     pub pool: Run<'p>,
     /// The requests in flight, none yet.
     pub slots: Slots,

@@ -22,10 +22,10 @@ use Rattle.image_model.proofs.SuperblockLemmas.{flag_unset}
 use Rattle.image_format.specs.Format.{IsDirectFormat, IsReadNow, disk_format}
 use Rattle.hmac_tag.specs.TagMaker.{TagRule}
 use Rattle.journal_model.proofs.PlaceLemmas.{last_entry-tells}
-use Rattle.journal_overlay.specs.Kept.{Places, newest_of}
+use Rattle.journal_reading.specs.Newest.{newest_in}
 use Rattle.place_model.specs.Format.{DiskFormat, format_on}
 use Rattle.sector_window.specs.Window.{Window}
-use Rattle.sector_window.proofs.WindowLemmas.{Reads-none}
+use Rattle.sector_window.proofs.WindowLemmas.{fresh_window}
 use Rattle.image_check.specs.Bad.{bad_block, bad_blocks, bad_by, bad_cell, first_bad_from}
 use Rattle.image_check.specs.declared.bad.Bad.{Bad}
 use Rattle.image_check.specs.Checked.{Checked, IsCheckOf, IsJournalOf, IsSameCheck, bad_kept, checked_format, what_of}
@@ -33,7 +33,6 @@ use Rattle.image_check.specs.declared.bad.What.{What}
 use Rattle.image_check.specs.declared.report.Report.{Report}
 use Rattle.image_check.specs.Index.{IsIndexOn}
 use Rattle.image_check.specs.Report.{IsReportOf, awaiting_in, with_found}
-use Rattle.image_check.specs.Windows.{HasRoom}
 
 -- ---- one block
 
@@ -60,9 +59,9 @@ none_of (Some x) e = absurd (cc)
 
 module _ (rule : TagRule) (s : Superblock) (g : Geometry) (image : Image) (accepted : IsAccepted s) (clear : has_flag DIRTY_BITMAP s.flags ≡ false) (b : ℕ) where
   -- A block that has an entry has its tag, and any other is as it is placed.
-  kept_cell : (places : Places) → IsIndexOn rule.key rule.salt g image places
-      → bad_kept rule g (Some places) image b ≡ bad_cell rule.key rule.salt g b (cells_of rule.key s g image b)
-  kept_cell places is = elim (cases_Bool (is_some (newest_of b places.kept))) [
+  kept_cell : (newest : List (ℕ × ℕ)) → IsIndexOn rule.key rule.salt g image newest
+      → bad_kept rule g (Some newest) image b ≡ bad_cell rule.key rule.salt g b (cells_of rule.key s g image b)
+  kept_cell newest is = elim (cases_Bool (is_some (newest_in newest b))) [
     | inl has ↦
         let there = some_of (last_entry g (replayed_entries g image) b) (sym (is.each b) ∙ has) in
         let entry = there.0 in
@@ -79,10 +78,10 @@ module _ (rule : TagRule) (s : Superblock) (g : Geometry) (image : Image) (accep
   ]
 
   -- So it is of what is judged.
-  kept_block : (sectors : ℕ) (journal : Option Places) → rule.salt ≡ salt_of s → IsJournalOf rule g image journal
+  kept_block : (sectors : ℕ) (journal : Option (List (ℕ × ℕ))) → rule.salt ≡ salt_of s → IsJournalOf rule g image journal
       → (let d : DiskFormat = record { key = rule.key; sectors = sectors; superblock = s; geometry = g } in bad_kept rule g journal image b ≡ bad_block (what_of journal) d image b)
   kept_block sectors None salt is = ap (λ (x : Option (List ℕ)). bad_cell rule.key x g b (placed_cells_of g image b)) salt
-  kept_block sectors (Some places) salt is = kept_cell places is ∙ ap (λ (x : Option (List ℕ)). bad_cell rule.key x g b (cells_of rule.key s g image b)) salt
+  kept_block sectors (Some newest) salt is = kept_cell newest is ∙ ap (λ (x : Option (List ℕ)). bad_cell rule.key x g b (cells_of rule.key s g image b)) salt
 
 -- ---- for callers
 
@@ -158,7 +157,7 @@ bad_told view image disk moments b r same is told = IfOk-weaker r _ _ (λ answer
 -- It is the same of the same image.
 judged_same : (old new : Checked) (sectors : ℕ) (image : Image) (b : ℕ) → IsSameCheck old new → judged_in new sectors image b ≡ judged_in old sectors image b
 judged_same old new sectors image b same =
-    ap (λ (o : Option Places). bad_block (what_of o) (checked_format new sectors image) image b) same.journal
+    ap (λ (o : Option (List (ℕ × ℕ))). bad_block (what_of o) (checked_format new sectors image) image b) same.journal
     ∙ ap (λ (rule : TagRule). let i : Checked = record old { rule = rule } in bad_block (what_of old.journal) (checked_format i sectors image) image b) same.rule
 
 module _ (old new : Checked) (disk now : DiskIdentity) (before after : List Content) (is : IsCheckOf old disk before) (same : IsSameCheck old new) (e : now ≡ disk) (m : after ≡ before) where
@@ -224,13 +223,6 @@ pub IsSameCheck-then : (a b c : Checked) → IsSameCheck a b → IsSameCheck b c
 IsSameCheck-then a b c x y = record { format = y.format ∙ x.format; rule = y.rule ∙ x.rule; journal = y.journal ∙ x.journal }
 
 -- ---- an opening
-
--- A window that shows nothing shows what reads of any disk give.
-fresh_window : (sectors room : ℕ) (w : Window) (moments : List Content) → (let empty : Window = record { room = room; first = 0; bytes = [] } in w ≡ empty) → sectors ≤ room → HasRoom sectors w moments
-fresh_window sectors room w moments is fits = subst (λ (x : Window). HasRoom sectors x moments) (sym is) (record {
-  room = fits;
-  window = record { reads = λ c told. Reads-none 0 c };
-})
 
 -- What is opened is of the disk.
 pub opened_check : (image : Checked) (key : Option (List ℕ)) (disk now : DiskIdentity) (before after : List Content) → now ≡ disk → after ≡ before

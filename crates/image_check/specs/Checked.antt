@@ -8,42 +8,41 @@ use Rattle.image_model.specs.Geometry.{Geometry}
 use Rattle.image_format.specs.declared.reading.ImageFormat.{ImageFormat}
 use Rattle.image_format.specs.Format.{IsDirectFormat, disk_format}
 use Rattle.hmac_tag.specs.TagMaker.{TagRule}
-use Rattle.journal_overlay.specs.Kept.{Places, newest_of}
+use Rattle.journal_reading.specs.Newest.{newest_in}
 use Rattle.place_model.specs.Format.{DiskFormat, format_on}
-use Rattle.sector_window.specs.Window.{Window}
+use Rattle.sector_window.specs.Window.{HasRoom, Window}
 use Rattle.image_check.specs.Bad.{bad_cell}
 use Rattle.image_check.specs.declared.bad.Bad.{Bad}
 use Rattle.image_check.specs.declared.bad.What.{What}
 use Rattle.image_check.specs.declared.bad.What.TheVariants.{Cells, Placed}
 use Rattle.image_check.specs.Index.{IsIndexOn}
-use Rattle.image_check.specs.Windows.{HasRoom}
 
 -- Its format, the rule of its tags, which blocks have an entry in its journal, where that is looked at, and what was read
 -- last.
 pub record Checked : Type 0 where
   pub format : ImageFormat
   pub rule : TagRule
-  pub journal : Option Places
+  pub journal : Option (List (ℕ × ℕ))
   pub tags : Window
   pub blocks : Window
 
 -- What is judged: where no journal is looked at, what is placed.
-abbrev pub what_of : Option Places → What
+abbrev pub what_of : Option (List (ℕ × ℕ)) → What
 what_of None = Placed
-what_of (Some places) = Cells
+what_of (Some newest) = Cells
 
 -- The block has an entry in the journal that is looked at.
-abbrev pub has_entry : Option Places → ℕ → Bool
+abbrev pub has_entry : Option (List (ℕ × ℕ)) → ℕ → Bool
 has_entry None b = false
-has_entry (Some places) b = is_some (newest_of b places.kept)
+has_entry (Some newest) b = is_some (newest_in newest b)
 
 -- The journal that is looked at is the image's.
-abbrev pub IsJournalOf : TagRule → Geometry → Image → Option Places → Type 0
+abbrev pub IsJournalOf : TagRule → Geometry → Image → Option (List (ℕ × ℕ)) → Type 0
 IsJournalOf rule g image None = Unit {0}
-IsJournalOf rule g image (Some places) = IsIndexOn rule.key rule.salt g image places
+IsJournalOf rule g image (Some newest) = IsIndexOn rule.key rule.salt g image newest
 
 -- Block b, where it is bad by what is kept: one that has an entry is not, since that was judged.
-abbrev pub bad_kept : TagRule → Geometry → Option Places → Image → ℕ → Option Bad
+abbrev pub bad_kept : TagRule → Geometry → Option (List (ℕ × ℕ)) → Image → ℕ → Option Bad
 bad_kept rule g journal image b =
     if has_entry journal b then None else bad_cell rule.key rule.salt g b (placed_cells_of g image b)
 

@@ -1,5 +1,4 @@
 pub mod Bad
-pub mod Windows
 pub mod Faults
 pub mod Index
 pub mod Checked

@@ -18,7 +18,7 @@ use crate::{Bad, What};
 use hmac_tag::{Hash, TagMaker};
 use image_format::{ImageFormat, read_direct_format};
 use image_judging::OpeningFault;
-use journal_overlay::Overlay;
+use journal_reading::NewestEntries;
 use sector_disk::{Disk, Failed};
 use sector_window::SectorWindow;
 use std::alloc::Global;
@@ -42,7 +42,7 @@ pub struct CheckedImage {
     format: ImageFormat,
     maker: TagMaker,
     /// Which blocks have an entry in the journal, where that is looked at.
-    journal: Option<Overlay>,
+    journal: Option<NewestEntries>,
     tags: SectorWindow,
     blocks: SectorWindow,
 }

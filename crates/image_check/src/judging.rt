@@ -9,11 +9,11 @@ ghost use Rattle.image_model.specs.Cells.{block_tag, placed_cells_of};
 ghost use Rattle.image_model.specs.Geometry.{IsGeometry};
 ghost use Rattle.image_check.specs.Bad.{bad_by, bad_cell};
 ghost use Rattle.image_check.specs.Checked.{bad_kept, has_entry};
-ghost use Rattle.image_check.specs.Windows.{HasRoom};
+ghost use Rattle.sector_window.specs.Window.{HasRoom};
 
 use crate::Bad;
 use hmac_tag::{Tag, TagMaker};
-use journal_overlay::Overlay;
+use journal_reading::NewestEntries;
 use layout::Geometry;
 use sector_disk::{Disk, Failed};
 use sector_window::SectorWindow;
@@ -89,12 +89,12 @@ pub(crate) fn judge_placed<D: Disk>(
 }
 
 /// Whether a block has an entry in the journal, where one is looked at.
-fn has_entry(journal: &Option<Overlay>, block: u64) -> bool
+fn has_entry(journal: &Option<NewestEntries>, block: u64) -> bool
     ensures { result ≡ has_entry journal.now block }
 {
     match journal {
         None => false,
-        Some(overlay) => overlay.newest(block).is_some(),
+        Some(newest) => newest.newest(block).is_some(),
     }
 }
 
@@ -107,7 +107,7 @@ pub(crate) fn judge_block<D: Disk>(
     disk: &mut D,
     geometry: &Geometry,
     maker: &TagMaker,
-    journal: &Option<Overlay>,
+    journal: &Option<NewestEntries>,
     tags: &mut SectorWindow,
     blocks: &mut SectorWindow,
     block: u64,

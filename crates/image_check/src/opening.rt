@@ -16,7 +16,7 @@ use hmac_tag::{Hash, TagMaker};
 use image_format::ImageFormat;
 use image_judging::OpeningFault;
 use image_model::FIXED_HMAC;
-use journal_overlay::Overlay;
+use journal_reading::NewestEntries;
 use layout::Geometry;
 use sector_disk::Disk;
 use std::alloc::Global;
@@ -50,7 +50,7 @@ pub(crate) fn read_journal<D: Disk>(
     geometry: &Geometry,
     maker: &TagMaker,
     what: What,
-) -> Result<Option<Overlay>, OpeningFault>
+) -> Result<Option<NewestEntries>, OpeningFault>
     requires bound { IsBound (D.identity disk.old).name }
     requires geometry { IsGeometry geometry.now (D.identity disk.old).sectors }
     requires maker { maker.now.size ≡ geometry.now.shape.tag_size }

@@ -1,4 +1,3 @@
-pub mod CellsLemmas
 pub mod DumpLemmas
 pub mod DumpLawsLemmas
 pub mod LinesLemmas

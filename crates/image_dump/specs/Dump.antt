@@ -1,7 +1,7 @@
 -- What a dump tells of an image: its format and the state of its journal, or the first fault.
 -- Own: the superblock is judged before the geometry, and the geometry before the journal. Of the journal the
 -- commit numbers are judged, and no entry.
-use Rattle.std.specs.Prelude.{◌≡◌, ◌≢◌, ◌⊎◌, ℕ, ◌≤◌, false, if◌then◌else◌, Result, Ok, Err}
+use Rattle.std.specs.Prelude.{◌≡◌, ◌≢◌, ℕ, ◌≤◌, false, if◌then◌else◌, Result, Ok, Err}
 use Rattle.disk_model.specs.Causes.{Rose}
 use Rattle.disk_model.specs.Disk.{Image}
 use Rattle.image_model.specs.declared.flags.TheConstants.{DIRTY_BITMAP}
@@ -58,7 +58,3 @@ pub record HasDumpCause {T : Type 0} (before after : ℕ) (result : Result T Dum
   pub later : before ≤ after
   pub failed : result ≡ Err Disk → Rose before after
   pub passed : result ≢ Err Disk → after ≡ before
-
--- The fault is of the disk, or there was no memory.
-abbrev pub IsOutside : DumpFault → Type 0
-IsOutside fault = (fault ≡ Memory) ⊎ (fault ≡ Disk)

@@ -1,4 +1,3 @@
 pub mod Dump
 pub mod DumpLaws
-pub mod Cells
 pub mod Lines

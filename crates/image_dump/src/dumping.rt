@@ -7,11 +7,11 @@ ghost use Rattle.image_model.specs.Superblock.{has_flag};
 ghost use Rattle.image_format.specs.Format.{IsFormat};
 ghost use Rattle.image_dump.specs.Dump.{HasDumpCause, IsScanned, dump_in, dump_of, fault_of};
 
-use crate::journal_grid::read_grid;
 use crate::{Dump, DumpFault, DumpJournal};
 use commit_id::scan;
 use image_format::{ImageFormat, OpenFault, read_format};
 use image_model::DIRTY_BITMAP;
+use journal_reading::{GridRoom, read_grid};
 use sector_disk::Disk;
 use std::alloc::Global;
 
@@ -82,7 +82,8 @@ fn show<D: Disk>(alloc: Global, disk: &mut D, format: ImageFormat) -> Result<Dum
         let journal = DumpJournal::Bitmap;
         return Ok(Dump { format, journal });
     }
-    let grid = read_grid(alloc, disk, &format.geometry)?;
+    let room = GridRoom::new(alloc, &format.geometry)?;
+    let grid = read_grid(disk, &format.geometry, room)?;
     match scan(&grid) {
         Ok(plan) => Ok(Dump {
             format,

@@ -5,10 +5,8 @@
 //! `specs/Dump.antt`, the file to read first, and the lines are in `specs/Lines.antt`. Nothing is written.
 #![tactic(auto)]
 
-mod cells;
 mod dump_fault;
 mod dumping;
-mod journal_grid;
 mod laws;
 mod pieces;
 mod shown;

@@ -1,10 +1,8 @@
 //! Journals of the small image, read and judged.
-ghost use Rattle.std.specs.Prelude.{◌≡◌, ◌≤◌, IfOk, length};
-ghost use Rattle.image_model.specs.Geometry.{IsGeometry, journal_sectors};
 
 use commit_id::{Plan, State, id};
 use hmac_tag::{Hash, TagMaker};
-use journal_reading::{JudgedJournal, ReplayFault, read_judged};
+use journal_reading::{JudgedJournal, ReplayFault, judge_journal};
 use layout::Geometry;
 use sector_disk::{Disk, MemDisk};
 use std::alloc::Global;
@@ -85,11 +83,10 @@ fn judged(alloc: Global, disk: &mut MemDisk) -> Result<Result<JudgedJournal, Rep
     judge(&FIELDS)?;
     let geometry = Geometry::new(&FIELDS, disk.sectors())?;
     let maker = TagMaker::new(Hash::Sha256, None, 32);
-    let mut bytes = vec![in alloc; 0; 512 * JOURNAL as usize]?;
     if geometry.initial() != 8 + JOURNAL || geometry.shape().tag != 32 {
         return Err(Fail::from("geometry"));
     }
-    Ok(read_judged(alloc, disk, &geometry, &maker, &mut bytes))
+    Ok(judge_journal(alloc, disk, &geometry, &maker))
 }
 
 #[test]
@@ -101,5 +98,8 @@ fn an_entry_with_its_own_tag_may_be_replayed(rt: HostRuntime) -> Result<(), Fail
     let state = State::Rest { next: 0, number: 2 };
     let walk = [(0, 0), (0, 1)];
     assert_eq!(rt; journal.plan, Plan { state, walk });
+    assert_eq!(rt; journal.count, 1);
+    assert_eq!(rt; journal.newest.newest(5), Some(0));
+    assert_eq!(rt; journal.newest.newest(6), None);
     Ok(())
 }

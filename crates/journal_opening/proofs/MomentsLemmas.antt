@@ -1,9 +1,9 @@
 -- The first sync of an opening, and what comes behind it.
-use Rattle.std.proofs.Common.{◌≡◌, ℕ, sym, ◌∙◌, ap, subst, Option, Some, None, List}
-use Rattle.std.specs.Option.{IsSomeAnd, option_map}
+use Rattle.std.proofs.Common.{◌≡◌, ℕ, refl, sym, ◌∙◌, ap, subst, Option, Some, None, List}
+use Rattle.std.specs.Option.{ForSome, IsSomeAnd, option_map}
 use Rattle.std.proofs.lemmas.Option.{none-some, same_Some}
 use Rattle.disk_model.specs.Disk.{Content, Image, OnlyAdds, last_image, newest_only}
-use Rattle.disk_model.specs.Moments.{EachMoment, EachSince, IsChangedBy, content_now}
+use Rattle.disk_model.specs.Moments.{EachMoment, EachSince, HasNow, IsChangedBy, content_now}
 use Rattle.disk_model.proofs.DiskLemmas.{OnlyAdds-none}
 use Rattle.disk_model.proofs.MomentsLemmas.{EachMoment-join, EachMoment-weaker, FromStart-weaker}
 use Rattle.std.specs.List.{Contains}
@@ -23,6 +23,14 @@ told_synced a b c synced told = synced ∙ ap (option_map newest_only) told
 -- Each content since is so, where it is by the start and that is told.
 pub each_from : {a b : List Content} (P : Content → Content → Type 0) (start : Content) → content_now a ≡ Some start → EachSince P a b → EachMoment a b (P start)
 each_from {a} P start told m = EachMoment-weaker (λ c from. from_told (content_now a) (λ x. P x c) start told from) m
+
+-- What reads give stays so.
+pub now_synced : (P : Image → Type 0) (a b : List Content) → IsChangedBy newest_only a b → HasNow (λ c. P (last_image c)) a → HasNow (λ c. P (last_image c)) b
+now_synced P a b synced has c told = by (content_now a) has (sym synced ∙ told)
+  where
+    by : (o : Option Content) → ForSome o (λ c. P (last_image c)) → option_map newest_only o ≡ Some c → P (last_image c)
+    by None known e = absurd (none-some c e)
+    by (Some start) known e = subst (λ (x : Content). P (last_image x)) (same_Some (newest_only start) c e) (known start refl)
 
 module _ (W : Image → ℕ → List ℕ → Type 0) where
   -- What an opening may add: a part of what is settled, and then these.

@@ -56,12 +56,16 @@ open_on f image at opened after c told clear geometry next left journal maker =
       rule = maker;
     }
 
+-- An image that can be opened in a format without a bitmap can be in journal mode.
+pub can_open : (f : DiskFormat) (image : Image) → has_flag DIRTY_BITMAP f.superblock.flags ≡ false → OpensAs f image → CanOpenIn Journal f.key f.sectors image
+can_open f image clear opens = (opens.openable, ap (λ (d : DiskFormat). has_flag DIRTY_BITMAP d.superblock.flags) (format_on-is f image opens) ∙ clear)
+
 -- ---- what a cut leaves
 
 module _ (f : DiskFormat) (image left : Image) (clear : has_flag DIRTY_BITMAP f.superblock.flags ≡ false) (has : HasCells f (cells_on f image) left) where
   -- An image with the cells at opening can be opened,
   pub cells_open : CanOpenIn Journal f.key f.sectors left
-  cells_open = (has.opens.openable, ap (λ (d : DiskFormat). has_flag DIRTY_BITMAP d.superblock.flags) (format_on-is f left has.opens) ∙ clear)
+  cells_open = can_open f left clear has.opens
 
   cells_left : IsLeftInJournal f (opened_on Journal f image).history left
   cells_left = record {

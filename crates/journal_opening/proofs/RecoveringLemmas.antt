@@ -1,5 +1,5 @@
 -- A recovery is entered behind the first sync.
-use Rattle.std.proofs.Common.{◌≡◌, ℕ, false, refl, sym, ap, subst, Option, Some, List}
+use Rattle.std.proofs.Common.{◌≡◌, ℕ, false, refl, sym, subst, Some, List}
 use Rattle.disk_model.specs.Disk.{Content, EachImage, last_image, newest_only}
 use Rattle.disk_model.specs.Identity.{DiskIdentity}
 use Rattle.disk_model.specs.Moments.{EachMoment, EachSince, content_now}
@@ -9,38 +9,35 @@ use Rattle.image_model.specs.declared.flags.TheConstants.{DIRTY_BITMAP}
 use Rattle.image_model.specs.Superblock.{has_flag}
 use Rattle.place_model.specs.Format.{DiskFormat, HasCells, OpensAs, cells_on}
 use Rattle.place_model.proofs.FirstSyncLemmas.{newest_only-cells}
-use Rattle.hmac_tag.specs.TagMaker.{TagRule}
 use Rattle.image_format.specs.declared.reading.ImageFormat.{ImageFormat}
-use Rattle.image_format.specs.Format.{IsReadNow, disk_format}
 use Rattle.buffer_cache.specs.Cached.{HasNoMark}
 use Rattle.buffer_cache.specs.HeldSectors.{no_sectors}
 use Rattle.tag_store.specs.Store.{Store}
 use Rattle.journal_mode.specs.Recovery.{EntersRecovery}
-use Rattle.journal_opening.specs.Opening.{rule_of}
+use Rattle.journal_opening.specs.declared.judging.JudgedImage.{JudgedImage}
+use Rattle.journal_opening.specs.Judged.{judged_format}
 use Rattle.journal_opening.proofs.MomentsLemmas.{each_from}
 
 -- A store over a cache that holds nothing.
 abbrev pub fresh_store : ImageFormat → (slots : ℕ) → Store
 fresh_store format slots = record { geometry = format.geometry; sectors = no_sectors slots }
 
-module _ (key : Option (List ℕ)) (rule : TagRule) (format : ImageFormat) (disk mid : DiskIdentity) (same : mid ≡ disk) (store : Store) (slots : ℕ) (is : store ≡ fresh_store format slots)
-    (rule_is : rule ≡ rule_of key format) (clear : has_flag DIRTY_BITMAP format.fields.flags ≡ false) (start : Content) (read : IsReadNow key disk.sectors format start) where
-  enters_fresh : EntersRecovery (disk_format key disk.sectors format) rule disk.sectors (fresh_store format slots) (newest_only start)
+module _ (image : JudgedImage) (disk mid : DiskIdentity) (same : mid ≡ disk) (store : Store) (slots : ℕ) (is : store ≡ fresh_store image.format slots)
+    (clear : has_flag DIRTY_BITMAP image.format.fields.flags ≡ false) (start : Content) (opens : OpensAs (judged_format disk.sectors image) (last_image start)) where
+  enters_fresh : EntersRecovery (judged_format disk.sectors image) disk.sectors (fresh_store image.format slots) (newest_only start)
   enters_fresh = record {
-    key = ap (λ (r : TagRule). r.key) (sym rule_is);
-    salt = ap (λ (r : TagRule). r.salt) (sym rule_is);
     sectors_are = refl;
     geometry = refl;
-    reads = read.reads;
+    opens = opens;
     no_bitmap = clear;
     pending = newest_only-pending start;
     fresh = refl;
   }
 
-  pub enters : EntersRecovery (disk_format key disk.sectors format) rule mid.sectors store (newest_only start)
+  pub enters : EntersRecovery (judged_format disk.sectors image) mid.sectors store (newest_only start)
   enters =
-      subst (λ (i : DiskIdentity). EntersRecovery (disk_format key disk.sectors format) rule i.sectors store (newest_only start)) (sym same)
-      (subst (λ (s : Store). EntersRecovery (disk_format key disk.sectors format) rule disk.sectors s (newest_only start)) (sym is) enters_fresh)
+      subst (λ (i : DiskIdentity). EntersRecovery (judged_format disk.sectors image) i.sectors store (newest_only start)) (sym same)
+      (subst (λ (s : Store). EntersRecovery (judged_format disk.sectors image) disk.sectors s (newest_only start)) (sym is) enters_fresh)
 
 -- The sync of an image that can be opened leaves its cells.
 pub sync_cells : (f : DiskFormat) (start : Content) {a b : List Content} → content_now a ≡ Some start → OpensAs f (last_image start) → EachSince (λ start c. c ≡ newest_only start) a b

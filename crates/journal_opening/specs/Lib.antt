@@ -9,4 +9,5 @@ pub use Rattle.journal_mode.specs.Placement
 pub use Rattle.journal_mode.specs.Puts
 pub use Rattle.journal_mode.specs.Reads
 pub use Rattle.journal_mode.specs.Standing
+pub mod Judged
 pub mod Opening

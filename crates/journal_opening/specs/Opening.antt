@@ -10,7 +10,6 @@ use Rattle.place_model.specs.Format.{DiskFormat, HasCells, OpensAs, cells_on, fo
 use Rattle.place_model.specs.Kind.{kind_in}
 use Rattle.place_model.specs.Opened.{next_on}
 use Rattle.hmac_tag.specs.TagMaker.{TagRule}
-use Rattle.image_format.specs.declared.reading.ImageFormat.{ImageFormat}
 use Rattle.journal_model.specs.JournaledDisk.{JournaledDisk}
 use Rattle.journal_model.specs.Opening.{opened_disk}
 use Rattle.buffer_cache.specs.Cache.{sectors_of}
@@ -42,15 +41,7 @@ pub record IsRoomFor (g : Geometry) (room : OpeningRoom) : Type 0 where
 
 -- ---- what is open
 
--- The rule of the tags by what was read of an image, under a key,
-abbrev pub rule_of : Option (List ℕ) → ImageFormat → TagRule
-rule_of key format = record {
-  key = key;
-  salt = salt_of format.fields;
-  size = format.geometry.shape.tag_size;
-}
-
--- and by the format of the disk.
+-- The rule of the tags by the format of the disk.
 abbrev pub rule_on : DiskFormat → TagRule
 rule_on f = record { key = f.key; salt = salt_of f.superblock; size = f.geometry.shape.tag_size }
 

@@ -20,7 +20,7 @@ pub const HELD_SECTORS: u64 = 256;
 /// Source: Linux, `drivers/md/dm-integrity.c`, `SB_SECTORS`.
 const JOURNAL_AT: u64 = 8;
 
-/// What is allocated before the disk is synced.
+/// What is allocated once the image is judged, before the disk is synced.
 #[derive(Drop)]
 pub struct OpeningRoom<'p> {
     /// What the journal needs beside its sectors.

@@ -1,9 +1,14 @@
 -- An entry by what is told of it.
-use Rattle.std.proofs.Common.{◌≡◌, ℕ, ◌<◌, refl, ap, sym, ◌∙◌, Option, Some, None, List, get_or}
+use Rattle.std.proofs.Common.{◌≡◌, inl, inr, ℕ, ◌+◌, ◌*◌, ◌/◌, ◌<◌, ◌≤◌, refl, ap, sym, ◌∙◌, arith, Option, Some, None, List, get_or, length}
+use Rattle.std.proofs.Math.Nat.{mul-le-mul_right}
+use Rattle.std.proofs.lemmas.Bool.{cases_Bool}
 use Rattle.std.specs.Option.{IfSome, option_map}
-use Rattle.std.proofs.lemmas.Option.{none-some}
-use Rattle.image_model.specs.Geometry.{Shape, section_entries}
-use Rattle.image_model.specs.Section.{Entry, entry_at}
+use Rattle.std.proofs.lemmas.Option.{none-some, same_Some}
+use Rattle.image_model.specs.Geometry.{Shape, entries_per_sector, entry_size, section_entries, section_sectors}
+use Rattle.image_model.specs.Section.{Entry, entry_at, entry_from, is_used}
+use Rattle.image_model.proofs.Bounds.{HasEntries}
+use Rattle.image_model.proofs.SectionLemmas.{entry_at-unused, entry_at-used}
+use Rattle.image_model.proofs.SectorLemmas.{length-piece}
 use Rattle.journal_section.specs.declared.entries.EntryView.{EntryView}
 use Rattle.journal_section.specs.Entries.{entries_of}
 use Rattle.journal_section.specs.View.{view_of}
@@ -28,3 +33,19 @@ entry_there own shape section bytes n low same is =
     entries_of-at own section n None low
     ∙ ap (λ (s : Shape). entry_at s section n) same
     ∙ ap (λ (xs : List ℕ). entry_at shape xs n) is
+
+-- An entry of a whole section has a whole tag.
+pub entry_at-tag : (shape : Shape) (bytes : List ℕ) (n : ℕ) → HasEntries shape → n < section_entries shape → length bytes ≡ 512 * section_sectors shape
+    → (entry : Entry) → Some entry ≡ entry_at shape bytes n → length entry.tag ≡ shape.tag_size
+entry_at-tag shape bytes n has low size entry e = elim (cases_Bool (is_used shape bytes n)) [
+  | inr unused ↦ absurd (none-some entry (sym (e ∙ entry_at-unused shape bytes n unused)))
+  | inl used ↦
+      let same = same_Some _ _ (e ∙ entry_at-used shape bytes n used) in
+      let row : n / 8 + 1 ≤ entries_per_sector shape = let is = has.entries_is in omega arith in
+      let most : (n / 8 + 1) * entry_size shape ≤ entries_per_sector shape * entry_size shape = mul-le-mul_right (entry_size shape) row in
+      let fits = has.sector_holds in
+      let room = has.entry_low in
+      let high = has.sectors_low in
+      ap (λ (x : Entry). length x.tag) same
+      ∙ length-piece bytes (entry_from shape n + 8 + 8 * shape.spb) shape.tag_size (omega (arith, most, fits, room, high, size))
+]

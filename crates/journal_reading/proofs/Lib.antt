@@ -1,6 +1,6 @@
 pub mod PlacesLemmas
 pub mod JournalLemmas
-pub mod GridLemmas
+pub mod CellsLemmas
 pub mod EntryLemmas
 pub mod JudgingLemmas
 pub mod IndexLemmas

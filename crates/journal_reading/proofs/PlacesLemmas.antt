@@ -6,11 +6,9 @@ use Rattle.std.proofs.lemmas.List.{get_or_append_left, get_or-append-add}
 use Rattle.std.proofs.lemmas.List.FromFn.{length-range_with_len, get_or-range_with_len, length-map-range_with_len, get_or-map-range_with_len}
 use Rattle.std.proofs.lemmas.Nat.{div-add-mod', div_below}
 use Rattle.std.proofs.lemmas.Option.{same_Some, slice_get-get_or, slice_get_within}
-use Rattle.disk_model.specs.Disk.{Image}
 use Rattle.image_model.specs.declared.journal_plan.Plan.{Plan}
 use Rattle.image_model.specs.declared.scan_fault.ScanFault.{ScanFault}
 use Rattle.image_model.specs.Geometry.{Geometry, IsGeometry, section_entries, section_sectors}
-use Rattle.image_model.specs.Grid.{grid_of, grid_with, walk_of}
 use Rattle.image_model.specs.Scan.{Grid, blank_number, blank_plan, numbers_of, scan_fault_of, walk_of_grid}
 use Rattle.image_model.specs.Walk.{is_wholly, later, occurs, plan_by, plan_of, range, reach, sections_of, whole_sections}
 use Rattle.std.proofs.Math.Nat.{mul-le-mul_left, mul-le-mul_right}
@@ -18,6 +16,7 @@ use Rattle.image_model.proofs.Bounds.{has_entries}
 use Rattle.image_model.proofs.BelowLemmas.{front_le}
 use Rattle.image_model.proofs.NumberLemmas.{cases_option}
 use Rattle.image_model.proofs.WalkLemmas.{plan_newest}
+use Rattle.journal_reading.specs.Grids.{IsGridFor}
 use Rattle.journal_reading.specs.Places.{IsWalk, places_of}
 
 -- ---- the entries of a list of sections
@@ -224,17 +223,18 @@ walk_by sections reached whole number false low = record {
   second_end = let le = range_end 0 whole in omega arith;
 }
 
--- The walk of an image is one of its sections.
-pub IsWalk-plan : (g : Geometry) (image : Image) (plan : Plan) → walk_of g image ≡ Ok plan → IsWalk g.sections plan.walk
-unfolding grid_with
-IsWalk-plan g image plan e =
-    let grid = grid_of g image in
+-- The walk of a grid is one of its sections.
+pub IsWalk-grid : (grid : Grid) (plan : Plan) → walk_of_grid grid ≡ Ok plan → IsWalk grid.sections plan.walk
+IsWalk-grid grid plan e =
     elim (blank_or_plan grid plan e) [
-      | inl blank ↦ subst (λ (p : Plan). IsWalk g.sections p.walk) blank.1 (empty_walk g.sections)
+      | inl blank ↦ subst (λ (p : Plan). IsWalk grid.sections p.walk) blank.1 (empty_walk grid.sections)
       | inr found ↦
           let told = (plan_newest grid.sections grid.sectors (numbers_of grid) plan found).1 in
-          subst (λ (p : Plan). IsWalk g.sections p.walk) told.2
+          subst (λ (p : Plan). IsWalk grid.sections p.walk) told.2
           (walk_by grid.sections (reach grid.sections grid.sectors (numbers_of grid) told.0) (whole_sections grid.sections grid.sectors (numbers_of grid) told.0) told.0
           (occurs grid.sections grid.sectors (numbers_of grid) (later 2 told.0))
           (front_le grid.sections (is_wholly grid.sectors (numbers_of grid) told.0)))
     ]
+
+pub IsWalk-fits : (g : Geometry) (grid : Grid) (plan : Plan) → IsGridFor g grid → walk_of_grid grid ≡ Ok plan → IsWalk g.sections plan.walk
+IsWalk-fits g grid plan fits e = subst (λ (n : ℕ). IsWalk n plan.walk) fits.sections (IsWalk-grid grid plan e)

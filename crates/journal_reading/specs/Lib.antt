@@ -1,5 +1,9 @@
+pub mod Cells
+pub mod Grids
 pub mod Journal
 pub mod Places
 pub mod Entries
 pub mod Faults
 pub mod Index
+pub mod Newest
+pub mod Judging

@@ -1,8 +1,8 @@
 //! The entries of a journal, by its bytes.
-ghost use Rattle.std.specs.Prelude.{◌≡◌, ◌*◌, ◌^◌, ◌<◌, ◌≤◌, length, option_map, take};
+ghost use Rattle.std.specs.Prelude.{◌≡◌, ◌*◌, ◌^◌, ◌<◌, ◌≤◌, length, option_map, take, IfSome};
 ghost use Rattle.image_model.specs.Cells.{entry_of, section_bytes};
 ghost use Rattle.image_model.specs.Geometry.{IsGeometry, journal_sectors, section_entries, section_sectors};
-ghost use Rattle.image_model.specs.Section.{parts_of};
+ghost use Rattle.image_model.specs.Section.{entry_at, parts_of};
 ghost use Rattle.commit_id.specs.Shape.{IsShape, as_shape};
 ghost use Rattle.journal_reading.specs.Entries.{entry_with};
 ghost use Rattle.journal_reading.specs.Journal.{journal_image};
@@ -28,15 +28,35 @@ pub fn read_entry(
     requires entry { place.entry < section_entries geometry.now.shape }
     requires block { length block.old ≡ 512 * geometry.now.shape.spb }
 
-    ensures { option_map (entry_with block.new) result
+    ensures entry { option_map (entry_with block.new) result
         ≡ entry_of geometry.now (journal_image bytes.now) (place.section, place.entry) }
+    ensures tag { IfSome result (λ view. length view.tag ≡ geometry.now.shape.tag_size) }
+{
+    let section = section_in(geometry, bytes, place.section);
+    read_in_section(geometry, section, place.entry, block)
+}
+
+/// The sector and the tag of entry `n` of a section, by the bytes of that. Those of its block are put into `block`.
+/// None where it is unused.
+pub(crate) fn read_in_section(
+    geometry: &Geometry,
+    section: &[u8],
+    n: u64,
+    block: &mut [u8],
+) -> Option<EntryView>
+    requires geometry { IsGeometry geometry.now (2 ^ 48) }
+    requires section { length section.now ≡ 512 * section_sectors geometry.now.shape }
+    requires n { n < section_entries geometry.now.shape }
+    requires block { length block.old ≡ 512 * geometry.now.shape.spb }
+
+    ensures entry { option_map (entry_with block.new) result ≡ entry_at geometry.now.shape section.now n }
+    ensures tag { IfSome result (λ view. length view.tag ≡ geometry.now.shape.tag_size) }
 {
     let shape = geometry.shape();
-    let section = section_in(geometry, bytes, place.section);
     let meta = meta_of(section);
-    let parts = parts_of(shape, section, place.entry);
-    let view = entry(shape, meta, place.entry)?;
-    block_bytes(shape, meta, parts, place.entry, block);
+    let parts = parts_of(shape, section, n);
+    let view = entry(shape, meta, n)?;
+    block_bytes(shape, meta, parts, n, block);
     Some(view)
 }
 

@@ -1,87 +1,128 @@
-//! The grid of commit numbers of a journal, by its bytes.
-ghost use Rattle.std.specs.Prelude.{◌≡◌, ◌+◌, ◌*◌, ◌^◌, ◌<◌, ◌≤◌, ℕ, [], length, vec_len, IfOk, OnOk, Some};
-ghost use Rattle.disk_model.specs.Disk.{sector_in};
+//! The grid of commit numbers of a journal, as the scan sees it. Its sectors are read once, in runs.
+ghost use Rattle.std.specs.Prelude.{◌≡◌, ◌+◌, ◌^◌, ◌<◌, vec_capacity, vec_len, IfOk, OnOk};
+ghost use Rattle.disk_model.specs.Causes.{HasCause};
+ghost use Rattle.disk_model.specs.Disk.{last_image};
+ghost use Rattle.disk_model.specs.Identity.{IsBound};
+ghost use Rattle.disk_model.specs.Moments.{HasNow};
 ghost use Rattle.image_model.specs.Geometry.{IsGeometry, journal_sectors};
-ghost use Rattle.image_model.specs.Grid.{IsGridOf, walk_of};
-ghost use Rattle.image_model.specs.Scan.{cell_number, walk_of_grid};
 ghost use Rattle.commit_id.specs.Grid.{as_grid};
-ghost use Rattle.image_dump.specs.Cells.{HasCommitNumbers, cell_of_sector, first_cells};
-ghost use Rattle.journal_reading.specs.Journal.{journal_image};
+ghost use Rattle.sector_window.specs.Window.{HasRoom};
+ghost use Rattle.journal_reading.specs.Cells.{AreFirstCells};
+ghost use Rattle.journal_reading.specs.Grids.{HasGridRoom, IsGridFor, IsGridOn};
 
-use commit_id::{Cell, Grid, number_of};
-use image_model::SECTOR_SIZE;
-use journal_section::{id_at, is_zero};
+use crate::cells::cell_of;
+use commit_id::{Cell, Grid};
 use layout::Geometry;
-use sector_disk::Memory;
+use sector_disk::{Disk, Failed, Memory};
+use sector_window::SectorWindow;
 use std::alloc::Global;
 
-/// What sector `k` of a journal bears, by its bytes. A section has so many `sectors`.
-fn cell_of(bytes: &[u8], k: u64, sectors: u64) -> Cell
-    requires bytes { 512 * (k + 1) ≤ length bytes.now }
-    requires k { k < 2 ^ 20 }
-    requires some { 1 ≤ sectors }
-    requires few { sectors ≤ 2 ^ 20 }
+/// The first sector of the journal on every disk. The superblock has those before it.
+///
+/// Source: Linux, `drivers/md/dm-integrity.c`, `SB_SECTORS`.
+pub(crate) const JOURNAL_AT: u64 = 8;
 
-    ensures cell { result ≡ cell_of_sector sectors k (sector_in bytes.now k) }
-    ensures number { (number : ℕ) → cell_number result ≡ Some number → number < 4 }
-{
-    let found = id_at(bytes, k);
-    match number_of(k / sectors, k % sectors, found) {
-        Some(number) => Cell::Number(number),
-        None if is_zero(bytes, k) => Cell::Zero,
-        None => Cell::Other(found),
-    }
+/// How many sectors of a journal one call of the disk reads at most.
+///
+/// Own: 256 KiB of them.
+const MOST_AT_ONCE: u64 = 512;
+
+/// What the grid of a journal is read with.
+#[derive(Drop)]
+pub struct GridRoom {
+    /// Room for what each of its sectors bears.
+    pub cells: Vec<Cell>,
+    /// The sectors that one call of the disk reads.
+    pub window: SectorWindow,
 }
 
-/// Appends what each sector of a journal bears, by its bytes.
-///
-/// # Errors
-///
-/// - `Memory`: there is none for it.
-fn push_cells(cells: &mut Vec<Cell>, geometry: &Geometry, bytes: &[u8]) -> Result<(), Memory>
-    requires cells { cells.old.items ≡ [] }
-    requires geometry { IsGeometry geometry.now (2 ^ 48) }
-    requires bytes { length bytes.now ≡ 512 * journal_sectors geometry.now }
+impl GridRoom {
+    /// Takes the memory for the grid of a journal: for what each of its sectors bears, and for what one call of the disk
+    /// reads.
+    ///
+    /// # Errors
+    ///
+    /// - `Memory`: there is none for these.
+    pub fn new(alloc: Global, geometry: &Geometry) -> Result<GridRoom, Memory>
+        requires { IsGeometry geometry.now (2 ^ 48) }
 
-    ensures cells { OnOk result (cells.new.items
-        ≡ first_cells geometry.now (journal_image bytes.now) (journal_sectors geometry.now)) }
-    ensures numbers { OnOk result (HasCommitNumbers cells.new.items) }
-{
-    let sectors = geometry.shape().sectors;
-    for k in 0..(bytes.len() / SECTOR_SIZE) as u64 {
-        let cell = cell_of(bytes, k, sectors);
-        if cells.push(cell).is_err() {
+        ensures { IfOk result (HasGridRoom geometry.now) }
+    {
+        let sectors = geometry.initial() - JOURNAL_AT;
+        let Ok(cells) = Vec::with_capacity(alloc, sectors as usize) else {
             return Err(Memory);
-        }
+        };
+        let window = SectorWindow::new(alloc, sectors.min(MOST_AT_ONCE))?;
+        Ok(GridRoom { cells, window })
     }
-    Ok(())
 }
 
-/// The grid of a journal, by its bytes. No zero sector is taken for a blank one, since no change of mode leaves such
-/// yet. It takes memory for what each sector bears.
+/// Reads the grid of a journal. No zero sector is taken for a blank one, since no change of mode leaves such yet.
 ///
 /// # Errors
 ///
-/// - `Memory`: there is none for that.
-pub(crate) fn journal_grid(alloc: Global, geometry: &Geometry, bytes: &[u8]) -> Result<Grid, Memory>
-    requires geometry { IsGeometry geometry.now (2 ^ 48) }
-    requires bytes { length bytes.now ≡ 512 * journal_sectors geometry.now }
+/// - `Failed`: the disk failed at a read.
+pub fn read_grid<D: Disk>(disk: &mut D, geometry: &Geometry, room: GridRoom) -> Result<Grid, Failed>
+    requires bound { IsBound (D.identity disk.old).name }
+    requires geometry { IsGeometry geometry.now (D.identity disk.old).sectors }
+    requires room { HasGridRoom geometry.now room }
 
-    ensures grid { IfOk result (λ grid.
-        IsGridOf geometry.now (journal_image bytes.now) (as_grid grid)) }
-    ensures walk { IfOk result (λ grid. walk_of_grid (as_grid grid)
-        ≡ walk_of geometry.now (journal_image bytes.now)) }
+    ensures fits { IfOk result (λ grid. IsGridFor geometry.now (as_grid grid)) }
+    ensures grid { IfOk result (λ grid. HasNow (λ c. IsGridOn geometry.now (last_image c) (as_grid grid))
+        (D.moments disk.old)) }
+
+    ensures cause { HasCause (D.faults disk.old) (D.faults disk.new) result }
+
+    ensures identity { D.identity disk.new ≡ D.identity disk.old }
+    ensures kept { D.moments disk.new ≡ D.moments disk.old }
 {
-    let Ok(mut cells) = Vec::with_capacity(alloc, bytes.len() / SECTOR_SIZE) else {
-        return Err(Memory);
-    };
-    push_cells(&mut cells, geometry, bytes)?;
-    let sectors = geometry.shape().sectors;
+    let GridRoom {
+        mut cells,
+        mut window,
+    } = room;
+    for _ in 0..geometry.initial() - JOURNAL_AT {
+        read_cell(disk, geometry, &mut window, &mut cells)?;
+    }
     Ok(Grid {
         sections: geometry.sections(),
-        sectors,
+        sectors: geometry.shape().sectors,
         cells,
         bitmap: 0,
         used_outside: false,
     })
+}
+
+/// Appends what the sector of the journal bears that comes next.
+///
+/// # Errors
+///
+/// - `Failed`: the disk failed at the read.
+fn read_cell<D: Disk>(
+    disk: &mut D,
+    geometry: &Geometry,
+    window: &mut SectorWindow,
+    cells: &mut Vec<Cell>,
+) -> Result<(), Failed>
+    requires bound { IsBound (D.identity disk.old).name }
+    requires geometry { IsGeometry geometry.now (D.identity disk.old).sectors }
+    requires window { HasRoom 1 window.old (D.moments disk.old) }
+    requires next { vec_len cells.old < journal_sectors geometry.now }
+    requires room { vec_len cells.old < vec_capacity cells.old }
+    requires cells { AreFirstCells geometry.now (D.moments disk.old) cells.old.items }
+
+    ensures cells { OnOk result (AreFirstCells geometry.now (D.moments disk.old) cells.new.items) }
+    ensures more { OnOk result (vec_len cells.new ≡ vec_len cells.old + 1) }
+
+    ensures cause { HasCause (D.faults disk.old) (D.faults disk.new) result }
+
+    ensures window { HasRoom 1 window.new (D.moments disk.new) }
+    ensures capacity { vec_capacity cells.new ≡ vec_capacity cells.old }
+    ensures identity { D.identity disk.new ≡ D.identity disk.old }
+    ensures kept { D.moments disk.new ≡ D.moments disk.old }
+{
+    let k = cells.len() as u64;
+    let at = JOURNAL_AT + k;
+    window.show(disk, at, 1)?;
+    cells.push_reserved(cell_of(window.run(at, 1), k, geometry.shape().sectors));
+    Ok(())
 }

@@ -1,21 +1,23 @@
 //! Reading a journal that is to be replayed, and judging it before anything is written.
 //!
-//! The sectors of the journal are read once. By their bytes the scan tells which sections count, and each used entry of
-//! these is judged in order. `specs/Journal.antt` is the file to read first: what is told of the bytes is told of each
-//! image whose journal has them.
+//! A journal is read in runs, and never as a whole: first for what each of its sectors bears, by which the scan tells
+//! which sections count, and then these sections one by one, each used entry of which is judged in order. What is kept
+//! of it is told of the image that reads of the disk give, in `specs/Journal.antt`, the file to read first. Whoever
+//! replays a journal reads it once more, and reads its entries by its bytes.
 #![tactic(auto)]
 
+mod cells;
 mod entries;
 mod faults;
 mod grid;
-mod index;
 mod judging;
+mod newest;
 mod places;
 mod reading;
 
 pub use entries::read_entry;
 pub use faults::{JournalFault, ReplayFault};
-pub use index::index_of;
-pub use judging::judge;
+pub use grid::{GridRoom, read_grid};
+pub use newest::NewestEntries;
 pub use places::{entry_count, entry_place};
-pub use reading::{JudgedJournal, read_judged};
+pub use reading::{JudgedJournal, judge_journal, read_journal};

@@ -7,7 +7,6 @@ pub mod ReplayingLemmas
 pub mod AmidLemmas
 pub mod TurnedLemmas
 pub mod InPlaceLemmas
-pub mod EntriesLemmas
 pub mod RecoveryLemmas
 pub mod ErasedLemmas
 pub mod FinishingLemmas

@@ -1,6 +1,5 @@
 -- From the image at the entry of a recovery to what the disk stands for.
 use Rattle.std.proofs.Common.{◌≡◌, inl, inr, ℕ, ◌<◌, false, refl, sym, ◌∙◌, ap, subst, arith, Option, None, Some, IsOk, List, [], length, take}
-use Rattle.std.specs.List.{AllByRecursion}
 use Rattle.std.proofs.lemmas.Option.{same_Some}
 use Rattle.std.proofs.lemmas.List.{take_all}
 use Rattle.disk_model.specs.Disk.{Content, EachImage, Image, last_image, sector_in}
@@ -9,19 +8,14 @@ use Rattle.disk_model.proofs.MomentsLemmas.{EachMoment-weaker}
 use Rattle.image_model.specs.declared.flags.TheConstants.{DIRTY_BITMAP}
 use Rattle.image_model.specs.Cells.{Cell, last_entry, placed_cells_of, recalculated_cell, replayed_entries, salt_of}
 use Rattle.image_model.specs.Geometry.{Geometry, IsGeometry, section_sectors}
-use Rattle.image_model.specs.Grid.{walk_of}
-use Rattle.image_model.specs.Openable.{IsReplayable, journal_fault_of}
 use Rattle.image_model.specs.Section.{Entry}
 use Rattle.image_model.specs.Superblock.{has_flag}
 use Rattle.image_model.specs.Tables.{IsAtRest}
 use Rattle.image_model.proofs.BitmapLemmas.{awaits-journal}
-use Rattle.image_model.proofs.CellsLemmas.{counted_entries-journal}
 use Rattle.image_model.proofs.NumberLemmas.{cases_option}
-use Rattle.image_model.proofs.OpenableLemmas.{journal_fault_law}
-use Rattle.hmac_tag.specs.TagMaker.{TagRule}
-use Rattle.place_model.specs.Format.{DiskFormat, HasCells as HasImageCells, HasWholeSectors, OpensAs, cells_on}
+use Rattle.place_model.specs.Format.{DiskFormat, HasCells as HasImageCells, HasWholeSectors, cells_on}
 use Rattle.place_model.specs.Journal.{numbers_on}
-use Rattle.place_model.proofs.FormatLemmas.{opens_from, opens_tells, reads_tells}
+use Rattle.place_model.proofs.FormatLemmas.{opens_tells}
 use Rattle.place_model.proofs.PlacedLemmas.{placed_sector, recalculated-bytes, recalculated-tag}
 use Rattle.journal_model.specs.Entries.{cell_after}
 use Rattle.journal_model.specs.JournaledDisk.{IsCutOf, JournaledDisk, Rests, StandsFor, cell_at}
@@ -31,53 +25,18 @@ use Rattle.journal_model.specs.Steps.{KeepsCells, after_settle}
 use Rattle.journal_model.proofs.CutOfLemmas.{cut_of_standing}
 use Rattle.journal_model.proofs.EntriesLemmas.{cell_after-none, cell_after-some}
 use Rattle.journal_model.proofs.OpeningLemmas.{base_cells_law, opened_cells_law, opened_law, rebased_law}
-use Rattle.journal_reading.specs.Journal.{HasJournal, journal_image}
-use Rattle.journal_reading.proofs.JournalLemmas.{journal_fault_of-journal, replayed_entries-journal}
+use Rattle.journal_reading.specs.declared.reading.JudgedJournal.{JudgedJournal}
+use Rattle.journal_reading.specs.Journal.{IsJournalOn}
 use Rattle.place_writer.specs.Cells.{HasCells}
 use Rattle.disk_model.specs.Identity.{DiskIdentity}
 use Rattle.tag_store.specs.Store.{IsStore, Store, given, given_tags}
 use Rattle.replay.specs.declared.recovered.Recovered.{Recovered}
 use Rattle.replay.specs.Recovery.{EntersRecovery, IsReplayed, LeavesRecovered}
-use Rattle.replay.specs.Replaying.{IsToReplay, all_placed}
+use Rattle.replay.specs.Replaying.{IsToReplay, all_placed, with_placed}
 
-module _ (f : DiskFormat) (rule : TagRule) (sectors : ℕ) (store : Store) (bytes : List ℕ) (c : Content) (enters : EntersRecovery f rule sectors store c)
-    (has : HasJournal store.geometry bytes (last_image c)) (right : journal_fault_of rule.key rule.salt store.geometry (journal_image bytes) ≡ None)
-    (geometry : IsGeometry store.geometry sectors) where
+module _ (f : DiskFormat) (sectors : ℕ) (store : Store) (c : Content) (enters : EntersRecovery f sectors store c) where
   abbrev image : Image
   image = last_image c
-
-  right_there : journal_fault_of f.key (salt_of f.superblock) f.geometry image ≡ None
-  right_there =
-      ap (λ (key : Option (List ℕ)). journal_fault_of key (salt_of f.superblock) f.geometry image) enters.key
-      ∙ ap (λ (salt : Option (List ℕ)). journal_fault_of rule.key salt f.geometry image) enters.salt
-      ∙ ap (λ (g : Geometry). journal_fault_of rule.key rule.salt g image) enters.geometry
-      ∙ journal_fault_of-journal store.geometry sectors bytes image geometry has rule.key rule.salt
-      ∙ right
-
-  -- The image can be opened,
-  pub opens : OpensAs f image
-  opens =
-      let told = reads_tells f image enters.reads in
-      let law = (journal_fault_law f.key (salt_of f.superblock) f.geometry image).0 right_there in
-      opens_from f image (record {
-        head = told.head;
-        has_geometry = told.has_geometry;
-        is_geometry = told.is_geometry;
-        walk = λ _. law.0;
-        entries = subst (AllByRecursion (IsReplayable f.key (salt_of f.superblock) f.geometry)) (sym (counted_entries-journal f.key f.superblock f.geometry image enters.no_bitmap)) law.1;
-      })
-
-  -- its entries are those of the journal in memory,
-  pub to_replay : IsOk (walk_of store.geometry (journal_image bytes)) → IsToReplay (opened_disk f image) store.geometry bytes
-  to_replay ok = record {
-    geometry = enters.geometry;
-    entries = ap (λ (g : Geometry). replayed_entries g image) enters.geometry ∙ replayed_entries-journal store.geometry sectors bytes image geometry has ok;
-    none = refl;
-  }
-
-  -- and once these are settled they are replayed.
-  pub replayed_there : IsOk (walk_of store.geometry (journal_image bytes)) → IsReplayed (after_settle (all_placed (opened_disk f image))) store.geometry bytes
-  replayed_there ok = record { geometry = enters.geometry; journal = has; entries = (to_replay ok).entries; settled = refl; placed = refl }
 
   module _ (whole : (sector : ℕ) → sector < sectors → length (image sector) ≡ 512) where
     whole_there : HasWholeSectors f image
@@ -85,7 +44,7 @@ module _ (f : DiskFormat) (rule : TagRule) (sectors : ℕ) (store : Store) (byte
 
     -- the disk stands for that,
     pub stands : StandsFor (opened_disk f image) c
-    stands = opened_law f c opens enters.no_bitmap enters.pending whole_there
+    stands = opened_law f c enters.opens enters.no_bitmap enters.pending whole_there
 
     placed_cell : (b : ℕ) → cell_at (opened_disk f image) 0 b ≡ recalculated_cell f.key f.superblock f.geometry image b
     placed_cell b = cell_after-none f.geometry (recalculated_cell f.key f.superblock f.geometry image) [] b refl
@@ -93,7 +52,7 @@ module _ (f : DiskFormat) (rule : TagRule) (sectors : ℕ) (store : Store) (byte
     -- and reads of it and of the store give what is placed.
     pub keeps : KeepsCells (opened_disk f image) (given_tags store c) c
     keeps =
-        let told = opens_tells f image opens in
+        let told = opens_tells f image enters.opens in
         record {
           stands = stands;
           reads = record {
@@ -130,38 +89,35 @@ cells_stay f image clear m = EachMoment-weaker (λ c stands.
 
 -- ---- with what a call knows
 
-module _ (f : DiskFormat) (rule : TagRule) (g : Geometry) (disk : DiskIdentity) (store : Store) (bytes : List ℕ) (before read : List Content) (start : Content)
-    (same : g ≡ store.geometry) (is : IsStore store disk before) (told : content_now before ≡ Some start) (kept : read ≡ before)
-    (whole : (sector : ℕ) → sector < disk.sectors → length (last_image start sector) ≡ 512)
-    (there : HasJournal g bytes (last_image start)) (right : journal_fault_of rule.key rule.salt g (journal_image bytes) ≡ None)
-    (ok : IsOk (walk_of g (journal_image bytes))) (enters : EntersRecovery f rule disk.sectors store start) where
-  has_there : HasJournal store.geometry bytes (last_image start)
-  has_there = subst (λ (x : Geometry). HasJournal x bytes (last_image start)) same there
-
-  right_of_store : journal_fault_of rule.key rule.salt store.geometry (journal_image bytes) ≡ None
-  right_of_store = subst (λ (x : Geometry). journal_fault_of rule.key rule.salt x (journal_image bytes) ≡ None) same right
-
+module _ (f : DiskFormat) (g : Geometry) (disk : DiskIdentity) (store : Store) (before : List Content) (start : Content)
+    (same : g ≡ store.geometry) (told : content_now before ≡ Some start)
+    (whole : (sector : ℕ) → sector < disk.sectors → length (last_image start sector) ≡ 512) (enters : EntersRecovery f disk.sectors store start) where
   -- The disk has its cells before anything is placed,
-  pub cells_before : HasCells (opened_disk f (last_image start)) store read
-  cells_before = has_cells f rule disk.sectors store bytes start enters has_there right_of_store is.geometry whole read (ap content_now kept ∙ told)
+  pub cells_before : HasCells (opened_disk f (last_image start)) store before
+  cells_before = has_cells f disk.sectors store start enters whole before told
+
+  geometry_is : (opened_disk f (last_image start)).geometry ≡ g
+  geometry_is = enters.geometry ∙ sym same
+
+  entries_are : (opened_disk f (last_image start)).entries ≡ replayed_entries g (last_image start)
+  entries_are = ap (λ (x : Geometry). replayed_entries x (last_image start)) geometry_is
 
   -- and its entries are to be replayed.
-  pub entries_before : IsToReplay (opened_disk f (last_image start)) g bytes
-  entries_before =
-      subst (λ (x : Geometry). IsToReplay (opened_disk f (last_image start)) x bytes) (sym same)
-      (to_replay f rule disk.sectors store bytes start enters has_there right_of_store is.geometry (subst (λ (x : Geometry). IsOk (walk_of x (journal_image bytes))) same ok))
+  pub entries_before : IsToReplay (opened_disk f (last_image start)) g (last_image start)
+  entries_before = record { geometry = geometry_is; journal = refl; entries = entries_are; none = refl }
 
   -- Once they are settled they are replayed.
-  pub replayed_after : IsReplayed (after_settle (all_placed (opened_disk f (last_image start)))) g bytes
-  replayed_after =
-      subst (λ (x : Geometry). IsReplayed (after_settle (all_placed (opened_disk f (last_image start)))) x bytes) (sym same)
-      (replayed_there f rule disk.sectors store bytes start enters has_there right_of_store is.geometry (subst (λ (x : Geometry). IsOk (walk_of x (journal_image bytes))) same ok))
+  pub replayed_after : (journal : JudgedJournal) → IsJournalOn g (last_image start) journal → IsReplayed (after_settle (all_placed (opened_disk f (last_image start)))) g journal
+  replayed_after journal on = record { geometry = geometry_is; on = on; entries = entries_are; settled = refl; placed = refl }
 
-  -- So the cells stay while they are.
-  pub cells_through : {after : List Content} → EachMoment read after (StandsFor (all_placed (opened_disk f (last_image start))))
-      → EachMoment before after (EachImage (HasImageCells f (cells_on f (last_image start))))
-  cells_through {after} m =
-      cells_stay f (last_image start) enters.no_bitmap (subst (λ (x : List Content). EachMoment x after (StandsFor (all_placed (opened_disk f (last_image start))))) kept m)
+  -- The cells stay while they are placed.
+  pub cells_through : {a after : List Content} → EachMoment a after (StandsFor (all_placed (opened_disk f (last_image start))))
+      → EachMoment a after (EachImage (HasImageCells f (cells_on f (last_image start))))
+  cells_through m = cells_stay f (last_image start) enters.no_bitmap m
+
+-- Where there are no entries all are placed.
+pub none_placed : (d : JournaledDisk) (store : Store) (moments : List Content) → d.placed ≡ 0 → length d.entries ≡ 0 → HasCells d store moments → HasCells (all_placed d) store moments
+none_placed d store moments none empty has = subst (λ (n : ℕ). HasCells (with_placed n d) store moments) (none ∙ sym empty) has
 
 -- ---- once they are settled
 

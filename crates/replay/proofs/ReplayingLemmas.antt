@@ -1,75 +1,69 @@
--- A disk while the entries of a journal in memory are placed.
-use Rattle.std.proofs.Common.{◌≡◌, inl, inr, ℕ, zero, suc, ◌+◌, ◌^◌, ◌≤◌, Bool, true, false, refl, sym, ◌∙◌, ap, subst, arith, Option, Some, None, Ok, List, [], ◌∷◌, ◌++◌, length, take, filter_map, slice_get, length-append, append-nil}
-use Rattle.std.proofs.Math.Seq.{take-nil}
-use Rattle.std.specs.Prelude.{if◌then◌else◌}
-use Rattle.std.specs.Option.{is_some}
-use Rattle.std.specs.List.{AllByRecursion, Contains}
-use Rattle.std.proofs.lemmas.List.{take_more, take_all}
-use Rattle.std.proofs.lemmas.List.Elements.{filter_map-append}
+-- A disk while the entries of a journal are placed.
+use Rattle.std.proofs.Common.{◌≡◌, inl, inr, ℕ, zero, suc, ◌+◌, ◌^◌, ◌<◌, ◌≤◌, refl, sym, ◌∙◌, ap, subst, arith, Option, Some, Ok, List, [], ◌∷◌, length, filter_map, slice_get, option_and_then}
+use Rattle.std.specs.List.{Contains}
+use Rattle.std.specs.Result.{is_ok}
 use Rattle.std.proofs.lemmas.Option.{none-some, same_Some, slice_get_within, get_or_from_slice_get}
 use Rattle.disk_model.specs.Disk.{Content, Image}
-use Rattle.disk_model.specs.Moments.{EachMoment}
-use Rattle.disk_model.proofs.MomentsLemmas.{EachMoment-weaker}
-use Rattle.image_model.specs.declared.journal_plan.Plan.{Plan}
+use Rattle.disk_model.specs.Identity.{DiskIdentity}
 use Rattle.image_model.specs.Cells.{entry_of, replayed_entries}
 use Rattle.image_model.specs.Geometry.{Geometry, IsGeometry}
-use Rattle.image_model.proofs.GeometryLemmas.{IsGeometry-larger}
-use Rattle.disk_model.specs.Identity.{DiskIdentity}
 use Rattle.image_model.specs.Grid.{walk_of}
 use Rattle.image_model.specs.Section.{Entry}
+use Rattle.image_model.proofs.GeometryLemmas.{IsGeometry-larger}
 use Rattle.image_model.proofs.NumberLemmas.{cases_option}
-use Rattle.place_model.proofs.EachLemmas.{all_get}
 use Rattle.journal_model.specs.JournaledDisk.{JournaledDisk, IsFormed, StandsFor}
-use Rattle.journal_model.specs.Steps.{after_place}
-use Rattle.journal_reading.specs.Index.{counted_places}
+use Rattle.journal_reading.specs.declared.reading.JudgedJournal.{JudgedJournal}
+use Rattle.journal_reading.specs.Index.{counted_places, numbered_entry}
 use Rattle.journal_reading.specs.Journal.{journal_image}
 use Rattle.journal_reading.specs.Places.{places_of}
-use Rattle.place_writer.specs.Cells.{HasCells}
+use Rattle.journal_reading.proofs.IndexLemmas.{counted_places-walk, replayed-places}
+use Rattle.journal_reading.proofs.JournalLemmas.{entry_of-journal, replayed_entries-journal, walk_of-journal}
 use Rattle.tag_store.specs.Store.{IsStore, Store}
-use Rattle.replay.specs.Replaying.{with_placed}
+use Rattle.replay.specs.Replaying.{IsReadOn, entries_on, with_placed}
 
--- ---- what is kept of the front of a list
+-- ---- what is kept of a list
 
 module _ {X Y : Type 0} (f : X → Option Y) where
-  -- With an element of which nothing is kept it is the same,
-  pub kept_same : (xs : List X) (k : ℕ) (x : X) → slice_get xs k ≡ Some x → f x ≡ None → filter_map f (take (k + 1) xs) ≡ filter_map f (take k xs)
-  kept_same xs k x there none =
-      let low = slice_get_within xs k x there in
-      ap (filter_map f) (take_more xs k x low ∙ ap (λ (y : X). take k xs ++ y ∷ []) (get_or_from_slice_get xs k x x there))
-      ∙ filter_map-append f (take k xs) (x ∷ [])
-      ∙ rw none (append-nil (filter_map f (take k xs)))
-
-  -- with another it has one more,
-  pub kept_more : (xs : List X) (k : ℕ) (x : X) (y : Y) → slice_get xs k ≡ Some x → f x ≡ Some y → length (filter_map f (take (k + 1) xs)) ≡ length (filter_map f (take k xs)) + 1
-  kept_more xs k x y there some =
-      let low = slice_get_within xs k x there in
-      let more : filter_map f (take (k + 1) xs) ≡ filter_map f (take k xs) ++ y ∷ [] =
-      ap (filter_map f) (take_more xs k x low ∙ ap (λ (z : X). take k xs ++ z ∷ []) (get_or_from_slice_get xs k x x there))
-      ∙ filter_map-append f (take k xs) (x ∷ [])
-      ∙ rw some refl in
-      ap length more ∙ length-append (filter_map f (take k xs)) (y ∷ [])
-
-  -- which is the next of all that is kept.
-  pub kept_at : (xs : List X) (k : ℕ) (x : X) (y : Y) → slice_get xs k ≡ Some x → f x ≡ Some y → slice_get (filter_map f xs) (length (filter_map f (take k xs))) ≡ Some y
-  kept_at [] k x y there some = absurd (none-some x there)
-  kept_at (a ∷ xs) zero x y there some =
+  -- What is kept of one element is among what is kept of all.
+  kept_among : (xs : List X) (k : ℕ) (x : X) (y : Y) → slice_get xs k ≡ Some x → f x ≡ Some y → (i : ℕ) × (slice_get (filter_map f xs) i ≡ Some y)
+  kept_among [] k x y there some = absurd (none-some x there)
+  kept_among (a ∷ xs) zero x y there some =
       let here : f a ≡ Some y = ap f (same_Some a x there) ∙ some in
-      rw here refl
-  kept_at (a ∷ xs) (suc k) x y there some = elim (cases_option (f a)) [
-    | inl none ↦ rw none (kept_at xs k x y there some)
-    | inr kept ↦ rw kept.1 (kept_at xs k x y there some)
+      (zero, rw here refl)
+  kept_among (a ∷ xs) (suc k) x y there some = elim (cases_option (f a)) [
+    | inl none ↦ let rest = kept_among xs k x y there some in (rest.0, rw none rest.1)
+    | inr kept ↦ let rest = kept_among xs k x y there some in (suc rest.0, rw kept.1 rest.1)
   ]
 
--- ---- the entries of the front of a walk
+-- ---- the entries of a walk
 
--- How many entries stand at the first places of a walk.
-abbrev pub front_count : Geometry → List ℕ → List (ℕ × ℕ) → ℕ → ℕ
-front_count g bytes walk k = length (filter_map (entry_of g (journal_image bytes)) (take k (places_of g walk)))
+-- The entry at a place of it is one of them.
+pub among_entries : (g : Geometry) (image : Image) (walk : List (ℕ × ℕ)) (k : ℕ) (place : ℕ × ℕ) (entry : Entry) → slice_get (places_of g walk) k ≡ Some place → entry_of g image place ≡ Some entry
+    → Contains (entries_on g image walk) entry
+among_entries g image walk k place entry there some =
+    let at = kept_among (entry_of g image) (places_of g walk) k place entry there some in
+    (at.0, slice_get_within (entries_on g image walk) at.0 entry at.1, get_or_from_slice_get (entries_on g image walk) at.0 entry entry at.1)
 
--- All entries that are replayed are those of the walk.
-pub replayed_entries-places : (g : Geometry) (image : Image) (plan : Plan) → walk_of g image ≡ Ok plan → replayed_entries g image ≡ filter_map (entry_of g image) (places_of g plan.walk)
-unfolding replayed_entries
-replayed_entries-places g image plan is = rw is refl
+module _ (g : Geometry) (sectors : ℕ) (bytes : List ℕ) (journal : JudgedJournal) (image : Image) (geometry : IsGeometry g sectors) (is : IsReadOn g bytes journal image) where
+  walk_there : walk_of g (journal_image bytes) ≡ Ok journal.plan
+  walk_there = sym (walk_of-journal g sectors bytes image geometry is.read) ∙ is.on.plan_
+
+  -- By the bytes that were read they are those of the image,
+  pub entries_read : entries_on g (journal_image bytes) journal.plan.walk ≡ replayed_entries g image
+  entries_read =
+      sym (replayed-places g (journal_image bytes) journal.plan walk_there)
+      ∙ sym (replayed_entries-journal g sectors bytes image geometry is.read (ap is_ok walk_there))
+
+  -- and each stands at its number.
+  pub numbered_read : (k : ℕ) (place : ℕ × ℕ) → slice_get (places_of g journal.plan.walk) k ≡ Some place → place.0 < g.sections
+      → entry_of g (journal_image bytes) place ≡ numbered_entry g image k
+  numbered_read k place there low =
+      sym (entry_of-journal g sectors bytes image geometry is.read place.0 place.1 low)
+      ∙ sym (ap (option_and_then (entry_of g image)) there)
+      ∙ sym (ap (λ (xs : List (ℕ × ℕ)). option_and_then (entry_of g image) (slice_get xs k)) (counted_places-walk g image journal.plan is.on.plan_))
+
+  pub counted_read : length (places_of g journal.plan.walk) ≡ length (counted_places g image)
+  counted_read = ap length (sym (counted_places-walk g image journal.plan is.on.plan_))
 
 -- ---- more is placed
 
@@ -109,54 +103,7 @@ module _ (d : JournaledDisk) (p q : ℕ) (more : p ≤ q) (low : q ≤ length d.
         };
   }
 
--- The entry at a place of the walk is one that is replayed.
-pub replayed_at : (P : Entry → Type 0) (g : Geometry) (bytes : List ℕ) (plan : Plan) (k : ℕ) (place : ℕ × ℕ) (entry : Entry) → walk_of g (journal_image bytes) ≡ Ok plan
-    → AllByRecursion P (replayed_entries g (journal_image bytes)) → slice_get (places_of g plan.walk) k ≡ Some place → entry_of g (journal_image bytes) place ≡ Some entry → P entry
-replayed_at P g bytes plan k place entry is each there some =
-    all_get P (filter_map (entry_of g (journal_image bytes)) (places_of g plan.walk)) _ entry
-    (subst (AllByRecursion P) (replayed_entries-places g (journal_image bytes) plan is) each)
-    (kept_at (entry_of g (journal_image bytes)) (places_of g plan.walk) k place entry there some)
-
--- So is it one of them.
-pub among_replayed : (g : Geometry) (bytes : List ℕ) (plan : Plan) (k : ℕ) (place : ℕ × ℕ) (entry : Entry) → walk_of g (journal_image bytes) ≡ Ok plan
-    → slice_get (places_of g plan.walk) k ≡ Some place → entry_of g (journal_image bytes) place ≡ Some entry → Contains (replayed_entries g (journal_image bytes)) entry
-among_replayed g bytes plan k place entry is there some =
-    let kept = entry_of g (journal_image bytes) in
-    let at = length (filter_map kept (take k (places_of g plan.walk))) in
-    let next = kept_at kept (places_of g plan.walk) k place entry there some in
-    subst (λ (entries : List Entry). Contains entries entry) (sym (replayed_entries-places g (journal_image bytes) plan is))
-    (at, slice_get_within (filter_map kept (places_of g plan.walk)) at entry next, get_or_from_slice_get (filter_map kept (places_of g plan.walk)) at entry entry next)
-
--- All of them are counted behind all places.
-pub front_count-all : (g : Geometry) (bytes : List ℕ) (plan : Plan) (k : ℕ) → walk_of g (journal_image bytes) ≡ Ok plan → k ≡ length (places_of g plan.walk)
-    → front_count g bytes plan.walk k ≡ length (replayed_entries g (journal_image bytes))
-front_count-all g bytes plan k is all =
-    ap (λ (places : List (ℕ × ℕ)). length (filter_map (entry_of g (journal_image bytes)) places)) (take_all k (places_of g plan.walk) (omega (arith, all)))
-    ∙ sym (ap length (replayed_entries-places g (journal_image bytes) plan is))
-
--- One place has one entry or none.
-pub one_or_none : (b : Bool) → (if b then 1 else 0) ≤ 1
-one_or_none true = let le : 1 ≤ 1 = omega arith in le
-one_or_none false = let le : 0 ≤ 1 = omega arith in le
-
 -- The places of a store lie on some disk.
 pub geometry_of : (g : Geometry) (store : Store) (disk : DiskIdentity) (moments : List Content) → g ≡ store.geometry → IsStore store disk moments → IsGeometry g (2 ^ 48)
 geometry_of g store disk moments same is =
     subst (λ (x : Geometry). IsGeometry x (2 ^ 48)) (sym same) (IsGeometry-larger store.geometry disk.sectors (2 ^ 48) is.geometry is.geometry.device (omega arith))
-
--- The count goes on with what each place has.
-pub count_step : (g : Geometry) (bytes : List ℕ) (walk : List (ℕ × ℕ)) (k : ℕ) (place : ℕ × ℕ) → slice_get (places_of g walk) k ≡ Some place
-    → front_count g bytes walk (k + 1) ≡ front_count g bytes walk k + (if is_some (entry_of g (journal_image bytes) place) then 1 else 0)
-count_step g bytes walk k place there = by_entry (entry_of g (journal_image bytes) place) refl
-  where
-    by_entry : (o : Option Entry) → entry_of g (journal_image bytes) place ≡ o → front_count g bytes walk (k + 1) ≡ front_count g bytes walk k + (if is_some o then 1 else 0)
-    by_entry None none = ap length (kept_same (entry_of g (journal_image bytes)) (places_of g walk) k place there none) ∙ (let same : front_count g bytes walk k ≡ front_count g bytes walk k + 0 = omega arith in same)
-    by_entry (Some entry) some = kept_more (entry_of g (journal_image bytes)) (places_of g walk) k place entry there some
-
--- A place of the walk is one of those that count.
-pub counted_there : (g : Geometry) (bytes : List ℕ) (plan : Plan) (k : ℕ) (place : ℕ × ℕ) → walk_of g (journal_image bytes) ≡ Ok plan → slice_get (places_of g plan.walk) k ≡ Some place
-    → slice_get (counted_places g (journal_image bytes)) k ≡ Some place
-counted_there g bytes plan k place is there = rw is there
-
-pub counted_all : (g : Geometry) (bytes : List ℕ) (plan : Plan) (k : ℕ) → walk_of g (journal_image bytes) ≡ Ok plan → k ≡ length (places_of g plan.walk) → k ≡ length (counted_places g (journal_image bytes))
-counted_all g bytes plan k is all = rw is all

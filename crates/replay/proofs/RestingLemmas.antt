@@ -15,8 +15,6 @@ use Rattle.image_model.proofs.Bounds.{has_entries}
 use Rattle.image_model.proofs.TablesLemmas.{rest_plan}
 use Rattle.place_model.specs.Journal.{numbers_on}
 use Rattle.place_model.proofs.JournalLemmas.{walk_of-plan}
-use Rattle.journal_reading.specs.Journal.{HasJournal, journal_image}
-use Rattle.journal_reading.proofs.JournalLemmas.{walk_of-journal}
 use Rattle.replay.specs.Emptied.{IsRestingJournal, KeepsResting}
 use Rattle.replay.specs.Writes.{IsOfEmptyJournal, IsOfPlacing}
 
@@ -44,17 +42,14 @@ module _ (g : Geometry) {a b : List Content} (placing : EachSince (λ start. Onl
       (λ start c told adds rests. adds)) placing
 
   -- and then: nothing is done at rest, and else it is not at rest.
-  pub recovery_rests : {c : List Content} (sectors : ℕ) (bytes : List ℕ) (plan : Plan) → IsGeometry g sectors → walk_of g (journal_image bytes) ≡ Ok plan → HasNow (λ x. HasJournal g bytes (last_image x)) a
+  pub recovery_rests : {c : List Content} (sectors : ℕ) (plan : Plan) → IsGeometry g sectors → HasNow (λ x. walk_of g (last_image x) ≡ Ok plan) a
       → ((next number : ℕ) → plan.state ≡ Rest next number → c ≡ b) → EachSince (OnlyAdds (IsOfEmptyJournal g)) b c → EachSince (λ start. KeepsResting g start start) a c
-  recovery_rests {c} sectors bytes plan geometry walk read still erasing = by plan.state refl
+  recovery_rests {c} sectors plan geometry walk still erasing = by plan.state refl
     where
-      state_of : (start : Content) → HasJournal g bytes (last_image start) → (rests : IsRestingJournal g (last_image start)) → plan.state ≡ Rest rests.next rests.number
-      state_of start there rests = state_at_rest g sectors (last_image start) plan geometry (walk_of-journal g sectors bytes (last_image start) geometry there ∙ walk) rests
-
       not_at_rest : ((next number : ℕ) → plan.state ≡ Rest next number → ⊥) → EachSince (λ start. KeepsResting g start start) a c
       not_at_rest none =
           EachMoment-join (λ start. KeepsResting g start start) (OnlyAdds (IsOfEmptyJournal g)) placing_rests erasing
-          (λ start middle later told told_middle so_far adds rests. absurd (none rests.next rests.number (state_of start (read start told) rests)))
+          (λ start middle later told told_middle so_far adds rests. absurd (none rests.next rests.number (state_at_rest g sectors (last_image start) plan geometry (walk start told) rests)))
 
       by : (state : State) → plan.state ≡ state → EachSince (λ start. KeepsResting g start start) a c
       by (Rest next number) is = subst (λ (x : List Content). EachSince (λ start. KeepsResting g start start) a x) (sym (still next number is)) placing_rests

@@ -1,24 +1,20 @@
--- A disk while the newest entries of a journal in memory come to their places, in the order of the replay.
-use Rattle.std.proofs.Common.{◌≡◌, ◌⊎◌, inl, inr, ℕ, ◌+◌, ◌*◌, ◌/◌, ◌<◌, ◌≤◌, Bool, true, false, refl, sym, ◌∙◌, ap, subst, arith, Option, Some, None, List, [], length, slice_get}
+-- A disk while the newest entries of a journal come to their places, in the order of the replay.
+use Rattle.std.proofs.Common.{◌≡◌, ◌⊎◌, inl, inr, ℕ, ◌+◌, ◌*◌, ◌/◌, ◌<◌, ◌≤◌, Bool, true, false, refl, sym, ◌∙◌, ap, subst, arith, Option, Some, None, List, [], length, slice_get, option_and_then}
 use Rattle.std.specs.Option.{is_some, option_map}
 use Rattle.std.proofs.lemmas.Bool.{cases_Bool, cases_eq, eq-eqb, false≢true, ne_eqb}
 use Rattle.std.proofs.lemmas.List.{take_all}
-use Rattle.std.proofs.lemmas.Option.{none-some, same_Some, slice_get-get_or, slice_get_within}
+use Rattle.std.proofs.lemmas.Option.{none-some, same_Some, slice_get_within}
 use Rattle.std.proofs.Math.Nat.{mul-div_cancel}
-use Rattle.disk_model.specs.Disk.{Content, sector_in}
+use Rattle.disk_model.specs.Disk.{Content, Image, sector_in}
 use Rattle.image_model.specs.Cells.{Cell, entry_of, last_entry, replayed_entries, salt_of}
 use Rattle.image_model.specs.Geometry.{Geometry}
 use Rattle.image_model.specs.Section.{Entry}
 use Rattle.image_model.proofs.NumberLemmas.{cases_option}
-use Rattle.place_model.proofs.TagsLemmas.{same_product}
 use Rattle.journal_model.specs.Entries.{IsBlockEntry, cell_after, cell_of}
 use Rattle.journal_model.specs.JournaledDisk.{IsFormed, IsSound, JournaledDisk, cell_at}
 use Rattle.journal_model.proofs.EntriesLemmas.{cell_after-none, cell_after-some}
 use Rattle.journal_model.proofs.PlaceLemmas.{last_entry-tells}
-use Rattle.journal_overlay.specs.Kept.{Places, newest_of}
-use Rattle.journal_overlay.specs.declared.place.Place.{Place}
-use Rattle.journal_reading.specs.Index.{IsIndexOf, counted_places}
-use Rattle.journal_reading.specs.Journal.{journal_image}
+use Rattle.journal_reading.specs.Index.{IsIndexOf, counted_places, numbered_entry}
 use Rattle.journal_reading.proofs.IndexLemmas.{index-some}
 use Rattle.place_writer.specs.Cells.{HasCells}
 use Rattle.tag_store.specs.Store.{Store, given_tags}
@@ -26,30 +22,32 @@ use Rattle.replay.specs.Replaying.{HasAmid, HasTurned, IsAhead, IsToReplay, all_
 use Rattle.replay.proofs.ReplayingLemmas.{StandsFor-more, formed_more}
 
 -- What is some is one.
-some_place : (o : Option Place) → is_some o ≡ true → (place : Place) × (o ≡ Some place)
-some_place None is = absurd (false≢true is)
-some_place (Some place) is = (place, refl)
+some_number : (o : Option ℕ) → is_some o ≡ true → (k : ℕ) × (o ≡ Some k)
+some_number None is = absurd (false≢true is)
+some_number (Some k) is = (k, refl)
 
 no_entry : (o : Option Entry) → is_some o ≡ false → o ≡ None
 no_entry None is = refl
 no_entry (Some entry) is = absurd (false≢true (sym is))
 
--- The last entry by what a choice of a place tells.
+-- The last entry by what a choice of a number tells.
 told_entry : (found : Option Entry) (o : Option Entry) → (let some : Option (Option Entry) = Some found in some) ≡ option_map (λ (e : Entry). Some e) o → (entry : Entry) × (found ≡ Some entry) × (o ≡ Some entry)
 told_entry found None e = absurd (none-some found (sym e))
 told_entry found (Some entry) e = (entry, same_Some found (Some entry) e, refl)
 
--- Two places with one pair are the same.
-same_place : (p q : Place) → (let some : Option (ℕ × ℕ) = Some (p.section, p.entry) in some) ≡ Some (q.section, q.entry) → p ≡ q
-same_place p q e = ap (λ (x : ℕ × ℕ). let place : Place = record { section = x.0; entry = x.1 } in place) (same_Some (p.section, p.entry) (q.section, q.entry) e)
-
--- The entry at the newest place of a block is its last one.
-pub newest_entry : (g : Geometry) (bytes : List ℕ) (newest : Places) (b : ℕ) (place : Place) (entry : Entry) → IsIndexOf g (journal_image bytes) newest → newest_of b newest.kept ≡ Some place
-    → Some entry ≡ entry_of g (journal_image bytes) (place.section, place.entry) → last_entry g (replayed_entries g (journal_image bytes)) b ≡ Some entry
-newest_entry g bytes newest b place entry index is used =
-    let told = told_entry (entry_of g (journal_image bytes) (place.section, place.entry)) (last_entry g (replayed_entries g (journal_image bytes)) b)
-    (ap (option_map (λ (p : Place). entry_of g (journal_image bytes) (p.section, p.entry))) (sym is) ∙ index.newest b) in
+-- The entry that is the newest of a block is its last one.
+pub newest_entry : (g : Geometry) (image : Image) (newest : ℕ → Option ℕ) (b k : ℕ) (entry : Entry) → IsIndexOf g image newest → newest b ≡ Some k
+    → Some entry ≡ numbered_entry g image k → last_entry g (replayed_entries g image) b ≡ Some entry
+newest_entry g image newest b k entry index is used =
+    let told = told_entry (numbered_entry g image k) (last_entry g (replayed_entries g image) b) (ap (option_map (numbered_entry g image)) (sym is) ∙ index.each b) in
     told.2 ∙ ap (λ (e : Entry). Some e) (same_Some told.0 entry (sym told.1 ∙ sym used))
+
+-- An entry has a place among those that count.
+numbered_low : (g : Geometry) (image : Image) (k : ℕ) (entry : Entry) → numbered_entry g image k ≡ Some entry → k < length (counted_places g image)
+numbered_low g image k entry is = elim (cases_option (slice_get (counted_places g image) k)) [
+  | inl none ↦ absurd (none-some entry (sym (ap (option_and_then (entry_of g image)) none) ∙ is))
+  | inr some ↦ slice_get_within (counted_places g image) k some.0 some.1
+]
 
 -- The cell after all entries.
 last_cell-entry : (d : JournaledDisk) (b : ℕ) (entry : Entry) → last_entry d.geometry d.entries b ≡ Some entry → last_cell d b ≡ cell_of entry
@@ -73,27 +71,24 @@ sound_all d sound = record {
   start_low = sound.start_low;
 }
 
-module _ (d : JournaledDisk) (g : Geometry) (bytes : List ℕ) (newest : Places) (to : IsToReplay d g bytes) (index : IsIndexOf g (journal_image bytes) newest) where
-  abbrev entry_there : Place → Option Entry
-  entry_there place = entry_of g (journal_image bytes) (place.section, place.entry)
-
-  last_is : (b : ℕ) → last_entry d.geometry d.entries b ≡ last_entry g (replayed_entries g (journal_image bytes)) b
+module _ (d : JournaledDisk) (g : Geometry) (newest : ℕ → Option ℕ) (to : IsToReplay d g d.journal) (index : IsIndexOf g d.journal newest) where
+  last_is : (b : ℕ) → last_entry d.geometry d.entries b ≡ last_entry g (replayed_entries g d.journal) b
   last_is b = ap (λ (x : Geometry). last_entry x d.entries b) to.geometry ∙ ap (λ (es : List Entry). last_entry g es b) to.entries
 
-  -- The last entry of a block stands at its newest place,
-  pub last_there : (b : ℕ) (place : Place) → newest_of b newest.kept ≡ Some place → (entry : Entry) × (entry_there place ≡ Some entry) × (last_entry d.geometry d.entries b ≡ Some entry)
-  last_there b place is =
-      let told = told_entry (entry_there place) (last_entry g (replayed_entries g (journal_image bytes)) b) (ap (option_map entry_there) (sym is) ∙ index.newest b) in
+  -- The last entry of a block has its number,
+  last_there : (b k : ℕ) → newest b ≡ Some k → (entry : Entry) × (numbered_entry g d.journal k ≡ Some entry) × (last_entry d.geometry d.entries b ≡ Some entry)
+  last_there b k is =
+      let told = told_entry (numbered_entry g d.journal k) (last_entry g (replayed_entries g d.journal) b) (ap (option_map (numbered_entry g d.journal)) (sym is) ∙ index.each b) in
       (told.0, told.1, last_is b ∙ told.2)
 
-  -- and a block without such a place has none.
-  last_nowhere : (b : ℕ) → is_some (newest_of b newest.kept) ≡ false → last_entry d.geometry d.entries b ≡ None
-  last_nowhere b none = last_is b ∙ no_entry (last_entry g (replayed_entries g (journal_image bytes)) b) (sym (index-some g (journal_image bytes) newest index b) ∙ none)
+  -- and a block without a number has none.
+  last_nowhere : (b : ℕ) → is_some (newest b) ≡ false → last_entry d.geometry d.entries b ≡ None
+  last_nowhere b none = last_is b ∙ no_entry (last_entry g (replayed_entries g d.journal) b) (sym (index-some g d.journal newest index b) ∙ none)
 
   -- Before all places every newest entry is ahead,
-  pub turned_none : (store : Store) (moments : List Content) → HasCells d store moments → HasTurned d g bytes newest 0 store moments
+  pub turned_none : (store : Store) (moments : List Content) → HasCells d store moments → HasTurned d newest 0 store moments
   turned_none store moments has = record {
-    ahead = λ b. is_some (newest_of b newest.kept);
+    ahead = λ b. is_some (newest b);
     amid = record {
       sound = sound_all d has.sound;
       geometry = has.geometry;
@@ -107,48 +102,33 @@ module _ (d : JournaledDisk) (g : Geometry) (bytes : List ℕ) (newest : Places)
             tags_last = λ b low rests clear. keeps.tags_are.each b low rests ∙ ap (λ (cell : Cell). cell.tag) (start_is_last d b to.none (last_nowhere b clear));
           };
     };
-    behind = λ b is.
-        let some = some_place (newest_of b newest.kept) is in
-        let among = index.among b some.0 some.1 in
-        record {
-          place = some.0;
-          at = among.0;
-          low = omega arith;
-          there = slice_get-get_or (counted_places g (journal_image bytes)) among.0 (some.0.section, some.0.entry) among.1 ∙ ap (λ (x : ℕ × ℕ). Some x) among.2;
-          is = some.1;
-        };
+    behind = λ b is. let some = some_number (newest b) is in record { at = some.0; low = omega arith; is = some.1 };
   }
 
   -- one that is ahead is so behind one place more, unless it stands there,
-  ahead_more : (k b : ℕ) (place : Place) → slice_get (counted_places g (journal_image bytes)) k ≡ Some (place.section, place.entry) → (newest_of b newest.kept ≡ Some place → ⊥)
-      → IsAhead g (journal_image bytes) newest k b → IsAhead g (journal_image bytes) newest (k + 1) b
-  ahead_more k b place there none is = elim (cases_eq is.at k) [
-    | inl same ↦
-        let one = same_place is.place place (sym is.there ∙ ap (slice_get (counted_places g (journal_image bytes))) same ∙ there) in
-        absurd (none (is.is ∙ ap (λ (p : Place). Some p) one))
-    | inr other ↦ record { place = is.place; at = is.at; low = let low = is.low in omega arith; there = is.there; is = is.is }
+  ahead_more : (k b : ℕ) → (newest b ≡ Some k → ⊥) → IsAhead newest k b → IsAhead newest (k + 1) b
+  ahead_more k b none is = elim (cases_eq is.at k) [
+    | inl same ↦ absurd (none (is.is ∙ ap (λ (n : ℕ). Some n) same))
+    | inr other ↦ record { at = is.at; low = let low = is.low in omega arith; is = is.is }
   ]
 
-  -- so a place that is no newest one changes nothing,
-  pub turned_same : (k : ℕ) (place : Place) (store : Store) (moments : List Content) → slice_get (counted_places g (journal_image bytes)) k ≡ Some (place.section, place.entry)
-      → ((b : ℕ) → newest_of b newest.kept ≡ Some place → ⊥) → HasTurned d g bytes newest k store moments → HasTurned d g bytes newest (k + 1) store moments
-  turned_same k place store moments there none has = record {
+  -- so a place that has no newest one changes nothing,
+  turned_same : (k : ℕ) (store : Store) (moments : List Content) → ((b : ℕ) → newest b ≡ Some k → ⊥) → HasTurned d newest k store moments → HasTurned d newest (k + 1) store moments
+  turned_same k store moments none has = record {
     ahead = has.ahead;
     amid = has.amid;
-    behind = λ b is. ahead_more k b place there (none b) (has.behind b is);
+    behind = λ b is. ahead_more k b (none b) (has.behind b is);
   }
 
-  -- as is one with no entry,
-  pub turned_unused : (k : ℕ) (place : Place) (store : Store) (moments : List Content) → slice_get (counted_places g (journal_image bytes)) k ≡ Some (place.section, place.entry)
-      → None ≡ entry_there place → HasTurned d g bytes newest k store moments → HasTurned d g bytes newest (k + 1) store moments
-  turned_unused k place store moments there none has =
-      turned_same k place store moments there (λ b is. let last = last_there b place is in none-some last.0 (none ∙ last.1)) has
+  -- as does one with no entry,
+  pub turned_unused : (k : ℕ) (store : Store) (moments : List Content) → None ≡ numbered_entry g d.journal k → HasTurned d newest k store moments → HasTurned d newest (k + 1) store moments
+  turned_unused k store moments none has = turned_same k store moments (λ b is. let last = last_there b k is in none-some last.0 (none ∙ last.1)) has
 
   -- A block's number by its entry,
-  module _ (place : Place) (entry : Entry) (number : ℕ) (used : Some entry ≡ entry_there place) (number_is : number ≡ entry.sector / g.shape.spb) where
-    number_of : IsSound (all_placed d) → (b : ℕ) → newest_of b newest.kept ≡ Some place → number ≡ b
+  module _ (k : ℕ) (entry : Entry) (number : ℕ) (used : Some entry ≡ numbered_entry g d.journal k) (number_is : number ≡ entry.sector / g.shape.spb) where
+    number_of : IsSound (all_placed d) → (b : ℕ) → newest b ≡ Some k → number ≡ b
     number_of sound b is =
-        let last = last_there b place is in
+        let last = last_there b k is in
         let same : last.0 ≡ entry = same_Some last.0 entry (sym last.1 ∙ sym used) in
         let tells = last_entry-tells (IsBlockEntry d.key (salt_of d.superblock) d.geometry) d.geometry d.entries b last.0 sound.formed.each last.2 in
         let some : 1 ≤ d.geometry.shape.spb = sound.formed.is_geometry.spb.0 in
@@ -159,32 +139,31 @@ module _ (d : JournaledDisk) (g : Geometry) (bytes : List ℕ) (newest : Places)
         ∙ mul-div_cancel b some
 
     -- one that has a later entry,
-    pub turned_older : (k : ℕ) (store : Store) (moments : List Content) → slice_get (counted_places g (journal_image bytes)) k ≡ Some (place.section, place.entry)
-        → (newest_of number newest.kept ≡ Some place → ⊥) → HasTurned d g bytes newest k store moments → HasTurned d g bytes newest (k + 1) store moments
-    turned_older k store moments there older has =
-        turned_same k place store moments there (λ b is. older (ap (λ (n : ℕ). newest_of n newest.kept) (number_of has.amid.sound b is) ∙ is)) has
+    pub turned_older : (store : Store) (moments : List Content) → (newest number ≡ Some k → ⊥) → HasTurned d newest k store moments → HasTurned d newest (k + 1) store moments
+    turned_older store moments older has =
+        turned_same k store moments (λ b is. older (ap newest (number_of has.amid.sound b is) ∙ is)) has
 
     -- and the cell of one that has none.
-    pub newest_cell : newest_of number newest.kept ≡ Some place → last_cell d number ≡ cell_of entry
+    pub newest_cell : newest number ≡ Some k → last_cell d number ≡ cell_of entry
     newest_cell is =
-        let last = last_there number place is in
+        let last = last_there number k is in
         last_cell-entry d number last.0 last.2 ∙ ap cell_of (same_Some last.0 entry (sym last.1 ∙ sym used))
 
     -- Such a one is no longer ahead once its cell is in place.
-    pub turned_one : (k : ℕ) (old store : Store) (before moments : List Content) → slice_get (counted_places g (journal_image bytes)) k ≡ Some (place.section, place.entry)
-        → (has : HasTurned d g bytes newest k old before) → HasAmid d (without number has.ahead) (without number has.ahead) store moments → HasTurned d g bytes newest (k + 1) store moments
-    turned_one k old store before moments there has amid = record {
+    pub turned_one : (old store : Store) (before moments : List Content) → (has : HasTurned d newest k old before)
+        → HasAmid d (without number has.ahead) (without number has.ahead) store moments → HasTurned d newest (k + 1) store moments
+    turned_one old store before moments has amid = record {
       ahead = without number has.ahead;
       amid = amid;
       behind = λ b is. by b is (cases_eq number b);
     }
       where
-        by : (b : ℕ) → without number has.ahead b ≡ true → (number ≡ b) ⊎ (number ≡ b → ⊥) → IsAhead g (journal_image bytes) newest (k + 1) b
+        by : (b : ℕ) → without number has.ahead b ≡ true → (number ≡ b) ⊎ (number ≡ b → ⊥) → IsAhead newest (k + 1) b
         by b is (inl same) = absurd (false≢true (rw (eq-eqb number b same) at is))
-        by b is (inr other) = ahead_more k b place there (λ at. other (number_of amid.sound b at)) (has.behind b (rw (ne_eqb number b other) at is))
+        by b is (inr other) = ahead_more k b (λ at. other (number_of amid.sound b at)) (has.behind b (rw (ne_eqb number b other) at is))
 
   -- Behind all places none is ahead.
-  pub turned_all : (k : ℕ) (store : Store) (moments : List Content) → k ≡ length (counted_places g (journal_image bytes)) → HasTurned d g bytes newest k store moments → HasCells (all_placed d) store moments
+  pub turned_all : (k : ℕ) (store : Store) (moments : List Content) → k ≡ length (counted_places g d.journal) → HasTurned d newest k store moments → HasCells (all_placed d) store moments
   turned_all k store moments all has = record {
     sound = has.amid.sound;
     geometry = has.amid.geometry;
@@ -201,7 +180,8 @@ module _ (d : JournaledDisk) (g : Geometry) (bytes : List ℕ) (newest : Places)
       none_ahead b = elim (cases_Bool (has.ahead b)) [
         | inl is ↦
             let ahead = has.behind b is in
-            let low = slice_get_within (counted_places g (journal_image bytes)) ahead.at (ahead.place.section, ahead.place.entry) ahead.there in
+            let there = last_there b ahead.at ahead.is in
+            let low = numbered_low g d.journal ahead.at there.0 there.1 in
             let from = ahead.low in
             absurd (omega arith)
         | inr clear ↦ clear

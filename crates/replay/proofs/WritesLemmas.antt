@@ -1,5 +1,5 @@
 -- What the steps of a recovery write.
-use Rattle.std.proofs.Common.{◌≡◌, ◌<◌, inl, inr, ⊎_elim, ℕ, ◌/◌, refl, sym, subst, IsOk, List}
+use Rattle.std.proofs.Common.{◌≡◌, ◌<◌, inl, inr, ⊎_elim, ℕ, ◌/◌, refl, sym, subst, List}
 use Rattle.std.specs.List.{Contains}
 use Rattle.disk_model.specs.Disk.{Content, IsOfRun, OnlyAdds, last_image}
 use Rattle.disk_model.specs.Identity.{DiskIdentity}
@@ -8,16 +8,17 @@ use Rattle.disk_model.proofs.DiskLemmas.{OnlyAdds-join, OnlyAdds-wider}
 use Rattle.disk_model.proofs.MomentsLemmas.{EachMoment-join, EachMoment-weaker, FromStart-weaker, adds_told, adds_wider}
 use Rattle.image_model.specs.Cells.{replayed_entries}
 use Rattle.image_model.specs.Geometry.{Geometry, IsGeometry, data_at, section_at, tag_at}
-use Rattle.image_model.specs.Grid.{walk_of}
 use Rattle.image_model.specs.Section.{Entry}
 use Rattle.place_writer.specs.DirectModeCells.{IsOfBlockOrTags}
 use Rattle.journal_erasure.specs.EmptySections.{AreEmptySections}
-use Rattle.journal_reading.specs.Journal.{HasJournal, journal_image}
-use Rattle.journal_reading.proofs.JournalLemmas.{replayed_entries-journal}
+use Rattle.journal_reading.specs.declared.reading.JudgedJournal.{JudgedJournal}
+use Rattle.journal_reading.specs.Journal.{journal_image}
 use Rattle.tag_store.specs.Store.{HoldsTag, IsMarkedTags, IsOfPut, IsOutForTag, IsStore, Store}
 use Rattle.tag_store.proofs.SpansLemmas.{first_in_span}
 use Rattle.tag_store.proofs.StoreLemmas.{HoldsTag-span, tag-span}
+use Rattle.replay.specs.Replaying.{IsReadOn, entries_on}
 use Rattle.replay.specs.Writes.{IsOfEmptyJournal, IsOfPlacing, IsOfRecovery}
+use Rattle.replay.proofs.ReplayingLemmas.{entries_read}
 
 -- ---- entries are placed
 
@@ -66,14 +67,25 @@ empty_adds g number bytes empty m = adds_wider (IsOfRun (section_at g 0) bytes) 
 
 -- ---- by the image at the start
 
--- The entries of the journal in memory are those of the image.
-pub replay_adds : (g : Geometry) (sectors : ℕ) (bytes : List ℕ) {a b : List Content} → IsGeometry g sectors → IsOk (walk_of g (journal_image bytes)) → HasNow (λ c. HasJournal g bytes (last_image c)) a
-    → EachSince (OnlyAdds (IsOfPlacing g (Contains (replayed_entries g (journal_image bytes))))) a b
+-- The entries that were read are those of the image.
+pub replay_adds : (g : Geometry) (sectors : ℕ) (bytes : List ℕ) (journal : JudgedJournal) {a b : List Content} → IsGeometry g sectors → HasNow (λ c. IsReadOn g bytes journal (last_image c)) a
+    → EachSince (OnlyAdds (IsOfPlacing g (Contains (entries_on g (journal_image bytes) journal.plan.walk)))) a b
     → EachSince (λ start. OnlyAdds (IsOfPlacing g (Contains (replayed_entries g (last_image start)))) start) a b
-replay_adds g sectors bytes geometry ok read m =
-    adds_told (λ start. IsOfPlacing g (Contains (replayed_entries g (last_image start)))) (IsOfPlacing g (Contains (replayed_entries g (journal_image bytes))))
+replay_adds g sectors bytes journal geometry read m =
+    adds_told (λ start. IsOfPlacing g (Contains (replayed_entries g (last_image start)))) (IsOfPlacing g (Contains (entries_on g (journal_image bytes) journal.plan.walk)))
     (λ start told s x of. subst (λ (entries : List Entry). IsOfPlacing g (Contains entries) s x)
-    (sym (replayed_entries-journal g sectors bytes (last_image start) geometry (read start told) ok)) of) m
+    (entries_read g sectors bytes journal (last_image start) geometry (read start told)) of) m
+
+-- What goes on with tags that are written back is a replay still.
+pub placing_then : (g : Geometry) (store : Store) {a b c : List Content} → g ≡ store.geometry
+    → EachSince (λ start. OnlyAdds (IsOfPlacing g (Contains (replayed_entries g (last_image start)))) start) a b → EachSince (OnlyAdds (IsMarkedTags store)) b c
+    → EachSince (λ start. OnlyAdds (IsOfPlacing g (Contains (replayed_entries g (last_image start)))) start) a c
+placing_then g store same first second =
+    EachMoment-join (λ start. OnlyAdds (IsOfPlacing g (Contains (replayed_entries g (last_image start)))) start) (OnlyAdds (IsMarkedTags store)) first second
+    (λ start middle later told told_middle so_far adds.
+    let W : ℕ → List ℕ → Type 0 = IsOfPlacing g (Contains (replayed_entries g (last_image start))) in
+    let rest = OnlyAdds-wider (IsMarkedTags store) W (λ s x of. inr (subst (λ (y : Geometry). HoldsTag y s) (sym same) of.tags)) middle later adds in
+    ⊎_elim (λ e. subst (λ (x : Content). OnlyAdds W x later) e rest) (λ p. OnlyAdds-join W start middle later p rest) so_far)
 
 -- A replay alone is a part of a recovery,
 pub replay_only : (g : Geometry) {a b : List Content} → EachSince (λ start. OnlyAdds (IsOfPlacing g (Contains (replayed_entries g (last_image start)))) start) a b

@@ -1,39 +1,42 @@
--- The replay of a journal in memory, over the disk whose journal it is.
-use Rattle.std.specs.Prelude.{◌≡◌, ℕ, ◌+◌, ◌*◌, ◌<◌, ◌≤◌, ◌==◌, Bool, true, false, if◌then◌else◌, List, length, slice_get, Some, Ok}
-use Rattle.std.specs.List.{AllByRecursion}
+-- The replay of a journal, over the disk whose journal it is.
+use Rattle.std.specs.Prelude.{◌≡◌, ℕ, ◌+◌, ◌*◌, ◌<◌, ◌≤◌, ◌==◌, Bool, true, false, if◌then◌else◌, List, filter_map, length, Option, Some}
 use Rattle.disk_model.specs.Disk.{Content, Image, last_image, sector_in}
 use Rattle.disk_model.specs.Identity.{DiskIdentity}
 use Rattle.disk_model.specs.Moments.{HasNow}
-use Rattle.image_model.specs.declared.journal_plan.Plan.{Plan}
 use Rattle.image_model.specs.Bitmap.{is_to_recalculate}
-use Rattle.image_model.specs.Cells.{Cell, last_entry, replayed_entries}
+use Rattle.image_model.specs.Cells.{Cell, entry_of, last_entry, replayed_entries}
 use Rattle.image_model.specs.Geometry.{Geometry, data_at, journal_sectors}
-use Rattle.image_model.specs.Grid.{walk_of}
 use Rattle.image_model.specs.Section.{Entry}
 use Rattle.image_model.specs.Sectors.{bytes_at}
 use Rattle.journal_model.specs.JournaledDisk.{ForSomePlaced, IsSound, JournaledDisk, StandsFor, cell_at}
-use Rattle.journal_overlay.specs.Kept.{Places, newest_of}
-use Rattle.journal_overlay.specs.declared.place.Place.{Place}
-use Rattle.journal_reading.specs.Index.{counted_places}
-use Rattle.journal_reading.specs.Journal.{journal_image}
+use Rattle.journal_reading.specs.declared.reading.JudgedJournal.{JudgedJournal}
+use Rattle.journal_reading.specs.Journal.{FitsJournal, HasJournal, IsJournalOn}
+use Rattle.journal_reading.specs.Places.{places_of}
 use Rattle.buffer_cache.specs.Cached.{HasNoMark}
-use Rattle.place_writer.specs.Placement.{IsWholeEntry}
 use Rattle.tag_store.specs.Store.{IsStore, Store, given_tags}
 
--- A journal in memory that is replayed over a disk: the bytes are those of a journal of the store's layout, this is the plan
--- of its walk, and each entry that counts is whole.
-pub record IsReplaying (g : Geometry) (bytes : List ℕ) (plan : Plan) (store : Store) (disk : DiskIdentity)
+-- A journal that was judged is replayed by bytes that were read of it, over a disk with a store of tags.
+pub record IsReplaying (g : Geometry) (bytes : List ℕ) (journal : JudgedJournal) (store : Store) (disk : DiskIdentity)
     (moments : List Content) : Type 0 where
   pub geometry : g ≡ store.geometry
   pub size : length bytes ≡ 512 * journal_sectors g
-  pub plan_is : walk_of g (journal_image bytes) ≡ Ok plan
-  pub whole : AllByRecursion (IsWholeEntry g) (replayed_entries g (journal_image bytes))
+  pub fits : FitsJournal g journal
   pub store_is : IsStore store disk moments
 
--- The disk has these places, and its entries are those of the journal with these bytes. None of them is placed.
-pub record IsToReplay (d : JournaledDisk) (g : Geometry) (bytes : List ℕ) : Type 0 where
+-- The journal of an image has these bytes, and this is kept of it.
+pub record IsReadOn (g : Geometry) (bytes : List ℕ) (journal : JudgedJournal) (image : Image) : Type 0 where
+  pub on : IsJournalOn g image journal
+  pub read : HasJournal g bytes image
+
+-- The entries of an image that stand at the places of a walk.
+abbrev pub entries_on : Geometry → Image → List (ℕ × ℕ) → List Entry
+entries_on g image walk = filter_map (entry_of g image) (places_of g walk)
+
+-- The disk has these places and the journal of this image, and its entries are those of that. None of them is placed.
+pub record IsToReplay (d : JournaledDisk) (g : Geometry) (image : Image) : Type 0 where
   pub geometry : d.geometry ≡ g
-  pub entries : d.entries ≡ replayed_entries g (journal_image bytes)
+  pub journal : d.journal ≡ image
+  pub entries : d.entries ≡ replayed_entries g image
   pub none : d.placed ≡ 0
 
 -- The disk with so many of its entries placed,
@@ -72,20 +75,18 @@ pub record HasAmid (d : JournaledDisk) (data_ahead tag_ahead : ℕ → Bool) (st
   pub geometry : d.geometry ≡ store.geometry
   pub now : HasNow (λ c. IsAmid d data_ahead tag_ahead (given_tags store c) c) moments
 
--- The newest entry of the block stands behind so many of the places that count.
-pub record IsAhead (g : Geometry) (image : Image) (newest : Places) (k b : ℕ) : Type 0 where
-  pub place : Place
+-- The newest entry of the block is none of so many first ones.
+pub record IsAhead (newest : ℕ → Option ℕ) (k b : ℕ) : Type 0 where
   pub at : ℕ
   pub low : k ≤ at
-  pub there : slice_get (counted_places g image) at ≡ Some (place.section, place.entry)
-  pub is : newest_of b newest.kept ≡ Some place
+  pub is : newest b ≡ Some at
 
--- All blocks but those whose newest entry stands behind so many places of the journal have their cells after all entries.
-pub record HasTurned (d : JournaledDisk) (g : Geometry) (bytes : List ℕ) (newest : Places) (k : ℕ) (store : Store)
-    (moments : List Content) : Type 0 where
+-- All blocks but those whose newest entry is none of the first ones have their cells after all entries.
+pub record HasTurned (d : JournaledDisk) (newest : ℕ → Option ℕ) (k : ℕ) (store : Store) (moments : List Content)
+    : Type 0 where
   pub ahead : ℕ → Bool
   pub amid : HasAmid d ahead ahead store moments
-  pub behind : (b : ℕ) → ahead b ≡ true → IsAhead g (journal_image bytes) newest k b
+  pub behind : (b : ℕ) → ahead b ≡ true → IsAhead newest k b
 
 -- ---- where all is in place
 

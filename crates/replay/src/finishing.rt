@@ -1,24 +1,20 @@
 //! What follows once all entries are in their places: a journal at rest goes on, and any other is erased.
-ghost use Rattle.std.specs.Prelude.{◌≡◌, ◌↔◌, ◌⊎◌, false, ℕ, ◌*◌, ◌<◌, ◌≤◌, [], length, get_or, slice_index_or, Ok, IfOk, OnOk};
-ghost use Rattle.commit_id.specs.Grid.{as_grid};
+ghost use Rattle.std.specs.Prelude.{◌≡◌, ◌↔◌, ◌⊎◌, false, ℕ, ◌*◌, ◌<◌, ◌≤◌, [], length, get_or, slice_index_or, IfOk, OnOk};
 ghost use Rattle.disk_model.specs.Causes.{HasCause};
 ghost use Rattle.disk_model.specs.Disk.{EachImage, HasNothingPending, OnlyAdds};
 ghost use Rattle.disk_model.specs.Moments.{EachMoment, EachSince, HasNow};
-ghost use Rattle.image_model.specs.Cells.{replayed_entries};
 ghost use Rattle.image_model.specs.Geometry.{journal_sectors};
-ghost use Rattle.image_model.specs.Grid.{IsGridOf, walk_of};
 ghost use Rattle.image_model.specs.Walk.{sections_of};
 ghost use Rattle.image_model.specs.declared.journal_plan.State.TheVariants.{Erasing, Mixed, Rest};
 ghost use Rattle.journal_erasure.specs.Erasing.{IsErasureFor, IsErasureOf};
 ghost use Rattle.journal_model.specs.JournaledDisk.{IsCutOf, JournaledDisk};
-ghost use Rattle.journal_reading.specs.Journal.{journal_image};
+ghost use Rattle.journal_reading.specs.Journal.{FitsJournal};
 ghost use Rattle.place_writer.specs.Cells.{HasCells};
 ghost use Rattle.tag_store.specs.Store.{IsStore, given_tags};
 ghost use Rattle.place_model.specs.Opened.{next_by};
 ghost use Rattle.replay.specs.Recovery.{GoesOnIn, IsReplayed, LeavesRecovered};
 ghost use Rattle.replay.specs.Writes.{IsOfEmptyJournal};
 
-use crate::entering::ReplayedJournal;
 use crate::recovered::Recovered;
 use commit_id::State;
 use journal_erasure::{Erasure, erase};
@@ -110,12 +106,11 @@ fn erase_scanned<D: Disk>(
 ) -> Result<Recovered, Failed>
     requires geometry { geometry.now ≡ tags.now.geometry }
     requires scratch { length scratch.old ≡ 512 * journal_sectors geometry.now }
-    requires grid { IsGridOf geometry.now (journal_image scratch.old) (as_grid journal.now.grid) }
-    requires plan { walk_of geometry.now (journal_image scratch.old) ≡ Ok journal.now.plan }
+    requires fits { FitsJournal geometry.now journal.now }
     requires newest { (journal.now.plan.state ≡ Mixed newest) ⊎ (journal.now.plan.state ≡ Erasing newest) }
     requires store { IsStore tags.now (D.identity disk.old) (D.moments disk.old) }
 
-    ensures left { IfOk result (λ at. (d : JournaledDisk) → IsReplayed d geometry.now scratch.old
+    ensures left { IfOk result (λ at. (d : JournaledDisk) → IsReplayed d geometry.now journal.now
         → HasCells d tags.now (D.moments disk.old)
         → HasNow (λ c. LeavesRecovered d at (given_tags tags.now c) c) (D.moments disk.new)) }
 
@@ -127,7 +122,7 @@ fn erase_scanned<D: Disk>(
     ensures store { OnOk result (IsStore tags.now (D.identity disk.new) (D.moments disk.new)) }
     ensures identity { D.identity disk.new ≡ D.identity disk.old }
 
-    ensures cuts { (d : JournaledDisk) → IsReplayed d geometry.now scratch.old
+    ensures cuts { (d : JournaledDisk) → IsReplayed d geometry.now journal.now
         → HasCells d tags.now (D.moments disk.old)
         → EachMoment (D.moments disk.old) (D.moments disk.new) (EachImage (IsCutOf d [])) }
     ensures moments { EachSince (OnlyAdds (IsOfEmptyJournal geometry.now)) (D.moments disk.old) (D.moments disk.new) }
@@ -144,8 +139,8 @@ fn is_used(next: u64, count: u64) -> bool
     next != 0 || count != 0
 }
 
-/// Goes on where a journal is at rest, and erases it where a commit or an erasure was cut. What stood in `scratch`,
-/// which holds the journal, is lost.
+/// Goes on where a journal is at rest, and erases it where a commit or an erasure was cut. What stood in `scratch` is
+/// lost.
 ///
 /// # Errors
 ///
@@ -154,22 +149,20 @@ pub(crate) fn finish<D: Disk>(
     disk: &mut D,
     geometry: &Geometry,
     tags: &Tags,
-    replayed: &ReplayedJournal,
+    journal: &JudgedJournal,
     scratch: &mut [u8],
 ) -> Result<Recovered, Failed>
     requires geometry { geometry.now ≡ tags.now.geometry }
     requires scratch { length scratch.old ≡ 512 * journal_sectors geometry.now }
-    requires grid { IsGridOf geometry.now (journal_image scratch.old) (as_grid replayed.now.journal.grid) }
-    requires plan { walk_of geometry.now (journal_image scratch.old) ≡ Ok replayed.now.journal.plan }
-    requires count { replayed.now.count ≡ length (replayed_entries geometry.now (journal_image scratch.old)) }
+    requires fits { FitsJournal geometry.now journal.now }
     requires store { IsStore tags.now (D.identity disk.old) (D.moments disk.old) }
 
-    ensures left { IfOk result (λ at. (d : JournaledDisk) → IsReplayed d geometry.now scratch.old
+    ensures left { IfOk result (λ at. (d : JournaledDisk) → IsReplayed d geometry.now journal.now
         → HasCells d tags.now (D.moments disk.old) → HasNow HasNothingPending (D.moments disk.old)
         → HasNow (λ c. LeavesRecovered d at (given_tags tags.now c) c) (D.moments disk.new)) }
 
-    ensures next { IfOk result (λ at. at.next ≡ next_by replayed.now.journal.plan.state) }
-    ensures rest { (next number : ℕ) → replayed.now.journal.plan.state ≡ Rest next number
+    ensures next { IfOk result (λ at. at.next ≡ next_by journal.now.plan.state) }
+    ensures rest { (next number : ℕ) → journal.now.plan.state ≡ Rest next number
         → D.moments disk.new ≡ D.moments disk.old }
     ensures place { IfOk result (GoesOnIn geometry.now) }
 
@@ -178,23 +171,20 @@ pub(crate) fn finish<D: Disk>(
     ensures store { OnOk result (IsStore tags.now (D.identity disk.new) (D.moments disk.new)) }
     ensures identity { D.identity disk.new ≡ D.identity disk.old }
 
-    ensures cuts { (d : JournaledDisk) → IsReplayed d geometry.now scratch.old
+    ensures cuts { (d : JournaledDisk) → IsReplayed d geometry.now journal.now
         → HasCells d tags.now (D.moments disk.old)
         → EachMoment (D.moments disk.old) (D.moments disk.new) (EachImage (IsCutOf d [])) }
     ensures moments { EachSince (OnlyAdds (IsOfEmptyJournal geometry.now)) (D.moments disk.old) (D.moments disk.new) }
 {
-    let plan = replayed.journal.plan;
-    match plan.state {
+    match journal.plan.state {
         State::Rest { next, number } => Ok(Recovered {
             next,
             number,
-            used: is_used(next, replayed.count),
+            used: is_used(next, journal.count),
         }),
-        State::Mixed { newest } => {
-            erase_scanned(disk, geometry, tags, &replayed.journal, newest, scratch)
-        }
+        State::Mixed { newest } => { erase_scanned(disk, geometry, tags, journal, newest, scratch) }
         State::Erasing { newest } => {
-            erase_scanned(disk, geometry, tags, &replayed.journal, newest, scratch)
+            erase_scanned(disk, geometry, tags, journal, newest, scratch)
         }
         State::Blank { .. } => unreachable!(),
     }

@@ -1,9 +1,9 @@
 //! Recovery of a journal that was cut anywhere, in its own recovery too.
 //!
-//! The journal is read once and judged before anything is written. Of the used entries of the sections that count the
-//! newest of each block is brought to its place, in the order of the replay: what differs there is written. Then the
-//! tags are written back, and all is synced. A journal at rest goes on then, and any other is erased. What a recovery is entered with, and what it leaves, is said in
-//! `specs/Recovery.antt`, the file to read first.
+//! A journal comes to it judged, and is read once more where it has entries that count. The newest of each block is
+//! brought to its place, in the order of the replay: what differs there is written. Then the tags are written back, and
+//! all is synced. A journal at rest goes on then, and any other is erased. What a recovery is entered with, and what it
+//! leaves, is said in `specs/Recovery.antt`, the file to read first.
 #![tactic(auto)]
 
 mod emptying;

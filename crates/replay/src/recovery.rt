@@ -1,14 +1,14 @@
 //! Recovery, as it is asked for.
-ghost use Rattle.std.specs.Prelude.{◌≡◌, ◌≢◌, ◌*◌, length, Err, IfOk, IsErr, OnOk, Some};
+ghost use Rattle.std.specs.Prelude.{◌≡◌, ◌*◌, length, IfOk, OnOk};
 ghost use Rattle.buffer_cache.specs.Cached.{HasNoMark};
+ghost use Rattle.disk_model.specs.Causes.{HasCause};
 ghost use Rattle.disk_model.specs.Disk.{EachImage, OnlyAdds, last_image};
 ghost use Rattle.disk_model.specs.Moments.{EachMoment, EachSince, HasNow};
 ghost use Rattle.image_model.specs.Cells.{replayed_entries};
 ghost use Rattle.image_model.specs.Geometry.{journal_sectors};
 ghost use Rattle.image_model.specs.Grid.{walk_of};
-ghost use Rattle.image_model.specs.Openable.{JournalFault, journal_fault_of};
 ghost use Rattle.journal_model.specs.Opening.{opened_disk};
-ghost use Rattle.journal_reading.specs.Faults.{HasReplayCause, refusal_in};
+ghost use Rattle.journal_reading.specs.Journal.{FitsJournal, IsJournalOn};
 ghost use Rattle.place_model.specs.Format.{DiskFormat, HasCells as HasImageCells, cells_on};
 ghost use Rattle.place_model.specs.Opened.{next_after_walk};
 ghost use Rattle.tag_store.specs.Store.{IsStore, given_tags};
@@ -19,61 +19,48 @@ ghost use Rattle.replay.specs.Writes.{IsOfRecovery, OnlySyncs};
 use crate::entering::replay_journal;
 use crate::finishing::finish;
 use crate::recovered::Recovered;
-use hmac_tag::TagMaker;
-use journal_reading::ReplayFault;
+use journal_reading::JudgedJournal;
 use layout::Geometry;
-use sector_disk::Disk;
+use sector_disk::{Disk, Failed};
 use sector_pool::Run;
-use std::alloc::Global;
 use tag_store::Tags;
 
-/// Recovers the image of a disk with this geometry, so that all that its journal holds is in its place, and tells where
-/// writing goes on.
+/// Recovers the image of a disk with this geometry, whose journal was judged, so that all that the journal holds is in
+/// its place, and tells where writing goes on. It takes no memory, and nothing is hashed.
 ///
-/// 1. The journal is read once, into `pool`, which has as many sectors, and scanned.
-/// 2. Every used entry of the sections that count is judged, in their order.
-/// 3. The newest one of each block is brought to its place in that order: what differs there is written, data or tag. The
-///    tags are written back; sync.
-/// 4. A journal at rest goes on. One in which a commit or an erasure was cut is erased.
+/// 1. Where the journal has entries that count it is read once more, into `pool`, which has as many sectors.
+/// 2. The newest entry of each block is brought to its place, in their order: what differs there is written, data or tag.
+///    The tags are written back; sync.
+/// 3. A journal at rest goes on. One in which a commit or an erasure was cut is erased.
 ///
-/// Source: Linux, `drivers/md/dm-integrity.c`, `replay_journal`. Own: what is refused, the erasure, and that nothing is
-/// written that stands there already.
+/// Source: Linux, `drivers/md/dm-integrity.c`, `replay_journal`. Own: the erasure, and that nothing is written that stands
+/// there already.
 ///
 /// # Errors
 ///
-/// - `Memory`: there is none for what is kept of the journal. Nothing was written.
-/// - `Journal`: the journal is refused. Nothing was written.
-/// - `Disk`: the disk failed. Every image has the cells of the image at the entry.
+/// - `Failed`: the disk failed. Every image has the cells of the image at the entry.
 pub fn recover<D: Disk>(
-    alloc: Global,
     disk: &mut D,
     geometry: &Geometry,
     tags: &mut Tags,
-    maker: &TagMaker,
+    journal: &JudgedJournal,
     pool: &mut Run<'_>,
-) -> Result<Recovered, ReplayFault>
+) -> Result<Recovered, Failed>
     requires geometry { geometry.now ≡ tags.old.geometry }
-    requires maker { maker.now.size ≡ geometry.now.shape.tag_size }
+    requires fits { FitsJournal geometry.now journal.now }
+    requires journal { HasNow (λ c. IsJournalOn geometry.now (last_image c) journal.now) (D.moments disk.old) }
     requires pool { length pool.old.bytes ≡ 512 * journal_sectors geometry.now }
     requires store { IsStore tags.old (D.identity disk.old) (D.moments disk.old) }
 
     ensures left { IfOk result (λ at. (f : DiskFormat) → HasNow (λ start.
-        EntersRecovery f maker.now (D.identity disk.old).sectors tags.old start
+        EntersRecovery f (D.identity disk.old).sectors tags.old start
         → HasNow (λ c. LeavesRecovered (opened_disk f (last_image start)) at (given_tags tags.new c) c)
         (D.moments disk.new)) (D.moments disk.old)) }
     ensures next { IfOk result (λ at. HasNow (λ start. at.next
         ≡ next_after_walk (walk_of geometry.now (last_image start))) (D.moments disk.old)) }
     ensures place { IfOk result (GoesOnIn geometry.now) }
 
-    ensures refused { result ≢ Err ReplayFault.Memory → result ≢ Err ReplayFault.Disk
-        → HasNow (λ c. refusal_in result ≡ journal_fault_of maker.now.key maker.now.salt
-        geometry.now (last_image c)) (D.moments disk.old) }
-    ensures nothing { result ≢ Err ReplayFault.Disk → IsErr result → D.moments disk.new ≡ D.moments disk.old }
-    // Where the journal is refused nothing is written, also where the disk fails.
-    ensures judged { HasNow (λ start. (fault : JournalFault)
-        → journal_fault_of maker.now.key maker.now.salt geometry.now (last_image start) ≡ Some fault
-        → D.moments disk.new ≡ D.moments disk.old) (D.moments disk.old) }
-    ensures cause { HasReplayCause (D.faults disk.old) (D.faults disk.new) result }
+    ensures cause { HasCause (D.faults disk.old) (D.faults disk.new) result }
 
     ensures store { OnOk result (IsStore tags.new (D.identity disk.new) (D.moments disk.new)) }
     ensures geometry { tags.new.geometry ≡ tags.old.geometry }
@@ -81,7 +68,7 @@ pub fn recover<D: Disk>(
     ensures identity { D.identity disk.new ≡ D.identity disk.old }
 
     ensures cuts { (f : DiskFormat) → HasNow (λ start.
-        EntersRecovery f maker.now (D.identity disk.old).sectors tags.old start
+        EntersRecovery f (D.identity disk.old).sectors tags.old start
         → EachMoment (D.moments disk.old) (D.moments disk.new)
         (EachImage (HasImageCells f (cells_on f (last_image start))))) (D.moments disk.old) }
     // Nothing is written but entries in their places, sectors of tags, and empty sections of the journal.
@@ -95,7 +82,6 @@ pub fn recover<D: Disk>(
         (D.moments disk.old) }
 {
     let bytes = pool.bytes_mut();
-    let replayed = replay_journal(alloc, disk, geometry, tags, maker, bytes)?;
-    let recovered = finish(disk, geometry, tags, &replayed, bytes)?;
-    Ok(recovered)
+    replay_journal(disk, geometry, tags, journal, bytes)?;
+    finish(disk, geometry, tags, journal, bytes)
 }

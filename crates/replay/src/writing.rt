@@ -9,7 +9,6 @@ ghost use Rattle.buffer_cache.specs.Cached.{HasNoMark};
 ghost use Rattle.journal_model.specs.Entries.{cell_of};
 ghost use Rattle.journal_model.specs.JournaledDisk.{JournaledDisk, StandsFor};
 ghost use Rattle.journal_reading.specs.Entries.{entry_with};
-ghost use Rattle.place_writer.specs.Placement.{IsWholeEntry};
 ghost use Rattle.tag_store.specs.Store.{HoldsTag, IsStore, given_tags};
 ghost use Rattle.replay.specs.Replaying.{HasAmid, IsStill, all_placed, last_cell, without};
 ghost use Rattle.replay.specs.Writes.{IsOfPlacing};
@@ -35,7 +34,9 @@ pub(crate) fn place_view<D: Disk>(
     found: &mut [u8],
 ) -> Result<(), Failed>
     requires geometry { geometry.now ≡ tags.old.geometry }
-    requires whole { IsWholeEntry tags.old.geometry (entry_with block.now view.now) }
+    requires block { view.now.sector / tags.old.geometry.shape.spb < tags.old.geometry.blocks }
+    requires bytes { length block.now ≡ 512 * tags.old.geometry.shape.spb }
+    requires tag { length view.now.tag ≡ tags.old.geometry.shape.tag_size }
     requires found { length found.old ≡ 512 * tags.old.geometry.shape.spb }
     requires store { IsStore tags.old (D.identity disk.old) (D.moments disk.old) }
 

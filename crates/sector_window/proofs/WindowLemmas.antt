@@ -5,7 +5,7 @@ use Rattle.disk_model.specs.Moments.{HasNow}
 use Rattle.image_model.specs.Sectors.{piece, bytes_at}
 use Rattle.image_model.proofs.SectorLemmas.{bytes_at_read, length-piece, piece-piece}
 use Rattle.sector_window.specs.Room.{IsWindow}
-use Rattle.sector_window.specs.Window.{Shows, ShowsDisk, Window}
+use Rattle.sector_window.specs.Window.{HasRoom, Shows, ShowsDisk, Window}
 
 -- Sectors that were read, from a later one on, are those of the image.
 pub bytes_at-window : (first at count : ℕ) (bytes : List ℕ) (c : Content) → first ≤ at → 512 * (at + count) ≤ 512 * first + length bytes
@@ -25,6 +25,13 @@ bytes_at-window first at count bytes c begins ends reads =
 -- No bytes are read of any disk.
 pub Reads-none : (first : ℕ) (c : Content) → Reads first [] c
 Reads-none first c k low = absurd (omega (arith, low))
+
+-- A window that shows none shows any disk.
+pub fresh_window : (sectors room : ℕ) (w : Window) (moments : List Content) → (let empty : Window = record { room = room; first = 0; bytes = [] } in w ≡ empty) → sectors ≤ room → HasRoom sectors w moments
+fresh_window sectors room w moments is fits = subst (λ (x : Window). HasRoom sectors x moments) (sym is) (record {
+  room = fits;
+  window = record { reads = λ c told. Reads-none 0 c };
+})
 
 -- ---- in memory
 

@@ -17,3 +17,8 @@ pub record Shows (w : Window) (at count : ℕ) : Type 0 where
 -- What it shows is what reads of the disk give.
 pub record ShowsDisk (w : Window) (moments : List Content) : Type 0 where
   pub reads : HasNow (Reads w.first w.bytes) moments
+
+-- It has room for so many sectors or more, and shows the disk.
+pub record HasRoom (sectors : ℕ) (w : Window) (moments : List Content) : Type 0 where
+  pub room : sectors ≤ w.room
+  pub window : ShowsDisk w moments

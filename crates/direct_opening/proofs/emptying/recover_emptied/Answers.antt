@@ -1,27 +1,26 @@
-use Rattle.std.proofs.Common.{sym, ap, ◌∙◌}
-use Rattle.std.proofs.lemmas.Option.{none-some}
-use Rattle.std.proofs.lemmas.Result.{err_from_is_err_and}
-use Rattle.disk_model.specs.Disk.{last_image}
+use Rattle.std.proofs.Common.{◌*◌, sym, ap, ◌∙◌, subst}
+use Rattle.disk_model.specs.Disk.{OnlyAdds, last_image}
+use Rattle.disk_model.specs.Moments.{EachSince}
+use Rattle.image_model.specs.Geometry.{Geometry, journal_sectors}
+use Rattle.replay.specs.Writes.{IsOfEmptyJournal}
 use Rattle.disk_model.proofs.MomentsLemmas.{EachMoment-then}
-use Rattle.hmac_tag.specs.TagMaker.{key_of}
-use Rattle.image_format.specs.Format.{disk_format}
+use Rattle.journal_opening.specs.Judged.{judged_format}
 use Rattle.journal_model.specs.Opening.{opened_disk}
 use Rattle.tag_store.specs.Store.{given_tags}
-use Rattle.image_judging.proofs.FaultsLemmas.{same_fault}
 use Rattle.journal_opening.proofs.OpeningLemmas.{now_told}
 use Rattle.direct_opening.proofs.EmptyingLemmas.{at_rest, cells_while_emptied, emptying_adds, emptying_keeps, leaves_then, resting_keeps, stays_unused}
 use Rattle.direct_opening.proofs.emptying.recover_emptied.Goals as goal
 
 pub empty-requires-clause-pool : goal.empty-requires-clause-pool
-empty-requires-clause-pool g c = c.recover_image.ensures.pool ∙ c.requires.pool
+empty-requires-clause-pool g c = c.recover_image.ensures.pool ∙ c.requires.pool ∙ ap (λ (x : Geometry). 512 * journal_sectors x) (sym c.geometry-geometry.ensures)
 
 pub returns-clause-emptied : goal.returns-clause-emptied
 returns-clause-emptied g c =
     let old = c.args.disk.now in
     let mid = c.recover_image.new.disk in
-    let f = disk_format (key_of c.args.hash) (g.D.Disk.identity old).sectors c.args.format.now in
-    let image = c.in_ok-image.image in
-    let done = c.in_ok-image.ensures in
+    let f = judged_format (g.D.Disk.identity old).sectors c.args.image in
+    let image = c.in_ok-recovered.recovered in
+    let done = c.in_ok-recovered.ensures in
     record {
       left = λ start told e told_e.
           let now = now_told c.recover_image.ensures.moments start told in
@@ -35,85 +34,66 @@ pub returns-clause-cuts : goal.returns-clause-cuts
 returns-clause-cuts g c start told opens =
     let old = c.args.disk.now in
     let mid = c.recover_image.new.disk in
-    let f = disk_format (key_of c.args.hash) (g.D.Disk.identity old).sectors c.args.format.now in
-    let image = c.in_ok-image.image in
-    let done = c.in_ok-image.ensures in
+    let f = judged_format (g.D.Disk.identity old).sectors c.args.image in
+    let image = c.in_ok-recovered.recovered in
+    let done = c.in_ok-recovered.ensures in
     let now = now_told c.recover_image.ensures.moments start told in
     let before = done.recovered.left start told now.0 now.1 in
     EachMoment-then (c.recover_image.ensures.cuts start told opens)
-    (cells_while_emptied f (last_image start) image.at (given_tags image.tags now.0) now.0 c.requires.format.no_bitmap before
+    (cells_while_emptied f (last_image start) image.at (given_tags image.tags now.0) now.0 c.requires.judged.format.no_bitmap before
     (c.empty.ensures.cuts before.recovered.now (at_rest (opened_disk f (last_image start)) image.at image.tags (g.D.Disk.moments mid) now.0 now.1 (sym done.geometry) before)))
 
 pub returns-clause-moments : goal.returns-clause-moments
 returns-clause-moments g c =
-    emptying_adds c.args.format.now.geometry c.recover_image.ensures.moments
-    (λ start middle told told_middle. (c.in_ok-image.ensures.recovered.left start told middle told_middle).pending) c.empty.ensures.moments
+    emptying_adds c.args.image.format.geometry c.recover_image.ensures.moments
+    (λ start middle told told_middle. (c.in_ok-recovered.ensures.recovered.left start told middle told_middle).pending) (subst (λ (x : Geometry). EachSince (OnlyAdds (IsOfEmptyJournal x)) (g.D.Disk.moments c.recover_image.new.disk) (g.D.Disk.moments c.empty.new.disk)) c.geometry-geometry.ensures c.empty.ensures.moments)
 
 pub returns-clause-keeps : goal.returns-clause-keeps
 returns-clause-keeps g c =
     let old = c.args.disk.now in
     let mid = c.recover_image.new.disk in
-    let f = disk_format (key_of c.args.hash) (g.D.Disk.identity old).sectors c.args.format.now in
-    let image = c.in_ok-image.image in
-    let done = c.in_ok-image.ensures in
-    let keeps = resting_keeps f.geometry f.sectors c.requires.format.accepted.geometry c.recover_image.ensures.rest in
+    let f = judged_format (g.D.Disk.identity old).sectors c.args.image in
+    let image = c.in_ok-recovered.recovered in
+    let done = c.in_ok-recovered.ensures in
+    let keeps = resting_keeps f.geometry f.sectors c.requires.judged.format.accepted.geometry c.recover_image.ensures.rest in
     emptying_keeps f.geometry image.at.used keeps (λ none. ap g.D.Disk.moments (c.empty.ensures.idle none).1)
     (λ start told empty.
     let now = now_told c.recover_image.ensures.moments start told in
     stays_unused f image.at (given_tags image.tags now.0) start now.0 told now.1 (g.met.D.Disk.reads_an_image mid now.0 now.1) keeps
-    (done.recovered.left start told now.0 now.1) (done.recovered.next start told) empty) c.empty.ensures.moments
+    (done.recovered.left start told now.0 now.1) (done.recovered.next start told) empty) (subst (λ (x : Geometry). EachSince (OnlyAdds (IsOfEmptyJournal x)) (g.D.Disk.moments c.recover_image.new.disk) (g.D.Disk.moments c.empty.new.disk)) c.geometry-geometry.ensures c.empty.ensures.moments)
 
 pub returns-in_err-at-clause-cuts : goal.returns-in_err-at-clause-cuts
 returns-in_err-at-clause-cuts g c start told opens =
     let old = c.args.disk.now in
     let mid = c.recover_image.new.disk in
-    let f = disk_format (key_of c.args.hash) (g.D.Disk.identity old).sectors c.args.format.now in
-    let image = c.in_ok-image.image in
-    let done = c.in_ok-image.ensures in
+    let f = judged_format (g.D.Disk.identity old).sectors c.args.image in
+    let image = c.in_ok-recovered.recovered in
+    let done = c.in_ok-recovered.ensures in
     let now = now_told c.recover_image.ensures.moments start told in
     let before = done.recovered.left start told now.0 now.1 in
     EachMoment-then (c.recover_image.ensures.cuts start told opens)
-    (cells_while_emptied f (last_image start) image.at (given_tags image.tags now.0) now.0 c.requires.format.no_bitmap before
+    (cells_while_emptied f (last_image start) image.at (given_tags image.tags now.0) now.0 c.requires.judged.format.no_bitmap before
     (c.empty.ensures.cuts before.recovered.now (at_rest (opened_disk f (last_image start)) image.at image.tags (g.D.Disk.moments mid) now.0 now.1 (sym done.geometry) before)))
 
 pub returns-in_err-at-clause-moments : goal.returns-in_err-at-clause-moments
 returns-in_err-at-clause-moments g c =
-    emptying_adds c.args.format.now.geometry c.recover_image.ensures.moments
-    (λ start middle told told_middle. (c.in_ok-image.ensures.recovered.left start told middle told_middle).pending) c.empty.ensures.moments
+    emptying_adds c.args.image.format.geometry c.recover_image.ensures.moments
+    (λ start middle told told_middle. (c.in_ok-recovered.ensures.recovered.left start told middle told_middle).pending) (subst (λ (x : Geometry). EachSince (OnlyAdds (IsOfEmptyJournal x)) (g.D.Disk.moments c.recover_image.new.disk) (g.D.Disk.moments c.empty.new.disk)) c.geometry-geometry.ensures c.empty.ensures.moments)
 
 pub returns-in_err-at-clause-keeps : goal.returns-in_err-at-clause-keeps
 returns-in_err-at-clause-keeps g c =
     let old = c.args.disk.now in
     let mid = c.recover_image.new.disk in
-    let f = disk_format (key_of c.args.hash) (g.D.Disk.identity old).sectors c.args.format.now in
-    let image = c.in_ok-image.image in
-    let done = c.in_ok-image.ensures in
-    let keeps = resting_keeps f.geometry f.sectors c.requires.format.accepted.geometry c.recover_image.ensures.rest in
+    let f = judged_format (g.D.Disk.identity old).sectors c.args.image in
+    let image = c.in_ok-recovered.recovered in
+    let done = c.in_ok-recovered.ensures in
+    let keeps = resting_keeps f.geometry f.sectors c.requires.judged.format.accepted.geometry c.recover_image.ensures.rest in
     emptying_keeps f.geometry image.at.used keeps (λ none. ap g.D.Disk.moments (c.empty.ensures.idle none).1)
     (λ start told empty.
     let now = now_told c.recover_image.ensures.moments start told in
     stays_unused f image.at (given_tags image.tags now.0) start now.0 told now.1 (g.met.D.Disk.reads_an_image mid now.0 now.1) keeps
-    (done.recovered.left start told now.0 now.1) (done.recovered.next start told) empty) c.empty.ensures.moments
+    (done.recovered.left start told now.0 now.1) (done.recovered.next start told) empty) (subst (λ (x : Geometry). EachSince (OnlyAdds (IsOfEmptyJournal x)) (g.D.Disk.moments c.recover_image.new.disk) (g.D.Disk.moments c.empty.new.disk)) c.geometry-geometry.ensures c.empty.ensures.moments)
 
-pub returns-in_err-image-clause-keeps : goal.returns-in_err-image-clause-keeps
-returns-in_err-image-clause-keeps g c =
-    resting_keeps c.args.format.now.geometry (g.D.Disk.identity c.args.disk.now).sectors c.requires.format.accepted.geometry c.recover_image.ensures.rest
-
-pub returns-clause-refused : goal.returns-clause-refused
-returns-clause-refused g c not_memory not_disk content told = c.in_ok-image.ensures.refused (λ e. cc) (λ e. cc) content told
-
-pub returns-in_err-image-clause-refused : goal.returns-in_err-image-clause-refused
-returns-in_err-image-clause-refused g c =
-    let p = err_from_is_err_and c.from_residual.result c.from_residual.ensures.1 in
-    rw (p.1, p.2) (λ not_memory not_disk content told. c.in_err-image.ensures.refused (λ e. not_memory (same_fault e)) (λ e. not_disk (same_fault e)) content told)
-
-pub returns-in_err-image-clause-nothing : goal.returns-in_err-image-clause-nothing
-returns-in_err-image-clause-nothing g c =
-    let p = err_from_is_err_and c.from_residual.result c.from_residual.ensures.1 in
-    rw (p.1, p.2) (λ not_disk failed. c.in_err-image.ensures.nothing (λ e. not_disk (same_fault e)) failed)
-
-pub returns-in_err-at-clause-judged : goal.returns-in_err-at-clause-judged
-returns-in_err-at-clause-judged g c start told fault is = absurd (none-some fault (c.in_ok-image.ensures.refused (λ e. cc) (λ e. cc) start told ∙ is))
-
-pub returns-clause-judged : goal.returns-clause-judged
-returns-clause-judged g c start told fault is = absurd (none-some fault (c.in_ok-image.ensures.refused (λ e. cc) (λ e. cc) start told ∙ is))
+pub returns-in_err-recovered-clause-keeps : goal.returns-in_err-recovered-clause-keeps
+returns-in_err-recovered-clause-keeps g c =
+    resting_keeps c.args.image.format.geometry (g.D.Disk.identity c.args.disk.now).sectors c.requires.judged.format.accepted.geometry c.recover_image.ensures.rest

@@ -2,7 +2,7 @@ use Rattle.std.proofs.Common.{◌≡◌, ◌*◌, length, ◌∙◌, arith}
 use Rattle.std.proofs.lemmas.Result.{on_ok_weaker}
 use Rattle.image_model.specs.Geometry.{journal_sectors}
 use Rattle.image_model.proofs.Regions.{journal_sectors-some}
-use Rattle.image_dump.proofs.CellsLemmas.{journal_inside}
+use Rattle.journal_reading.proofs.CellsLemmas.{journal_inside}
 use Rattle.journal_reading.proofs.JournalLemmas.{HasJournal-read}
 use Rattle.journal_reading.proofs.reading.read_journal.Goals as goal
 

@@ -1,7 +1,6 @@
 use Rattle.std.proofs.Common.{◌^◌, inl, refl, sym, ◌∙◌, ap}
 use Rattle.std.proofs.lemmas.Result.{IfOk-weaker}
 use Rattle.disk_model.proofs.MomentsLemmas.{no_moment}
-use Rattle.journal_reading.specs.Journal.{journal_image}
 use Rattle.place_model.specs.Opened.{next_by}
 use Rattle.replay.proofs.FinishingLemmas.{not_blank, rest_left, rest_place}
 use Rattle.replay.proofs.ReplayingLemmas.{geometry_of}
@@ -10,8 +9,8 @@ use Rattle.replay.proofs.finishing.finish.Goals as goal
 pub returns-in-Rest-clause-left : goal.returns-in-Rest-clause-left
 returns-in-Rest-clause-left g c d replayed has pending now told =
     let geometry = geometry_of c.args.geometry.now c.args.tags.now (g.D.Disk.identity c.args.disk.now) (g.D.Disk.moments c.args.disk.now) c.requires.geometry c.requires.store in
-    rest_left d c.args.geometry.now (2 ^ 48) c.args.scratch.now c.args.replayed.now.journal.plan c.in-Rest.next c.in-Rest.number c.args.replayed.now.count _ _ now geometry
-    replayed c.requires.plan c.in-Rest.is c.requires.count refl refl c.is_used.ensures (has.now now told) (pending now told)
+    rest_left d c.args.geometry.now (2 ^ 48) c.args.journal.now c.in-Rest.next c.in-Rest.number _ _ now geometry
+    replayed c.in-Rest.is refl refl c.is_used.ensures (has.now now told) (pending now told)
 
 pub returns-in-Rest-clause-cuts : goal.returns-in-Rest-clause-cuts
 returns-in-Rest-clause-cuts g c d replayed has = no_moment (g.D.Disk.moments c.args.disk.now) _
@@ -23,9 +22,7 @@ pub returns-in-Mixed-clause-left : goal.returns-in-Mixed-clause-left
 returns-in-Mixed-clause-left g c = IfOk-weaker c.erase_scanned.result _ _ (λ at left d replayed has pending. left d replayed has) c.erase_scanned.ensures.left
 
 pub unreachable-requires : goal.unreachable-requires
-unreachable-requires g c =
-    let geometry = geometry_of c.args.geometry.now c.args.tags.now (g.D.Disk.identity c.args.disk.now) (g.D.Disk.moments c.args.disk.now) c.requires.geometry c.requires.store in
-    not_blank c.args.geometry.now (2 ^ 48) (journal_image c.args.scratch.now) c.args.replayed.now.journal.plan c.in-Blank.number geometry c.requires.plan c.in-Blank.is
+unreachable-requires g c = not_blank c.args.geometry.now c.args.journal.now c.in-Blank.number c.requires.fits c.in-Blank.is
 
 pub returns-in-Erasing-clause-left : goal.returns-in-Erasing-clause-left
 returns-in-Erasing-clause-left g c = IfOk-weaker c.erase_scanned-in-Erasing.result _ _ (λ at left d replayed has pending. left d replayed has) c.erase_scanned-in-Erasing.ensures.left
@@ -37,9 +34,7 @@ pub returns-in-Rest-clause-next : goal.returns-in-Rest-clause-next
 returns-in-Rest-clause-next g c = sym (ap next_by c.in-Rest.is)
 
 pub returns-in-Rest-clause-place : goal.returns-in-Rest-clause-place
-returns-in-Rest-clause-place g c =
-    let geometry = geometry_of c.args.geometry.now c.args.tags.now (g.D.Disk.identity c.args.disk.now) (g.D.Disk.moments c.args.disk.now) c.requires.geometry c.requires.store in
-    rest_place c.args.geometry.now (2 ^ 48) (journal_image c.args.scratch.now) c.args.replayed.now.journal.plan c.in-Rest.next c.in-Rest.number _ geometry c.requires.plan c.in-Rest.is
+returns-in-Rest-clause-place g c = rest_place c.args.geometry.now c.args.journal.now c.in-Rest.next c.in-Rest.number _ c.requires.fits c.in-Rest.is
 
 pub returns-in-Mixed-clause-next : goal.returns-in-Mixed-clause-next
 returns-in-Mixed-clause-next g c = IfOk-weaker c.erase_scanned.result _ _ (λ at first. first ∙ sym (ap next_by c.in-Mixed.is)) c.erase_scanned.ensures.next

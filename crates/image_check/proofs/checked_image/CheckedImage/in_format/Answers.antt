@@ -1,9 +1,8 @@
-use Rattle.std.proofs.Common.{◌≡◌, ap, ◌∙◌, Err, Option}
+use Rattle.std.proofs.Common.{◌≡◌, ap, ◌∙◌, ℕ, Err, List, Option}
 use Rattle.std.specs.Option.{option_map}
 use Rattle.std.proofs.lemmas.Result.{err_from_is_err_and}
 use Rattle.disk_model.specs.Disk.{last_image}
 use Rattle.hmac_tag.specs.TagMaker.{TagRule, key_of}
-use Rattle.journal_overlay.specs.Kept.{Places}
 use Rattle.image_check.specs.Checked.{Checked}
 use Rattle.image_judging.specs.declared.opening_fault.OpeningFault.{OpeningFault}
 use Rattle.image_judging.specs.declared.opening_fault.OpeningFault.TheVariants.{Memory, Disk}
@@ -19,7 +18,7 @@ returns-in_err-journal-clause-refused g c some well x told =
     let p = err_from_is_err_and c.from_residual.result c.from_residual.ensures.1 in
     let e : c.from_residual.result ≡ Err fault = p.1 ∙ ap (λ (f : OpeningFault). Err f) p.2 in
     ap (λ r. fault_in r) e
-    ∙ fault_in-err Checked (Option Places) fault
+    ∙ fault_in-err Checked (Option (List (ℕ × ℕ))) fault
     ∙ c.in_err-journal.ensures.refused (λ h. some (e ∙ ap (λ (f : OpeningFault). Err f) (let same : fault ≡ Memory = cc in same))) (λ h. well (e ∙ ap (λ (f : OpeningFault). Err f) (let same : fault ≡ Disk = cc in same))) x told
     ∙ ap (λ (m : TagRule). option_map ByJournal (journal_fault_for c.args.what m.key m.salt c.args.format.geometry (last_image x))) c.tag_maker-maker.ensures
 

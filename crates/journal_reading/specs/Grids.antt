@@ -1,0 +1,27 @@
+-- The grid of a journal, as it is read.
+use Rattle.std.specs.Prelude.{◌≡◌, ◌≤◌, [], vec_capacity}
+use Rattle.disk_model.specs.Disk.{Image}
+use Rattle.image_model.specs.Geometry.{Geometry, journal_sectors, section_sectors}
+use Rattle.image_model.specs.Grid.{IsGridOf, walk_of}
+use Rattle.image_model.specs.Scan.{Grid, IsGrid, walk_of_grid}
+use Rattle.sector_window.specs.Window.{Window}
+use Rattle.journal_reading.specs.declared.grid.GridRoom.{GridRoom}
+
+-- There is room for a cell of each sector of the journal, of which none is there, and for a sector that is read.
+pub record HasGridRoom (g : Geometry) (room : GridRoom) : Type 0 where
+  pub none : room.cells.items ≡ []
+  pub cells : journal_sectors g ≤ vec_capacity room.cells
+  pub window : 1 ≤ room.window.room
+  pub shows_none : (let empty : Window = record { room = room.window.room; first = 0; bytes = [] } in room.window ≡ empty)
+
+-- The grid is one for a journal of these sections, and no sector of it is a bitmap's.
+pub record IsGridFor (g : Geometry) (grid : Grid) : Type 0 where
+  pub is_grid : IsGrid grid
+  pub sections : grid.sections ≡ g.sections
+  pub sectors : grid.sectors ≡ section_sectors g.shape
+  pub no_bitmap : grid.bitmap ≡ 0
+
+-- It is that of an image: it has its commit numbers, and its walk.
+pub record IsGridOn (g : Geometry) (image : Image) (grid : Grid) : Type 0 where
+  pub grid_ : IsGridOf g image grid
+  pub walk : walk_of_grid grid ≡ walk_of g image
