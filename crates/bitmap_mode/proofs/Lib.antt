@@ -1,0 +1,12 @@
+pub mod MarkingLemmas
+pub mod CellLemmas
+pub mod StatesLemmas
+pub mod FindLemmas
+pub mod StandingLemmas
+pub mod WritingLemmas
+pub mod CleaningLemmas
+pub mod RecalculationLemmas
+pub mod ReadingLemmas
+pub mod ClosingLemmas
+pub mod OpeningLemmas
+pub mod DeviceLemmas

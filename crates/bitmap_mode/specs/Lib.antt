@@ -1,0 +1,7 @@
+pub mod States
+pub mod Standing
+pub mod Writing
+pub mod Reading
+pub mod Flushing
+pub mod Cleaning
+pub mod Closing
