@@ -1,5 +1,5 @@
 -- Calls of a device as runs of events.
-use Rattle.std.proofs.Common.{◌≡◌, ◌↔◌, IfOk, List, [], ◌∷◌, ◌++◌, Result, Ok, Err, refl, sym, ◌∙◌, ap, subst, append-nil, append_assoc}
+use Rattle.std.proofs.Common.{◌≡◌, ◌↔◌, List, [], ◌∷◌, ◌++◌, Result, Ok, Err, refl, sym, ◌∙◌, ap, subst, append-nil, append_assoc}
 use Rattle.disk_model.specs.Disk.{Content}
 use Rattle.disk_model.specs.Identity.{DiskIdentity}
 use Rattle.device_model.specs.Progress as Progress
@@ -13,11 +13,10 @@ use Rattle.device_parts.specs.declared.answers.StepFault.TheVariants as Faults
 use Rattle.device_parts.specs.declared.condition.Condition.{Condition}
 use Rattle.device_parts.specs.declared.condition.Condition.TheVariants as Conditions
 use Rattle.device_parts.specs.Answers.{actor_of, condition_by}
-use Rattle.request_slots.specs.Flight.{Flight}
 use Rattle.device.specs.declared.mode.DeviceParts.{DeviceParts}
 use Rattle.device.specs.Answers.{WritesInStep}
 use Rattle.device_parts.specs.Answers.{HasStepped}
-use Rattle.device_parts.specs.Device.{Answers, HasDone, KeepsParts}
+use Rattle.device_parts.specs.Device.{Answers, KeepsParts}
 use Rattle.device.specs.Device.{IsDevice, IsReady, any_mode}
 use Rattle.device_parts.specs.Device.{Standing}
 use Rattle.device.proofs.ModeLemmas.{condition_now}

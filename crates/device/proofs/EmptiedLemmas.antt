@@ -22,8 +22,8 @@ use Rattle.place_model.proofs.TagsLemmas.{tag_byte-behind}
 use Rattle.direct_laws.specs.CallLaws.{ReadsImage}
 use Rattle.direct_laws.specs.MomentLaws.{IsLeftNow, IsLeftThrough}
 use Rattle.direct_mode.specs.Places.{IsOfPlaces}
-use Rattle.direct_opening.specs.Emptied.{HasEmptyJournal}
-use Rattle.direct_opening.proofs.EmptiedLemmas.{empty_replays_nothing, empty_same}
+use Rattle.device_opening.specs.Emptied.{HasEmptyJournal}
+use Rattle.device_opening.proofs.EmptiedLemmas.{empty_replays_nothing, empty_same}
 
 -- Each image at each moment of a call, and at its end, has an empty journal.
 pub record StaysEmpty (f : DiskFormat) (before after : List Content) : Type 0 where

@@ -30,8 +30,8 @@ use Rattle.journal_model.specs.Ring.{JournalRing, entries_of, next_batch, with_c
 use Rattle.journal_ring.specs.Batch.{WritesBatch}
 use Rattle.journal_ring.specs.Places.{entry_of}
 use Rattle.tag_store.specs.Store.{HoldsTag, IsMarkedTags, IsOutForTag, Store}
-use Rattle.direct_opening.specs.Moves.{WritesEntry}
-use Rattle.direct_opening.specs.Placement.{placed_in}
+use Rattle.device_opening.specs.Moves.{WritesEntry}
+use Rattle.device_opening.specs.Placement.{placed_in}
 use Rattle.journal_device.specs.Closing.{WritesAll, WritesEntries, entries_to_place}
 use Rattle.journal_device.specs.Commits.{WritesBatches, after_batch_of}
 use Rattle.journal_device.specs.Journal.{PlacedRing, after_put, sections_of}
@@ -56,7 +56,7 @@ use Rattle.device.specs.Answers.{WritesInClose, WritesInServe, WritesInStep}
 use Rattle.device.specs.Device.{IsDeviceIn}
 use Rattle.device_parts.specs.Device.{Standing}
 use Rattle.device.proofs.ModeLemmas.{own_direct, own_journaled}
-use Rattle.direct_opening.specs.Writes.{IsOfPlacing}
+use Rattle.device_opening.specs.Writes.{IsOfPlacing}
 use Rattle.device.specs.Writes.{IsAnyBlock, IsInJournal, IsOfRun, WritesOnly, WritesOnlyOf}
 use Rattle.device.proofs.WritesLemmas.{WritesOnly-kept, WritesOnly-left}
 

@@ -15,7 +15,7 @@ use Rattle.place_model.proofs.FormatLemmas.{reads_tells}
 use Rattle.request_slots.specs.Flight.{Flight}
 use Rattle.request_slots.specs.InFlight.{IsFlightOf}
 use Rattle.direct_mode.specs.Places.{IsOfPlaces}
-use Rattle.direct_opening.specs.Emptied.{HasEmptyJournal}
+use Rattle.device_opening.specs.Emptied.{HasEmptyJournal}
 use Rattle.device_parts.specs.declared.condition.Condition.{Condition}
 use Rattle.device_parts.specs.declared.condition.Condition.TheVariants.{Working}
 use Rattle.device_parts.specs.declared.parts.Parts.{Parts}
@@ -27,7 +27,7 @@ use Rattle.direct_device.proofs.EventLemmas.{quiet_kept_law as direct_quiet_law}
 use Rattle.journal_device.specs.Journal.{PlacedRing}
 use Rattle.journal_device.specs.Device.{IsJournaled, in_journal, kept, kind_on}
 use Rattle.journal_device.proofs.EventLemmas.{quiet_kept_law as journal_quiet_law}
-use Rattle.journal_device.specs.declared.opening.OpenedDevice.{OpenedDevice}
+use Rattle.journal_device.specs.declared.parts.JournalParts.{JournalParts}
 use Rattle.device.specs.declared.mode.DeviceParts.{DeviceParts}
 use Rattle.device.specs.declared.mode.Mode.{Mode}
 use Rattle.device.specs.declared.mode.Mode.TheVariants.{Direct, Journal}
@@ -202,7 +202,7 @@ only_done w condition parts a event answer is told same = record {
 -- ---- calls
 
 -- What a device in journal mode keeps, as one of any mode.
-abbrev in_journal_mode : OpenedDevice → DeviceParts
+abbrev in_journal_mode : JournalParts → DeviceParts
 in_journal_mode device = record { common = device.parts; mode = Journal device.journal }
 
 -- What follows of what holds of an answer holds of it.

@@ -1,22 +1,21 @@
 -- Requests come and go in each mode alike, and a broken device only answers.
-use Rattle.std.proofs.Common.{◌≡◌, ℕ, suc, ◌+◌, Bool, true, false, if◌then◌else◌, List, [], slice_get, set, Option, None, Some, IfOk, Result, Ok, Err, refl, sym, ◌∙◌, ap, subst, arith}
+use Rattle.std.proofs.Common.{◌≡◌, ℕ, suc, ◌+◌, Bool, true, false, if◌then◌else◌, List, [], slice_get, Option, None, Some, IfOk, Result, Ok, Err, refl, sym, ◌∙◌, ap, subst, arith}
 use Rattle.std.specs.List.{list_any}
 use Rattle.std.specs.Option.{option_or}
 use Rattle.std.proofs.lemmas.Bool.{false≢true}
 use Rattle.disk_model.specs.Disk.{Content}
 use Rattle.disk_model.proofs.MomentsLemmas.{no_moment}
-use Rattle.device_model.specs.History.{Change, with_changes}
+use Rattle.device_model.specs.History.{with_changes}
 use Rattle.device_model.specs.Mode.{DeviceFormat}
 use Rattle.device_model.specs.Progress as Model
 use Rattle.device_model.specs.Reply as ModelReply
 use Rattle.device_model.specs.Request as Asks
-use Rattle.device_model.specs.RequestLaws.{IsReached}
 use Rattle.device_model.specs.Submission as Submissions
 use Rattle.device_model.proofs.EventLemmas.{taken_reached}
 use Rattle.device_model.proofs.SubmissionLemmas.{result-working}
 use Rattle.direct_laws.specs.MomentLaws.{IsLeftNow}
 use Rattle.request_slots.specs.Flight.{Flight, is_in_flight, is_of, is_unfinished, slot_of}
-use Rattle.request_slots.specs.InFlight.{IsFlightOf, as_reply, as_submission, returned_in, slot_for, submit_answer}
+use Rattle.request_slots.specs.InFlight.{IsFlightOf, as_reply, as_submission, returned_in, slot_for}
 use Rattle.request_slots.specs.Submitting.{after_submit, fault_of}
 use Rattle.request_slots.specs.Taking.{after_take, reply_of, taken_by, without}
 use Rattle.request_slots.specs.declared.reply.Reply.{Reply}

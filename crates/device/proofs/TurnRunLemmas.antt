@@ -9,7 +9,6 @@ use Rattle.request_slots.specs.Flight.{is_in_flight, is_of}
 use Rattle.request_slots.specs.declared.slot.Slot.{Slot}
 use Rattle.device_parts.specs.declared.answers.StepFault.{StepFault}
 use Rattle.device_parts.specs.declared.answers.StepFault.TheVariants as Faults
-use Rattle.device_parts.specs.declared.condition.Condition.{Condition}
 use Rattle.device_parts.specs.declared.condition.Condition.TheVariants as Conditions
 use Rattle.device_parts.proofs.TurnLemmas.{IsPlaced, placed}
 use Rattle.device_parts.specs.declared.answers.Served.{Served}
@@ -18,7 +17,7 @@ use Rattle.device_parts.specs.Answers.{served_answer}
 use Rattle.device.specs.declared.mode.DeviceParts.{DeviceParts}
 use Rattle.device.specs.Answers.{WritesInServe}
 use Rattle.device_parts.specs.Answers.{HasServed}
-use Rattle.device_parts.specs.Device.{Answers, HasDone}
+use Rattle.device_parts.specs.Device.{Answers}
 use Rattle.device.specs.Device.{IsDevice, any_mode}
 use Rattle.device_parts.specs.Device.{Standing}
 use Rattle.device.proofs.ModeLemmas.{condition_now, flight_now, reached_now}

@@ -18,8 +18,8 @@ use Rattle.device.specs.declared.mode.Mode.TheVariants.{Direct, Journal}
 
 -- ---- a serve
 
--- What is written in one: in direct mode sectors of tags, and the block that is written next; in journal mode what is done
--- next tells it.
+-- What is written in one: in direct mode sectors of tags, and the block that is written next; in journal mode what is
+-- done next tells it.
 abbrev pub WritesInServe : Mode → (ticket : ℕ) → (old new : Parts) → (before after : List Content) → Type 0
 WritesInServe Direct ticket old new before after = WritesServed ticket old new before after
 WritesInServe (Journal journal) ticket old new before after =

@@ -1,5 +1,5 @@
 -- What the calls of a device tell of each device that it is, and what a call leaves that is to do some events.
-use Rattle.std.specs.Prelude.{◌≡◌, ◌<◌, ℕ, List, Option, Some, Result, IfOk, OnErr, OnOk}
+use Rattle.std.specs.Prelude.{◌≡◌, ◌<◌, ℕ, List, Some, Result, IfOk, OnErr, OnOk}
 use Rattle.disk_model.specs.Disk.{Content}
 use Rattle.disk_model.specs.Identity.{DiskIdentity}
 use Rattle.device_model.specs.Progress.{Answer, Close, Event, FailedClose, IsClosed, answers}
@@ -22,7 +22,8 @@ use Rattle.device.specs.Run.{HasFailed, HasRun}
 -- ---- one call
 
 -- Whichever device it is, a serve is its event,
-abbrev pub Serves : ℕ → Result Served StepFault → Condition → (old new : DeviceParts) → (before after : List Content) → Type 0
+abbrev pub Serves : ℕ → Result Served StepFault → Condition → (old new : DeviceParts)
+    → (before after : List Content) → Type 0
 Serves ticket result condition old new before after = (w : Standing) → IsDevice w condition old before
     → HasServed any_mode w ticket result (condition_by result) new before after
 
@@ -64,7 +65,8 @@ StaysReady identity moments condition old new first last = IsReady condition old
     → IsReady condition new (identity last) (moments last)
 
 -- By what a call answers, it keeps the parts.
-abbrev pub Keeps : {T E : Type 0} → Result T E → (old new : DeviceParts) → (disk now : DiskIdentity) → List Content → Type 0
+abbrev pub Keeps : {T E : Type 0} → Result T E → (old new : DeviceParts) → (disk now : DiskIdentity) → List Content
+    → Type 0
 Keeps result old new disk now after = KeepsParts any_mode (condition_by result) old new disk now after
 
 -- A device that works writes in a serve what its mode does,
@@ -93,8 +95,8 @@ pub record Works {D : Type 0} (identity : D → DiskIdentity) (moments : D → L
   pub ready : IsReady condition parts (identity disk) (moments disk)
   pub is : condition ≡ Working
 
--- On a device that works all of its events are done; or the disk has failed in one. Both ways the same requests are in flight on
--- the same disk, and the device works, or is broken.
+-- On a device that works all of its events are done; or the disk has failed in one. Both ways the same requests are in
+-- flight on the same disk, and the device works, or is broken.
 pub record Runs {D T E : Type 0} (identity : D → DiskIdentity) (moments : D → List Content)
     (events : Standing → List Event) (old new : DeviceParts) (first last : D) (result : Result T E) : Type 0 where
   pub done : OnOk result ((w : Standing) → IsDevice w Working old (moments first)

@@ -1,5 +1,5 @@
 -- Which device of `device_model` a device in any mode is, by what it keeps beside its disk and what the disk tells.
-use Rattle.std.specs.Prelude.{◌≡◌, List}
+use Rattle.std.specs.Prelude.{List}
 use Rattle.disk_model.specs.Disk.{Content, EachImage}
 use Rattle.disk_model.specs.Identity.{DiskIdentity}
 use Rattle.disk_model.specs.Moments.{HasNow}
@@ -12,7 +12,7 @@ use Rattle.device_parts.specs.declared.parts.Parts.{Parts}
 use Rattle.device_parts.specs.Device as Devices
 use Rattle.device_parts.specs.Device.{DeviceMode, Standing}
 use Rattle.direct_device.specs.Device.{IsDirect}
-use Rattle.direct_opening.specs.Emptied.{HasEmptyJournal}
+use Rattle.device_opening.specs.Emptied.{HasEmptyJournal}
 use Rattle.journal_device.specs.Device as InJournal
 use Rattle.journal_device.specs.Device.{IsJournaled, kept}
 use Rattle.device.specs.declared.mode.DeviceParts.{DeviceParts}

@@ -1,7 +1,6 @@
-pub use Rattle.direct_opening.specs.Moves
-pub use Rattle.direct_opening.specs.Opening as DirectOpeningOpening
-pub use Rattle.direct_opening.specs.Placement
-pub use Rattle.direct_opening.specs.Writes as ReplayWrites
+pub use Rattle.device_opening.specs.Moves
+pub use Rattle.device_opening.specs.Placement
+pub use Rattle.device_opening.specs.Writes as ReplayWrites
 pub use Rattle.journal_device.specs.Answers as JournalDeviceAnswers
 pub use Rattle.journal_device.specs.Closing
 pub use Rattle.journal_device.specs.Commits

@@ -1,19 +1,16 @@
 -- What an opening leaves, in the mode that is asked for.
-use Rattle.std.specs.Prelude.{◌≡◌, ◌≢◌, ℕ, ◌*◌, ◌≤◌, Option, Some, List, Err}
+use Rattle.std.specs.Prelude.{◌≡◌, ◌≢◌, ℕ, ◌≤◌, Option, List, Err}
 use Rattle.disk_model.specs.Causes.{Rose}
-use Rattle.disk_model.specs.Disk.{Content, EachImage, HasNothingPending, Image, last_image}
+use Rattle.disk_model.specs.Disk.{Content, HasNothingPending, last_image}
 use Rattle.disk_model.specs.Identity.{DiskIdentity}
-use Rattle.disk_model.specs.Moments.{EachSince, HasNow}
+use Rattle.disk_model.specs.Moments.{HasNow}
 use Rattle.device_model.specs.Mode as Model
-use Rattle.place_model.specs.Format.{format_on}
-use Rattle.place_model.specs.Kind.{kind_in}
-use Rattle.image_format.specs.declared.open_fault.OpenFault.{OpenFault as FormatFault}
 use Rattle.image_judging.specs.declared.opening_fault.OpeningFault.{OpeningFault}
 use Rattle.image_judging.specs.declared.opening_fault.OpeningFault.TheVariants as Faults
-use Rattle.image_judging.specs.Faults.{ByFormat, fault_in, fault_of}
-use Rattle.journal_device.specs.JournalOpeningOpening.{IsOfOpening, KeepsRefused, OnlySyncs}
-use Rattle.direct_opening.specs.Opening.{WritesEmptying}
-use Rattle.device_parts.specs.Device.{CanOpenRead, HasOpened}
+use Rattle.image_judging.specs.Faults.{fault_in, fault_of}
+use Rattle.device_parts.specs.Device.{HasOpened}
+use Rattle.device_opening.specs.DirectOpening.{WritesEmptying}
+use Rattle.device_opening.specs.Opening.{KeepsRefused, LeavesOpenable, WritesOpening}
 use Rattle.device.specs.declared.mode.DeviceParts.{DeviceParts}
 use Rattle.device.specs.Device.{any_mode}
 use Rattle.device.specs.declared.opening.OpenMode.{OpenMode}
@@ -24,8 +21,10 @@ abbrev pub asked_mode : OpenMode → Model.Mode
 asked_mode Direct = Model.Direct
 asked_mode Journal = Model.Journal
 
--- The device is open in that mode on the image that reads gave, which is one that can be opened. No request is in flight.
-abbrev pub HasOpenedIn : OpenMode → Option (List ℕ) → DiskIdentity → DeviceParts → (before after : List Content) → Type 0
+-- The device is open in that mode on the image that reads gave, which is one that can be opened. No request is in
+-- flight.
+abbrev pub HasOpenedIn : OpenMode → Option (List ℕ) → DiskIdentity → DeviceParts → (before after : List Content)
+    → Type 0
 HasOpenedIn mode key disk parts before after = HasOpened any_mode (asked_mode mode) key disk parts before after
 
 -- In direct mode nothing is pending once it is open.
@@ -33,36 +32,26 @@ abbrev pub IsSettledIn : OpenMode → List Content → Type 0
 IsSettledIn Direct moments = HasNow HasNothingPending moments
 IsSettledIn Journal moments = Unit {0}
 
--- The disk is not opened, in either mode. The image tells why, where the disk did not fail and there was memory: behind a
--- fault of the first sector nothing was done, and behind any other the disk was synced at most.
+-- The disk is not opened, in either mode. The image tells why, where the disk did not fail and there was memory; and unless
+-- the disk failed it is as it was, not even synced.
 pub record IsRefused (key : Option (List ℕ)) (disk : DiskIdentity) (fault : OpeningFault)
     (before after : List Content) : Type 0 where
   pub told : fault ≢ Faults.Disk → fault ≢ Faults.Memory
       → HasNow (λ c. fault_in {T = DeviceParts} (Err fault) ≡ fault_of key disk.sectors (last_image c)) before
-  pub kept : (format : FormatFault) → fault_in {T = DeviceParts} (Err fault) ≡ Some (ByFormat format) → after ≡ before
-  pub nothing : fault ≢ Faults.Disk → OnlySyncs before after
+  pub untouched : fault ≢ Faults.Disk → after ≡ before
 
--- At each moment each image can be opened, and may be left of the device before its first request.
-pub record IsLeftOpening (mode : Model.Mode) (key : Option (List ℕ)) (sectors : ℕ) (before after : List Content)
-    : Type 0 where
-  pub opens : EachSince (λ start. EachImage (kind_in mode key sectors).CanOpen) before after
-  pub left : EachSince (λ start. let image = last_image start in let kind = kind_in mode key sectors in
-      EachImage (kind.MayBeLeft image (kind.opened image).history)) before after
-
--- What an opening may write: what a recovery does. In direct mode the empty sections are those of the emptying, too, and
--- where the journal was empty nothing of it is written.
+-- What an opening may write: what a recovery does. In direct mode the empty sections are those of the emptying, too,
+-- and where the journal was empty nothing of it is written.
 abbrev pub WritesInOpening : OpenMode → (key : Option (List ℕ)) → (sectors : ℕ) → (before after : List Content) → Type 0
 WritesInOpening Direct key sectors before after = WritesEmptying key sectors before after
-WritesInOpening Journal key sectors before after =
-    EachSince (λ start. IsOfOpening (format_on key sectors (last_image start)).geometry start) before after
+WritesInOpening Journal key sectors before after = WritesOpening key sectors before after
 
--- The disk is the one that it was. Where the image could be opened it still can at each moment, and nothing of it is lost.
--- One that is refused is synced at most.
+-- The disk is the one that it was. Where the image could be opened it still can at each moment, and nothing of it is
+-- lost. One that is refused is synced at most.
 pub record LeavesOpening (mode : OpenMode) (key : Option (List ℕ)) (disk now : DiskIdentity)
     (before after : List Content) : Type 0 where
   pub identity : now ≡ disk
-  pub left : CanOpenRead (asked_mode mode) key disk.sectors before
-      → IsLeftOpening (asked_mode mode) key disk.sectors before after
+  pub left : LeavesOpenable (asked_mode mode) key disk.sectors before after
   pub refused : KeepsRefused (fault_of key disk.sectors) before after
   pub writes : WritesInOpening mode key disk.sectors before after
 

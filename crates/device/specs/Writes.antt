@@ -18,8 +18,9 @@ pub record IsInJournal (g : Geometry) (sector : ℕ) : Type 0 where
 abbrev pub IsAnyBlock : ℕ → Type 0
 IsAnyBlock block = Unit {0}
 
--- Bytes may be written to the sector: in direct mode it is one of tags, or of the data of a block that the changes write; in
--- journal mode one of the journal, of tags, or of the data of a block, since entries of earlier writes come to their places.
+-- Bytes may be written to the sector: in direct mode it is one of tags, or of the data of a block that the changes
+-- write; in journal mode one of the journal, of tags, or of the data of a block, since entries of earlier writes come
+-- to their places.
 abbrev pub IsOfRun : Model.Mode → Geometry → List Change → (sector : ℕ) → List ℕ → Type 0
 IsOfRun Model.Journal g changes sector x = IsInJournal g sector ⊎ IsOfPlaces g IsAnyBlock sector x
 IsOfRun mode g changes sector x = IsOfPlaces g (IsWrittenIn changes) sector x

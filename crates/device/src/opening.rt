@@ -1,15 +1,14 @@
 //! Opening a device in the mode that is asked for.
-ghost use Rattle.std.specs.Prelude.{◌≡◌, IfErr, IfOk};
+ghost use Rattle.std.specs.Prelude.{IfErr, IfOk};
 ghost use Rattle.disk_model.specs.Identity.{IsBound};
 ghost use Rattle.hmac_tag.specs.TagMaker.{key_of};
 ghost use Rattle.image_judging.specs.Faults.{HasOpenCause};
 ghost use Rattle.device.specs.Opening.{HasOpenedIn, IsRefused, IsSettledIn, LeavesOpening};
 
 use crate::{DeviceParts, Mode};
-use direct_opening::open_direct;
+use device_opening::{open_direct, open_journal};
 use hmac_tag::Hash;
 use image_judging::OpeningFault;
-use journal_device::{OpenedDevice, device_of, open_journal, opened_journals_are_devices};
 use sector_disk::Disk;
 use sector_pool::Region;
 use std::alloc::Global;
@@ -113,11 +112,8 @@ fn open_in_journal<'p, D: Disk>(
         (D.moments disk.old) (D.moments disk.new) }
 {
     let opened = open_journal(alloc, disk, hash, pool)?;
-    // What was opened is a device.
-    opened_journals_are_devices();
-    let OpenedDevice { parts, journal } = device_of(opened);
     Ok(DeviceParts {
-        common: parts,
-        mode: Mode::Journal(journal),
+        common: opened.parts,
+        mode: Mode::Journal(opened.journal),
     })
 }

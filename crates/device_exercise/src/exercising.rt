@@ -1,20 +1,17 @@
 //! Runs the requests of an exercise, one by one, and counts what they are answered.
-ghost use Rattle.std.specs.Prelude.{◌≡◌, ◌≢◌, ◌+◌, ◌<◌, ◌≤◌, ◌^◌, ◌∷◌, [], Err, IfErr, IfOk, None, OnErr, OnOk, false};
+ghost use Rattle.std.specs.Prelude.{◌≡◌, ◌+◌, ◌<◌, ◌≤◌, ◌^◌, [], Err, IfOk, None, false};
 ghost use Rattle.command_model.specs.Exercise.{read_all};
 ghost use Rattle.command_model.specs.Workload.{workload_asks};
 ghost use Rattle.device_model.specs.Script.{AskLine};
-ghost use Rattle.device_parts.specs.declared.condition.Condition.TheVariants.{Broken, Working};
 ghost use Rattle.device.specs.Calls.{Works};
-ghost use Rattle.device.specs.Device.{IsDevice, IsReady, mode_of};
-ghost use Rattle.device_parts.specs.Device.{Standing};
-ghost use Rattle.device.specs.Run.{IsCutOff};
 ghost use Rattle.script_text.specs.Line.{ask_of};
-ghost use Rattle.script_session.specs.Meaning.{fault_on};
+ghost use Rattle.script_session.specs.Calls.{TurnsAt, fault_in};
 ghost use Rattle.script_session.specs.Stop.{HasStopCause};
-ghost use Rattle.script_session.specs.Tickets.{AreInFlight, numbers_of};
-ghost use Rattle.workload.specs.Tally.{lines_in, no_tally};
-ghost use Rattle.device_exercise.specs.Exercising.{HasExercised, HasRunAsks, StaysWithin, events_of_asks};
-ghost use Rattle.device_exercise.specs.Exercising.{exercise_events, with_reply_of};
+ghost use Rattle.script_session.specs.Tickets.{AreInFlight};
+ghost use Rattle.workload.specs.Tally.{lines_in};
+ghost use Rattle.device_exercise.specs.Calls.{CutsAsks, CutsExercise, Exercises, LeavesReady, RunsAsks, RunsWorkload};
+ghost use Rattle.device_exercise.specs.Calls.{StaysIn, StaysRead, only};
+ghost use Rattle.device_exercise.specs.Exercising.{with_reply_of};
 
 use device::Device;
 use request_slots::Reply;
@@ -44,25 +41,16 @@ pub fn exercise<'d, 'p, D: Disk>(
     requires requests { device.old.parts.common.slots.slots ≡ [] }
     requires number { device.old.parts.common.slots.submitted + count + device.old.parts.common.slots.blocks < 2 ^ 64 }
 
-    ensures ran { IfOk result (λ tally. (w : Standing)
-        → IsDevice w Working device.old.parts (D.moments device.old.disk.now)
-        → HasExercised w seed count tally device.new.parts
-        (D.moments device.old.disk.now) (D.moments device.new.disk.now)) }
+    ensures ran { Exercises D.moments seed count result device.old.parts device.new.parts
+        device.old.disk.now device.new.disk.now }
 
-    ensures stopped { IfErr result (λ _. (w : Standing)
-        → IsDevice w Working device.old.parts (D.moments device.old.disk.now)
-        → IsCutOff w (exercise_events w seed count)
-        (D.moments device.old.disk.now) (D.moments device.new.disk.now)) }
+    ensures stopped { CutsExercise D.moments seed count result device.old.parts
+        device.old.disk.now device.new.disk.now }
     ensures cause { HasStopCause (D.faults device.old.disk.now) (D.faults device.new.disk.now) result }
 
-    ensures works { result ≢ Err Stop.Disk → device.new.condition ≡ Working }
-    ensures broken { result ≡ Err Stop.Disk → device.new.condition ≡ Broken }
-    ensures ready { IsReady device.new.condition device.new.parts
-        (D.identity device.new.disk.now) (D.moments device.new.disk.now) }
-    ensures mode { mode_of device.new.parts.mode ≡ mode_of device.old.parts.mode }
-    ensures blocks { device.new.parts.common.slots.blocks ≡ device.old.parts.common.slots.blocks }
-    ensures block_size { device.new.parts.common.slots.block_size ≡ device.old.parts.common.slots.block_size }
-    ensures identity { D.identity device.new.disk.now ≡ D.identity device.old.disk.now }
+    ensures turn { TurnsAt (Err Stop.Disk) result device.new.condition }
+    ensures leaves { LeavesReady D.identity D.moments device.new.condition device.old.parts device.new.parts
+        device.old.disk.now device.new.disk.now }
     ensures same_disk { device.new.disk.ghost_name ≡ device.old.disk.ghost_name }
 {
     let mut tickets = Tickets::new(alloc);
@@ -88,23 +76,17 @@ fn run_workload<'d, 'p, D: Disk>(
     requires tickets { AreInFlight tickets.old device.old.parts.common.slots }
     requires number { device.old.parts.common.slots.submitted + count < 2 ^ 64 }
 
-    ensures ran { IfOk result (λ tally. (w : Standing)
-        → IsDevice w Working device.old.parts (D.moments device.old.disk.now)
-        → HasRunAsks w (workload_asks count seed device.old.parts.common.slots.blocks)
-        (workload_asks count seed device.old.parts.common.slots.blocks) no_tally tally device.new.parts
-        (D.moments device.old.disk.now) (D.moments device.new.disk.now)) }
+    ensures ran { RunsWorkload D.moments seed count result device.old.parts device.new.parts
+        device.old.disk.now device.new.disk.now }
     ensures faults { IfOk result (λ tally. tally.faults ≤ count) }
 
-    ensures stopped { OnErr result ((w : Standing)
-        → IsDevice w Working device.old.parts (D.moments device.old.disk.now)
-        → IsCutOff w (events_of_asks w (workload_asks count seed device.old.parts.common.slots.blocks))
-        (D.moments device.old.disk.now) (D.moments device.new.disk.now)) }
+    ensures stopped { CutsAsks D.moments (workload_asks count seed) result device.old.parts
+        device.old.disk.now device.new.disk.now }
     ensures cause { HasStopCause (D.faults device.old.disk.now) (D.faults device.new.disk.now) result }
 
-    ensures works { result ≢ Err Stop.Disk → device.new.condition ≡ Working }
-    ensures broken { result ≡ Err Stop.Disk → device.new.condition ≡ Broken }
-    ensures stays { StaysWithin count device.new.condition device.old.parts device.new.parts tickets.new
-        (D.identity device.old.disk.now) (D.identity device.new.disk.now) (D.moments device.new.disk.now) }
+    ensures turn { TurnsAt (Err Stop.Disk) result device.new.condition }
+    ensures stays { StaysIn count D.identity D.moments device.new.condition device.old.parts device.new.parts
+        tickets.new device.old.disk.now device.new.disk.now }
     ensures same_disk { device.new.disk.ghost_name ≡ device.old.disk.ghost_name }
 {
     let mut workload = Workload::new(seed, device.blocks());
@@ -134,22 +116,16 @@ fn read_blocks<'d, 'p, D: Disk>(
     requires number { device.old.parts.common.slots.submitted + device.old.parts.common.slots.blocks < 2 ^ 64 }
     requires faults { tally.old.faults + device.old.parts.common.slots.blocks < 2 ^ 64 }
 
-    ensures ran { OnOk result ((w : Standing)
-        → IsDevice w Working device.old.parts (D.moments device.old.disk.now)
-        → HasRunAsks w (read_all device.old.parts.common.slots.blocks) [] tally.old tally.new device.new.parts
-        (D.moments device.old.disk.now) (D.moments device.new.disk.now)) }
+    ensures ran { RunsAsks D.moments read_all result tally.old tally.new device.old.parts device.new.parts
+        device.old.disk.now device.new.disk.now }
 
-    ensures stopped { OnErr result ((w : Standing)
-        → IsDevice w Working device.old.parts (D.moments device.old.disk.now)
-        → IsCutOff w (events_of_asks w (read_all device.old.parts.common.slots.blocks))
-        (D.moments device.old.disk.now) (D.moments device.new.disk.now)) }
+    ensures stopped { CutsAsks D.moments read_all result device.old.parts
+        device.old.disk.now device.new.disk.now }
     ensures cause { HasStopCause (D.faults device.old.disk.now) (D.faults device.new.disk.now) result }
 
-    ensures works { result ≢ Err Stop.Disk → device.new.condition ≡ Working }
-    ensures broken { result ≡ Err Stop.Disk → device.new.condition ≡ Broken }
-    ensures stays { StaysWithin device.old.parts.common.slots.blocks device.new.condition device.old.parts
-        device.new.parts tickets.new (D.identity device.old.disk.now) (D.identity device.new.disk.now)
-        (D.moments device.new.disk.now) }
+    ensures turn { TurnsAt (Err Stop.Disk) result device.new.condition }
+    ensures stays { StaysRead D.identity D.moments device.new.condition device.old.parts device.new.parts
+        tickets.new device.old.disk.now device.new.disk.now }
     ensures same_disk { device.new.disk.ghost_name ≡ device.old.disk.ghost_name }
 {
     let blocks = device.blocks();
@@ -180,26 +156,19 @@ fn run_counted<'d, 'p, D: Disk>(
     requires tickets { AreInFlight tickets.old device.old.parts.common.slots }
     requires number { device.old.parts.common.slots.submitted + 1 < 2 ^ 64 }
     requires faults { tally.old.faults + 1 < 2 ^ 64 }
-    requires runnable { fault_on device.old.parts.common.slots.blocks device.old.parts.common.slots.block_size
-        (numbers_of tickets.old) (AskLine false (ask_of ask.now)) ≡ None }
+    requires runnable { fault_in device.old.parts.common.slots tickets.old (AskLine false (ask_of ask.now)) ≡ None }
 
-    ensures ran { OnOk result ((w : Standing)
-        → IsDevice w Working device.old.parts (D.moments device.old.disk.now)
-        → HasRunAsks w (ask_of ask.now ∷ []) [] tally.old tally.new device.new.parts
-        (D.moments device.old.disk.now) (D.moments device.new.disk.now)) }
+    ensures ran { RunsAsks D.moments (only (ask_of ask.now)) result tally.old tally.new
+        device.old.parts device.new.parts device.old.disk.now device.new.disk.now }
 
-    ensures stopped { OnErr result ((w : Standing)
-        → IsDevice w Working device.old.parts (D.moments device.old.disk.now)
-        → IsCutOff w (events_of_asks w (ask_of ask.now ∷ []))
-        (D.moments device.old.disk.now) (D.moments device.new.disk.now)) }
+    ensures stopped { CutsAsks D.moments (only (ask_of ask.now)) result device.old.parts
+        device.old.disk.now device.new.disk.now }
     ensures cause { HasStopCause (D.faults device.old.disk.now) (D.faults device.new.disk.now) result }
 
-    ensures lines { lines_in tally.new ≡ lines_in tally.old }
-    ensures faults { tally.new.faults ≤ tally.old.faults + 1 }
-    ensures works { result ≢ Err Stop.Disk → device.new.condition ≡ Working }
-    ensures broken { result ≡ Err Stop.Disk → device.new.condition ≡ Broken }
-    ensures stays { StaysWithin 1 device.new.condition device.old.parts device.new.parts tickets.new
-        (D.identity device.old.disk.now) (D.identity device.new.disk.now) (D.moments device.new.disk.now) }
+    ensures counts { (lines_in tally.new ≡ lines_in tally.old) × (tally.new.faults ≤ tally.old.faults + 1) }
+    ensures turn { TurnsAt (Err Stop.Disk) result device.new.condition }
+    ensures stays { StaysIn 1 D.identity D.moments device.new.condition device.old.parts device.new.parts
+        tickets.new device.old.disk.now device.new.disk.now }
     ensures same_disk { device.new.disk.ghost_name ≡ device.old.disk.ghost_name }
 {
     let reply = run_ask(alloc, device, tickets, ask)?;

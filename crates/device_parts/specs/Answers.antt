@@ -78,8 +78,8 @@ after_read ticket block stored parts =
     then with_change ticket (with_block_read parts.slots.block_size bytes) parts.slots
     else with_change ticket (with_fault block stored computed) parts.slots
 
--- A device that works does what is next for a request. `Did` leaves the request fewer turns, and where it waits, nothing is
--- changed. The same requests are in flight.
+-- A device that works does what is next for a request. `Did` leaves the request fewer turns, and where it waits,
+-- nothing is changed. The same requests are in flight.
 pub record ServesNext {Kept E : Type 0} (mode : DeviceMode Kept) (ticket : ℕ) (old new : Kept)
     (before after : List Content) (result : Result Served E) : Type 0 where
   pub does : Does mode (Model.Serve ticket) (Model.FailedServe ticket) served_answer old new before after result
@@ -131,8 +131,8 @@ pub record HasStepCause {T : Type 0} (before after : ℕ) (result : Result T Ste
   pub failed : result ≡ Err Faults.Disk → Rose before after
   pub passed : result ≢ Err Faults.Disk → after ≡ before
 
--- `Broken` is told exactly where a disk has failed the device before, and then nothing is done with the disk. Where the disk
--- fails, the device is broken from then on.
+-- `Broken` is told exactly where a disk has failed the device before, and then nothing is done with the disk. Where
+-- the disk fails, the device is broken from then on.
 pub record TurnsBroken {T A : Type 0} (old new : Condition) (result : Result T StepFault) (first last : A) : Type 0 where
   pub broken : (old ≡ Conditions.Broken) ↔ (result ≡ Err Faults.Broken)
   pub after : new ≡ condition_by result
@@ -187,8 +187,8 @@ pub record HasTaken {Kept : Type 0} (mode : DeviceMode Kept) (w : Standing) (tic
   pub taken : IsTaken result (Model.event_result w.format w.state (Model.Take ticket)).answer
   pub done : HasDone mode w (Model.Take ticket) condition kept moments moments
 
--- The reply to the request of this ticket, and the bytes given back with it, are those that it has where all requests run
--- one after the other, in order of submission.
+-- The reply to the request of this ticket, and the bytes given back with it, are those that it has where all requests
+-- run one after the other, in order of submission.
 pub record IsSerial (w : Standing) (ticket : ℕ) (reply : Reply) : Type 0 where
   pub place : ℕ
   pub is : ticket ≡ suc place

@@ -1,5 +1,5 @@
--- Which device of `device_model` a device is, by what it keeps beside its disk and what the disk tells, with its mode as a
--- parameter.
+-- Which device of `device_model` a device is, by what it keeps beside its disk and what the disk tells, with its mode
+-- as a parameter.
 use Rattle.std.specs.Prelude.{◌≡◌, ℕ, ◌*◌, List, Option, Result, IfOk, OnErr, OnOk, length, map}
 use Rattle.disk_model.specs.Disk.{Content, Image, last_image}
 use Rattle.disk_model.specs.Identity.{DiskIdentity}
@@ -20,8 +20,8 @@ use Rattle.device_parts.specs.declared.parts.Parts.{Parts}
 
 -- ---- what is true of each device
 
--- What is kept is of this disk, which is bound: the blocks and tags are those of its layout, and the buffer has room for
--- one block.
+-- What is kept is of this disk, which is bound: the blocks and tags are those of its layout, and the buffer has room
+-- for one block.
 pub record IsReady (parts : Parts) (disk : DiskIdentity) (moments : List Content) : Type 0 where
   pub store : IsStore parts.tags disk moments
   pub blocks : parts.slots.blocks ≡ parts.tags.geometry.blocks
@@ -60,8 +60,8 @@ condition_of Conditions.Broken = Model.Broken
 abbrev pub rule_on : DiskFormat → TagRule
 rule_on d = record { key = d.key; salt = salt_of d.superblock; size = d.geometry.shape.tag_size }
 
--- A mode in which such things are kept: when they are those of a device whose disk tells its content; when they are of a
--- disk; what is kept in every mode; which mode it is; and which kind of device opens such disks.
+-- A mode in which such things are kept: when they are those of a device whose disk tells its content; when they are of
+-- a disk; what is kept in every mode; which mode it is; and which kind of device opens such disks.
 pub record DeviceMode (Kept : Type 0) : Type 1 where
   pub IsDevice : Standing → Condition → Kept → List Content → Type 0
   pub IsReady : Condition → Kept → DiskIdentity → List Content → Type 0
@@ -79,8 +79,8 @@ pub record KeepsParts {Kept : Type 0} (mode : DeviceMode Kept) (condition : Cond
 
 -- ---- an event
 
--- After a call the device is the one after an event. At each moment of the call each image can be opened, and may be left
--- within the event.
+-- After a call the device is the one after an event. At each moment of the call each image can be opened, and may be
+-- left within the event.
 pub record HasDone {Kept : Type 0} (mode : DeviceMode Kept) (w : Standing) (event : Model.Event) (condition : Condition)
     (kept : Kept) (before after : List Content) : Type 0 where
   pub device : mode.IsDevice (standing_after w event) condition kept after

@@ -4,11 +4,11 @@ ghost use Rattle.disk_model.specs.Identity.{IsBound};
 ghost use Rattle.device_parts.specs.declared.condition.Condition.TheVariants.{Working};
 ghost use Rattle.journal_device.specs.Device.{IsReady};
 
+use device_opening::open_journal;
 use device_parts::{Condition, Served};
 use hmac_tag::Hash;
 use image_formatting::{NewImage, Padding, Wipe, format};
-use journal_device::{OpenedDevice, close, device_of, opened_journals_are_devices, serve};
-use journal_opening::open_journal;
+use journal_device::{JournalParts, close, serve};
 use request_slots::{Bytes, Reply, Request, Ticket};
 use sector_disk::{Disk, MemDisk};
 use sector_pool::Region;
@@ -61,25 +61,19 @@ fn open_device<'p, D: Disk>(
     alloc: Global,
     disk: &mut D,
     region: &'p mut Region,
-) -> Option<OpenedDevice<'p>>
+) -> Option<JournalParts<'p>>
     requires { IsBound (D.identity disk.old).name }
 
     ensures { IfSome result (λ device. IsReady Working device.parts device.journal
         (D.identity disk.new) (D.moments disk.new)) }
 {
-    match open_journal(alloc, disk, Hash::Sha256, region) {
-        Err(_) => None,
-        Ok(opened) => {
-            opened_journals_are_devices();
-            Some(device_of(opened))
-        }
-    }
+    open_journal(alloc, disk, Hash::Sha256, region).ok()
 }
 
 /// Submits a request.
 fn submit<D: Disk>(
     disk: &D,
-    device: &mut OpenedDevice<'_>,
+    device: &mut JournalParts<'_>,
     condition: Condition,
     request: Request,
 ) -> Option<Ticket>
@@ -96,7 +90,7 @@ fn submit<D: Disk>(
 /// Serves a request once, if it is in flight.
 fn serve_once<D: Disk>(
     disk: &mut D,
-    device: &mut OpenedDevice<'_>,
+    device: &mut JournalParts<'_>,
     condition: &mut Condition,
     ticket: &Ticket,
 ) -> Option<Served>
@@ -124,7 +118,7 @@ fn serve_once<D: Disk>(
 /// Serves a request until that does anything else than one block of many. Tells what it did, and after how many blocks.
 fn serve_on<D: Disk>(
     disk: &mut D,
-    device: &mut OpenedDevice<'_>,
+    device: &mut JournalParts<'_>,
     condition: &mut Condition,
     ticket: &Ticket,
 ) -> (Option<Served>, u64)
@@ -146,7 +140,7 @@ fn serve_on<D: Disk>(
 /// The reply to a request, if it gets one.
 fn reply_to<D: Disk>(
     disk: &mut D,
-    device: &mut OpenedDevice<'_>,
+    device: &mut JournalParts<'_>,
     condition: &mut Condition,
     request: Request,
 ) -> Option<Reply>
@@ -177,7 +171,7 @@ fn byte_of(reply: Option<Reply>) -> Option<u8> {
 /// Closes a device whose journal holds block 5. Tells whether all was so.
 fn close_journaled<D: Disk>(
     disk: &mut D,
-    device: &mut OpenedDevice<'_>,
+    device: &mut JournalParts<'_>,
     condition: Condition,
 ) -> bool
     requires { IsReady condition device.old.parts device.old.journal (D.identity disk.old) (D.moments disk.old) }

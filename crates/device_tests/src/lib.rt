@@ -7,5 +7,3 @@ mod call_tests;
 mod chain_tests;
 #[cfg(test)]
 mod journal_device_tests;
-#[cfg(test)]
-mod journal_opening_tests;

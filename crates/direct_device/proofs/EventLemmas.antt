@@ -1,5 +1,5 @@
 -- The end of a device in direct mode, and the events that call no disk.
-use Rattle.std.proofs.Common.{◌≡◌, Bool, true, List, [], refl, ◌∙◌, ap, subst, sym}
+use Rattle.std.proofs.Common.{◌≡◌, true, List, [], refl, ◌∙◌, ap, subst, sym}
 use Rattle.disk_model.specs.Disk.{Content}
 use Rattle.disk_model.proofs.MomentsLemmas.{no_moment}
 use Rattle.device_model.specs.History.{Change, History, with_changes}

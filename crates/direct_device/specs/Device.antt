@@ -36,8 +36,8 @@ standing_then w event disk = record {
   entry = w.entry;
 }
 
--- What is kept is that of this device, whose disk tells its content: the requests in flight, the tags' rule and, as long as
--- it works, the cells. Each image of the disk can be opened, and may be left by the history.
+-- What is kept is that of this device, whose disk tells its content: the requests in flight, the tags' rule and, as
+-- long as it works, the cells. Each image of the disk can be opened, and may be left by the history.
 pub record IsOverDisk (w : DirectStanding) (condition : Condition) (parts : Parts) (moments : List Content)
     : Type 0 where
   pub device : IsDirectDevice w.format w.state w.disk

@@ -5,6 +5,5 @@ pub use Rattle.direct_laws.specs.EventLaws
 pub use Rattle.direct_laws.specs.MomentLaws
 pub use Rattle.direct_laws.specs.ServeLaws
 pub mod Cells
-pub mod Opening
 pub mod Places
 pub mod Serving

@@ -2,13 +2,11 @@
 #![tactic(auto)]
 
 mod flushing;
-mod opening;
 mod reading;
 mod serving;
 mod writing;
 
 pub use flushing::flush;
-pub use opening::settle;
 pub use reading::read_block;
 pub use serving::serve_block;
 pub use writing::write_block;

@@ -31,7 +31,7 @@ use Rattle.image_judging.specs.declared.opening_fault.OpeningFault.{OpeningFault
 use Rattle.image_judging.specs.declared.opening_fault.OpeningFault.TheVariants as OpeningFaults
 use Rattle.image_judging.specs.FaultLaws.{OpensLaw}
 use Rattle.image_judging.specs.Faults.{fault_in}
-use Rattle.journal_opening.proofs.MomentsLemmas.{each_from}
+use Rattle.device_opening.proofs.MomentsLemmas.{each_from}
 use Rattle.script_text.proofs.ScriptRunLemmas.{came_into, run_is_whole}
 use Rattle.device.specs.declared.mode.DeviceParts.{DeviceParts}
 use Rattle.device.specs.declared.opening.OpenMode.TheVariants as OpenModes

@@ -5,7 +5,7 @@ use Rattle.disk_model.specs.Disk.{Content, Image, last_image}
 use Rattle.disk_model.specs.Identity.{DiskIdentity}
 use Rattle.disk_model.specs.Moments.{content_now, EachMoment, HasNow}
 use Rattle.disk_model.proofs.DiskLemmas.{OnlyAdds-none}
-use Rattle.disk_model.proofs.MomentsLemmas.{EachMoment-then, EachMoment-weaker, content_at_end}
+use Rattle.disk_model.proofs.MomentsLemmas.{EachMoment-kept, EachMoment-then, EachMoment-weaker, content_at_end}
 use Rattle.device_model.specs.Device.{DeviceKind}
 use Rattle.device_model.specs.Ending.{Ending, DiskFailed, NoMemory}
 use Rattle.device_model.specs.Mode as Modes
@@ -16,7 +16,7 @@ use Rattle.image_judging.specs.declared.opening_fault.OpeningFault.{OpeningFault
 use Rattle.image_judging.specs.declared.opening_fault.OpeningFault.TheVariants as OpeningFaults
 use Rattle.image_judging.specs.FaultLaws.{OpensLaw}
 use Rattle.image_judging.specs.Faults.{ImageFault, fault_in, fault_of}
-use Rattle.journal_opening.proofs.MomentsLemmas.{each_from}
+use Rattle.device_opening.proofs.MomentsLemmas.{each_from}
 use Rattle.device.specs.declared.mode.DeviceParts.{DeviceParts}
 use Rattle.device.specs.declared.opening.OpenMode.{OpenMode}
 use Rattle.device.specs.declared.opening.OpenMode.TheVariants.{Direct, Journal}
@@ -128,7 +128,7 @@ module _ (law : OpensLaw) (mode : OpenMode) (key : Option (List ℕ)) (disk now 
       told_by refusal fault refused not_disk not_memory is =
           refused_run outset start script (ending_by_refusal refusal)
           (ap (outset_by mode key disk.sectors image) (sym (refused.told not_disk not_memory start told) ∙ is)) b
-          (untouched_now start told (refused.nothing not_disk)) held held refl
+          (untouched_now start told (EachMoment-kept _ (refused.untouched not_disk))) held held refl
 
       -- What ended the run is that the image is refused, or comes from outside.
       pub refused_by_opening : (fault : OpeningFault) → IsRefused key disk fault a b

@@ -8,8 +8,8 @@ use Rattle.device_model.specs.History.{Change}
 use Rattle.device_model.specs.Mode.{Mode, Direct, Journal}
 use Rattle.device_model.specs.ScriptRun.{ScriptRun, changes_in}
 use Rattle.image_model.specs.Geometry.{Geometry}
-use Rattle.journal_opening.specs.Opening.{IsOfOpening}
-use Rattle.device.specs.DirectOpeningOpening.{KeepsEmpty}
+use Rattle.device_opening.specs.DirectOpening.{KeepsEmpty}
+use Rattle.device_opening.specs.Opening.{IsOfOpening}
 use Rattle.device.specs.declared.opening.OpenMode.{OpenMode}
 use Rattle.device.specs.Writes.{IsOfRun}
 use Rattle.script_session.specs.LineRun.{held_with}

@@ -26,8 +26,8 @@ use Rattle.device_parts.specs.declared.condition.Condition.{Condition}
 use Rattle.device_parts.specs.declared.condition.Condition.TheVariants as Conditions
 use Rattle.device_parts.specs.declared.parts.Parts.{Parts}
 use Rattle.device_parts.specs.Device.{condition_of, rule_on}
-use Rattle.journal_opening.specs.Journal.{PlacedRing}
-use Rattle.journal_opening.specs.Standing.{JournalStanding, StandsAs}
+use Rattle.journal_mode.specs.Journal.{PlacedRing}
+use Rattle.journal_mode.specs.Standing.{JournalStanding, StandsAs}
 use Rattle.journal_device.specs.Device.{IsOverDisk, JournaledStanding, kind_on, standing_of, standing_then}
 use Rattle.journal_device.proofs.OverDisk.{IsAfter, IsDoneOver}
 use Rattle.journal_device.proofs.KindLemmas.{left_now, left_through, standing_now}

@@ -6,9 +6,9 @@ use Rattle.tag_store.specs.Store.{Store}
 use Rattle.device_parts.specs.declared.condition.Condition.TheVariants.{Working}
 use Rattle.device_parts.specs.declared.parts.Parts.{Parts}
 use Rattle.device_parts.specs.Device.{Ends, Standing}
-use Rattle.journal_opening.specs.Closing.{HasClosed}
-use Rattle.journal_opening.specs.Journal.{PlacedRing}
-use Rattle.journal_opening.specs.Standing.{IsLeftThrough, JournalStanding, StandsAs}
+use Rattle.journal_mode.specs.Closing.{HasClosed}
+use Rattle.journal_mode.specs.Journal.{PlacedRing}
+use Rattle.journal_mode.specs.Standing.{IsLeftThrough, JournalStanding, StandsAs}
 use Rattle.journal_device.specs.Answers.{IsAllPlaced}
 use Rattle.journal_device.specs.Device.{IsJournaled, in_journal, kept, standing_of, standing_on}
 use Rattle.journal_device.proofs.DoneLemmas.{idle_now, stands_now}

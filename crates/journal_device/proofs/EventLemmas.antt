@@ -1,20 +1,14 @@
 -- The steps of the actors, the end of a device, and the events that call no disk.
-use Rattle.std.proofs.Common.{◌≡◌, ℕ, zero, suc, ◌+◌, not, Bool, true, false, find, option_map, if◌then◌else◌, List, [], ◌∷◌, slice_get, set, Option, None, Some, Ok, Err, Result, IfOk, refl, sym, ◌∙◌, ap, subst, arith}
-use Rattle.std.specs.List.{list_any, range_with_len}
-use Rattle.std.specs.Option.{option_or}
-use Rattle.std.proofs.lemmas.Bool.{false≢true}
+use Rattle.std.proofs.Common.{◌≡◌, ℕ, zero, suc, ◌+◌, not, Bool, false, find, option_map, if◌then◌else◌, List, [], ◌∷◌, Option, None, Some, refl, sym, ◌∙◌, ap, subst}
+use Rattle.std.specs.List.{range_with_len}
 use Rattle.disk_model.specs.Disk.{Content, EachImage}
 use Rattle.disk_model.specs.Moments.{HasNow}
-use Rattle.disk_model.proofs.MomentsLemmas.{content_at_end, no_moment}
+use Rattle.disk_model.proofs.MomentsLemmas.{content_at_end}
 use Rattle.device_model.specs.History.{Change, Flushed, with_change, with_changes}
 use Rattle.device_model.specs.Journal.{JournalCounts, commit, place, settle}
 use Rattle.device_model.specs.Mode.{DeviceFormat, is_journal, is_bitmap, is_recovery}
 use Rattle.device_model.specs.Progress as Model
 use Rattle.device_model.specs.Regions.{clean, recalculate, recalculated_region}
-use Rattle.device_model.specs.Reply as ModelReply
-use Rattle.device_model.specs.Request as Asks
-use Rattle.device_model.specs.Submission as Submissions
-use Rattle.device_model.proofs.EventLemmas.{taken_reached}
 use Rattle.place_model.specs.Format.{DiskFormat}
 use Rattle.place_model.specs.Left.{IsLeftInJournal}
 use Rattle.direct_laws.specs.MomentLaws.{IsLeftNow}
@@ -23,26 +17,16 @@ use Rattle.journal_model.specs.Ring.{next_batch}
 use Rattle.journal_model.specs.Steps.{after_commit, after_place, after_settle}
 use Rattle.journal_ring.specs.declared.ring.Moved.{Moved}
 use Rattle.journal_ring.specs.declared.ring.Moved.TheVariants as JournalMoves
-use Rattle.request_slots.specs.Flight.{Flight, is_in_flight, is_of, is_unfinished, slot_of}
-use Rattle.request_slots.specs.InFlight.{IsFlightOf, as_reply, as_submission, returned_in, slot_for}
-use Rattle.request_slots.specs.Submitting.{after_submit, fault_of}
-use Rattle.request_slots.specs.Taking.{after_take, reply_of, taken_by, without}
-use Rattle.request_slots.specs.declared.reply.Reply.{Reply}
-use Rattle.request_slots.specs.declared.slot.Slot.{Slot}
-use Rattle.request_slots.proofs.InFlightLemmas.{is_open-outcome_in}
-use Rattle.request_slots.proofs.ServeEventLemmas.{flight_taken, reply_is_told}
-use Rattle.request_slots.proofs.SubmitEventLemmas.{submit_is_told}
-use Rattle.device_parts.specs.declared.condition.Condition.{Condition}
+use Rattle.request_slots.specs.Flight.{Flight}
+use Rattle.request_slots.specs.InFlight.{IsFlightOf}
 use Rattle.device_parts.specs.declared.condition.Condition.TheVariants as Conditions
 use Rattle.device_parts.specs.declared.parts.Parts.{Parts}
-use Rattle.device_parts.specs.Device.{condition_of}
-use Rattle.device_parts.proofs.TurnLemmas.{placed, slot-is}
 use Rattle.device_parts.specs.Answers.{moved_answer}
-use Rattle.journal_opening.specs.Closing.{HasClosed}
-use Rattle.journal_opening.specs.Commits.{CommitsAs}
-use Rattle.journal_opening.specs.Moves.{PlacesAs, SettlesAs}
-use Rattle.journal_opening.specs.Journal.{PlacedRing}
-use Rattle.journal_opening.specs.Standing.{IsLeftThrough, JournalStanding, StandsAs}
+use Rattle.journal_mode.specs.Closing.{HasClosed}
+use Rattle.journal_mode.specs.Commits.{CommitsAs}
+use Rattle.journal_mode.specs.Moves.{PlacesAs, SettlesAs}
+use Rattle.journal_mode.specs.Journal.{PlacedRing}
+use Rattle.journal_mode.specs.Standing.{IsLeftThrough, JournalStanding, StandsAs}
 use Rattle.journal_device.specs.Answers.{moved_as}
 use Rattle.journal_device.specs.Device.{IsOverDisk, JournaledStanding, QuietLaw, kind_on, standing_of, standing_on}
 use Rattle.journal_device.proofs.OverDisk.{EndsOver, IsAfter, IsDoneOver, done_on}

@@ -6,10 +6,10 @@ use Rattle.device_parts.specs.declared.answers.Moved.TheVariants as Moves
 use Rattle.journal_model.specs.Ring.{JournalRing}
 use Rattle.journal_ring.specs.declared.ring.Moved as JournalMove
 use Rattle.journal_ring.specs.declared.ring.Moved.TheVariants as JournalMoves
-use Rattle.journal_opening.specs.PlaceWriterMoves.{HasPlaced, HasSettled}
-use Rattle.journal_opening.specs.DeclaredPlacement.{Placement}
-use Rattle.journal_opening.specs.Commits.{HasCommitted}
-use Rattle.journal_opening.specs.Journal.{PlacedRing}
+use Rattle.journal_mode.specs.PlaceWriterMoves.{HasPlaced, HasSettled}
+use Rattle.journal_mode.specs.DeclaredPlacement.{Placement}
+use Rattle.journal_mode.specs.Commits.{HasCommitted}
+use Rattle.journal_mode.specs.Journal.{PlacedRing}
 use Rattle.disk_model.specs.Disk.{Content}
 use Rattle.std.specs.Prelude.{List}
 use Rattle.journal_device.specs.Answers.{moved_as}

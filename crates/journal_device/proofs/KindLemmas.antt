@@ -15,8 +15,8 @@ use Rattle.place_model.proofs.FormatLemmas.{format_on-is, format_on-read}
 use Rattle.place_model.proofs.KindLemmas.{journal_kind_law}
 use Rattle.journal_laws.proofs.PromiseLemmas.{standing_left_law}
 use Rattle.direct_laws.specs.MomentLaws.{IsLeftNow, IsLeftThrough}
-use Rattle.journal_opening.specs.Journal.{PlacedRing}
-use Rattle.journal_opening.specs.Standing.{JournalStanding, StandsAs}
+use Rattle.journal_mode.specs.Journal.{PlacedRing}
+use Rattle.journal_mode.specs.Standing.{JournalStanding, StandsAs}
 use Rattle.tag_store.specs.Store.{Store}
 use Rattle.journal_device.specs.Device.{kind_on}
 

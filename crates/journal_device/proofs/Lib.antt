@@ -8,4 +8,3 @@ pub mod EventLemmas
 pub mod EndLemmas
 pub mod StepsLemmas
 pub mod IdleLemmas
-pub mod OpeningLemmas

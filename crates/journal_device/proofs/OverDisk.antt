@@ -11,7 +11,7 @@ use Rattle.device_parts.specs.declared.condition.Condition.TheVariants.{Broken, 
 use Rattle.device_parts.specs.declared.parts.Parts.{Parts}
 use Rattle.device_parts.specs.Answers.{served_answer}
 use Rattle.device_parts.specs.Device.{HasDone, HasEnded, IsDone, Standing}
-use Rattle.journal_opening.specs.Journal.{PlacedRing}
+use Rattle.journal_mode.specs.Journal.{PlacedRing}
 use Rattle.journal_device.specs.Device.{IsOverDisk, JournaledStanding, in_journal, kept, kind_on, standing_on, standing_then}
 
 -- The device is the one after an event, over a disk of the same format. At each moment of the call each image can be

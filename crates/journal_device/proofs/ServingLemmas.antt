@@ -42,11 +42,11 @@ use Rattle.device_parts.specs.Answers.{after_read, served_by, tag_by}
 use Rattle.device_parts.specs.Device.{IsReady}
 use Rattle.device_parts.proofs.TurnLemmas.{answer_is}
 use Rattle.tag_store.specs.Store.{Store}
-use Rattle.journal_opening.specs.Commits.{HasFlushed}
-use Rattle.journal_opening.specs.Journal.{PlacedRing}
-use Rattle.journal_opening.specs.Puts.{HasPut, TakesWrite, after_change, sections_with}
-use Rattle.journal_opening.specs.Reads.{GivesBlock, KeepsStanding}
-use Rattle.journal_opening.specs.Standing.{IsLeftThrough, JournalStanding, StandsAs}
+use Rattle.journal_mode.specs.Commits.{HasFlushed}
+use Rattle.journal_mode.specs.Journal.{PlacedRing}
+use Rattle.journal_mode.specs.Puts.{HasPut, TakesWrite, after_change, sections_with}
+use Rattle.journal_mode.specs.Reads.{GivesBlock, KeepsStanding}
+use Rattle.journal_mode.specs.Standing.{IsLeftThrough, JournalStanding, StandsAs}
 use Rattle.device_parts.specs.declared.answers.Served.TheVariants as Serves
 use Rattle.journal_device.proofs.OverDisk.{HasFailedIn, IsServedAs}
 use Rattle.journal_device.specs.Device.{IsOverDisk, JournaledStanding, standing_of}

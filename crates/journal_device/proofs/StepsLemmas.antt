@@ -1,19 +1,19 @@
 -- Each step that does something leaves its actor fewer to do.
-use Rattle.std.proofs.Common.{◌≡◌, ◌≢◌, ℕ, suc, ◌-◌, ◌<◌, ◌≤◌, leb, Bool, true, false, if◌then◌else◌, List, [], ◌∷◌, length, drop, refl, sym, ap, arith, length-drop}
+use Rattle.std.proofs.Common.{◌≡◌, ◌≢◌, ℕ, suc, ◌-◌, ◌<◌, ◌≤◌, leb, Bool, true, false, if◌then◌else◌, List, [], ◌∷◌, length, drop, refl, ap, arith, length-drop}
 use Rattle.disk_model.specs.Disk.{Content}
 use Rattle.image_model.specs.Section.{Entry}
 use Rattle.journal_model.specs.Ring.{JournalRing, entries_of, next_batch, unplaced_from}
 use Rattle.journal_ring.specs.RoomLaws.{HasBounds}
 use Rattle.journal_ring.specs.declared.ring.Moved.{Moved}
 use Rattle.journal_ring.specs.declared.ring.Moved.TheVariants.{Did, Idle}
-use Rattle.journal_opening.specs.PlaceWriterMoves.{HasPlaced, HasSettled}
-use Rattle.journal_opening.specs.Placement.{placed_in}
+use Rattle.journal_mode.specs.PlaceWriterMoves.{HasPlaced, HasSettled}
+use Rattle.journal_mode.specs.Placement.{placed_in}
 use Rattle.tag_store.specs.Store.{Store}
 use Rattle.device_parts.specs.declared.answers.Actor.TheVariants as Actors
 use Rattle.device_parts.specs.declared.answers.Moved.TheVariants as Moves
-use Rattle.journal_opening.specs.Commits.{HasCommitted}
-use Rattle.journal_opening.specs.Journal.{PlacedRing}
-use Rattle.journal_opening.proofs.MovesLemmas.{unplaced_few}
+use Rattle.journal_mode.specs.Commits.{HasCommitted}
+use Rattle.journal_mode.specs.Journal.{PlacedRing}
+use Rattle.journal_mode.proofs.MovesLemmas.{unplaced_few}
 use Rattle.journal_device.specs.Answers.{moved_as, steps_left}
 
 pub not_did : Moves.Idle ≡ Moves.Did → ⊥

@@ -10,7 +10,7 @@ use Rattle.request_slots.specs.declared.turn.Turn.TheVariants as Turns
 use Rattle.device_parts.specs.declared.parts.Parts.{Parts}
 use Rattle.device_parts.specs.Device.{IsReady}
 use Rattle.device_parts.proofs.ReadyLemmas.{ready_read, same_flight}
-use Rattle.journal_opening.specs.Journal.{PlacedRing}
+use Rattle.journal_mode.specs.Journal.{PlacedRing}
 use Rattle.journal_device.specs.Answers.{HasEntryMore, WritesFor}
 use Rattle.journal_device.specs.Writing.{WritesIf}
 

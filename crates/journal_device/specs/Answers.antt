@@ -18,11 +18,11 @@ use Rattle.journal_ring.specs.declared.ring.Moved.TheVariants as JournalMoves
 use Rattle.journal_model.specs.JournaledDisk.{JournaledDisk}
 use Rattle.journal_model.specs.Ring.{entries_of}
 use Rattle.journal_ring.specs.Batch.{WritesBatch}
-use Rattle.journal_opening.specs.PlaceWriterMoves.{WritesNext, WritesTags}
-use Rattle.journal_opening.specs.Placement.{placed_in}
-use Rattle.journal_opening.specs.Closing.{HasContent}
-use Rattle.journal_opening.specs.Commits.{WritesBatches}
-use Rattle.journal_opening.specs.Journal.{PlacedRing, after_put}
+use Rattle.journal_mode.specs.PlaceWriterMoves.{WritesNext, WritesTags}
+use Rattle.journal_mode.specs.Placement.{placed_in}
+use Rattle.journal_mode.specs.Closing.{HasContent}
+use Rattle.journal_mode.specs.Commits.{WritesBatches}
+use Rattle.journal_mode.specs.Journal.{PlacedRing, after_put}
 use Rattle.journal_device.specs.Device.{standing_of, standing_on}
 
 -- ---- a serve

@@ -19,9 +19,9 @@ use Rattle.device_parts.specs.declared.condition.Condition.TheVariants.{Working}
 use Rattle.device_parts.specs.declared.parts.Parts.{Parts}
 use Rattle.device_parts.specs.Device as Devices
 use Rattle.device_parts.specs.Device.{DeviceMode, HasDone, Standing, condition_of, rule_on}
-use Rattle.journal_opening.specs.Journal.{PlacedRing}
-use Rattle.journal_opening.specs.Standing.{JournalStanding, StandsAs}
-use Rattle.journal_device.specs.declared.opening.OpenedDevice.{OpenedDevice}
+use Rattle.journal_mode.specs.Journal.{PlacedRing}
+use Rattle.journal_mode.specs.Standing.{JournalStanding, StandsAs}
+use Rattle.journal_device.specs.declared.parts.JournalParts.{JournalParts}
 
 -- ---- what is true of each device
 
@@ -32,7 +32,7 @@ pub record IsReady (condition : Condition) (parts : Parts) (journal : PlacedRing
   pub geometry : journal.ring.geometry ≡ parts.tags.geometry
 
 -- What a device in journal mode keeps.
-abbrev pub kept : Parts → PlacedRing → OpenedDevice
+abbrev pub kept : Parts → PlacedRing → JournalParts
 kept parts journal = record { parts = parts; journal = journal }
 
 -- ---- over its disk
@@ -66,8 +66,9 @@ standing_of w = record {
 abbrev pub kind_on : DiskFormat → DeviceKind
 kind_on d = kind_in Journal d.key d.sectors
 
--- What is kept is that of this device, whose disk tells its content: the requests in flight, the tags' rule and, as long as
--- it works, the journal. No region awaits its tags. Each image of the disk can be opened, and may be left by the history.
+-- What is kept is that of this device, whose disk tells its content: the requests in flight, the tags' rule and, as
+-- long as it works, the journal. No region awaits its tags. Each image of the disk can be opened, and may be left by
+-- the history.
 pub record IsOverDisk (w : JournaledStanding) (condition : Condition) (parts : Parts) (journal : PlacedRing)
     (moments : List Content) : Type 0 where
   pub reached : IsReached w.format w.state
@@ -89,14 +90,14 @@ abbrev pub standing_on : Standing → JournaledDisk → JournaledStanding
 standing_on w disk = record { format = w.format; state = w.state; disk = disk; entry = w.entry }
 
 -- It is one over some disk of its format.
-pub record IsJournaled (w : Standing) (condition : Condition) (device : OpenedDevice) (moments : List Content)
+pub record IsJournaled (w : Standing) (condition : Condition) (device : JournalParts) (moments : List Content)
     : Type 0 where
   pub disk : JournaledDisk
   pub format : disk.format ≡ w.on
   pub over : IsOverDisk (standing_on w disk) condition device.parts device.journal moments
 
 -- Journal mode.
-abbrev pub in_journal : DeviceMode OpenedDevice
+abbrev pub in_journal : DeviceMode JournalParts
 in_journal = record {
   IsDevice = IsJournaled;
   IsReady = λ condition device disk moments. IsReady condition device.parts device.journal disk moments;
@@ -109,7 +110,7 @@ in_journal = record {
 
 -- An event keeps the device that calls no disk, and changes nothing but its requests.
 abbrev pub QuietLaw : Type 0
-QuietLaw = (w : Standing) (condition : Condition) (device : OpenedDevice) (flight : Flight) (moments : List Content)
+QuietLaw = (w : Standing) (condition : Condition) (device : JournalParts) (flight : Flight) (moments : List Content)
     (event : Model.Event) → IsJournaled w condition device moments
     → let result = Model.event_result w.format w.state event in result.changes ≡ []
     → result.progress.journal ≡ w.state.progress.journal → result.progress.regions ≡ w.state.progress.regions

@@ -1,10 +1,7 @@
-pub use Rattle.journal_opening.specs.Closing
-pub use Rattle.journal_opening.specs.Commits
-pub use Rattle.journal_opening.specs.Journal
-pub use Rattle.journal_opening.specs.Opening as JournalOpeningOpening
-pub use Rattle.journal_opening.specs.Standing
-pub use Rattle.journal_opening.specs.declared.opened.OpenedJournal
+pub use Rattle.journal_mode.specs.Closing
+pub use Rattle.journal_mode.specs.Commits
+pub use Rattle.journal_mode.specs.Journal
+pub use Rattle.journal_mode.specs.Standing
 pub mod Answers
 pub mod Device
-pub mod Opening
 pub mod Writing

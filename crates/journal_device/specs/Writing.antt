@@ -2,9 +2,9 @@
 use Rattle.std.specs.Prelude.{◌≡◌, Bool, true, false, List}
 use Rattle.disk_model.specs.Disk.{Content}
 use Rattle.tag_store.specs.Store.{Store}
-use Rattle.journal_opening.specs.Commits.{HasFlushed, WritesBatches}
-use Rattle.journal_opening.specs.Journal.{PlacedRing}
-use Rattle.journal_opening.specs.Standing.{JournalStanding, StandsAs}
+use Rattle.journal_mode.specs.Commits.{HasFlushed, WritesBatches}
+use Rattle.journal_mode.specs.Journal.{PlacedRing}
+use Rattle.journal_mode.specs.Standing.{JournalStanding, StandsAs}
 
 -- All is flushed where that is asked, and else nothing is done.
 abbrev pub HasFlushedIf : Bool → JournalStanding → PlacedRing → Store → List Content → Type 0

@@ -5,10 +5,10 @@ ghost use Rattle.device_parts.specs.Device.{Ends, Standing};
 ghost use Rattle.device_parts.specs.declared.condition.Condition.TheVariants.{Working};
 ghost use Rattle.journal_device.specs.Answers.{IsAllPlaced};
 ghost use Rattle.journal_device.specs.Device.{IsJournaled, IsReady, in_journal, kept};
-ghost use Rattle.journal_opening.specs.Closing.{IsAllFree, WritesAll};
+ghost use Rattle.journal_mode.specs.Closing.{IsAllFree, WritesAll};
 
 use device_parts::Parts;
-use journal_opening::Journal;
+use journal_mode::Journal;
 use sector_disk::{Disk, Failed};
 
 /// Commits, places and settles all that was written.

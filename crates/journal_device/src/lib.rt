@@ -7,14 +7,14 @@
 
 mod closing;
 mod laws;
-mod opening;
+mod parts;
 mod serving;
 mod stepping;
 mod writing;
 
 pub use closing::close;
-pub use journal_opening::{Journal, open_journal};
-pub use laws::{opened_journals_are_devices, quiet_events_are_kept};
-pub use opening::{OpenedDevice, device_of};
+pub use journal_mode::Journal;
+pub use laws::quiet_events_are_kept;
+pub use parts::JournalParts;
 pub use serving::serve;
 pub use stepping::step;

@@ -10,7 +10,7 @@ ghost use Rattle.journal_device.specs.Device.{IsReady, in_journal, kept};
 
 use crate::writing::flush_if;
 use device_parts::{Parts, Served};
-use journal_opening::Journal;
+use journal_mode::Journal;
 use request_slots::{Ticket, Turn};
 use sector_disk::{Disk, Failed};
 

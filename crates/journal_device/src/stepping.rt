@@ -7,7 +7,7 @@ ghost use Rattle.journal_device.specs.Answers.{HasNoWork, WritesAs, moved_as, st
 ghost use Rattle.journal_device.specs.Device.{IsReady, in_journal, kept};
 
 use device_parts::{Actor, Moved, Parts};
-use journal_opening::Journal;
+use journal_mode::Journal;
 use journal_ring::Moved as JournalMoved;
 use sector_disk::{Disk, Failed};
 

@@ -1,11 +1,11 @@
 //! A flush behind a write, where that is asked.
 ghost use Rattle.std.specs.Prelude.{◌≡◌, false, OnOk};
 ghost use Rattle.disk_model.specs.Causes.{HasCause};
-ghost use Rattle.journal_opening.specs.Standing.{IsLeftThrough, JournalStanding, StandsAs};
+ghost use Rattle.journal_mode.specs.Standing.{IsLeftThrough, JournalStanding, StandsAs};
 ghost use Rattle.tag_store.specs.Store.{IsStore};
 ghost use Rattle.journal_device.specs.Writing.{FlushesIf, WritesIf};
 
-use journal_opening::Journal;
+use journal_mode::Journal;
 use sector_disk::{Disk, Failed};
 use tag_store::Tags;
 

@@ -1,3 +1,4 @@
+pub mod Calls
 pub mod LineRun
 pub mod Meaning
 pub mod Stop

@@ -1,15 +1,11 @@
 //! Runs one request as a plain line of a script does, and hands out its reply.
-ghost use Rattle.std.specs.Prelude.{◌≡◌, ◌≢◌, ◌+◌, ◌<◌, ◌^◌, Err, IfErr, IfOk, None, false};
+ghost use Rattle.std.specs.Prelude.{◌≡◌, ◌+◌, ◌<◌, ◌^◌, Err, None, false};
 ghost use Rattle.device_model.specs.Script.{AskLine};
-ghost use Rattle.device_parts.specs.declared.condition.Condition.TheVariants.{Broken, Working};
 ghost use Rattle.device.specs.Calls.{Works};
-ghost use Rattle.device.specs.Device.{IsDevice};
-ghost use Rattle.device_parts.specs.Device.{Standing};
 ghost use Rattle.script_text.specs.Line.{ask_of};
-ghost use Rattle.script_session.specs.LineRun.{HasRunAsk, HasStopped, events_of};
-ghost use Rattle.script_session.specs.Meaning.{fault_on};
+ghost use Rattle.script_session.specs.Calls.{RunsAsk, StaysOn, StopsSo, TurnsAt, fault_in, of_ask};
 ghost use Rattle.script_session.specs.Stop.{HasStopCause};
-ghost use Rattle.script_session.specs.Tickets.{AreInFlight, Stays, numbers_of};
+ghost use Rattle.script_session.specs.Tickets.{AreInFlight};
 ghost use Rattle.script_session.specs.Told.{reply_in};
 
 use crate::line_answer::LineAnswer;
@@ -38,24 +34,18 @@ pub fn run_ask<'d, 'p, D: Disk>(
     requires works { Works D.identity D.moments device.old.condition device.old.parts device.old.disk.now }
     requires tickets { AreInFlight tickets.old device.old.parts.common.slots }
     requires number { device.old.parts.common.slots.submitted + 1 < 2 ^ 64 }
-    requires runnable { fault_on device.old.parts.common.slots.blocks device.old.parts.common.slots.block_size
-        (numbers_of tickets.old) (AskLine false (ask_of ask.now)) ≡ None }
+    requires runnable { fault_in device.old.parts.common.slots tickets.old (AskLine false (ask_of ask.now)) ≡ None }
 
-    ensures ran { IfOk result (λ reply. (w : Standing)
-        → IsDevice w Working device.old.parts (D.moments device.old.disk.now)
-        → HasRunAsk w (ask_of ask.now) reply device.new.parts
-        (D.moments device.old.disk.now) (D.moments device.new.disk.now)) }
+    ensures ran { RunsAsk D.moments (ask_of ask.now) result device.old.parts device.new.parts
+        device.old.disk.now device.new.disk.now }
 
-    ensures stopped { IfErr result (λ stop. (w : Standing)
-        → IsDevice w Working device.old.parts (D.moments device.old.disk.now)
-        → HasStopped w (events_of w (AskLine false (ask_of ask.now))) stop device.new.parts
-        (D.moments device.old.disk.now) (D.moments device.new.disk.now)) }
+    ensures stopped { StopsSo D.moments (of_ask (ask_of ask.now)) result device.old.parts device.new.parts
+        device.old.disk.now device.new.disk.now }
     ensures cause { HasStopCause (D.faults device.old.disk.now) (D.faults device.new.disk.now) result }
 
-    ensures works { result ≢ Err Stop.Disk → device.new.condition ≡ Working }
-    ensures broken { result ≡ Err Stop.Disk → device.new.condition ≡ Broken }
-    ensures stays { Stays device.new.condition device.old.parts device.new.parts tickets.new
-        (D.identity device.old.disk.now) (D.identity device.new.disk.now) (D.moments device.new.disk.now) }
+    ensures turn { TurnsAt (Err Stop.Disk) result device.new.condition }
+    ensures stays { StaysOn D.identity D.moments device.new.condition device.old.parts device.new.parts tickets.new
+        device.old.disk.now device.new.disk.now }
     ensures same_disk { device.new.disk.ghost_name ≡ device.old.disk.ghost_name }
 {
     match ask_whole(alloc, device, tickets, ask) {

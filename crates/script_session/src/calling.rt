@@ -1,23 +1,23 @@
 //! The calls that a line makes of a device, one by one.
-ghost use Rattle.std.specs.Prelude.{◌≡◌, ◌+◌, ◌<◌, ◌^◌, ◌∷◌, [], ℕ, true, vec_len, vec_capacity, IfOk, OnErr, OnOk};
+ghost use Rattle.std.specs.Prelude.{◌≡◌, ◌+◌, ◌<◌, ◌^◌, ℕ, true, vec_len, vec_capacity, OnErr, OnOk};
 ghost use Rattle.std.specs.List.{list_any};
 ghost use Rattle.disk_model.specs.Causes.{HasCause};
-ghost use Rattle.device_model.specs.Progress.{Serve, Step, Submit, Take};
 ghost use Rattle.device_parts.specs.Answers as Core;
 ghost use Rattle.device_parts.specs.declared.condition.Condition.TheVariants.{Broken, Working};
 ghost use Rattle.device.specs.Answers.{HasNoWork};
-ghost use Rattle.device_parts.specs.Device.{KeepsParts};
 ghost use Rattle.device.specs.Calls.{Works};
-ghost use Rattle.device.specs.Device.{IsDevice, any_mode, mode_of};
+ghost use Rattle.device.specs.Device.{IsDevice, mode_of};
 ghost use Rattle.device_parts.specs.Device.{Standing};
-ghost use Rattle.device.specs.Run.{HasFailed};
+ghost use Rattle.device.specs.Run.{one_serve};
 ghost use Rattle.request_slots.specs.Flight.{count_in, first_in};
 ghost use Rattle.request_slots.specs.InFlight.{as_submission};
 ghost use Rattle.script_text.specs.Line.{actor_of};
 ghost use Rattle.script_session.specs.declared.line_answer.LineAnswer.TheVariants.{Ticket};
-ghost use Rattle.script_session.specs.LineRun.{HasAnswered, TellsTicket};
+ghost use Rattle.script_session.specs.Calls.{AnswersSo, AnswersWell, FailsSo, KeepsOn, StaysOn, one_step_of};
+ghost use Rattle.script_session.specs.Calls.{one_submission, one_take};
+ghost use Rattle.script_session.specs.LineRun.{TellsTicket};
 ghost use Rattle.script_session.specs.Told.{moved_line, refused_answer, served_line};
-ghost use Rattle.script_session.specs.Tickets.{AreInFlight, Stays, is_of};
+ghost use Rattle.script_session.specs.Tickets.{AreInFlight, is_of};
 
 use crate::Tickets;
 use crate::line_answer::LineAnswer;
@@ -38,17 +38,16 @@ pub(crate) fn submit<'d, 'p, D: Disk>(
     requires room { vec_len tickets.old.waiting < vec_capacity tickets.old.waiting }
     requires number { device.old.parts.common.slots.submitted + 1 < 2 ^ 64 }
 
-    ensures answered { (w : Standing) → IsDevice w Working device.old.parts (D.moments device.old.disk.now)
-        → HasAnswered w (Submit (as_submission request) ∷ []) result device.new.parts
-        (D.moments device.old.disk.now) (D.moments device.new.disk.now) }
+    ensures answered { AnswersSo D.moments (one_submission request) result device.old.parts device.new.parts
+        device.old.disk.now device.new.disk.now }
     ensures ticket { (w : Standing) → IsDevice w Working device.old.parts (D.moments device.old.disk.now)
         → TellsTicket w (as_submission request) result }
     ensures held { (ticket : ℕ) → result ≡ Ticket ticket
         → list_any (is_of ticket) tickets.new.waiting.items ≡ true }
 
     ensures works { device.new.condition ≡ Working }
-    ensures stays { Stays device.new.condition device.old.parts device.new.parts tickets.new
-        (D.identity device.old.disk.now) (D.identity device.new.disk.now) (D.moments device.new.disk.now) }
+    ensures stays { StaysOn D.identity D.moments device.new.condition device.old.parts device.new.parts tickets.new
+        device.old.disk.now device.new.disk.now }
     ensures disk { device.new.disk.now ≡ device.old.disk.now }
     ensures same_disk { device.new.disk.ghost_name ≡ device.old.disk.ghost_name }
 {
@@ -81,21 +80,17 @@ pub(crate) fn serve_one<'d, 'p, D: Disk>(
     requires tickets { AreInFlight tickets.now device.old.parts.common.slots }
     requires number { list_any (is_of number) tickets.now.waiting.items ≡ true }
 
-    ensures answered { IfOk result (λ answer. (w : Standing)
-        → IsDevice w Working device.old.parts (D.moments device.old.disk.now)
-        → HasAnswered w (Serve number ∷ []) answer device.new.parts
-        (D.moments device.old.disk.now) (D.moments device.new.disk.now)) }
+    ensures answered { AnswersWell D.moments (one_serve number) result device.old.parts device.new.parts
+        device.old.disk.now device.new.disk.now }
 
     ensures cause { HasCause (D.faults device.old.disk.now) (D.faults device.new.disk.now) result }
-    ensures err { OnErr result ((w : Standing)
-        → IsDevice w Working device.old.parts (D.moments device.old.disk.now)
-        → HasFailed w (Serve number ∷ []) device.new.parts
-        (D.moments device.old.disk.now) (D.moments device.new.disk.now)) }
+    ensures err { FailsSo D.moments (one_serve number) result device.old.parts device.new.parts
+        device.old.disk.now device.new.disk.now }
 
     ensures works { OnOk result (device.new.condition ≡ Working) }
     ensures broken { OnErr result (device.new.condition ≡ Broken) }
-    ensures stays { Stays device.new.condition device.old.parts device.new.parts tickets.now
-        (D.identity device.old.disk.now) (D.identity device.new.disk.now) (D.moments device.new.disk.now) }
+    ensures stays { StaysOn D.identity D.moments device.new.condition device.old.parts device.new.parts tickets.now
+        device.old.disk.now device.new.disk.now }
     ensures same_disk { device.new.disk.ghost_name ≡ device.old.disk.ghost_name }
 {
     let served = serve(device, tickets.ticket_of(number))?;
@@ -112,13 +107,12 @@ pub(crate) fn take<'d, 'p, D: Disk>(
     requires tickets { AreInFlight tickets.old device.old.parts.common.slots }
     requires number { list_any (is_of number) tickets.old.waiting.items ≡ true }
 
-    ensures answered { (w : Standing) → IsDevice w Working device.old.parts (D.moments device.old.disk.now)
-        → HasAnswered w (Take number ∷ []) result device.new.parts
-        (D.moments device.old.disk.now) (D.moments device.new.disk.now) }
+    ensures answered { AnswersSo D.moments (one_take number) result device.old.parts device.new.parts
+        device.old.disk.now device.new.disk.now }
 
     ensures works { device.new.condition ≡ Working }
-    ensures stays { Stays device.new.condition device.old.parts device.new.parts tickets.new
-        (D.identity device.old.disk.now) (D.identity device.new.disk.now) (D.moments device.new.disk.now) }
+    ensures stays { StaysOn D.identity D.moments device.new.condition device.old.parts device.new.parts tickets.new
+        device.old.disk.now device.new.disk.now }
     ensures submitted { device.new.parts.common.slots.submitted ≡ device.old.parts.common.slots.submitted }
     ensures disk { device.new.disk.now ≡ device.old.disk.now }
     ensures same_disk { device.new.disk.ghost_name ≡ device.old.disk.ghost_name }
@@ -158,20 +152,16 @@ pub(crate) fn step<'d, 'p, D: Disk>(
 ) -> Result<LineAnswer, Failed>
     requires works { Works D.identity D.moments device.old.condition device.old.parts device.old.disk.now }
 
-    ensures answered { IfOk result (λ answer. (w : Standing)
-        → IsDevice w Working device.old.parts (D.moments device.old.disk.now)
-        → HasAnswered w (Step (actor_of actor) ∷ []) answer device.new.parts
-        (D.moments device.old.disk.now) (D.moments device.new.disk.now)) }
+    ensures answered { AnswersWell D.moments (one_step_of actor) result device.old.parts device.new.parts
+        device.old.disk.now device.new.disk.now }
     ensures cause { HasCause (D.faults device.old.disk.now) (D.faults device.new.disk.now) result }
-    ensures err { OnErr result ((w : Standing)
-        → IsDevice w Working device.old.parts (D.moments device.old.disk.now)
-        → HasFailed w (Step (actor_of actor) ∷ []) device.new.parts
-        (D.moments device.old.disk.now) (D.moments device.new.disk.now)) }
+    ensures err { FailsSo D.moments (one_step_of actor) result device.old.parts device.new.parts
+        device.old.disk.now device.new.disk.now }
 
     ensures works { OnOk result (device.new.condition ≡ Working) }
     ensures broken { OnErr result (device.new.condition ≡ Broken) }
-    ensures keeps { KeepsParts any_mode device.new.condition device.old.parts device.new.parts
-        (D.identity device.old.disk.now) (D.identity device.new.disk.now) (D.moments device.new.disk.now) }
+    ensures keeps { KeepsOn D.identity D.moments device.new.condition device.old.parts device.new.parts
+        device.old.disk.now device.new.disk.now }
     ensures quiet { HasNoWork (mode_of device.old.parts.mode) (actor_of actor)
         → device.new.disk.now ≡ device.old.disk.now }
     ensures same_disk { device.new.disk.ghost_name ≡ device.old.disk.ghost_name }

@@ -1,22 +1,18 @@
 //! Runs one line of a script.
-ghost use Rattle.std.specs.Prelude.{◌≡◌, ◌≢◌, ◌+◌, ◌<◌, ◌^◌, ◌∷◌, [], ℕ, Err, IfErr, IfOk, None, OnErr, OnOk, false, true};
+ghost use Rattle.std.specs.Prelude.{◌≡◌, ◌+◌, ◌<◌, ◌^◌, ℕ, Err, IfOk, None, OnErr, true};
 ghost use Rattle.std.specs.List.{list_any};
-ghost use Rattle.device_model.specs.Progress.{Submit};
-ghost use Rattle.device_model.specs.Script.{AskLine, submission_of};
 ghost use Rattle.disk_model.specs.Causes.{HasCause};
-ghost use Rattle.device_parts.specs.declared.condition.Condition.TheVariants.{Broken, Working};
+ghost use Rattle.device_parts.specs.declared.condition.Condition.TheVariants.{Working};
 ghost use Rattle.device.specs.Calls.{Works};
-ghost use Rattle.device.specs.Device.{IsDevice, mode_of};
-ghost use Rattle.device_parts.specs.Device.{Standing};
-ghost use Rattle.device.specs.Run.{HasBegun, HasFailed};
+ghost use Rattle.device.specs.Device.{mode_of};
 ghost use Rattle.script_text.specs.Line.{ask_of, line_of};
 ghost use Rattle.script_session.specs.declared.line_answer.LineAnswer.TheVariants.{Ticket};
 ghost use Rattle.script_session.specs.declared.line_end.LineEnd.TheVariants as Ends;
-ghost use Rattle.script_session.specs.declared.meaning.MeaningFault.{MeaningFault};
-ghost use Rattle.script_session.specs.LineRun.{HasAnswered, HasEnded, HasLineCause, HasRunLine, ServesNone, TellsTicket, events_of};
-ghost use Rattle.script_session.specs.Meaning.{fault_on};
+ghost use Rattle.script_session.specs.Calls.{AnswersWell, BeginsOnly, EndsLine, FailsOnDisk, OnRefused, RunsLine};
+ghost use Rattle.script_session.specs.Calls.{StaysOn, TellsAsked, TurnsAt, fault_in, of_ask, of_line, one_asked};
+ghost use Rattle.script_session.specs.LineRun.{HasLineCause, ServesNone};
 ghost use Rattle.script_session.specs.Stop.{HasStopCause};
-ghost use Rattle.script_session.specs.Tickets.{AreInFlight, Stays, is_of, numbers_of};
+ghost use Rattle.script_session.specs.Tickets.{AreInFlight, is_of};
 
 use crate::calling::{serve_one, step, submit, take};
 use crate::finishing::finish_all;
@@ -52,26 +48,22 @@ pub fn run_line<'d, 'p, D: Disk, O: Sink>(
     requires tickets { AreInFlight tickets.old device.old.parts.common.slots }
     requires number { device.old.parts.common.slots.submitted + 1 < 2 ^ 64 }
 
-    ensures ran { IfOk result (λ found. (w : Standing)
-        → IsDevice w Working device.old.parts (D.moments device.old.disk.now)
-        → HasRunLine w (line_of line.now) found device.new.parts (D.moments device.old.disk.now)
-        (D.moments device.new.disk.now) (O.held out.old) (O.held out.new)) }
+    ensures ran { RunsLine D.moments O.held (line_of line.now) result device.old.parts device.new.parts
+        device.old.disk.now device.new.disk.now out.old out.new }
 
-    ensures ended { IfErr result (λ end. (w : Standing)
-        → IsDevice w Working device.old.parts (D.moments device.old.disk.now)
-        → HasEnded w (line_of line.now) end device.new.parts (D.moments device.old.disk.now)
-        (D.moments device.new.disk.now) (O.held out.old) (O.held out.new)) }
-    ensures refused { (fault : MeaningFault) → result ≡ Err (Ends.Refused fault)
-        → (device.new.parts ≡ device.old.parts) × (device.new.disk.now ≡ device.old.disk.now)
-        × (tickets.new ≡ tickets.old) × (out.new ≡ out.old) }
+    ensures ended { EndsLine D.moments O.held (line_of line.now) result device.old.parts device.new.parts
+        device.old.disk.now device.new.disk.now out.old out.new }
+    ensures refused { OnRefused result ((device.new.parts ≡ device.old.parts)
+        × (device.new.disk.now ≡ device.old.disk.now)) }
+    ensures untold { OnRefused result ((tickets.new ≡ tickets.old) × (out.new ≡ out.old)) }
     ensures cause { HasLineCause (D.faults device.old.disk.now) (D.faults device.new.disk.now)
         (O.faults out.old) (O.faults out.new) result }
 
-    ensures quiet { ServesNone (mode_of device.old.parts.mode) (line_of line.now) → device.new.disk.now ≡ device.old.disk.now }
-    ensures works { result ≢ Err Ends.Disk → device.new.condition ≡ Working }
-    ensures broken { result ≡ Err Ends.Disk → device.new.condition ≡ Broken }
-    ensures stays { Stays device.new.condition device.old.parts device.new.parts tickets.new
-        (D.identity device.old.disk.now) (D.identity device.new.disk.now) (D.moments device.new.disk.now) }
+    ensures quiet { ServesNone (mode_of device.old.parts.mode) (line_of line.now)
+        → device.new.disk.now ≡ device.old.disk.now }
+    ensures turn { TurnsAt (Err Ends.Disk) result device.new.condition }
+    ensures stays { StaysOn D.identity D.moments device.new.condition device.old.parts device.new.parts tickets.new
+        device.old.disk.now device.new.disk.now }
     ensures same_disk { device.new.disk.ghost_name ≡ device.old.disk.ghost_name }
 {
     if let Some(fault) = meaning::fault_of(line, device.blocks(), device.block_size(), tickets) {
@@ -104,29 +96,22 @@ fn answer_of<'d, 'p, D: Disk>(
     requires works { Works D.identity D.moments device.old.condition device.old.parts device.old.disk.now }
     requires tickets { AreInFlight tickets.old device.old.parts.common.slots }
     requires number { device.old.parts.common.slots.submitted + 1 < 2 ^ 64 }
-    requires runnable { fault_on device.old.parts.common.slots.blocks device.old.parts.common.slots.block_size
-        (numbers_of tickets.old) (line_of line.now) ≡ None }
+    requires runnable { fault_in device.old.parts.common.slots tickets.old (line_of line.now) ≡ None }
 
-    ensures answered { IfOk result (λ answer. (w : Standing)
-        → IsDevice w Working device.old.parts (D.moments device.old.disk.now)
-        → HasAnswered w (events_of w (line_of line.now)) answer device.new.parts
-        (D.moments device.old.disk.now) (D.moments device.new.disk.now)) }
+    ensures answered { AnswersWell D.moments (of_line (line_of line.now)) result device.old.parts device.new.parts
+        device.old.disk.now device.new.disk.now }
 
     ensures cause { HasStopCause (D.faults device.old.disk.now) (D.faults device.new.disk.now) result }
-    ensures disk { result ≡ Err Stop.Disk → (w : Standing)
-        → IsDevice w Working device.old.parts (D.moments device.old.disk.now)
-        → HasFailed w (events_of w (line_of line.now)) device.new.parts
-        (D.moments device.old.disk.now) (D.moments device.new.disk.now) }
-    ensures memory { result ≡ Err Stop.Memory → (w : Standing)
-        → IsDevice w Working device.old.parts (D.moments device.old.disk.now)
-        → HasBegun w (events_of w (line_of line.now)) device.new.parts
-        (D.moments device.old.disk.now) (D.moments device.new.disk.now) }
+    ensures disk { FailsOnDisk D.moments (of_line (line_of line.now)) result device.old.parts device.new.parts
+        device.old.disk.now device.new.disk.now }
+    ensures memory { BeginsOnly D.moments (of_line (line_of line.now)) result device.old.parts device.new.parts
+        device.old.disk.now device.new.disk.now }
 
-    ensures quiet { ServesNone (mode_of device.old.parts.mode) (line_of line.now) → device.new.disk.now ≡ device.old.disk.now }
-    ensures works { result ≢ Err Stop.Disk → device.new.condition ≡ Working }
-    ensures broken { result ≡ Err Stop.Disk → device.new.condition ≡ Broken }
-    ensures stays { Stays device.new.condition device.old.parts device.new.parts tickets.new
-        (D.identity device.old.disk.now) (D.identity device.new.disk.now) (D.moments device.new.disk.now) }
+    ensures quiet { ServesNone (mode_of device.old.parts.mode) (line_of line.now)
+        → device.new.disk.now ≡ device.old.disk.now }
+    ensures turn { TurnsAt (Err Stop.Disk) result device.new.condition }
+    ensures stays { StaysOn D.identity D.moments device.new.condition device.old.parts device.new.parts tickets.new
+        device.old.disk.now device.new.disk.now }
     ensures same_disk { device.new.disk.ghost_name ≡ device.old.disk.ghost_name }
 {
     match *line {
@@ -155,25 +140,18 @@ pub(crate) fn ask_whole<'d, 'p, D: Disk>(
     requires tickets { AreInFlight tickets.old device.old.parts.common.slots }
     requires number { device.old.parts.common.slots.submitted + 1 < 2 ^ 64 }
 
-    ensures answered { IfOk result (λ answer. (w : Standing)
-        → IsDevice w Working device.old.parts (D.moments device.old.disk.now)
-        → HasAnswered w (events_of w (AskLine false (ask_of ask.now))) answer device.new.parts
-        (D.moments device.old.disk.now) (D.moments device.new.disk.now)) }
+    ensures answered { AnswersWell D.moments (of_ask (ask_of ask.now)) result device.old.parts device.new.parts
+        device.old.disk.now device.new.disk.now }
 
     ensures cause { HasStopCause (D.faults device.old.disk.now) (D.faults device.new.disk.now) result }
-    ensures disk { result ≡ Err Stop.Disk → (w : Standing)
-        → IsDevice w Working device.old.parts (D.moments device.old.disk.now)
-        → HasFailed w (events_of w (AskLine false (ask_of ask.now))) device.new.parts
-        (D.moments device.old.disk.now) (D.moments device.new.disk.now) }
-    ensures memory { result ≡ Err Stop.Memory → (w : Standing)
-        → IsDevice w Working device.old.parts (D.moments device.old.disk.now)
-        → HasBegun w (events_of w (AskLine false (ask_of ask.now))) device.new.parts
-        (D.moments device.old.disk.now) (D.moments device.new.disk.now) }
+    ensures disk { FailsOnDisk D.moments (of_ask (ask_of ask.now)) result device.old.parts device.new.parts
+        device.old.disk.now device.new.disk.now }
+    ensures memory { BeginsOnly D.moments (of_ask (ask_of ask.now)) result device.old.parts device.new.parts
+        device.old.disk.now device.new.disk.now }
 
-    ensures works { result ≢ Err Stop.Disk → device.new.condition ≡ Working }
-    ensures broken { result ≡ Err Stop.Disk → device.new.condition ≡ Broken }
-    ensures stays { Stays device.new.condition device.old.parts device.new.parts tickets.new
-        (D.identity device.old.disk.now) (D.identity device.new.disk.now) (D.moments device.new.disk.now) }
+    ensures turn { TurnsAt (Err Stop.Disk) result device.new.condition }
+    ensures stays { StaysOn D.identity D.moments device.new.condition device.old.parts device.new.parts tickets.new
+        device.old.disk.now device.new.disk.now }
     ensures same_disk { device.new.disk.ghost_name ≡ device.old.disk.ghost_name }
 {
     finish_all(device, tickets)?;
@@ -200,21 +178,17 @@ fn start<'d, 'p, D: Disk>(
     requires tickets { AreInFlight tickets.old device.old.parts.common.slots }
     requires number { device.old.parts.common.slots.submitted + 1 < 2 ^ 64 }
 
-    ensures answered { IfOk result (λ answer. (w : Standing)
-        → IsDevice w Working device.old.parts (D.moments device.old.disk.now)
-        → HasAnswered w (Submit (submission_of w.format.blocks.block_size (ask_of ask.now)) ∷ []) answer
-        device.new.parts (D.moments device.old.disk.now) (D.moments device.new.disk.now)) }
-    ensures ticket { IfOk result (λ answer. (w : Standing)
-        → IsDevice w Working device.old.parts (D.moments device.old.disk.now)
-        → TellsTicket w (submission_of w.format.blocks.block_size (ask_of ask.now)) answer) }
+    ensures answered { AnswersWell D.moments (one_asked (ask_of ask.now)) result device.old.parts device.new.parts
+        device.old.disk.now device.new.disk.now }
+    ensures ticket { TellsAsked D.moments (ask_of ask.now) result device.old.parts device.old.disk.now }
     ensures held { IfOk result (λ answer. (ticket : ℕ) → answer ≡ Ticket ticket
         → list_any (is_of ticket) tickets.new.waiting.items ≡ true) }
 
     ensures err { OnErr result (device.new.parts ≡ device.old.parts) }
 
     ensures works { device.new.condition ≡ Working }
-    ensures stays { Stays device.new.condition device.old.parts device.new.parts tickets.new
-        (D.identity device.old.disk.now) (D.identity device.new.disk.now) (D.moments device.new.disk.now) }
+    ensures stays { StaysOn D.identity D.moments device.new.condition device.old.parts device.new.parts tickets.new
+        device.old.disk.now device.new.disk.now }
     ensures disk { device.new.disk.now ≡ device.old.disk.now }
     ensures same_disk { device.new.disk.ghost_name ≡ device.old.disk.ghost_name }
 {

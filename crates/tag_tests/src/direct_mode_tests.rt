@@ -4,7 +4,7 @@ ghost use Rattle.disk_model.specs.Identity.{IsBound};
 ghost use Rattle.tag_store.specs.Store.{IsStore};
 
 use buffer_cache::Cache;
-use direct_mode::{flush, read_block, serve_block, settle, write_block};
+use direct_mode::{flush, read_block, serve_block, write_block};
 use hmac_tag::Tag;
 use layout::Geometry;
 use sector_disk::{Disk, Failed, MemDisk};
@@ -33,18 +33,16 @@ const STRADDLING: Super = Super {
 const SECTORS: u64 = 512;
 
 /// A store over a disk, of which it holds nothing yet, and where all lies.
-fn opened<D: Disk>(alloc: Global, disk: &mut D) -> Result<(Tags, Geometry), Fail>
-    requires bound { IsBound (D.identity disk.old).name }
+fn opened<D: Disk>(alloc: Global, disk: &D) -> Result<(Tags, Geometry), Fail>
+    requires bound { IsBound (D.identity disk.now).name }
 
-    ensures store { IfOk result (λ made. IsStore made.0 (D.identity disk.new) (D.moments disk.new)) }
+    ensures store { IfOk result (λ made. IsStore made.0 (D.identity disk.now) (D.moments disk.now)) }
     ensures geometry { IfOk result (λ made. made.0.geometry ≡ made.1) }
-    ensures identity { D.identity disk.new ≡ D.identity disk.old }
 {
     judge(&STRADDLING)?;
     let geometry = Geometry::new(&STRADDLING, disk.sectors())?;
     let cache = Cache::new(alloc, 4)?;
-    let tags = settle(disk, geometry, cache)?;
-    Ok((tags, geometry))
+    Ok((Tags::new(geometry, cache), geometry))
 }
 
 /// Writes a block of 512 bytes with its tag, and flushes all where that is asked.
@@ -141,7 +139,7 @@ fn on_disk<D: Disk>(disk: &mut D, at: u64) -> Result<[u8; 512], Failed>
 fn a_tag_in_two_sectors_stays_in_memory_until_a_flush(rt: HostRuntime) -> Result<(), Fail> {
     let alloc = rt.alloc();
     let mut disk = MemDisk::new(alloc, SECTORS, 20)?;
-    let (mut tags, geometry) = opened(alloc, &mut disk)?;
+    let (mut tags, geometry) = opened(alloc, &disk)?;
     let tag = Tag::from_bytes(b"abcdefghijklMNOPQRST");
     write(&mut tags, geometry, &mut disk, 25, 0xaa, &tag)?;
     assert_eq!(rt;
@@ -181,7 +179,7 @@ fn reads_two_among_zeros<D: Disk>(
 fn a_later_store_reads_what_was_served(rt: HostRuntime) -> Result<(), Fail> {
     let alloc = rt.alloc();
     let mut disk = MemDisk::new(alloc, SECTORS, 20)?;
-    let (mut tags, geometry) = opened(alloc, &mut disk)?;
+    let (mut tags, geometry) = opened(alloc, &disk)?;
     serve(
         &mut tags,
         geometry,
@@ -205,7 +203,7 @@ fn a_later_store_reads_what_was_served(rt: HostRuntime) -> Result<(), Fail> {
         &Tag::from_bytes(&[b'y'; 20]),
         true,
     )?;
-    let (mut later, geometry) = opened(alloc, &mut disk)?;
+    let (mut later, geometry) = opened(alloc, &disk)?;
     assert!(rt; reads_two_among_zeros(&mut later, geometry, &mut disk)?);
     Ok(())
 }

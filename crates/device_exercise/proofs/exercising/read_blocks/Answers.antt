@@ -47,12 +47,12 @@ pub loop-block-preserved : goal.loop-block-preserved
 loop-block-preserved g c =
     let kept = c.loop-block.invariant in
     record {
-      works = c.run_counted.ensures.works (not_stopped _ _ _ c.in_ok-run_counted.was);
+      works = c.run_counted.ensures.turn.0 (not_stopped _ _ _ c.in_ok-run_counted.was);
       stays = stays_then c.loop-block.block 1 (c.loop-block.block + 1) _ _ _ _ _ _ _ _ _ _ _ _ (omega arith)
           kept.stays c.run_counted.ensures.stays;
       disk_same = c.run_counted.ensures.cause.passed (not_stopped _ _ _ c.in_ok-run_counted.was) ∙ kept.disk_same;
       same_disk = c.run_counted.ensures.same_disk ∙ kept.same_disk;
-      faults = let before = kept.faults in let more = c.run_counted.ensures.faults in omega (arith, before, more);
+      faults = let before = kept.faults in let more = c.run_counted.ensures.counts.1 in omega (arith, before, more);
       way = λ w is.
           let at = kept.way w is in
           let next = reads-next c.args.device.now.parts.common.slots.blocks c.loop-block.block

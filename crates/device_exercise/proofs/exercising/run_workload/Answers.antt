@@ -64,17 +64,17 @@ loop-made-preserved g c =
     let kept = c.loop-made.invariant in
     let ask = ask_of c.next_ask-ask.result in
     record {
-      works = c.run_counted.ensures.works (not_stopped _ _ _ c.in_ok-run_counted.was);
+      works = c.run_counted.ensures.turn.0 (not_stopped _ _ _ c.in_ok-run_counted.was);
       stays = stays_then c.loop-made._made 1 (c.loop-made._made + 1) _ _ _ _ _ _ _ _ _ _ _ _ (omega arith) kept.stays
           c.run_counted.ensures.stays;
       disk_same = c.run_counted.ensures.cause.passed (not_stopped _ _ _ c.in_ok-run_counted.was) ∙ kept.disk_same;
       same_disk = c.run_counted.ensures.same_disk ∙ kept.same_disk;
       blocks = ap (λ (x : WorkloadState). x.blocks) c.next_ask-ask.ensures.number ∙ kept.blocks;
       lines =
-          let before = kept.lines in let asked = c.add_ask.ensures.lines in let same = c.run_counted.ensures.lines in
+          let before = kept.lines in let asked = c.add_ask.ensures.lines in let same = c.run_counted.ensures.counts.0 in
           omega (arith, before, asked, same);
       faults =
-          let before = kept.faults in let asked = c.add_ask.ensures.faults in let more = c.run_counted.ensures.faults in
+          let before = kept.faults in let asked = c.add_ask.ensures.faults in let more = c.run_counted.ensures.counts.1 in
           omega (arith, before, asked, more);
       way = λ w is.
           let at = kept.way w is in

@@ -1,7 +1,5 @@
-use Rattle.std.proofs.Common.{Ok, Err}
 use Rattle.direct_mode.specs.Places.{IsNoBlock}
 use Rattle.direct_mode.proofs.PlacesLemmas.{flush_places}
-use Rattle.direct_device.specs.Device.{standing_on}
 use Rattle.direct_device.proofs.EndLemmas.{ends_direct}
 use Rattle.direct_device.proofs.closing.close.Goals as goal
 

@@ -11,7 +11,8 @@ returns-in-Err-run_line-clause-stopped g c w is too_long found read lines is_rea
     (c.in-Err-run_line.ensures.ended w is)
     (λ fault refused.
     let kept = c.in-Err-run_line.ensures.refused fault (ap Err refused) in
-    (ap g.D.Disk.moments kept.1, ap g.O.Sink.held kept.3))
+    let untold = c.in-Err-run_line.ensures.untold fault (ap Err refused) in
+    (ap g.D.Disk.moments kept.1, ap g.O.Sink.held untold.1))
 
 pub returns-in-Ok-of-clause-stopped : goal.returns-in-Ok-of-clause-stopped
 returns-in-Ok-of-clause-stopped g c w is too_long found read lines is_read =

@@ -12,7 +12,7 @@ use Rattle.device_parts.specs.Answers.{after_read, served_answer, waits}
 use Rattle.device_parts.specs.Device.{KeepsFlight}
 use Rattle.device_parts.proofs.ReadyLemmas.{block-low, keeps_read, ready_read, same_flight, sector-low}
 use Rattle.device_parts.proofs.TurnLemmas.{served-goes_on}
-use Rattle.journal_opening.specs.Reads.{GivesBlock}
+use Rattle.journal_mode.specs.Reads.{GivesBlock}
 use Rattle.journal_device.specs.Device.{IsReady, standing_of, standing_on}
 use Rattle.journal_device.proofs.DoneLemmas.{idle_now, stands_now}
 use Rattle.journal_device.proofs.OverDisk.{IsServedAs, done_on, is_done_on}

@@ -17,7 +17,7 @@ use Rattle.device_parts.proofs.LeftLemmas.{fewer_written}
 use Rattle.device_parts.proofs.ReadyLemmas.{block-low, keeps_flight, length-tag_by, ready_read, same_flight, sector-low}
 use Rattle.device_parts.proofs.TurnLemmas.{served-goes_on}
 use Rattle.journal_model.specs.Ring.{has_room}
-use Rattle.journal_opening.specs.Journal.{PlacedRing}
+use Rattle.journal_mode.specs.Journal.{PlacedRing}
 use Rattle.journal_device.specs.Answers.{WritesFor}
 use Rattle.journal_device.specs.Device.{standing_of, standing_on}
 use Rattle.journal_device.proofs.IdleLemmas.{same_kept}

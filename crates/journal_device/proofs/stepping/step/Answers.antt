@@ -5,8 +5,8 @@ use Rattle.device_parts.specs.declared.condition.Condition.TheVariants.{Broken, 
 use Rattle.device_parts.specs.declared.parts.Parts.{Parts}
 use Rattle.device_parts.specs.Answers.{actor_of}
 use Rattle.direct_mode.proofs.ServingLemmas.{on_err_always}
-use Rattle.journal_opening.proofs.FlushLemmas.{one_is}
-use Rattle.journal_opening.proofs.ClosingLemmas.{batch_geometry}
+use Rattle.journal_mode.proofs.FlushLemmas.{one_is}
+use Rattle.journal_mode.proofs.ClosingLemmas.{batch_geometry}
 use Rattle.journal_device.specs.Answers.{HasNoWork}
 use Rattle.journal_device.specs.Device.{standing_of, standing_on}
 use Rattle.journal_device.proofs.DoneLemmas.{stands_now}

@@ -1,0 +1,173 @@
+-- From what is left of an image that was recovered and emptied to the device in direct mode that is open.
+use Rattle.std.proofs.Common.{◌≡◌, ℕ, ◌*◌, ◌<◌, false, refl, sym, ◌∙◌, ap, subst, Option, None, Some, Ok, List}
+use Rattle.std.proofs.lemmas.Bool.{true≢false}
+use Rattle.std.proofs.lemmas.Option.{none-some, same_Some}
+use Rattle.disk_model.specs.Disk.{Content, EachImage, HasNothingPending, Image, last_image}
+use Rattle.disk_model.specs.Identity.{DiskIdentity}
+use Rattle.disk_model.specs.Moments.{EachSince, HasNow, content_now}
+use Rattle.image_model.specs.declared.flags.TheConstants.{DIRTY_BITMAP}
+use Rattle.image_model.specs.Bitmap.{is_to_recalculate}
+use Rattle.image_model.specs.Geometry.{Geometry}
+use Rattle.image_model.specs.Superblock.{has_flag}
+use Rattle.device_model.specs.Mode.{Direct}
+use Rattle.place_model.specs.Format.{DiskFormat, HasCells, IsReadAs, OpensAs, cells_on, format_on}
+use Rattle.place_model.specs.Kind.{CanOpenIn, kind_in}
+use Rattle.place_model.specs.Left.{IsLeftInDirect}
+use Rattle.place_model.specs.Opened.{awaiting_on, base_on, blocks_of, device_format, next_on, opened_on, set_bits_on}
+use Rattle.place_model.proofs.FormatLemmas.{format_on-is, opens_on}
+use Rattle.place_model.proofs.KindLemmas.{direct_kind_law}
+use Rattle.direct_model.specs.DirectDisk as InDirect
+use Rattle.direct_model.specs.DirectDisk.{DirectDisk}
+use Rattle.direct_model.proofs.DirectLemmas.{placed_standing_law}
+use Rattle.direct_laws.specs.Device.{IsDirectDevice}
+use Rattle.direct_laws.specs.ReadLaws as DirectReads
+use Rattle.direct_laws.proofs.DeviceLemmas.{beginning_law}
+use Rattle.direct_laws.proofs.MomentLemmas.{left_now_law}
+use Rattle.journal_model.specs.Opening.{opened_disk}
+use Rattle.journal_model.proofs.OpeningLemmas.{opened_cells_law}
+use Rattle.tag_store.specs.Store.{given_tags}
+use Rattle.replay.specs.declared.recovered.Recovered.{Recovered}
+use Rattle.replay.specs.Emptied.{HasEmptyJournal, IsEmptyJournal}
+use Rattle.replay.specs.Recovery.{LeavesRecovered}
+use Rattle.request_slots.specs.Flight.{Flight, no_requests}
+use Rattle.device_parts.specs.declared.condition.Condition.TheVariants.{Working}
+use Rattle.device_parts.specs.declared.parts.Parts.{Parts}
+use Rattle.device_parts.specs.Device.{CanOpenRead, HasOpened, rule_on}
+use Rattle.direct_device.specs.Device.{IsOverDisk as IsDevice, in_direct}
+use Rattle.device_opening.specs.declared.judging.JudgedImage.{JudgedImage}
+use Rattle.device_opening.specs.Judged.{HasJudged, judged_format}
+use Rattle.device_opening.specs.DirectOpening.{HasOpenOn, IsOpenOn, KeepsEmpty, LeavesEmpty, WritesEmptying, opened_standing}
+use Rattle.device_opening.specs.Opening.{IsLeftOpening, IsOfOpening, IsUnasked, LeavesImage}
+use Rattle.device_opening.proofs.EmptiedLemmas.{empty_same}
+use Rattle.device_opening.proofs.EmptyingLemmas.{left_empty}
+use Rattle.device_opening.proofs.JudgedLemmas.{format_now, left_by, opens_now, own_format, own_since, own_writes}
+use Rattle.device_opening.proofs.MomentsLemmas.{settled_by}
+use Rattle.device_opening.proofs.StillLemmas.{none_awaits, none_recalculated}
+use Rattle.device_opening.proofs.SettledLemmas.{settled_keeps, without_writes}
+
+-- ---- what is open
+
+module _ (f : DiskFormat) (image : Image) (at : Recovered) (parts : Parts) (after : List Content) (c : Content) (told : content_now after ≡ Some c)
+    (clear : has_flag DIRTY_BITMAP f.superblock.flags ≡ false) (reads : IsReadAs f image) (own : format_on f.key f.sectors image ≡ f)
+    (geometry : parts.tags.geometry ≡ f.geometry) (slots : parts.slots ≡ no_requests f.geometry.blocks (512 * f.geometry.shape.spb)) (maker : parts.maker ≡ rule_on f)
+    (left : LeavesRecovered (opened_disk f image) at (given_tags parts.tags c) c) (unused : at.used ≡ false) where
+  -- The disk has the cells of the image, without a write.
+  abbrev disk : DirectDisk
+  disk = without_writes f left.recovered.now.journal left.recovered.now.base
+
+  keeps : DirectReads.KeepsCells disk (awaiting_on Direct f image) (given_tags parts.tags c) c
+  keeps =
+      let is = left.recovered in
+      subst (λ (x : DiskFormat). DirectReads.KeepsCells (without_writes x is.now.journal is.now.base) (awaiting_on Direct f image) (given_tags parts.tags c) c) is.same_format
+      (settled_keeps is.now is.settled (λ b low. is.again b (subst (λ (x : DiskFormat). b < x.geometry.blocks) is.same_format low)) (awaiting_on Direct f image) (given_tags parts.tags c) c
+      (λ b. subst (λ (x : DiskFormat). is_to_recalculate x.superblock x.geometry b ≡ false) (sym is.same_format) (none_recalculated f image reads b)) is.keeps)
+
+  now_is : (x : Content) → content_now after ≡ Some x → c ≡ x
+  now_is x at_x = same_Some c x (sym told ∙ at_x)
+
+  device : IsDirectDevice (device_format Direct f) (opened_on Direct f image) disk
+  device =
+      beginning_law (device_format Direct f) disk (base_on Direct f image) (next_on Direct f image) (set_bits_on Direct f image) (awaiting_on Direct f image) refl refl refl
+      (λ b low. left.recovered.cells b low ∙ opened_cells_law f image clear b)
+      (λ region waits. absurd (true≢false (sym waits ∙ none_awaits f image reads clear region)))
+
+  is_device : IsDevice (opened_standing f image disk) Working parts after
+  is_device = record {
+    device = device;
+    reads = reads;
+    opened = ap blocks_of (sym own);
+    flight = record {
+      blocks = ap (λ (x : Flight). x.blocks) slots;
+      block_size = ap (λ (x : Flight). x.block_size) slots;
+      most = refl;
+      submitted = ap (λ (x : Flight). x.submitted) slots;
+      slots = ap (λ (x : Flight). x.slots) slots;
+      each = λ k r there. absurd (none-some r there);
+    };
+    rule = maker;
+    condition_ = refl;
+    told = c;
+    is_told = told;
+    cells = λ _. record {
+      geometry = sym geometry;
+      now = λ x at_x. subst (λ (y : Content). DirectReads.KeepsCells disk (awaiting_on Direct f image) (given_tags parts.tags y) y) (now_is x at_x) keeps;
+    };
+    left = left_now_law (device_format Direct f) (opened_on Direct f image) disk image after device (ap blocks_of (sym own))
+        (λ x at_x. subst (InDirect.StandsFor disk) (now_is x at_x) keeps.stands);
+  }
+
+  -- Each image of it has an empty journal.
+  each_empty : EachImage (HasEmptyJournal f) c
+  each_empty one is_image =
+      let cut = placed_standing_law disk c keeps.stands one is_image in
+      let empty = subst (λ (x : DiskFormat). IsEmptyJournal x.geometry left.recovered.now.journal) left.recovered.same_format (left_empty (opened_disk f image) at (given_tags parts.tags c) c left unused) in
+      record {
+        reads = cut.reads;
+        empty = empty_same f.geometry f.sectors one left.recovered.now.journal keeps.stands.formed.is_geometry cut.journal empty;
+      }
+
+  pub open_on : IsOpenOn f image parts after
+  open_on = record {
+    disk = disk;
+    format = refl;
+    device = is_device;
+    emptied = λ x at_x. subst (EachImage (HasEmptyJournal f)) (now_is x at_x) each_empty;
+    settled = λ x at_x. subst HasNothingPending (now_is x at_x) left.pending;
+  }
+
+-- ---- what a cut leaves
+
+module _ (f : DiskFormat) (image left : Image) (clear : has_flag DIRTY_BITMAP f.superblock.flags ≡ false) (has : HasCells f (cells_on f image) left) where
+  -- An image with the cells at opening can be opened,
+  pub cells_open : CanOpenIn Direct f.key f.sectors left
+  cells_open = (has.opens.openable, ap (λ (d : DiskFormat). has_flag DIRTY_BITMAP d.superblock.flags) (format_on-is f left has.opens) ∙ clear)
+
+  cells_left : IsLeftInDirect f (opened_on Direct f image).history left
+  cells_left = record { opens = has.opens; left = record { flushed = λ b low kept. has.each b low } }
+
+  -- and may be left of the device before its first request.
+  pub cells_may_be_left : format_on f.key f.sectors image ≡ f → (kind_in Direct f.key f.sectors).MayBeLeft image ((kind_in Direct f.key f.sectors).opened image).history left
+  cells_may_be_left own =
+      subst (λ (x : DiskFormat). (kind_in Direct f.key f.sectors).MayBeLeft image (opened_on Direct x image).history left) (sym own)
+      (direct_kind_law f image (opened_on Direct f image).history left own cells_left)
+
+-- ---- behind the judging
+
+module _ (key : Option (List ℕ)) (disk : DiskIdentity) (image : JudgedImage) (a : List Content) (judged : HasJudged disk.sectors image a) (same : image.maker.key ≡ key) where
+  can_read : CanOpenRead Direct key disk.sectors a
+  can_read c told =
+      let opens = opens_now key disk image a judged same c told in
+      (opens.openable, ap (λ (d : DiskFormat). has_flag DIRTY_BITMAP d.superblock.flags) (format_on-is (own_format key disk image a judged same) (last_image c) opens) ∙ judged.format.no_bitmap)
+
+  own_open : {b : List Content} (parts : Parts) → HasOpenOn (judged_format disk.sectors image) parts a b
+      → HasNow (λ start. IsOpenOn (format_on key disk.sectors (last_image start)) (last_image start) parts b) a
+  own_open {b} parts opened start at = subst (λ (f : DiskFormat). IsOpenOn f (last_image start) parts b) (format_now key disk image a judged same start at) (opened start at)
+
+  -- What was judged is open,
+  pub has_opened : {b : List Content} (parts : Parts) → HasOpenOn (judged_format disk.sectors image) parts a b → IsUnasked parts disk b → HasOpened in_direct Direct key disk parts a b
+  has_opened parts opened is = record {
+    device = λ start told. let on = own_open parts opened start told in record { disk = on.disk; format = on.format; device = on.device };
+    ready = is.ready;
+    asked_ = refl;
+    requests = is.requests;
+    can = can_read;
+  }
+
+  -- over an empty journal,
+  pub leaves_empty : {b : List Content} (parts : Parts) → HasOpenOn (judged_format disk.sectors image) parts a b → LeavesImage (own_format key disk image a judged same) a b
+      → LeavesEmpty key disk.sectors a b
+  leaves_empty parts opened leaves = record {
+    emptied = λ start told. (own_open parts opened start told).emptied;
+    settled = settled_by a (IsOfOpening image.format.geometry) HasNothingPending leaves.writes (λ start told. (opened start told).settled);
+  }
+
+  -- each image that is left may be left of it,
+  pub opening_left : {b : List Content} → LeavesImage (own_format key disk image a judged same) a b → IsLeftOpening Direct key disk.sectors a b
+  opening_left leaves =
+      left_by key disk image a judged same Direct
+      (λ entry left has. cells_open (own_format key disk image a judged same) entry left judged.format.no_bitmap has)
+      (λ entry left has own. cells_may_be_left (own_format key disk image a judged same) entry left judged.format.no_bitmap has own) leaves
+
+  -- and what is written is so by the image's own format.
+  pub writes_emptying : {b : List Content} → LeavesImage (own_format key disk image a judged same) a b → EachSince (KeepsEmpty image.format.geometry) a b → WritesEmptying key disk.sectors a b
+  writes_emptying leaves keeps = record { recovers = own_writes key disk image a judged same leaves; keeps = own_since key disk image a judged same KeepsEmpty keeps }

@@ -1,0 +1,165 @@
+-- From what a recovery leaves to the device in journal mode that is open, and from its cells to what a cut may leave of that.
+use Rattle.std.proofs.Common.{◌≡◌, ℕ, ◌*◌, false, refl, sym, ◌∙◌, ap, subst, arith, Option, Some, List}
+use Rattle.std.proofs.lemmas.Option.{none-some}
+use Rattle.disk_model.specs.Disk.{Content, EachImage, Image, last_image}
+use Rattle.disk_model.specs.Identity.{DiskIdentity}
+use Rattle.disk_model.specs.Moments.{EachMoment, HasNow, content_now}
+use Rattle.image_model.specs.declared.flags.TheConstants.{DIRTY_BITMAP}
+use Rattle.image_model.specs.Geometry.{Geometry}
+use Rattle.image_model.specs.Superblock.{has_flag}
+use Rattle.device_model.specs.Mode.{Journal}
+use Rattle.device_model.proofs.ReachedLemmas.{IsReached-opened}
+use Rattle.place_model.specs.Format.{DiskFormat, HasCells, IsReadAs, OpensAs, cells_on, format_on}
+use Rattle.place_model.specs.Kind.{CanOpenIn, kind_in}
+use Rattle.place_model.specs.Left.{IsLeftInJournal}
+use Rattle.place_model.specs.Opened.{device_format, next_on, opened_on}
+use Rattle.place_model.proofs.FormatLemmas.{format_on-is, reads_on}
+use Rattle.place_model.proofs.KindLemmas.{journal_kind_law}
+use Rattle.direct_laws.specs.MomentLaws.{IsLeftNow}
+use Rattle.journal_model.specs.Opening.{opened_disk}
+use Rattle.journal_model.specs.Recovery.{IsRecovered}
+use Rattle.journal_mode.specs.Journal.{PlacedRing, empty_journal}
+use Rattle.journal_mode.specs.Opening.{opened_standing}
+use Rattle.journal_mode.specs.Standing.{StandsAs}
+use Rattle.journal_mode.proofs.OpeningLemmas.{recovered_stands_law}
+use Rattle.tag_store.specs.Store.{given_tags}
+use Rattle.replay.specs.declared.recovered.Recovered.{Recovered}
+use Rattle.replay.specs.Emptied.{IsRecoveredAlready}
+use Rattle.replay.specs.Recovery.{LeavesRecovered}
+use Rattle.request_slots.specs.Flight.{Flight, no_requests}
+use Rattle.device_parts.specs.declared.condition.Condition.TheVariants.{Working}
+use Rattle.device_parts.specs.Device.{CanOpenRead, HasOpened, opened_standing as standing_opened, rule_on}
+use Rattle.journal_device.specs.declared.parts.JournalParts.{JournalParts}
+use Rattle.journal_device.specs.Device.{IsOverDisk, in_journal, kind_on, standing_on}
+use Rattle.journal_device.proofs.DoneLemmas.{told_then}
+use Rattle.journal_device.proofs.KindLemmas.{left_now, standing_now}
+use Rattle.device_opening.specs.declared.judging.JudgedImage.{JudgedImage}
+use Rattle.device_opening.specs.Judged.{HasJudged, judged_format}
+use Rattle.device_opening.specs.JournalOpening.{HasEmptyRing, HasOpenOn, IsOpenOn}
+use Rattle.device_opening.specs.Opening.{IsLeftOpening, IsUnasked, KeepsRecovered, LeavesImage}
+use Rattle.device_opening.proofs.JudgedLemmas.{format_now, left_by, opens_now, own_format, reads_now}
+use Rattle.device_opening.proofs.StillLemmas.{none_awaits}
+
+-- ---- what is open
+
+-- What a recovery leaves is open, with a journal that goes on where that told, as the image's walk says.
+pub open_on : (f : DiskFormat) (image : Image) (at : Recovered) (device : JournalParts) (after : List Content) (c : Content) → content_now after ≡ Some c
+    → has_flag DIRTY_BITMAP f.superblock.flags ≡ false → f.geometry ≡ device.parts.tags.geometry → at.next ≡ next_on Journal f image
+    → LeavesRecovered (opened_disk f image) at (given_tags device.parts.tags c) c → device.journal ≡ empty_journal f.geometry at.next at.number → device.parts.maker ≡ rule_on f
+    → IsOpenOn f image device after
+open_on f image at device after c told clear geometry next left journal maker =
+    let is = subst (λ (n : ℕ). IsRecovered (opened_disk f image) n at.number (given_tags device.parts.tags c) c) next left.recovered in
+    let same : device.journal ≡ empty_journal f.geometry (next_on Journal f image) at.number = journal ∙ ap (λ (n : ℕ). empty_journal f.geometry n at.number) next in
+    record {
+      disk = is.now;
+      format = is.same_format;
+      stands =
+          subst (λ (j : PlacedRing). StandsAs (opened_standing f image is.now) j device.parts.tags after) (sym same)
+          (recovered_stands_law f image at.number device.parts.tags after c clear geometry told is);
+      geometry = geometry;
+      rule = maker;
+    }
+
+module _ (key : Option (List ℕ)) (disk : DiskIdentity) (device : JournalParts) (a b : List Content) (can : CanOpenRead Journal key disk.sectors a) (is : IsUnasked device.parts disk b) where
+  -- It is the device of the image,
+  over_disk : {P : Content → Type 0} → EachMoment a b P → (start : Content) → content_now a ≡ Some start
+      → (on : IsOpenOn (format_on key disk.sectors (last_image start)) (last_image start) device b)
+      → IsOverDisk (standing_on (standing_opened Journal key disk.sectors (last_image start)) on.disk) Working device.parts device.journal b
+  over_disk moments start told on =
+      let image = last_image start in
+      let f = format_on key disk.sectors image in
+      let opens = can start told in
+      let reads : IsReadAs f image = reads_on key disk.sectors image opens.0.readable in
+      let now = told_then a b start told moments in
+      let slots : device.parts.slots ≡ no_requests f.geometry.blocks (512 * f.geometry.shape.spb) = is.requests ∙ ap (λ (g : Geometry). no_requests g.blocks (512 * g.shape.spb)) (sym on.geometry) in
+      record {
+        reached = IsReached-opened (device_format Journal f) _ _ _ _;
+        format = ap (device_format Journal) (sym on.format);
+        reads = subst (λ (x : DiskFormat). IsReadAs x image) (sym on.format) reads;
+        flight = record {
+          blocks = ap (λ (x : Flight). x.blocks) slots;
+          block_size = ap (λ (x : Flight). x.block_size) slots;
+          most = refl;
+          submitted = ap (λ (x : Flight). x.submitted) slots;
+          slots = ap (λ (x : Flight). x.slots) slots;
+          each = λ k r there. absurd (none-some r there);
+        };
+        rule = on.rule ∙ ap rule_on (sym on.format);
+        condition_ = refl;
+        still = none_awaits f image reads opens.1;
+        told = now.content;
+        is_told = now.is;
+        stands = λ _. on.stands;
+        left = subst (λ (x : DiskFormat). IsLeftNow (kind_on x) image (opened_on Journal f image).history b) (sym on.format)
+            (left_now f image reads opens.1 (opened_on Journal f image).history b
+            (subst (λ (x : DiskFormat). HasNow (EachImage (IsLeftInJournal x (opened_on Journal f image).history)) b) on.format
+            (standing_now (opened_standing f image on.disk) device.journal device.parts.tags b on.stands)));
+      }
+
+  -- and it was opened.
+  opened_by : {P : Content → Type 0} → EachMoment a b P → HasEmptyRing device
+      → HasNow (λ start. IsOpenOn (format_on key disk.sectors (last_image start)) (last_image start) device b) a → HasOpened in_journal Journal key disk device a b
+  opened_by moments empty opened = record {
+    device = λ start told. let on = opened start told in record {
+      disk = on.disk;
+      format = on.format;
+      over = over_disk moments start told on;
+    };
+    ready = record { parts_ = λ _. is.ready; geometry = ap (λ (j : PlacedRing). j.ring.geometry) empty };
+    asked_ = refl;
+    requests = is.requests;
+    can = can;
+  }
+
+-- An image that can be opened in a format without a bitmap can be in journal mode.
+pub can_open : (f : DiskFormat) (image : Image) → has_flag DIRTY_BITMAP f.superblock.flags ≡ false → OpensAs f image → CanOpenIn Journal f.key f.sectors image
+can_open f image clear opens = (opens.openable, ap (λ (d : DiskFormat). has_flag DIRTY_BITMAP d.superblock.flags) (format_on-is f image opens) ∙ clear)
+
+-- ---- what a cut leaves
+
+module _ (f : DiskFormat) (image left : Image) (clear : has_flag DIRTY_BITMAP f.superblock.flags ≡ false) (has : HasCells f (cells_on f image) left) where
+  -- An image with the cells at opening can be opened,
+  pub cells_open : CanOpenIn Journal f.key f.sectors left
+  cells_open = can_open f left clear has.opens
+
+  cells_left : IsLeftInJournal f (opened_on Journal f image).history left
+  cells_left = record {
+    opens = has.opens;
+    left = record {
+      kept = 0;
+      has_flushed = omega arith;
+      has_no_more = omega arith;
+      each = λ b low. has.each b low;
+    };
+  }
+
+  -- and may be left of the device before its first request.
+  pub cells_may_be_left : format_on f.key f.sectors image ≡ f → (kind_in Journal f.key f.sectors).MayBeLeft image ((kind_in Journal f.key f.sectors).opened image).history left
+  cells_may_be_left own =
+      subst (λ (x : DiskFormat). (kind_in Journal f.key f.sectors).MayBeLeft image (opened_on Journal x image).history left) (sym own)
+      (journal_kind_law f image (opened_on Journal f image).history left own cells_left)
+
+-- ---- behind the judging
+
+module _ (key : Option (List ℕ)) (disk : DiskIdentity) (image : JudgedImage) (a : List Content) (judged : HasJudged disk.sectors image a) (same : image.maker.key ≡ key) where
+  can_read : CanOpenRead Journal key disk.sectors a
+  can_read c told = can_open (own_format key disk image a judged same) (last_image c) judged.format.no_bitmap (opens_now key disk image a judged same c told)
+
+  -- What was judged is open,
+  pub has_opened : {b : List Content} {P : Content → Type 0} (device : JournalParts) → EachMoment a b P → HasOpenOn (judged_format disk.sectors image) device a b → IsUnasked device.parts disk b
+      → HasEmptyRing device → HasOpened in_journal Journal key disk device a b
+  has_opened {b} device moments opened is empty =
+      opened_by key disk device a b can_read is moments empty
+      (λ start at. subst (λ (f : DiskFormat). IsOpenOn f (last_image start) device b) (format_now key disk image a judged same start at) (opened start at))
+
+  -- each image that is left may be left of it,
+  pub opening_left : {b : List Content} → LeavesImage (own_format key disk image a judged same) a b → IsLeftOpening Journal key disk.sectors a b
+  opening_left leaves =
+      left_by key disk image a judged same Journal
+      (λ entry left has. cells_open (own_format key disk image a judged same) entry left judged.format.no_bitmap has)
+      (λ entry left has own. cells_may_be_left (own_format key disk image a judged same) entry left judged.format.no_bitmap has own) leaves
+
+  -- and what is not written is so by the image's own format.
+  pub own_recovered : {b : List Content} → KeepsRecovered (λ found. image.format.geometry) a b → KeepsRecovered (λ found. (format_on key disk.sectors found).geometry) a b
+  own_recovered keeps start told already =
+      keeps start told (subst (λ (g : Geometry). IsRecoveredAlready g (last_image start)) (ap (λ (d : DiskFormat). d.geometry) (reads_now key disk image a judged same start told).own) already)

@@ -1,0 +1,10 @@
+pub mod MomentsLemmas
+pub mod RefusedLemmas
+pub mod JudgedLemmas
+pub mod RecoveringLemmas
+pub mod StillLemmas
+pub mod SettledLemmas
+pub mod EmptiedLemmas
+pub mod EmptyingLemmas
+pub mod JournalLemmas
+pub mod DirectLemmas

@@ -1,0 +1,29 @@
+-- What an opening in journal mode leaves: the device that is open then.
+use Rattle.std.specs.Prelude.{◌≡◌, List}
+use Rattle.disk_model.specs.Disk.{Content, Image, last_image}
+use Rattle.disk_model.specs.Moments.{HasNow}
+use Rattle.place_model.specs.Format.{DiskFormat}
+use Rattle.journal_model.specs.JournaledDisk.{JournaledDisk}
+use Rattle.journal_mode.specs.Journal.{empty_journal}
+use Rattle.journal_mode.specs.Opening.{opened_standing}
+use Rattle.journal_mode.specs.Standing.{StandsAs}
+use Rattle.device_parts.specs.Device.{rule_on}
+use Rattle.journal_device.specs.declared.parts.JournalParts.{JournalParts}
+
+-- The device is the one that was just opened on an image of this format. Its disk has the format, its places are those of
+-- that, and tags are made by its rule.
+pub record IsOpenOn (f : DiskFormat) (image : Image) (device : JournalParts) (moments : List Content) : Type 0 where
+  pub disk : JournaledDisk
+  pub format : disk.format ≡ f
+  pub stands : StandsAs (opened_standing f image disk) device.journal device.parts.tags moments
+  pub geometry : f.geometry ≡ device.parts.tags.geometry
+  pub rule : device.parts.maker ≡ rule_on f
+
+-- It is so by the image that reads gave.
+abbrev pub HasOpenOn : DiskFormat → JournalParts → (before after : List Content) → Type 0
+HasOpenOn f device before after = HasNow (λ start. IsOpenOn f (last_image start) device after) before
+
+-- The journal lies where blocks and tags say, and no section of it is opened or committed.
+abbrev pub HasEmptyRing : JournalParts → Type 0
+HasEmptyRing device =
+    device.journal ≡ empty_journal device.parts.tags.geometry device.journal.ring.next device.journal.ring.number

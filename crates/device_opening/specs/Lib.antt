@@ -1,0 +1,9 @@
+pub use Rattle.replay.specs.Emptied
+pub use Rattle.replay.specs.Moves
+pub use Rattle.replay.specs.Placement
+pub use Rattle.replay.specs.Writes
+pub mod Judged
+pub mod FirstSync
+pub mod Opening
+pub mod JournalOpening
+pub mod DirectOpening

@@ -1,0 +1,115 @@
+//! Opening in direct mode: the image is judged, all memory is taken, and the image is recovered and emptied.
+ghost use Rattle.std.specs.Prelude.{◌≡◌, IfOk};
+ghost use Rattle.disk_model.specs.Causes.{HasCause};
+ghost use Rattle.disk_model.specs.Identity.{IsBound};
+ghost use Rattle.disk_model.specs.Moments.{EachSince};
+ghost use Rattle.device_model.specs.Mode as Model;
+ghost use Rattle.hmac_tag.specs.TagMaker.{key_of};
+ghost use Rattle.image_judging.specs.Faults.{HasOpenCause, fault_of};
+ghost use Rattle.device_parts.specs.Device.{HasOpened};
+ghost use Rattle.direct_device.specs.Device.{in_direct};
+ghost use Rattle.device_opening.specs.DirectOpening.{HasOpenOn, KeepsEmpty, LeavesEmpty, WritesEmptying};
+ghost use Rattle.device_opening.specs.Judged.{HasJudged, judged_format};
+ghost use Rattle.device_opening.specs.Opening.{IsRoomFor, IsUnasked, LeavesImage, LeavesOpenable, Refuses};
+
+use crate::emptying::recover_emptied;
+use crate::judging::{JudgedImage, judge_image};
+use crate::room::DeviceRoom;
+use device_parts::Parts;
+use hmac_tag::Hash;
+use image_judging::OpeningFault;
+use sector_disk::{Disk, Failed};
+use sector_pool::Region;
+use std::alloc::Global;
+
+/// Opens a device in direct mode on a disk: all that its journal holds comes to its place, and then the journal is
+/// emptied, unless every entry of it is unused and it has one commit number. The region gets the journal's sectors, in
+/// place of those that it had: in them the journal is read and emptied.
+///
+/// 1. The first sector is read and judged.
+/// 2. The journal is read in runs and judged, with memory for what is kept of it.
+/// 3. Memory is taken for the journal's sectors, for tags and for requests.
+/// 4. The disk is synced, so that nothing of an earlier run is pending.
+/// 5. The image is recovered: where its journal has entries that count it is read once more, into the region.
+/// 6. Its journal is emptied.
+///
+/// # Errors
+///
+/// `Memory` and `Disk` come whenever they hold, and of the others the first that holds:
+///
+/// - `Memory`: there is none for what is kept of the journal, or for what the device needs. Nothing was done.
+/// - `Disk`: the disk failed. Every image has the cells of the image at the entry, where that can be opened.
+/// - `Super`, `Geom`, `Mode`: as `read_direct_format` tells them. Nothing was done.
+/// - `Journal`: the journal is refused, by its scan or for the first entry in the order of the replay. Nothing was done.
+pub fn open_direct<D: Disk>(
+    alloc: Global,
+    disk: &mut D,
+    hash: Hash,
+    pool: &mut Region,
+) -> Result<Parts, OpeningFault>
+    requires bound { IsBound (D.identity disk.old).name }
+
+    ensures opened { IfOk result (λ parts. HasOpened in_direct Model.Direct (key_of hash) (D.identity disk.old)
+        parts (D.moments disk.old) (D.moments disk.new)) }
+    ensures empty { IfOk result (λ parts. LeavesEmpty (key_of hash) (D.identity disk.old).sectors
+        (D.moments disk.old) (D.moments disk.new)) }
+
+    ensures refused { Refuses (fault_of (key_of hash) (D.identity disk.old).sectors)
+        (D.moments disk.old) (D.moments disk.new) result }
+    ensures cause { HasOpenCause (D.faults disk.old) (D.faults disk.new) result }
+
+    ensures identity { D.identity disk.new ≡ D.identity disk.old }
+
+    ensures left { LeavesOpenable Model.Direct (key_of hash) (D.identity disk.old).sectors
+        (D.moments disk.old) (D.moments disk.new) }
+    ensures moments { WritesEmptying (key_of hash) (D.identity disk.old).sectors
+        (D.moments disk.old) (D.moments disk.new) }
+{
+    let image = judge_image(alloc, disk, hash)?;
+    let room = DeviceRoom::new(alloc, image.geometry(), pool)?;
+    let parts = open_judged(disk, image, room)?;
+    Ok(parts)
+}
+
+/// Opens a device in direct mode on a disk whose image was judged, with memory that was taken for it.
+///
+/// # Errors
+///
+/// - `Failed`: the disk failed. Every image has the cells of the image at the entry.
+fn open_judged<D: Disk>(
+    disk: &mut D,
+    image: JudgedImage,
+    room: DeviceRoom<'_>,
+) -> Result<Parts, Failed>
+    requires bound { IsBound (D.identity disk.old).name }
+    requires judged { HasJudged (D.identity disk.old).sectors image (D.moments disk.old) }
+    requires room { IsRoomFor image.format.geometry room }
+
+    ensures opened { IfOk result (λ parts. HasOpenOn (judged_format (D.identity disk.old).sectors image)
+        parts (D.moments disk.old) (D.moments disk.new)) }
+    ensures unasked { IfOk result (λ parts. IsUnasked parts (D.identity disk.new) (D.moments disk.new)) }
+
+    ensures cause { HasCause (D.faults disk.old) (D.faults disk.new) result }
+
+    ensures identity { D.identity disk.new ≡ D.identity disk.old }
+
+    ensures leaves { LeavesImage (judged_format (D.identity disk.old).sectors image)
+        (D.moments disk.old) (D.moments disk.new) }
+    ensures keeps { EachSince (KeepsEmpty image.format.geometry) (D.moments disk.old) (D.moments disk.new) }
+{
+    let DeviceRoom {
+        cache,
+        mut pool,
+        slots,
+        buffer,
+    } = room;
+    let spb = image.geometry().shape().spb;
+    let recovered = recover_emptied(disk, image, cache, &mut pool)?;
+    Ok(Parts {
+        tags: recovered.tags,
+        maker: recovered.maker,
+        slots,
+        spb,
+        buffer,
+    })
+}

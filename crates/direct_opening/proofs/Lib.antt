@@ -1,4 +1,0 @@
-pub mod EmptiedLemmas
-pub mod SettledLemmas
-pub mod OpenedLemmas
-pub mod EmptyingLemmas
