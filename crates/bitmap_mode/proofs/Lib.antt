@@ -10,3 +10,5 @@ pub mod ReadingLemmas
 pub mod ClosingLemmas
 pub mod OpeningLemmas
 pub mod DeviceLemmas
+pub mod SpanLemmas
+pub mod Worked

@@ -1,8 +1,8 @@
 -- A bit that is cleared: which region's that may be.
-use Rattle.std.specs.Prelude.{ℕ, Bool, not, ◌&&◌, nat_le, nat_lt, List}
-use Rattle.std.specs.List.{list_any}
+use Rattle.std.specs.Prelude.{ℕ, ◌==◌, Bool, not, ◌&&◌, nat_le, nat_lt, List}
+use Rattle.std.specs.List.{list_any, range_with_len}
 use Rattle.disk_model.specs.Disk.{Content}
-use Rattle.image_model.specs.Geometry.{Geometry}
+use Rattle.image_model.specs.Geometry.{Geometry, region_of}
 use Rattle.device_model.specs.Regions.{RegionCounts}
 use Rattle.bitmap_laws.specs.ServeLaws.{ClearsBit}
 use Rattle.dirty_bitmap.specs.Bits.{RegionBits, bits_of}
@@ -17,6 +17,10 @@ is_in_span span region = nat_le span.first region && nat_lt region span.end
 -- or of one of these spans.
 abbrev pub is_held : List RegionSpan → ℕ → Bool
 is_held held region = list_any (λ span. is_in_span span region) held
+
+-- One of so many blocks, from a first one on, is in the region.
+abbrev pub has_block_in : Geometry → (first count : ℕ) → ℕ → Bool
+has_block_in g first count region = list_any (λ b. region_of g b == region) (range_with_len first count)
 
 -- The bit of a region may be cleared that is set, needs none and is not held.
 abbrev pub may_be_cleaned : RegionCounts → (is_held : ℕ → Bool) → ℕ → Bool

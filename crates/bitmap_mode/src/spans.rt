@@ -21,7 +21,8 @@ impl RegionSpan {
 /// Where a span ends that has the region, if one does.
 pub(crate) fn end_of_held(held: &[RegionSpan], region: u64) -> Option<u64>
     ensures behind { IfSome result (λ behind. region < behind) }
-    ensures held { IfSome result (λ behind. (r : ℕ) → region ≤ r → r < behind → is_held held.now r ≡ true) }
+    ensures held { IfSome result (λ behind. (r : ℕ) → region ≤ r → r < behind
+        → is_held held.now r ≡ true) }
     ensures free { result ≡ None → is_held held.now region ≡ false }
 {
     for span in held {

@@ -1,5 +1,6 @@
 //! The states of the regions of a device in bitmap mode, and the calls of a device over them.
-ghost use Rattle.std.specs.Prelude.{◌≡◌, ◌⊎◌, ◌-◌, ◌<◌, ◌≤◌, ℕ, Ok, None, false, true, find, IfOk, IfSome, OnErr, OnOk};
+ghost use Rattle.std.specs.Prelude.{◌≡◌, ◌⊎◌, ◌+◌, ◌-◌, ◌<◌, ◌≤◌, ℕ};
+ghost use Rattle.std.specs.Prelude.{Ok, None, false, true, find, is_some, IfOk, IfSome, OnErr, OnOk};
 ghost use Rattle.std.specs.List.{range_with_len};
 ghost use Rattle.disk_model.specs.Causes.{HasCause};
 ghost use Rattle.disk_model.specs.Disk.{OnlyAdds, Reads, newest_only};
@@ -61,7 +62,7 @@ impl Model for RegionStates {
 }
 
 impl RegionStates {
-    ghost use Rattle.bitmap_mode.specs.Cleaning.{ClearsBitOf, is_held, may_be_cleaned};
+    ghost use Rattle.bitmap_mode.specs.Cleaning.{ClearsBitOf, has_block_in, is_held, is_in_span, may_be_cleaned};
     ghost use Rattle.bitmap_mode.specs.Closing.{Closes, IsClosedInPart, IsOfClose, IsOfCleared, LeavesCleared};
     ghost use Rattle.bitmap_mode.specs.Closing.{MayClose, StandsInClearing};
     ghost use Rattle.bitmap_mode.specs.Reading.{AddsToRead, IsTagToRead, IsTaken, LeavesToRead, MayReadBlock};
@@ -110,6 +111,13 @@ impl RegionStates {
             fresh,
             to_clean,
         })
+    }
+
+    /// Whether a region awaits.
+    pub fn some_await(&self) -> bool
+        ensures { result ≡ is_some (least_awaiting self.now) }
+    {
+        self.awaiting.next().is_some()
     }
 
     /// Writes a block: the bit of its region is set and synced, where it is clear, and then its bytes are written by
@@ -237,6 +245,24 @@ impl RegionStates {
             &mut self.to_clean,
         );
         Ok(())
+    }
+
+    /// The regions of `count` blocks from block `first` on: none, where there is no block.
+    pub fn span_of(&self, first: u64, count: u64) -> RegionSpan
+        requires { first + count ≤ self.now.geometry.blocks }
+
+        ensures { (region : ℕ) → is_in_span result region ≡ has_block_in self.now.geometry first count region }
+    {
+        if count == 0 {
+            return RegionSpan { first: 0, end: 0 };
+        }
+        // The check sees by this how many blocks there are at most.
+        let _ = self.geometry.blocks();
+        let last = first + count - 1;
+        RegionSpan {
+            first: self.geometry.region_of(first),
+            end: self.geometry.region_of(last) + 1,
+        }
     }
 
     /// The least region whose bit may be cleared: it is set, the region neither awaits nor is fresh, and none of these

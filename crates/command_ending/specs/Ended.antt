@@ -1,8 +1,9 @@
 -- What ended a command, as an ending of `device_model`.
 use Rattle.std.specs.Borrow.{Bor}
-use Rattle.std.specs.Prelude.{◌≡◌, ℕ, List, ◌++◌, flat_map, codes, Option, Result, OnOk, OnErr}
+use Rattle.std.specs.Prelude.{◌≡◌, ◌⊎◌, ℕ, List, ◌++◌, flat_map, codes, Option, Result, OnOk, OnErr}
 use Rattle.std.specs.Fmt.{decimal}
 use Rattle.std.specs.Option.{option_map}
+use Rattle.disk_model.specs.Causes.{Rose}
 use Rattle.journal_reading.specs.Faults.{as_fault}
 use Rattle.stream_io.specs.Stream.{with_bytes, AddsPrefix}
 use Rattle.device_model.specs.Ending as Endings
@@ -16,6 +17,7 @@ use Rattle.command_ending.specs.declared.form_fault.FormFault.{FormFault}
 use Rattle.command_ending.specs.declared.form_fault.FormFault.TheVariants.{TooLong, NotText, WrongWord, WrongNumber, WrongByte, WrongRuns, MissingWord, ExtraWord}
 use Rattle.command_ending.specs.declared.image_fault.ImageFault.{ImageFault}
 use Rattle.command_ending.specs.declared.image_fault.ImageFault.TheVariants.{Super, Geom, Mode, Journal}
+use Rattle.command_ending.specs.declared.image_fault.ImageFault.TheVariants as ImageFaults
 use Rattle.command_ending.specs.declared.key_refusal.KeyRefusal.{KeyRefusal}
 use Rattle.command_ending.specs.declared.key_refusal.KeyRefusal.TheVariants.{Empty, Long}
 use Rattle.command_ending.specs.declared.line_refusal.LineRefusal.{LineRefusal}
@@ -40,6 +42,7 @@ abbrev pub image_fault_of : ImageFault → Endings.ImageFault
 image_fault_of (Super fault) = Endings.BySuperblock fault
 image_fault_of (Geom fault) = Endings.ByGeometry fault
 image_fault_of (Mode flags) = Endings.ByMode flags
+image_fault_of (ImageFaults.Consent flags) = Endings.ByConsent flags
 image_fault_of (Journal fault) = Endings.ByJournal (as_fault fault)
 
 abbrev pub key_refusal_of : KeyRefusal → Endings.KeyRefusal
@@ -65,6 +68,11 @@ ending_of Memory = Endings.NoMemory
 pub record Puts {T E : Type 0} (line : List ℕ) (old new : Option (List ℕ)) (result : Result T E) : Type 0 where
   pub written : OnOk result (new ≡ option_map (with_bytes line) old)
   pub err : OnErr result (AddsPrefix line old new)
+
+-- A sink has taken this line; or it failed, and has taken some of it from the front.
+abbrev pub IsPut : {O : Type 0} → (O → Option (List ℕ)) → (O → ℕ) → (line : List ℕ) → (sink out : O) → Type 0
+IsPut held faults line sink out = (held out ≡ option_map (with_bytes line) (held sink))
+    ⊎ (Rose (faults sink) (faults out) × AddsPrefix line (held sink) (held out))
 
 -- The bytes of some pieces, one after the other.
 abbrev pub bytes_of : List (Bor (List ℕ)) → List ℕ

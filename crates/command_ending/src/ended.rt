@@ -1,10 +1,10 @@
 //! What ends a command early: its status, and the line that it prints last.
-ghost use Rattle.std.specs.Prelude.{◌≡◌, ◌⊎◌, ◌≤◌, OnOk, OnErr};
+ghost use Rattle.std.specs.Prelude.{◌≡◌, ◌≤◌, OnOk, OnErr};
 ghost use Rattle.std.specs.Option.{option_map};
-ghost use Rattle.disk_model.specs.Causes.{HasCause, Rose};
+ghost use Rattle.disk_model.specs.Causes.{HasCause};
 ghost use Rattle.stream_io.specs.Stream.{with_bytes, AddsPrefix};
 ghost use Rattle.device_model.specs.Ending.{NoMemory, RefusedKey, status_of, fault_text};
-ghost use Rattle.command_ending.specs.Ended.{ending_of, key_refusal_of};
+ghost use Rattle.command_ending.specs.Ended.{IsPut, ending_of, key_refusal_of};
 
 use crate::image_texts::put_image_fault;
 use crate::line_texts::put_line_fault;
@@ -84,9 +84,7 @@ impl Ended {
 /// fails, it has taken some of the line from the front, or none, and not all. It takes no memory.
 pub fn end_without_memory<O: Sink>(out: &mut O) -> u8
     ensures status { result ≡ status_of NoMemory }
-    ensures told { (O.held out.new ≡ option_map (with_bytes (fault_text NoMemory)) (O.held out.old))
-        ⊎ (Rose (O.faults out.old) (O.faults out.new)
-        × AddsPrefix (fault_text NoMemory) (O.held out.old) (O.held out.new)) }
+    ensures told { IsPut O.held O.faults (fault_text NoMemory) out.old out.new }
     ensures later { O.faults out.old ≤ O.faults out.new }
 {
     let _ = Ended::Memory.put_last_line(out);

@@ -7,12 +7,24 @@ use std::test::Fail;
 /// Words that are a command, parted by `|`, and a part of what is shown of it.
 ///
 /// Source: what clap 4 makes of such words without settings of its own, and the ends of the values.
-static TAKEN: [(&str, &str); 30] = [
+static TAKEN: [(&str, &str); 33] = [
     (
         "run|I|--mode|D",
-        "Run(Run { image: FileName { name: \"I\" }, mode: Direct, hash: Sha256 })",
+        "Run(Run { image: FileName { name: \"I\" }, mode: Direct, hash: Sha256, consent: Withheld })",
     ),
-    ("run|--mode=J|I", "mode: Journal, hash: Sha256 })"),
+    ("run|--mode=J|I", "mode: Journal, hash: Sha256, consent"),
+    (
+        "run|I|--mode|B",
+        "mode: Bitmap, hash: Sha256, consent: Withheld })",
+    ),
+    (
+        "run|I|--integrity-legacy-recalculate|--mode|B",
+        "mode: Bitmap, hash: Sha256, consent: Given })",
+    ),
+    (
+        "run|I|--mode|J|--integrity-legacy-recalculate",
+        "mode: Journal, hash: Sha256, consent: Given })",
+    ),
     (
         "run|I|--mode|J|--integrity|hmac-sha256|--integrity-key-file|K",
         "hash: HmacSha256 { key_file: FileName { name: \"K\" } }",
@@ -95,7 +107,7 @@ static TAKEN: [(&str, &str); 30] = [
 ];
 
 /// Words that are no command: one beyond each end, and what clap 4 refuses.
-static REFUSED: [&str; 60] = [
+static REFUSED: [&str; 65] = [
     "run|I|--mode|X",
     "run|I|--mode|",
     "run|I|--mode",
@@ -109,7 +121,11 @@ static REFUSED: [&str; 60] = [
     "run|I|--mod|D",
     "run|I|-m|D",
     "run|I|--mode|-D",
-    "run|I|--mode|B",
+    "run|I|--mode|b",
+    "run|I|--mode|R",
+    "run|I|--integrity-legacy-recalculate",
+    "run|I|--mode|B|--integrity-legacy-recalculate=yes",
+    "run|I|--mode|B|--integrity-legacy-recalculate|--integrity-legacy-recalculate",
     "run|I|--mode|D|--integrity|sha1",
     "run|I|--mode|D|--integrity|hmac-sha256",
     "run|I|--mode|D|--integrity-key-file|K",
@@ -128,6 +144,7 @@ static REFUSED: [&str; 60] = [
     "dump|I|--placed",
     "check|I|--placed=1",
     "check|I|--placed|--placed",
+    "check|I|--integrity-legacy-recalculate",
     "check|I|--frob",
     "exercise|I|0",
     "exercise|I|0|1|2",

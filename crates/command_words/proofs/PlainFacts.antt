@@ -112,10 +112,10 @@ pub run_leaf : IsLeafOf run_entry (leaf run_entry)
 unfolding clap_on_literals
 run_leaf = record {
   options = fact _ _ _ refl refl refl refl refl refl ▹ fact _ _ _ refl refl refl refl refl refl
-      ▹ fact _ _ _ refl refl refl refl refl refl ▹ tt;
+      ▹ fact _ _ _ refl refl refl refl refl refl ▹ fact _ _ _ refl refl refl refl refl refl ▹ tt;
   places = (refl, refl, refl, refl, tt);
   required = refl;
-  defaults = refl ▹ refl ▹ refl ▹ refl ▹ tt;
+  defaults = refl ▹ refl ▹ refl ▹ refl ▹ refl ▹ tt;
   again = refl;
   helps = refl;
   enters = refl;

@@ -6,8 +6,9 @@ use Rattle.clap.proofs.OnLiterals.{clap_on_literals}
 use Rattle.command_words.specs.Numbers.{interleave_of, number_of, number_within}
 use Rattle.command_words.specs.Commands.{command_of}
 use Rattle.command_words.specs.declared.command.Command.TheVariants as command
+use Rattle.command_words.specs.declared.values.Consent.TheVariants.{Given, Withheld}
 use Rattle.command_words.specs.declared.values.HashChoice.TheVariants.{Sha256, HmacSha256}
-use Rattle.command_words.specs.declared.values.Mode.TheVariants.{Journal, Direct}
+use Rattle.command_words.specs.declared.values.Mode.TheVariants.{Bitmap, Direct, Journal}
 
 -- The largest number of 64 bits, and one more: 2^64 - 1 and 2^64.
 number_of-largest : number_of (codes "18446744073709551615") ≡ Some 18446744073709551615
@@ -52,11 +53,11 @@ interleave_of-no_power = refl
 
 -- What `clap` makes of such words: an option may stand before the image, and its value behind `=`.
 command_of-equals : command_of (codes "integrity" ∷ codes "run" ∷ codes "--mode=D" ∷ codes "I" ∷ [])
-    ≡ Some (command.Run (record { image = codes "I"; mode = Direct; hash = Sha256 }))
+    ≡ Some (command.Run (record { image = codes "I"; mode = Direct; hash = Sha256; consent = Withheld }))
 unfolding clap_on_literals
 command_of-equals = refl
 
--- An option may be given once, and a mode is `J` or `D`.
+-- An option may be given once, and a mode is `J`, `D` or `B`.
 command_of-twice : command_of (codes "integrity" ∷ codes "run" ∷ codes "I" ∷ codes "--mode" ∷ codes "D"
     ∷ codes "--mode" ∷ codes "D" ∷ []) ≡ None
 unfolding clap_on_literals
@@ -67,10 +68,28 @@ command_of-other_mode : command_of (codes "integrity" ∷ codes "run" ∷ codes 
 unfolding clap_on_literals
 command_of-other_mode = refl
 
+-- Consent may be given in every mode, with a key or without.
+command_of-bitmap : command_of (codes "integrity" ∷ codes "run" ∷ codes "I" ∷ codes "--mode" ∷ codes "B" ∷ [])
+    ≡ Some (command.Run (record { image = codes "I"; mode = Bitmap; hash = Sha256; consent = Withheld }))
+unfolding clap_on_literals
+command_of-bitmap = refl
+
+command_of-consent : command_of (codes "integrity" ∷ codes "run" ∷ codes "I" ∷ codes "--mode" ∷ codes "B"
+    ∷ codes "--integrity-legacy-recalculate" ∷ [])
+    ≡ Some (command.Run (record { image = codes "I"; mode = Bitmap; hash = Sha256; consent = Given }))
+unfolding clap_on_literals
+command_of-consent = refl
+
+command_of-needless_consent : command_of (codes "integrity" ∷ codes "run" ∷ codes "--integrity-legacy-recalculate"
+    ∷ codes "I" ∷ codes "--mode" ∷ codes "D" ∷ [])
+    ≡ Some (command.Run (record { image = codes "I"; mode = Direct; hash = Sha256; consent = Given }))
+unfolding clap_on_literals
+command_of-needless_consent = refl
+
 -- The key file is given exactly where the hash is keyed.
 command_of-keyed : command_of (codes "integrity" ∷ codes "run" ∷ codes "I" ∷ codes "--mode" ∷ codes "J"
     ∷ codes "--integrity" ∷ codes "hmac-sha256" ∷ codes "--integrity-key-file=" ∷ [])
-    ≡ Some (command.Run (record { image = codes "I"; mode = Journal; hash = HmacSha256 [] }))
+    ≡ Some (command.Run (record { image = codes "I"; mode = Journal; hash = HmacSha256 []; consent = Withheld }))
 unfolding clap_on_literals
 command_of-keyed = refl
 

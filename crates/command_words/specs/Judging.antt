@@ -14,10 +14,12 @@ use Rattle.command_words.specs.declared.values.BlockSize.{BlockSize}
 use Rattle.command_words.specs.declared.values.BlockSize.TheVariants.{Bytes512, Bytes1024, Bytes2048, Bytes4096}
 use Rattle.command_words.specs.declared.values.Checked.{Checked}
 use Rattle.command_words.specs.declared.values.Checked.TheVariants.{Cells, Placed}
+use Rattle.command_words.specs.declared.values.Consent.{Consent}
+use Rattle.command_words.specs.declared.values.Consent.TheVariants as consents
 use Rattle.command_words.specs.declared.values.HashChoice.{HashChoice}
 use Rattle.command_words.specs.declared.values.HashChoice.TheVariants.{Sha256, HmacSha256}
 use Rattle.command_words.specs.declared.values.Mode.{Mode}
-use Rattle.command_words.specs.declared.values.Mode.TheVariants.{Journal, Direct}
+use Rattle.command_words.specs.declared.values.Mode.TheVariants.{Journal, Direct, Bitmap}
 use Rattle.command_words.specs.declared.values.Padding.{Padding}
 use Rattle.command_words.specs.declared.values.Padding.TheVariants.{Fixed, Legacy}
 use Rattle.command_words.specs.declared.values.Wipe.{Wipe}
@@ -41,7 +43,13 @@ hash_of given =
 
 abbrev pub mode_named : Text → Option Mode
 mode_named text =
-    if bytes_eq text (codes "J") then Some Journal else if bytes_eq text (codes "D") then Some Direct else None
+    if bytes_eq text (codes "J") then Some Journal
+    else if bytes_eq text (codes "D") then Some Direct
+    else if bytes_eq text (codes "B") then Some Bitmap
+    else None
+
+abbrev pub consent_of : Given → Consent
+consent_of given = if has given (codes "integrity-legacy-recalculate") then consents.Given else consents.Withheld
 
 abbrev pub block_size_of : ℕ → Option BlockSize
 block_size_of bytes =
@@ -116,7 +124,7 @@ run_of given = do
   image ← given (codes "IMAGE")
   mode ← option_and_then mode_named (given (codes "mode"))
   hash ← hash_of given
-  Some (command.Run (record { image = image; mode = mode; hash = hash }))
+  Some (command.Run (record { image = image; mode = mode; hash = hash; consent = consent_of given }))
 
 abbrev pub dump_of : Given → Option Command
 dump_of given = do

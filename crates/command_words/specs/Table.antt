@@ -39,7 +39,8 @@ abbrev pub run_entry : Entry
 run_entry = record {
   name = codes "run";
   places = codes "IMAGE" ∷ [];
-  options = valued (codes "mode") ∷ valued (codes "integrity") ∷ valued (codes "integrity-key-file") ∷ [];
+  options = valued (codes "mode") ∷ valued (codes "integrity") ∷ valued (codes "integrity-key-file")
+      ∷ flag (codes "integrity-legacy-recalculate") ∷ [];
 }
 
 abbrev pub dump_entry : Entry

@@ -1,7 +1,7 @@
 //! A command, with its options.
 
 use crate::values::{
-    BlockSize, Checked, FileName, HashChoice, Interleave, Log2BlocksPerBit, Mode, Padding,
+    BlockSize, Checked, Consent, FileName, HashChoice, Interleave, Log2BlocksPerBit, Mode, Padding,
     RequestCount, SectionCount, TagSize, Wipe,
 };
 
@@ -54,6 +54,8 @@ pub struct Run {
     pub mode: Mode,
     /// The hash of its tags.
     pub hash: HashChoice,
+    /// Whether tags under a key may be made anew.
+    pub consent: Consent,
 }
 
 /// `dump IMAGE`.

@@ -8,10 +8,12 @@ use crate::command::{Check, Command, Dump, Exercise, Format, Run};
 use crate::given::Given;
 use crate::numbers::{number, number_or, number_within};
 use crate::table::{
-    BLOCKS_PER_BIT, COUNT, IMAGE, INTEGRITY, INTERLEAVE, KEY_FILE, LEGACY_PADDING, MODE, NO_WIPE,
-    PLACED, SALT, SECTIONS, SECTOR_SIZE, SEED, TAG_SIZE,
+    BLOCKS_PER_BIT, COUNT, IMAGE, INTEGRITY, INTERLEAVE, KEY_FILE, LEGACY_PADDING,
+    LEGACY_RECALCULATE, MODE, NO_WIPE, PLACED, SALT, SECTIONS, SECTOR_SIZE, SEED, TAG_SIZE,
 };
-use crate::values::{BlockSize, Checked, FileName, HashChoice, Interleave, Mode, Padding, Wipe};
+use crate::values::{
+    BlockSize, Checked, Consent, FileName, HashChoice, Interleave, Mode, Padding, Wipe,
+};
 use crate::words_fault::WordsFault;
 use hex::FromHex;
 use std::alloc::Global;
@@ -69,7 +71,12 @@ fn run(alloc: Global, given: &Given<'_>) -> Result<Command, WordsFault>
     let image = image(alloc, given)?;
     let mode = mode(given).ok_or(WordsFault::Refused)?;
     let hash = hash(alloc, given)?;
-    Ok(Command::Run(Run { image, mode, hash }))
+    Ok(Command::Run(Run {
+        image,
+        mode,
+        hash,
+        consent: consent(given),
+    }))
 }
 
 /// `dump IMAGE`.
@@ -140,7 +147,19 @@ fn mode(given: &Given<'_>) -> Option<Mode>
     match given.value(MODE)? {
         "J" => Some(Mode::Journal),
         "D" => Some(Mode::Direct),
+        "B" => Some(Mode::Bitmap),
         _ => None,
+    }
+}
+
+/// Whether tags under a key may be made anew. It may be said in every mode.
+fn consent(given: &Given<'_>) -> Consent
+    ensures { result ≡ Judging.consent_of (given_in given.now) }
+{
+    if given.has(LEGACY_RECALCULATE) {
+        Consent::Given
+    } else {
+        Consent::Withheld
     }
 }
 

@@ -52,6 +52,11 @@ pub(crate) const KEY_FILE: &str = "integrity-key-file";
 /// Where a write goes first. Own.
 pub(crate) const MODE: &str = "mode";
 
+/// Tags under a key may be made anew of blocks whose bytes no tag vouches for.
+///
+/// Source: integritysetup(8), `--integrity-legacy-recalculate`.
+pub(crate) const LEGACY_RECALCULATE: &str = "integrity-legacy-recalculate";
+
 /// What stands in the places is checked. Own.
 pub(crate) const PLACED: &str = "placed";
 
@@ -152,6 +157,10 @@ static COMMANDS: [CommandRow; 5] = [
             OptionRow {
                 name: KEY_FILE,
                 takes: Takes::Value,
+            },
+            OptionRow {
+                name: LEGACY_RECALCULATE,
+                takes: Takes::Nothing,
             },
         ],
     },

@@ -182,6 +182,17 @@ pub enum Mode {
     Journal,
     /// To its place.
     Direct,
+    /// To its place, once the bit of its region is set.
+    Bitmap,
+}
+
+/// Whether tags under a key may be made anew of blocks whose bytes no tag vouches for.
+#[derive(Clone, Copy, Debug, PartialEq, Eq)]
+pub enum Consent {
+    /// They may.
+    Given,
+    /// They may not.
+    Withheld,
 }
 
 /// How many sectors the tags of an area take.

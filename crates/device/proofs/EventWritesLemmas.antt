@@ -45,17 +45,20 @@ use Rattle.device_parts.specs.declared.parts.Parts.{Parts}
 use Rattle.device_parts.specs.Answers.{actor_of}
 use Rattle.direct_device.specs.Answers.{IsWrittenNext}
 use Rattle.direct_device.specs.Device.{DirectStanding, IsOverDisk, standing_on as direct_standing}
-use Rattle.direct_device.proofs.DoneLemmas.{next_of_ticket}
 use Rattle.journal_device.specs.Answers.{WritesAs, WritesFor}
 use Rattle.journal_device.specs.Device.{IsJournaled, kept, standing_of, standing_on as journal_standing}
 use Rattle.journal_device.proofs.DoneLemmas.{stands_now}
 use Rattle.journal_device.specs.Standing.{StandsAs}
 use Rattle.device.specs.declared.mode.Mode.{Mode}
-use Rattle.device.specs.declared.mode.Mode.TheVariants.{Direct, Journal}
+use Rattle.bitmap_laws.proofs.EventLemmas.{served_law as bitmap_served_law}
+use Rattle.bitmap_device.specs.Device.{IsBitmapped, kept as bitmap_kept}
+use Rattle.device.specs.declared.mode.Mode.TheVariants.{Bitmap, Direct, Journal}
 use Rattle.device.specs.Answers.{WritesInClose, WritesInServe, WritesInStep}
 use Rattle.device.specs.Device.{IsDeviceIn}
 use Rattle.device_parts.specs.Device.{Standing}
-use Rattle.device.proofs.ModeLemmas.{own_direct, own_journaled}
+use Rattle.device.proofs.ModeLemmas.{own_direct, plain_bitmap, plain_journal}
+use Rattle.device.proofs.NextWritesLemmas.{next_is_written}
+use Rattle.device.proofs.BitmapWritesLemmas.{bitmap_close_only, bitmap_serve_only, bitmap_step_only}
 use Rattle.device_opening.specs.Writes.{IsOfPlacing}
 use Rattle.device.specs.Writes.{IsAnyBlock, IsInJournal, IsOfRun, WritesOnly, WritesOnlyOf}
 use Rattle.device.proofs.WritesLemmas.{WritesOnly-kept, WritesOnly-left}
@@ -203,35 +206,7 @@ module _ (d : JournaledDisk) (journal : PlacedRing) (store : Store) (changes : L
 
 -- ---- direct mode
 
--- A block of a write begins with that.
-write_begins : (k : ℕ) (a : Asked) (first : ℕ) (blocks : List (List ℕ)) (fua : Bool)
-    → Contains (block_changes (suc k) a (Write first blocks fua)) (Begun (next_write k first blocks a.served))
-write_begins k a first blocks fua =
-    let write = next_write k first blocks a.served in
-    Contains-append_left (Begun write ∷ []) (Written write ∷ (if is_flushed_by a blocks fua then Flushed ∷ [] else []))
-    (Begun write) (Contains-push [] (Begun write))
-
 module _ (v : DirectStanding) (ticket : ℕ) (p : Parts) (a : List Content) (is : IsOverDisk v Conditions.Working p a) (there : is_in_flight ticket p.slots ≡ true) where
-  -- The block that is written next for a request is one that a serve of it writes.
-  next_is_written : (block : ℕ) → IsWrittenNext p.slots ticket block
-      → IsWrittenIn (event_result v.format v.state (Serve ticket)).changes block
-  next_is_written block next =
-      let own = next_of_ticket v p a is ticket (Turns.Write block next.is_flushed) there next.turn in
-      let turn = own.turn_ in
-      let write : BlockWrite = next_write own.k turn.first turn.blocks own.asked.served in
-      let served : event_result v.format v.state (Serve (suc own.k)) ≡ serve_with v.format v.state own.k own.asked (Some v.state.progress.journal) =
-      served_law v.format v.state v.disk own.k own.asked is.device
-      (record { works = is.condition_; there = own.there; unfinished = turn.unfinished; unheld = turn.unheld }) in
-      let changes : (event_result v.format v.state (Serve ticket)).changes ≡ block_changes (suc own.k) own.asked (Write turn.first turn.blocks turn.fua) =
-      ap (λ (t : ℕ). (event_result v.format v.state (Serve t)).changes) own.ticket_ ∙ ap (λ (x : EventResult). x.changes) served
-      ∙ ap (block_changes (suc own.k) own.asked) turn.request in
-      record {
-        write = write;
-        begun = subst (λ (l : List Change). Contains l (Begun write)) (sym changes)
-            (write_begins own.k own.asked turn.first turn.blocks turn.fua);
-        is = sym turn.block_;
-      }
-
   -- So a serve writes only what its changes do.
   direct_serve_only : (new : Geometry) {b : List Content} → WritesPlaces (IsWrittenNext p.slots ticket) p.tags.geometry new a b
       → WritesOnly Model.Direct v.disk.format.geometry (event_result v.format v.state (Serve ticket)).changes a b
@@ -239,7 +214,8 @@ module _ (v : DirectStanding) (ticket : ℕ) (p : Parts) (a : List Content) (is 
       let g = v.disk.format.geometry in
       let changes = (event_result v.format v.state (Serve ticket)).changes in
       adds_wider (IsOfPlaces g (IsWrittenNext p.slots ticket)) (IsOfPlaces g (IsWrittenIn changes))
-      (IsOfPlaces-wider (IsWrittenNext p.slots ticket) (IsWrittenIn changes) g next_is_written)
+      (IsOfPlaces-wider (IsWrittenNext p.slots ticket) (IsWrittenIn changes) g
+      (λ block next. next_is_written v.format v.state p.slots is.flight is.condition_ (λ k asked served. served_law v.format v.state v.disk k asked is.device served) ticket there block next.is_flushed next.turn))
       (subst (λ (x : Geometry). EachSince (OnlyAdds (IsOfPlaces x (IsWrittenNext p.slots ticket))) a b) (sym (is.cells refl).geometry) writes.each)
 
 -- ---- for callers
@@ -274,7 +250,7 @@ module _ (w : Standing) (common : Parts) (a : List Content) where
         → WritesOnlyOf w (Serve ticket ∷ []) a b
     journal_serve_only ticket writes =
         let changes = (event_result w.format w.state (Serve ticket)).changes in
-        alone (Serve ticket) (at_mode Model.Journal is.disk.format changes (own_journaled w Conditions.Working common journal a is) is.format
+        alone (Serve ticket) (at_mode Model.Journal is.disk.format changes (plain_journal.own w Conditions.Working (kept common journal) a is) is.format
         (serve_only is.disk journal common.tags changes ring_same stands.placed.cells.geometry next_inside block_some common refl (turn_of common.slots ticket) writes))
 
     -- The entries of the committed sections are those of the disk.
@@ -304,12 +280,12 @@ module _ (w : Standing) (common : Parts) (a : List Content) where
         → WritesOnlyOf w (Step (actor_of actor) ∷ []) a b
     journal_step_only actor writes =
         let changes = (event_result w.format w.state (Step (actor_of actor))).changes in
-        alone (Step (actor_of actor)) (at_mode Model.Journal is.disk.format changes (own_journaled w Conditions.Working common journal a is) is.format
+        alone (Step (actor_of actor)) (at_mode Model.Journal is.disk.format changes (plain_journal.own w Conditions.Working (kept common journal) a is) is.format
         (step_only is.disk journal common.tags changes ring_same stands.placed.cells.geometry next_inside block_some common refl actor next_whole writes))
 
     journal_close_only : (changes : List Change) {b : List Content} → WritesAll journal a b → WritesOnly w.format.mode w.on.geometry changes a b
     journal_close_only changes writes =
-        at_mode Model.Journal is.disk.format changes (own_journaled w Conditions.Working common journal a is) is.format
+        at_mode Model.Journal is.disk.format changes (plain_journal.own w Conditions.Working (kept common journal) a is) is.format
         (close_only is.disk journal common.tags changes ring_same stands.placed.cells.geometry next_inside block_some all_whole writes)
 
   -- A serve writes what its event may,
@@ -320,6 +296,15 @@ module _ (w : Standing) (common : Parts) (a : List Content) where
       alone (Serve ticket) (at_mode Model.Direct is.direct.disk.format changes (own_direct w Conditions.Working common a is) is.direct.format
       (direct_serve_only (direct_standing w is.direct.disk) ticket common a is.direct.device there new.tags.geometry writes))
   serve_writes (Journal journal) is ticket there new writes = journal_serve_only journal is ticket writes
+  serve_writes (Bitmap states) is ticket there new writes =
+      let d = is.disk in
+      let changes = (event_result w.format w.state (Serve ticket)).changes in
+      let stands = is.over.stands refl in
+      alone (Serve ticket) (at_mode Model.Bitmap d.format changes (plain_bitmap.own w Conditions.Working (bitmap_kept common states) a is) is.format
+      (bitmap_serve_only d.format.geometry changes common states ticket (writes.0 ∙ sym stands.geometry) (sym stands.geometry)
+      (λ block is_flushed turn. next_is_written w.format w.state common.slots is.over.flight is.over.condition_
+      (λ k asked served. bitmap_served_law w.format w.state d k asked is.over.device served) ticket there block is_flushed turn)
+      (turn_of common.slots ticket) refl writes.1))
 
   -- so does a step,
   pub step_writes : (mode : Mode) → IsDeviceIn mode w Conditions.Working common a → (actor : Actor) {b : List Content}
@@ -327,6 +312,12 @@ module _ (w : Standing) (common : Parts) (a : List Content) where
   step_writes Direct is actor kept =
       alone (Step (actor_of actor)) (WritesOnly-kept w.format.mode w.on.geometry (event_result w.format w.state (Step (actor_of actor))).changes kept)
   step_writes (Journal journal) is actor writes = journal_step_only journal is actor writes
+  step_writes (Bitmap states) is actor writes =
+      let d = is.disk in
+      let changes = (event_result w.format w.state (Step (actor_of actor))).changes in
+      let stands = is.over.stands refl in
+      alone (Step (actor_of actor)) (at_mode Model.Bitmap d.format changes (plain_bitmap.own w Conditions.Working (bitmap_kept common states) a is) is.format
+      (bitmap_step_only d.format.geometry changes common states (writes.0 ∙ sym stands.geometry) (sym stands.geometry) actor writes.1))
 
   -- and a close writes what may be written whatever changes.
   pub close_writes : (mode : Mode) → IsDeviceIn mode w Conditions.Working common a → (changes : List Change) {b : List Content}
@@ -338,3 +329,8 @@ module _ (w : Standing) (common : Parts) (a : List Content) where
       (IsOfPlaces-wider IsNoBlock (IsWrittenIn changes) g (λ block none. absurd none))
       (subst (λ (x : Geometry). EachSince (OnlyAdds (IsOfPlaces x IsNoBlock)) a b) (sym (is.direct.device.cells refl).geometry) writes))
   close_writes (Journal journal) is changes writes = journal_close_only journal is changes writes
+  close_writes (Bitmap states) is changes writes =
+      let d = is.disk in
+      let stands = is.over.stands refl in
+      at_mode Model.Bitmap d.format changes (plain_bitmap.own w Conditions.Working (bitmap_kept common states) a is) is.format
+      (bitmap_close_only d.format.geometry changes common states (writes.0 ∙ sym stands.geometry) (sym stands.geometry) writes.1)

@@ -1,5 +1,5 @@
 -- What is told of a device in one mode is told of it as a device of any.
-use Rattle.std.proofs.Common.{◌≡◌, ℕ, false, List, [], IfOk, OnOk, Result, Ok, Err, refl, sym, ◌∙◌, ap, subst}
+use Rattle.std.proofs.Common.{◌≡◌, ℕ, ◌<◌, false, List, [], IfOk, OnOk, Result, Ok, Err, refl, sym, ◌∙◌, ap, subst}
 use Rattle.disk_model.specs.Disk.{Content, EachImage, OnlyAdds}
 use Rattle.disk_model.specs.Moments.{EachSince, HasNow}
 use Rattle.image_model.specs.Geometry.{IsGeometry}
@@ -20,17 +20,20 @@ use Rattle.device_parts.specs.declared.condition.Condition.{Condition}
 use Rattle.device_parts.specs.declared.condition.Condition.TheVariants.{Working}
 use Rattle.device_parts.specs.declared.parts.Parts.{Parts}
 use Rattle.device_parts.specs.declared.answers.Served.{Served}
-use Rattle.device_parts.specs.Answers.{ServesNext}
-use Rattle.device_parts.specs.Device.{Does, Ends, HasDone, HasEnded, IsDone, Standing, condition_of}
+use Rattle.device_parts.specs.Answers.{ServesNext, turns_left}
+use Rattle.device_parts.specs.Device.{DeviceMode, Does, Ends, HasDone, HasEnded, IsDone, KeepsFlight, Standing, condition_of, standing_after}
 use Rattle.direct_device.specs.Device.{in_direct, placed_on}
 use Rattle.direct_device.proofs.EventLemmas.{quiet_kept_law as direct_quiet_law}
 use Rattle.journal_device.specs.Journal.{PlacedRing}
 use Rattle.journal_device.specs.Device.{IsJournaled, in_journal, kept, kind_on}
 use Rattle.journal_device.proofs.EventLemmas.{quiet_kept_law as journal_quiet_law}
 use Rattle.journal_device.specs.declared.parts.JournalParts.{JournalParts}
+use Rattle.bitmap_device.specs.declared.parts.BitmapParts.{BitmapParts}
+use Rattle.bitmap_device.specs.Device.{in_bitmap, kept as bitmap_kept, kind_on as bitmap_kind}
+use Rattle.bitmap_device.proofs.EventLemmas.{quiet_kept_law as bitmap_quiet_law}
 use Rattle.device.specs.declared.mode.DeviceParts.{DeviceParts}
 use Rattle.device.specs.declared.mode.Mode.{Mode}
-use Rattle.device.specs.declared.mode.Mode.TheVariants.{Direct, Journal}
+use Rattle.device.specs.declared.mode.Mode.TheVariants.{Bitmap, Direct, Journal}
 use Rattle.device.specs.Device.{IsDevice, IsDeviceIn, IsEmptied, any_mode, kind_of, with_slots}
 use Rattle.device.proofs.EmptiedLemmas.{StaysEmpty, left_now_empty, left_through_empty, stays_still, stays_written}
 
@@ -90,43 +93,150 @@ stays_direct w common moments b IsWritten reads writes is =
     own_geometry f same = subst (λ (x : DiskFormat). IsGeometry x.geometry x.sectors) same
         (reads_tells is.direct.disk.format w.entry is.direct.device.reads).is_geometry
 
--- ---- journal mode
+-- ---- answers
 
-module _ (w : Standing) (condition : Condition) (common : Parts) (journal : PlacedRing) (moments : List Content)
-    (is : IsJournaled w condition (kept common journal) moments) where
-  pub own_journaled : Model.Journal ≡ w.format.mode
-  own_journaled = sym (ap (λ (f : Model.DeviceFormat). f.mode) is.over.format)
+-- What follows of what holds of an answer holds of it.
+pub if_ok_each : {T E : Type 0} {P Q : T → Type 0} (result : Result T E) → ((x : T) → P x → Q x) → IfOk result P → IfOk result Q
+if_ok_each (Ok x) follows holds = follows x holds
+if_ok_each (Err fault) follows holds = tt
 
-  through_journaled : (event : Progress.Event) (a b : List Content)
-      → IsLeftThrough (kind_on w.on) w.entry w.format w.state event a b
-      → IsLeftThrough (kind_of w) w.entry w.format w.state event a b
-  through_journaled event a b left =
-      subst (λ (m : Model.Mode). IsLeftThrough (kind_in m w.on.key w.on.sectors) w.entry w.format w.state event a b) own_journaled left
+pub on_ok_each : {T E P Q : Type 0} (result : Result T E) → (P → Q) → OnOk result P → OnOk result Q
+on_ok_each (Ok done) follows holds = follows holds
+on_ok_each (Err fault) follows holds = tt
 
-  now_journaled : (h : History) (a : List Content) → IsLeftNow (kind_on w.on) w.entry h a → IsLeftNow (kind_of w) w.entry h a
-  now_journaled h a left =
-      subst (λ (m : Model.Mode). IsLeftNow (kind_in m w.on.key w.on.sectors) w.entry h a) own_journaled left
+-- ---- the other modes
 
-  pub kept_journaled : IsLeftNow (kind_of w) w.entry w.state.history moments
-  kept_journaled =
-      now_journaled w.state.history moments
-      (subst (λ (f : DiskFormat). IsLeftNow (kind_on f) w.entry w.state.history moments) is.format is.over.left)
+-- A mode whose devices are devices of any as they are, and whose kind of device is that of a mode of `device_model`.
+pub record IsPlain {Kept : Type 0} (mode : DeviceMode Kept) (named : Model.Mode) (into : Kept → DeviceParts) : Type 1 where
+  pub common : (k : Kept) → mode.parts k ≡ (into k).common
+  pub inside : (w : Standing) (c : Condition) (k : Kept) (a : List Content) → mode.IsDevice w c k a → IsDevice w c (into k) a
+  pub outside : (w : Standing) (c : Condition) (k : Kept) (a : List Content) → IsDevice w c (into k) a → mode.IsDevice w c k a
+  pub own : (w : Standing) (c : Condition) (k : Kept) (a : List Content) → mode.IsDevice w c k a → named ≡ w.format.mode
+  pub through : (w : Standing) (event : Progress.Event) (a b : List Content)
+      → IsLeftThrough (mode.kind w) w.entry w.format w.state event a b
+      → IsLeftThrough (kind_in named w.on.key w.on.sectors) w.entry w.format w.state event a b
+  pub now : (w : Standing) (h : History) (a : List Content) → IsLeftNow (mode.kind w) w.entry h a
+      → IsLeftNow (kind_in named w.on.key w.on.sectors) w.entry h a
 
-  pub done_journaled : (event : Progress.Event) (after : Condition) (later : Parts) (ring : PlacedRing)
-      (a b : List Content) → HasDone in_journal w event after (kept later ring) a b
-      → HasDone any_mode w event after (record { common = later; mode = Journal ring }) a b
-  done_journaled event after later ring a b done = record {
-    device = done.device;
-    through = through_journaled event a b done.through;
-  }
+-- What a device in journal mode keeps, as one of any mode,
+abbrev pub in_journal_mode : JournalParts → DeviceParts
+in_journal_mode device = record { common = device.parts; mode = Journal device.journal }
 
-  pub ended_journaled : (event : Progress.Event) (answer : Progress.Answer) (a b : List Content)
-      → HasEnded in_journal w event answer a b → HasEnded any_mode w event answer a b
-  ended_journaled event answer a b ended = record {
-    answers = ended.answers;
-    through = through_journaled event a b ended.through;
-    left = now_journaled (Progress.after_event w.format w.state event).history b ended.left;
-  }
+-- and one in bitmap mode.
+abbrev pub in_bitmap_mode : BitmapParts → DeviceParts
+in_bitmap_mode device = record { common = device.parts; mode = Bitmap device.regions }
+
+-- What is kept in a mode is kept so.
+pub parts_in : (parts : DeviceParts) {m : Mode} → parts.mode ≡ m → parts ≡ record { common = parts.common; mode = m }
+parts_in parts same = ap (λ (m : Mode). let p : DeviceParts = record { common = parts.common; mode = m } in p) same
+
+pub plain_journal : IsPlain in_journal Model.Journal in_journal_mode
+plain_journal = record {
+  common = λ k. refl;
+  inside = λ w c k a is. is;
+  outside = λ w c k a is. is;
+  own = λ w c k a is. sym (ap (λ (f : Model.DeviceFormat). f.mode) is.over.format);
+  through = λ w event a b left. left;
+  now = λ w h a left. left;
+}
+
+pub plain_bitmap : IsPlain in_bitmap Model.Bitmap in_bitmap_mode
+plain_bitmap = record {
+  common = λ k. refl;
+  inside = λ w c k a is. is;
+  outside = λ w c k a is. is;
+  own = λ w c k a is. sym (ap (λ (f : Model.DeviceFormat). f.mode) is.over.device.format);
+  through = λ w event a b left. left;
+  now = λ w h a left. left;
+}
+
+module _ {Kept : Type 0} (mode : DeviceMode Kept) (named : Model.Mode) (into : Kept → DeviceParts) (plain : IsPlain mode named into) where
+  module _ (w : Standing) (condition : Condition) (k : Kept) (moments : List Content) (is : mode.IsDevice w condition k moments) where
+    through_plain : (event : Progress.Event) (a b : List Content) → IsLeftThrough (mode.kind w) w.entry w.format w.state event a b
+        → IsLeftThrough (kind_of w) w.entry w.format w.state event a b
+    through_plain event a b left =
+        subst (λ (m : Model.Mode). IsLeftThrough (kind_in m w.on.key w.on.sectors) w.entry w.format w.state event a b)
+        (plain.own w condition k moments is) (plain.through w event a b left)
+
+    pub now_plain : (h : History) (a : List Content) → IsLeftNow (mode.kind w) w.entry h a → IsLeftNow (kind_of w) w.entry h a
+    now_plain h a left =
+        subst (λ (m : Model.Mode). IsLeftNow (kind_in m w.on.key w.on.sectors) w.entry h a)
+        (plain.own w condition k moments is) (plain.now w h a left)
+
+    pub done_plain : (event : Progress.Event) (after : Condition) (later : Kept) (a b : List Content)
+        → HasDone mode w event after later a b → HasDone any_mode w event after (into later) a b
+    done_plain event after later a b done = record {
+      device = plain.inside (standing_after w event) after later b done.device;
+      through = through_plain event a b done.through;
+    }
+
+    pub ended_plain : (event : Progress.Event) (answer : Progress.Answer) (a b : List Content)
+        → HasEnded mode w event answer a b → HasEnded any_mode w event answer a b
+    ended_plain event answer a b ended = record {
+      answers = ended.answers;
+      through = through_plain event a b ended.through;
+      left = now_plain (Progress.after_event w.format w.state event).history b ended.left;
+    }
+
+  -- What a call tells of a device in the mode, it tells of the device.
+  module _ (old new : Kept) (a b : List Content) where
+    does_into : {T E : Type 0} (event failed : Progress.Event) (answer : T → Progress.Answer) (result : Result T E)
+        → Does mode event failed answer old new a b result
+        → Does any_mode event failed answer (into old) (into new) a b result
+    does_into event failed answer (Ok told) does = record {
+      done = λ w is. let own = plain.outside w Working old a is in let done = does.done w own in record {
+        answers = done.answers;
+        done = done_plain w Working old a own event Working new a b done.done;
+      };
+      err = tt;
+    }
+    does_into event failed answer (Err fault) does = record {
+      done = tt;
+      err = λ w is. let own = plain.outside w Working old a is in done_plain w Working old a own failed _ new a b (does.err w own);
+    }
+
+    pub does_plain : {T E : Type 0} (event failed : Progress.Event) (answer : T → Progress.Answer) (before : DeviceParts)
+        → before ≡ into old → (result : Result T E) → Does mode event failed answer old new a b result
+        → Does any_mode event failed answer before (into new) a b result
+    does_plain event failed answer before same result does =
+        subst (λ (p : DeviceParts). Does any_mode event failed answer p (into new) a b result) (sym same)
+        (does_into event failed answer result does)
+
+    pub serves_plain : {E : Type 0} (ticket : ℕ) (before : DeviceParts) → before ≡ into old → (result : Result Served E)
+        → ServesNext mode ticket old new a b result → ServesNext any_mode ticket before (into new) a b result
+    serves_plain ticket before same result next =
+        subst (λ (p : DeviceParts). ServesNext any_mode ticket p (into new) a b result) (sym same)
+        (record {
+          does = does_into (Progress.Serve ticket) (Progress.FailedServe ticket) _ result next.does;
+          goes_on = if_ok_each result (λ served less did.
+              subst (λ (p : Parts). turns_left ticket p.slots < turns_left ticket (into old).common.slots) (plain.common new)
+              (subst (λ (p : Parts). turns_left ticket (mode.parts new).slots < turns_left ticket p.slots) (plain.common old) (less did))) next.goes_on;
+          waiting = if_ok_each result (λ served waits waiting. let all = waits waiting in (ap into all.0, all.1)) next.waiting;
+          flight =
+              subst (λ (p : Parts). KeepsFlight (into old).common.slots p.slots) (plain.common new)
+              (subst (λ (p : Parts). KeepsFlight p.slots (mode.parts new).slots) (plain.common old) next.flight);
+        })
+
+    pub ends_plain : {T E : Type 0} (before : DeviceParts) → before ≡ into old → (result : Result T E)
+        → Ends mode old a b result → Ends any_mode before a b result
+    ends_plain before same result ends =
+        subst (λ (p : DeviceParts). Ends any_mode p a b result) (sym same) (by result ends)
+      where
+        by : {T E : Type 0} (result : Result T E) → Ends mode old a b result → Ends any_mode (into old) a b result
+        by (Ok done) ends = record {
+          done = λ w is. let own = plain.outside w Working old a is in ended_plain w Working old a own _ _ a b (ends.done w own);
+          err = tt;
+        }
+        by (Err fault) ends = record {
+          done = tt;
+          err = λ w is. let own = plain.outside w Working old a is in ended_plain w Working old a own _ _ a b (ends.err w own);
+        }
+
+    -- What is kept is kept of the device, where a call rests.
+    pub idle_plain : {T E A : Type 0} (P : T → Type 0) (before : DeviceParts) (first last : A) → before ≡ into old → (result : Result T E)
+        → IfOk result (λ x. P x → (new ≡ old) × (last ≡ first)) → IfOk result (λ x. P x → (into new ≡ before) × (last ≡ first))
+    idle_plain P before first last same result idle =
+        if_ok_each result (λ x rests own. let all = rests own in (ap into all.0 ∙ sym same, all.1)) idle
 
 -- ---- what a device is in any mode
 
@@ -134,31 +244,40 @@ module _ (w : Standing) (condition : Condition) (common : Parts) (journal : Plac
 pub left_now : (w : Standing) (condition : Condition) (mode : Mode) (common : Parts) (a : List Content)
     → IsDeviceIn mode w condition common a → IsLeftNow (kind_of w) w.entry w.state.history a
 left_now w condition Direct common a is = kept_direct w condition common a is
-left_now w condition (Journal journal) common a is = kept_journaled w condition common journal a is
+left_now w condition (Journal journal) common a is =
+    now_plain in_journal Model.Journal in_journal_mode plain_journal w condition (kept common journal) a is w.state.history a
+    (subst (λ (f : DiskFormat). IsLeftNow (kind_on f) w.entry w.state.history a) is.format is.over.left)
+left_now w condition (Bitmap regions) common a is =
+    now_plain in_bitmap Model.Bitmap in_bitmap_mode plain_bitmap w condition (bitmap_kept common regions) a is w.state.history a
+    (subst (λ (f : DiskFormat). IsLeftNow (bitmap_kind f) w.entry w.state.history a) is.format is.over.left)
 
 -- It was reached by events,
 pub reached_now : (w : Standing) (condition : Condition) (mode : Mode) (common : Parts) (a : List Content)
     → IsDeviceIn mode w condition common a → IsReached w.format w.state
 reached_now w condition Direct common a is = is.direct.device.device.reached
 reached_now w condition (Journal journal) common a is = is.over.reached
+reached_now w condition (Bitmap regions) common a is = is.over.device.reached
 
 -- is in this condition,
 pub condition_now : (w : Standing) (condition : Condition) (mode : Mode) (common : Parts) (a : List Content)
     → IsDeviceIn mode w condition common a → w.state.condition ≡ condition_of condition
 condition_now w condition Direct common a is = is.direct.device.condition_
 condition_now w condition (Journal journal) common a is = is.over.condition_
+condition_now w condition (Bitmap regions) common a is = is.over.condition_
 
 -- its requests are those in flight,
 pub flight_now : (w : Standing) (condition : Condition) (mode : Mode) (common : Parts) (a : List Content)
     → IsDeviceIn mode w condition common a → IsFlightOf w.format common.slots w.state.progress.requests
 flight_now w condition Direct common a is = is.direct.device.flight
 flight_now w condition (Journal journal) common a is = is.over.flight
+flight_now w condition (Bitmap regions) common a is = is.over.flight
 
 -- and it takes writes.
 pub takes_writes : (w : Standing) (condition : Condition) (mode : Mode) (common : Parts) (a : List Content)
     → IsDeviceIn mode w condition common a → Model.is_recovery w.format.mode ≡ false
 takes_writes w condition Direct common a is = ap (λ (f : Model.DeviceFormat). Model.is_recovery f.mode) is.direct.device.device.format
 takes_writes w condition (Journal journal) common a is = ap (λ (f : Model.DeviceFormat). Model.is_recovery f.mode) is.over.format
+takes_writes w condition (Bitmap regions) common a is = ap (λ (f : Model.DeviceFormat). Model.is_recovery f.mode) is.over.device.format
 
 -- An event keeps it that calls no disk, and changes nothing but its requests.
 quiet_in : (w : Standing) (condition : Condition) (mode : Mode) (common : Parts) (flight : Flight) (a : List Content)
@@ -172,8 +291,13 @@ quiet_in w condition Direct common flight a event is none counts regions own sam
     done_direct w condition common a is event condition (record common { slots = flight }) a a (stays_still w.on refl is.emptied)
     (direct_quiet_law w condition common flight a event is.direct none own same)
 quiet_in w condition (Journal journal) common flight a event is none counts regions own same =
-    done_journaled w condition common journal a is event condition (record common { slots = flight }) journal a a
+    done_plain in_journal Model.Journal in_journal_mode plain_journal w condition (kept common journal) a is event condition
+    (kept (record common { slots = flight }) journal) a a
     (journal_quiet_law w condition (kept common journal) flight a event is none counts regions own same)
+quiet_in w condition (Bitmap states) common flight a event is none counts regions own same =
+    done_plain in_bitmap Model.Bitmap in_bitmap_mode plain_bitmap w condition (bitmap_kept common states) a is event condition
+    (bitmap_kept (record common { slots = flight }) states) a a
+    (bitmap_quiet_law w condition (bitmap_kept common states) flight a event is none regions own same)
 
 pub quiet_done : (w : Standing) (condition : Condition) (parts : DeviceParts) (flight : Flight) (a : List Content)
     (event : Progress.Event) → IsDevice w condition parts a → (Progress.event_result w.format w.state event).changes ≡ []
@@ -199,20 +323,7 @@ only_done w condition parts a event answer is told same = record {
       (flight_now w condition parts.mode parts.common a is)) same;
 }
 
--- ---- calls
-
--- What a device in journal mode keeps, as one of any mode.
-abbrev in_journal_mode : JournalParts → DeviceParts
-in_journal_mode device = record { common = device.parts; mode = Journal device.journal }
-
--- What follows of what holds of an answer holds of it.
-pub if_ok_each : {T E : Type 0} {P Q : T → Type 0} (result : Result T E) → ((x : T) → P x → Q x) → IfOk result P → IfOk result Q
-if_ok_each (Ok x) follows holds = follows x holds
-if_ok_each (Err fault) follows holds = tt
-
-pub on_ok_each : {T E P Q : Type 0} (result : Result T E) → (P → Q) → OnOk result P → OnOk result Q
-on_ok_each (Ok done) follows holds = follows holds
-on_ok_each (Err fault) follows holds = tt
+-- ---- calls in direct mode
 
 -- What a call tells of a device in direct mode, it tells of the device, where every journal stays empty.
 module _ (common later : Parts) (a b : List Content) (stays : (w : Standing) → IsEmptied w Working common a → StaysEmpty w.on a b) where
@@ -259,70 +370,4 @@ module _ (common later : Parts) (a b : List Content) (stays : (w : Standing) →
       by (Err fault) ends = record {
         done = tt;
         err = λ w is. ended_direct w Working common a is _ _ a b (stays w is) (ends.err w is.direct);
-      }
-
--- What is kept as a device in journal mode keeps it is kept as a device.
-pub idle_journal : {T E A : Type 0} (P : T → Type 0) (mode : Mode) (common later : Parts) (journal ring : PlacedRing) (first last : A)
-    → mode ≡ Journal journal → (result : Result T E)
-    → IfOk result (λ x. P x → (kept later ring ≡ kept common journal) × (last ≡ first))
-    → IfOk result (λ x. P x → (in_journal_mode (kept later ring) ≡ record { common = common; mode = mode }) × (last ≡ first))
-idle_journal P mode common later journal ring first last same result idle =
-    if_ok_each result (λ x rests own.
-    let all = rests own in
-    (ap in_journal_mode all.0 ∙ ap (λ (m : Mode). let parts : DeviceParts = record { common = common; mode = m } in parts) (sym same), all.1)) idle
-
--- So it is in journal mode.
-module _ (common later : Parts) (journal ring : PlacedRing) (a b : List Content) where
-  abbrev before : Mode → DeviceParts
-  before mode = record { common = common; mode = mode }
-
-  does_in_journal : {T E : Type 0} (event failed : Progress.Event) (answer : T → Progress.Answer) (result : Result T E)
-      → Does in_journal event failed answer (kept common journal) (kept later ring) a b result
-      → Does any_mode event failed answer (before (Journal journal)) (in_journal_mode (kept later ring)) a b result
-  does_in_journal event failed answer (Ok told) does = record {
-    done = λ w is. let done = does.done w is in record {
-      answers = done.answers;
-      done = done_journaled w Working common journal a is event Working later ring a b done.done;
-    };
-    err = tt;
-  }
-  does_in_journal event failed answer (Err fault) does = record {
-    done = tt;
-    err = λ w is. done_journaled w Working common journal a is failed _ later ring a b (does.err w is);
-  }
-
-  pub does_journal : {T E : Type 0} (event failed : Progress.Event) (answer : T → Progress.Answer) (mode : Mode)
-      → mode ≡ Journal journal → (result : Result T E)
-      → Does in_journal event failed answer (kept common journal) (kept later ring) a b result
-      → Does any_mode event failed answer (before mode) (in_journal_mode (kept later ring)) a b result
-  does_journal event failed answer mode same result does =
-      subst (λ (m : Mode). Does any_mode event failed answer (before m) (in_journal_mode (kept later ring)) a b result) (sym same)
-      (does_in_journal event failed answer result does)
-
-  pub serves_journal : {E : Type 0} (ticket : ℕ) (mode : Mode) → mode ≡ Journal journal → (result : Result Served E)
-      → ServesNext in_journal ticket (kept common journal) (kept later ring) a b result
-      → ServesNext any_mode ticket (before mode) (in_journal_mode (kept later ring)) a b result
-  serves_journal ticket mode same result next =
-      subst (λ (m : Mode). ServesNext any_mode ticket (before m) (in_journal_mode (kept later ring)) a b result) (sym same)
-      (record {
-        does = does_in_journal (Progress.Serve ticket) (Progress.FailedServe ticket) _ result next.does;
-        goes_on = next.goes_on;
-        waiting = if_ok_each result (λ served waits waiting. let all = waits waiting in (ap in_journal_mode all.0, all.1)) next.waiting;
-        flight = next.flight;
-      })
-
-  pub ends_journal : {T E : Type 0} (mode : Mode) → mode ≡ Journal journal → (result : Result T E)
-      → Ends in_journal (kept common journal) a b result → Ends any_mode (before mode) a b result
-  ends_journal mode same result ends =
-      subst (λ (m : Mode). Ends any_mode (before m) a b result) (sym same) (by result ends)
-    where
-      by : {T E : Type 0} (result : Result T E) → Ends in_journal (kept common journal) a b result
-          → Ends any_mode (before (Journal journal)) a b result
-      by (Ok done) ends = record {
-        done = λ w is. ended_journaled w Working common journal a is _ _ a b (ends.done w is);
-        err = tt;
-      }
-      by (Err fault) ends = record {
-        done = tt;
-        err = λ w is. ended_journaled w Working common journal a is _ _ a b (ends.err w is);
       }

@@ -1,5 +1,5 @@
 -- Which sectors are written between two moments, by the changes that are made.
-use Rattle.std.proofs.Common.{◌≡◌, ℕ, List, ◌++◌}
+use Rattle.std.proofs.Common.{◌≡◌, inl, inr, ⊎_elim, ℕ, List, ◌++◌}
 use Rattle.std.proofs.lemmas.List.Elements.{Contains-append_left, Contains-append_right}
 use Rattle.disk_model.specs.Disk.{Content}
 use Rattle.disk_model.proofs.MomentsLemmas.{EachMoment-kept, adds_then, adds_wider}
@@ -22,7 +22,7 @@ run_wider : (mode : Model.Mode) (g : Geometry) (xs ys : List Change)
     → ((block : ℕ) → IsWrittenIn xs block → IsWrittenIn ys block) → (sector : ℕ) (x : List ℕ)
     → IsOfRun mode g xs sector x → IsOfRun mode g ys sector x
 run_wider Model.Journal g xs ys more sector x of = of
-run_wider Model.Bitmap g xs ys more sector x of = IsOfPlaces-wider (IsWrittenIn xs) (IsWrittenIn ys) g more sector x of
+run_wider Model.Bitmap g xs ys more sector x of = ⊎_elim (λ bits. inl bits) (λ places. inr (IsOfPlaces-wider (IsWrittenIn xs) (IsWrittenIn ys) g more sector x places)) of
 run_wider Model.Direct g xs ys more sector x of = IsOfPlaces-wider (IsWrittenIn xs) (IsWrittenIn ys) g more sector x of
 run_wider Model.Recovery g xs ys more sector x of = IsOfPlaces-wider (IsWrittenIn xs) (IsWrittenIn ys) g more sector x of
 

@@ -14,16 +14,36 @@ use Rattle.journal_device.specs.Closing.{WritesAll}
 use Rattle.journal_device.specs.Answers as InJournal
 use Rattle.journal_device.specs.Answers.{WritesAs, WritesFor}
 use Rattle.device.specs.declared.mode.Mode.{Mode}
-use Rattle.device.specs.declared.mode.Mode.TheVariants.{Direct, Journal}
+use Rattle.bitmap_mode.specs.Closing.{IsOfClose}
+use Rattle.bitmap_mode.specs.States.{States}
+use Rattle.bitmap_device.specs.Answers as InBitmap
+use Rattle.bitmap_device.specs.Device.{KeepsTagsBy, kept as bitmap_kept}
+use Rattle.device.specs.declared.mode.Mode.TheVariants.{Bitmap, Direct, Journal}
+
+-- The regions are those of the blocks whose tags are kept.
+abbrev pub HasPlacesOf : States → Parts → Type 0
+HasPlacesOf regions common = regions.geometry ≡ common.tags.geometry
+
+-- ---- the tags of blocks whose region's bit was clear
+
+-- In bitmap mode the tag of each block without a write by the history after this event, whose region's bit was clear in the
+-- image that was opened, is in its place at each moment as it was there.
+abbrev pub KeepsClearTags : Mode → Parts → Model.Event → (before after : List Content) → Type 0
+KeepsClearTags Direct common event before after = Unit {0}
+KeepsClearTags (Journal journal) common event before after = Unit {0}
+KeepsClearTags (Bitmap regions) common event before after =
+    KeepsTagsBy event (bitmap_kept common regions) before after
 
 -- ---- a serve
 
--- What is written in one: in direct mode sectors of tags, and the block that is written next; in journal mode what is
--- done next tells it.
+-- What is written in one: in direct mode sectors of tags, and the block that is written next; in journal and in bitmap
+-- mode what is done next tells it.
 abbrev pub WritesInServe : Mode → (ticket : ℕ) → (old new : Parts) → (before after : List Content) → Type 0
 WritesInServe Direct ticket old new before after = WritesServed ticket old new before after
 WritesInServe (Journal journal) ticket old new before after =
     WritesFor (turn_of old.slots ticket) old journal before after
+WritesInServe (Bitmap regions) ticket old new before after =
+    HasPlacesOf regions old × InBitmap.WritesFor (turn_of old.slots ticket) ticket old regions before after
 
 -- ---- a step
 
@@ -31,27 +51,36 @@ WritesInServe (Journal journal) ticket old new before after =
 abbrev pub steps_left : Actor → Mode → ℕ
 steps_left actor Direct = 0
 steps_left actor (Journal journal) = InJournal.steps_left actor journal
+steps_left actor (Bitmap regions) = InBitmap.steps_left actor regions
 
--- What is written in one: in direct mode nothing, and in journal mode what the actor does.
+-- What is written in one: in direct mode nothing, and else what the actor does.
 abbrev pub WritesInStep : Mode → Actor → Parts → (before after : List Content) → Type 0
 WritesInStep Direct actor common before after = after ≡ before
 WritesInStep (Journal journal) actor common before after = WritesAs actor common journal before after
+WritesInStep (Bitmap regions) actor common before after =
+    HasPlacesOf regions common × InBitmap.WritesAs actor common regions before after
 
 -- The actor has nothing to do in the mode: in direct mode none has.
 abbrev pub HasNoWork : Modes.Mode → Model.Actor → Type 0
 HasNoWork Modes.Direct actor = Unit {0}
 HasNoWork Modes.Journal actor = InJournal.HasNoWork actor
+HasNoWork Modes.Bitmap actor = InBitmap.HasNoWork actor
 HasNoWork mode actor = ⊥
 
 -- ---- a close
 
--- In journal mode each image has in place of each block the cell that the history gives it.
-abbrev pub IsAllPlaced : Mode → Standing → List Content → Type 0
-IsAllPlaced Direct w moments = Unit {0}
-IsAllPlaced (Journal journal) w moments = InJournal.IsAllPlaced w moments
+-- In journal mode each image has in place of each block the cell that the history gives it, and in bitmap mode those bits
+-- are set that were before it and whose regions await.
+abbrev pub IsAtRest : Mode → Standing → List Content → Type 0
+IsAtRest Direct w moments = Unit {0}
+IsAtRest (Journal journal) w moments = InJournal.IsAllPlaced w moments
+IsAtRest (Bitmap regions) w moments = InBitmap.HasBitsLeft w moments
 
--- What is written in one: in direct mode sectors of tags, in journal mode batches and then what is not placed.
+-- What is written in one: in direct mode sectors of tags, in journal mode batches and then what is not placed, in bitmap
+-- mode sectors of tags and then of the bitmap.
 abbrev pub WritesInClose : Mode → Parts → (before after : List Content) → Type 0
 WritesInClose Direct common before after =
     EachSince (OnlyAdds (IsOfPlaces common.tags.geometry IsNoBlock)) before after
 WritesInClose (Journal journal) common before after = WritesAll journal before after
+WritesInClose (Bitmap regions) common before after =
+    HasPlacesOf regions common × EachSince (OnlyAdds (IsOfClose regions common.tags)) before after

@@ -15,7 +15,7 @@ use Rattle.device_parts.specs.declared.condition.Condition.TheVariants.{Working}
 use Rattle.device_parts.specs.Answers.{HasServed, HasStepped, HasSubmitted, HasTaken, IsSerial, actor_of, answer_by, condition_by, event_by, turns_left}
 use Rattle.device_parts.specs.Device.{Answers, HasEnded, KeepsParts, Standing}
 use Rattle.device.specs.declared.mode.DeviceParts.{DeviceParts}
-use Rattle.device.specs.Answers.{IsAllPlaced, WritesInClose, WritesInServe, WritesInStep}
+use Rattle.device.specs.Answers.{IsAtRest, WritesInClose, WritesInServe, WritesInStep}
 use Rattle.device.specs.Device.{IsDevice, IsReady, any_mode}
 use Rattle.device.specs.Run.{HasFailed, HasRun}
 
@@ -53,10 +53,10 @@ abbrev pub GivesSerial : ℕ → Condition → DeviceParts → List Content → 
 GivesSerial ticket condition parts moments result = IfOk result (λ reply. (w : Standing)
     → IsDevice w condition parts moments → IsSerial w ticket reply)
 
--- A close that answers well leaves all in its place.
-abbrev pub PlacesAll : {T E : Type 0} → Result T E → Condition → DeviceParts → (before after : List Content) → Type 0
-PlacesAll result condition parts before after = OnOk result ((w : Standing)
-    → IsDevice w condition parts before → IsAllPlaced parts.mode w after)
+-- A close that answers well leaves each image as its mode has it.
+abbrev pub LeavesAtRest : {T E : Type 0} → Result T E → Condition → DeviceParts → (before after : List Content) → Type 0
+LeavesAtRest result condition parts before after = OnOk result ((w : Standing)
+    → IsDevice w condition parts before → IsAtRest parts.mode w after)
 
 -- What is ready before a call is ready behind it.
 abbrev pub StaysReady : {D : Type 0} → (D → DiskIdentity) → (D → List Content) → Condition → (old new : DeviceParts)

@@ -17,7 +17,9 @@ use Rattle.journal_device.specs.Device as InJournal
 use Rattle.journal_device.specs.Device.{IsJournaled, kept}
 use Rattle.device.specs.declared.mode.DeviceParts.{DeviceParts}
 use Rattle.device.specs.declared.mode.Mode.{Mode}
-use Rattle.device.specs.declared.mode.Mode.TheVariants.{Direct, Journal}
+use Rattle.bitmap_device.specs.Device as InBitmap
+use Rattle.bitmap_device.specs.Device.{IsBitmapped, kept as bitmap_kept}
+use Rattle.device.specs.declared.mode.Mode.TheVariants.{Bitmap, Direct, Journal}
 
 -- ---- what is true of each device
 
@@ -25,6 +27,7 @@ use Rattle.device.specs.declared.mode.Mode.TheVariants.{Direct, Journal}
 abbrev pub IsReadyIn : Mode → Condition → Parts → DiskIdentity → List Content → Type 0
 IsReadyIn Direct condition common disk moments = Devices.IsReady common disk moments
 IsReadyIn (Journal journal) condition common disk moments = InJournal.IsReady condition common journal disk moments
+IsReadyIn (Bitmap regions) condition common disk moments = InBitmap.IsReady common regions disk moments
 
 abbrev pub IsReady : Condition → DeviceParts → DiskIdentity → List Content → Type 0
 IsReady condition parts disk moments = IsReadyIn parts.mode condition parts.common disk moments
@@ -33,6 +36,7 @@ IsReady condition parts disk moments = IsReadyIn parts.mode condition parts.comm
 abbrev pub mode_of : Mode → Model.Mode
 mode_of Direct = Model.Direct
 mode_of (Journal journal) = Model.Journal
+mode_of (Bitmap regions) = Model.Bitmap
 
 -- What is kept, with these requests in flight.
 abbrev pub with_slots : DeviceParts → Flight → DeviceParts
@@ -49,10 +53,11 @@ pub record IsEmptied (w : Standing) (condition : Condition) (common : Parts) (mo
   pub direct : IsDirect w condition common moments
   pub emptied : HasNow (EachImage (HasEmptyJournal w.on)) moments
 
--- or one in journal mode.
+-- or one in journal or bitmap mode.
 abbrev pub IsDeviceIn : Mode → Standing → Condition → Parts → List Content → Type 0
 IsDeviceIn Direct w condition common moments = IsEmptied w condition common moments
 IsDeviceIn (Journal journal) w condition common moments = IsJournaled w condition (kept common journal) moments
+IsDeviceIn (Bitmap regions) w condition common moments = IsBitmapped w condition (bitmap_kept common regions) moments
 
 -- What is kept is that of this device, whose disk tells its content.
 abbrev pub IsDevice : Standing → Condition → DeviceParts → List Content → Type 0

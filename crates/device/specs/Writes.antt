@@ -1,8 +1,8 @@
 -- Which sectors a run of events writes.
-use Rattle.std.specs.Prelude.{◌⊎◌, ℕ, ◌<◌, ◌≤◌, List}
+use Rattle.std.specs.Prelude.{◌≡◌, ◌⊎◌, ℕ, ◌+◌, ◌<◌, ◌≤◌, List}
 use Rattle.disk_model.specs.Disk.{Content, OnlyAdds}
 use Rattle.disk_model.specs.Moments.{EachSince}
-use Rattle.image_model.specs.Geometry.{Geometry, initial}
+use Rattle.image_model.specs.Geometry.{Geometry, bitmap_sectors, initial}
 use Rattle.device_model.specs.History.{Change, IsWrittenIn}
 use Rattle.device_model.specs.Mode as Model
 use Rattle.device_model.specs.Progress.{Event, changes_of}
@@ -14,15 +14,22 @@ pub record IsInJournal (g : Geometry) (sector : ℕ) : Type 0 where
   pub begins : 8 ≤ sector
   pub ends : sector < initial g
 
+-- The sector is one of the bitmap's, which stands in the journal's place.
+pub record IsInBitmap (g : Geometry) (sector : ℕ) : Type 0 where
+  pub place : ℕ
+  pub inside : place < bitmap_sectors g
+  pub is : sector ≡ 8 + place
+
 -- Any block may be written.
 abbrev pub IsAnyBlock : ℕ → Type 0
 IsAnyBlock block = Unit {0}
 
 -- Bytes may be written to the sector: in direct mode it is one of tags, or of the data of a block that the changes
--- write; in journal mode one of the journal, of tags, or of the data of a block, since entries of earlier writes come
--- to their places.
+-- write; in bitmap mode one of these or of the bitmap; in journal mode one of the journal, of tags, or of the data of a
+-- block, since entries of earlier writes come to their places.
 abbrev pub IsOfRun : Model.Mode → Geometry → List Change → (sector : ℕ) → List ℕ → Type 0
 IsOfRun Model.Journal g changes sector x = IsInJournal g sector ⊎ IsOfPlaces g IsAnyBlock sector x
+IsOfRun Model.Bitmap g changes sector x = IsInBitmap g sector ⊎ IsOfPlaces g (IsWrittenIn changes) sector x
 IsOfRun mode g changes sector x = IsOfPlaces g (IsWrittenIn changes) sector x
 
 -- Between two moments nothing else was written.

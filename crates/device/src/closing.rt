@@ -4,16 +4,17 @@ ghost use Rattle.disk_model.specs.Causes.{HasCause};
 ghost use Rattle.device_parts.specs.Answers.{HasStepCause};
 ghost use Rattle.device_parts.specs.Device.{Ends};
 ghost use Rattle.device_parts.specs.declared.condition.Condition.TheVariants.{Working};
-ghost use Rattle.device.specs.Answers.{WritesInClose};
-ghost use Rattle.device.specs.Calls.{Closes, PlacesAll, WritesClosing};
+ghost use Rattle.device_model.specs.Progress.{Close};
+ghost use Rattle.device.specs.Answers.{KeepsClearTags, WritesInClose};
+ghost use Rattle.device.specs.Calls.{Closes, LeavesAtRest, WritesClosing};
 ghost use Rattle.device.specs.Device.{IsReady, any_mode};
 
 use crate::{DeviceParts, Mode};
 use device_parts::{Condition, StepFault};
 use sector_disk::{Disk, Failed};
 
-/// Flushes all that was written; in journal mode all is committed, placed and settled. A broken device makes no call of
-/// its disk.
+/// Flushes all that was written; in journal mode all is committed, placed and settled, and in bitmap mode the bit of each
+/// region is cleared that does not await. A broken device makes no call of its disk.
 ///
 /// # Errors
 ///
@@ -27,7 +28,7 @@ pub(crate) fn close<D: Disk>(
     requires { IsReady condition parts (D.identity disk.old) (D.moments disk.old) }
 
     ensures closed { Closes result condition parts.entry (D.moments disk.old) (D.moments disk.new) }
-    ensures placed { PlacesAll result condition parts.entry (D.moments disk.old) (D.moments disk.new) }
+    ensures rests { LeavesAtRest result condition parts.entry (D.moments disk.old) (D.moments disk.new) }
 
     ensures cause { HasStepCause (D.faults disk.old) (D.faults disk.new) result }
     ensures broken { (condition ≡ Condition.Broken) ↔ (result ≡ Err StepFault.Broken) }
@@ -35,6 +36,8 @@ pub(crate) fn close<D: Disk>(
     ensures identity { D.identity disk.new ≡ D.identity disk.old }
     ensures kept { condition ≡ Condition.Broken → disk.new ≡ disk.old }
 
+    ensures tags { KeepsClearTags parts.entry.mode parts.entry.common Close
+        (D.moments disk.old) (D.moments disk.new) }
     ensures writes { WritesClosing condition parts.entry (D.moments disk.old) (D.moments disk.new) }
 {
     match condition {
@@ -58,12 +61,14 @@ fn close_in_mode<D: Disk>(disk: &mut D, parts: DeviceParts<'_>) -> Result<(), Fa
     requires { IsReady Working parts (D.identity disk.old) (D.moments disk.old) }
 
     ensures ends { Ends any_mode parts.entry (D.moments disk.old) (D.moments disk.new) result }
-    ensures placed { PlacesAll result Working parts.entry (D.moments disk.old) (D.moments disk.new) }
+    ensures rests { LeavesAtRest result Working parts.entry (D.moments disk.old) (D.moments disk.new) }
 
     ensures cause { HasCause (D.faults disk.old) (D.faults disk.new) result }
 
     ensures identity { D.identity disk.new ≡ D.identity disk.old }
 
+    ensures tags { KeepsClearTags parts.entry.mode parts.entry.common Close
+        (D.moments disk.old) (D.moments disk.new) }
     ensures writes { WritesInClose parts.entry.mode parts.entry.common
         (D.moments disk.old) (D.moments disk.new) }
 {
@@ -71,5 +76,6 @@ fn close_in_mode<D: Disk>(disk: &mut D, parts: DeviceParts<'_>) -> Result<(), Fa
     match mode {
         Mode::Direct => direct_device::close(disk, &mut common),
         Mode::Journal(mut journal) => journal_device::close(disk, &mut common, &mut journal),
+        Mode::Bitmap(mut regions) => bitmap_device::close(disk, &mut common, &mut regions),
     }
 }

@@ -6,11 +6,12 @@ ghost use Rattle.request_slots.specs.Flight.{is_in_flight, slot_of};
 ghost use Rattle.request_slots.specs.Taking.{after_take, taken_by};
 ghost use Rattle.device_parts.specs.Answers.{HasStepCause, TurnsBroken, actor_of, after_submission, submit_result};
 ghost use Rattle.device_parts.specs.declared.answers.Served.TheVariants.{Did, NoRoom};
-ghost use Rattle.device.specs.Answers.{HasNoWork, steps_left};
-ghost use Rattle.device.specs.Calls.{Closes, GivesSerial, HasFewerTurns, Keeps, PlacesAll, Serves, StaysReady, Steps};
+ghost use Rattle.device_model.specs.Progress.{Close, FailedServe, Step};
+ghost use Rattle.device.specs.Answers.{HasNoWork, KeepsClearTags, steps_left};
+ghost use Rattle.device.specs.Calls.{Closes, GivesSerial, HasFewerTurns, Keeps, LeavesAtRest, Serves, StaysReady, Steps};
 ghost use Rattle.device.specs.Calls.{Submits, Takes, WritesClosing, WritesServing, WritesStepping};
 ghost use Rattle.device.specs.Device.{IsReady, mode_of, with_slots};
-ghost use Rattle.device.specs.Opening.{HasOpenedIn, HasRefusalCause, IsRefused, IsSettledIn, LeavesOpening};
+ghost use Rattle.device.specs.Opening.{HasNoFault, HasOpenedIn, HasRefusalCause, IsRefused, IsSettledIn, LeavesOpening};
 
 use crate::{DeviceParts, OpenMode, Refused, closing, opening, serving, stepping, submitting};
 use device_parts::{Actor, Condition, Moved, Served, StepFault};
@@ -20,7 +21,7 @@ use sector_disk::Disk;
 use sector_pool::Region;
 use std::alloc::Global;
 
-/// A device in direct or journal mode, over a disk that it is lent until it is closed or gives that back.
+/// A device in direct, journal or bitmap mode, over a disk that it is lent until it is closed or gives that back.
 #[derive(Drop)]
 pub struct Device<'d, 'p, D: Disk> {
     pub(crate) disk: &'d mut D,
@@ -30,21 +31,22 @@ pub struct Device<'d, 'p, D: Disk> {
 
 impl<'d, 'p, D: Disk> Device<'d, 'p, D> {
     /// Opens a device on a disk in the mode that is asked for, whose tags are made by this hash. All memory that it
-    /// ever takes is taken before the first write, and the region gets the journal's sectors. In either mode the disk
-    /// is synced, and all that its journal holds comes to its place. In direct mode the journal is then emptied, unless
-    /// every entry of it is unused and it has one commit number: no image of the disk has an entry that counts then.
+    /// ever takes is taken before the first write, and the region gets the journal's sectors. In each mode the disk is
+    /// synced. In direct and journal mode all that its journal holds comes to its place. In direct mode the journal is
+    /// then emptied, unless every entry of it is unused and it has one commit number: no image of the disk has an entry
+    /// that counts then. In bitmap mode each region awaits whose bit is set, and nothing is written.
     ///
     /// # Errors
     ///
     /// The disk comes back. `Memory` and `Disk` come whenever they hold, and of the others the first that holds:
     ///
-    /// - `Memory`: there is none for what the device keeps, or for what the journal's sectors bear. No sector was
-    ///   written.
+    /// - `Memory`: there is none for what the device keeps, or for what the journal's sectors bear. Nothing was done.
     /// - `Disk`: the disk failed.
-    /// - `Super`: the superblock is refused. A disk without a sector has no magic.
-    /// - `Geom`: the disk has no room for what the superblock tells.
-    /// - `Mode`: there is a bitmap.
-    /// - `Journal`: the journal is refused. No sector was written.
+    /// - `Super`: the superblock is refused. A disk without a sector has no magic. Nothing was done.
+    /// - `Geom`: the disk has no room for what the superblock tells. Nothing was done.
+    /// - `Mode`: there is a bitmap; in bitmap mode, there is none. Nothing was done.
+    /// - `Consent`: in bitmap mode, a bit is set, there is a key, and consent is withheld. Nothing was done.
+    /// - `Journal`: the journal is refused. Nothing was done.
     pub fn open(
         alloc: Global,
         disk: &'d mut D,
@@ -56,6 +58,8 @@ impl<'d, 'p, D: Disk> Device<'d, 'p, D> {
 
         ensures opened { IfOk result (λ d. HasOpenedIn mode (key_of hash) (D.identity disk.old) d.parts
             (D.moments disk.old) (D.moments d.disk.now)) }
+        ensures accepted { IfOk result (λ d. HasNoFault mode (key_of hash) (D.identity disk.old).sectors
+            (D.moments disk.old)) }
         ensures settled { IfOk result (λ d. IsSettledIn mode (D.moments d.disk.now)) }
         ensures works { IfOk result (λ d. d.condition ≡ Condition.Working) }
         ensures leaves { IfOk result (λ d. LeavesOpening mode (key_of hash) (D.identity disk.old)
@@ -65,7 +69,7 @@ impl<'d, 'p, D: Disk> Device<'d, 'p, D> {
 
         ensures cause { IfErr result (λ r.
             HasRefusalCause (D.faults disk.old) (D.faults r.disk.now) r.fault) }
-        ensures refused { IfErr result (λ r. IsRefused (key_of hash) (D.identity disk.old) r.fault
+        ensures refused { IfErr result (λ r. IsRefused mode (key_of hash) (D.identity disk.old) r.fault
             (D.moments disk.old) (D.moments r.disk.now)) }
         ensures err { IfErr result (λ r. LeavesOpening mode (key_of hash) (D.identity disk.old)
             (D.identity r.disk.now) (D.moments disk.old) (D.moments r.disk.now)) }
@@ -162,6 +166,8 @@ impl<'d, 'p, D: Disk> Device<'d, 'p, D> {
 
         ensures keeps { Keeps result self.old.parts self.new.parts
             (D.identity self.old.disk.now) (D.identity self.new.disk.now) (D.moments self.new.disk.now) }
+        ensures tags { KeepsClearTags self.old.parts.mode self.old.parts.common (FailedServe ticket.now)
+            (D.moments self.old.disk.now) (D.moments self.new.disk.now) }
         ensures writes { WritesServing self.old.condition ticket.now self.old.parts self.new.parts
             (D.moments self.old.disk.now) (D.moments self.new.disk.now) }
         ensures same_disk { self.new.disk.ghost_name ≡ self.old.disk.ghost_name }
@@ -194,8 +200,9 @@ impl<'d, 'p, D: Disk> Device<'d, 'p, D> {
     }
 
     /// Lets an actor do its next step. In direct mode none has anything to do; in journal mode a commit writes the
-    /// opened sections, a place writes an entry to its place, and a settle frees sections. A broken device makes no
-    /// call of its disk.
+    /// opened sections, a place writes an entry to its place, and a settle frees sections; in bitmap mode a clean clears
+    /// the bit of the least region that needs none and has no block of a request in flight, and a recalculation takes the
+    /// least region that awaits. A broken device makes no call of its disk.
     ///
     /// # Errors
     ///
@@ -219,6 +226,8 @@ impl<'d, 'p, D: Disk> Device<'d, 'p, D> {
         ensures slots { self.new.parts.common.slots ≡ self.old.parts.common.slots }
         ensures idle { result ≡ Ok Moved.Idle
             → (self.new.parts ≡ self.old.parts) × (self.new.disk.now ≡ self.old.disk.now) }
+        ensures tags { KeepsClearTags self.old.parts.mode self.old.parts.common (Step (actor_of actor))
+            (D.moments self.old.disk.now) (D.moments self.new.disk.now) }
         ensures writes { WritesStepping self.old.condition actor self.old.parts
             (D.moments self.old.disk.now) (D.moments self.new.disk.now) }
         ensures quiet { HasNoWork (mode_of self.old.parts.mode) (actor_of actor)
@@ -228,8 +237,9 @@ impl<'d, 'p, D: Disk> Device<'d, 'p, D> {
         stepping::step(self.disk, &mut self.parts, &mut self.condition, actor)
     }
 
-    /// Flushes all that was written, and gives the disk back; in journal mode all is committed, placed and settled.
-    /// Requests that are unfinished are dropped. A broken device makes no call of its disk.
+    /// Flushes all that was written, and gives the disk back; in journal mode all is committed, placed and settled, and
+    /// in bitmap mode the bit of each region is cleared that does not await. Requests that are unfinished are dropped. A
+    /// broken device makes no call of its disk.
     ///
     /// # Errors
     ///
@@ -240,7 +250,7 @@ impl<'d, 'p, D: Disk> Device<'d, 'p, D> {
 
         ensures closed { Closes result.0 self.entry.condition self.entry.parts
             (D.moments self.entry.disk.now) (D.moments result.1.now) }
-        ensures placed { PlacesAll result.0 self.entry.condition self.entry.parts
+        ensures rests { LeavesAtRest result.0 self.entry.condition self.entry.parts
             (D.moments self.entry.disk.now) (D.moments result.1.now) }
 
         ensures cause { HasStepCause (D.faults self.entry.disk.now) (D.faults result.1.now) result.0 }
@@ -250,6 +260,8 @@ impl<'d, 'p, D: Disk> Device<'d, 'p, D> {
         ensures kept { self.entry.condition ≡ Condition.Broken → result.1.now ≡ self.entry.disk.now }
         ensures same_disk { result.1.ghost_name ≡ self.entry.disk.ghost_name }
 
+        ensures tags { KeepsClearTags self.entry.parts.mode self.entry.parts.common Close
+            (D.moments self.entry.disk.now) (D.moments result.1.now) }
         ensures writes { WritesClosing self.entry.condition self.entry.parts
             (D.moments self.entry.disk.now) (D.moments result.1.now) }
     {

@@ -21,6 +21,7 @@ mod submitting;
 pub use device::Device;
 pub use device_parts::{Actor, Moved, Served};
 pub use finishing::{finish, serve, serve_with_room};
+pub use image_judging::Consent;
 pub use making_room::{make_room, step, step_until_idle};
 pub use mode::{DeviceParts, Mode};
 pub use opening::OpenMode;

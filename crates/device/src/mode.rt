@@ -1,5 +1,6 @@
 //! What a device keeps beside its disk.
 
+use bitmap_device::RegionStates;
 use device_parts::Parts;
 use journal_device::Journal;
 
@@ -10,6 +11,8 @@ pub enum Mode<'p> {
     Direct,
     /// In journal mode a write goes to the journal first.
     Journal(Journal<'p>),
+    /// In bitmap mode a write sets the bit of its region first, and goes to its place then.
+    Bitmap(RegionStates),
 }
 
 /// What a device keeps beside its disk.

@@ -3,12 +3,12 @@ ghost use Rattle.std.specs.Prelude.{IfErr, IfOk};
 ghost use Rattle.disk_model.specs.Identity.{IsBound};
 ghost use Rattle.hmac_tag.specs.TagMaker.{key_of};
 ghost use Rattle.image_judging.specs.Faults.{HasOpenCause};
-ghost use Rattle.device.specs.Opening.{HasOpenedIn, IsRefused, IsSettledIn, LeavesOpening};
+ghost use Rattle.device.specs.Opening.{HasNoFault, HasOpenedIn, IsRefused, IsSettledIn, LeavesOpening};
 
 use crate::{DeviceParts, Mode};
-use device_opening::{open_direct, open_journal};
+use device_opening::{open_bitmap, open_direct, open_journal};
 use hmac_tag::Hash;
-use image_judging::OpeningFault;
+use image_judging::{Consent, OpeningFault};
 use sector_disk::Disk;
 use sector_pool::Region;
 use std::alloc::Global;
@@ -20,23 +20,27 @@ pub enum OpenMode {
     Direct,
     /// Writes go to the journal first.
     Journal,
+    /// Writes set the bit of their region first, and go to their places then. Whether tags may be made anew that a key
+    /// protects.
+    Bitmap(Consent),
 }
 
 /// Opens a device on a disk. All memory that it ever takes is taken before the first write, and the region gets the
-/// journal's sectors. In either mode the disk is synced and its image recovered, so that all that the journal holds
-/// comes to its place; in direct mode the journal is then emptied, unless every entry of it is unused and it has one
-/// commit number.
+/// journal's sectors. In each mode the disk is synced. In direct and journal mode its image is recovered, so that all
+/// that the journal holds comes to its place; in direct mode the journal is then emptied, unless every entry of it is
+/// unused and it has one commit number. In bitmap mode nothing is written.
 ///
 /// # Errors
 ///
 /// `Memory` and `Disk` come whenever they hold, and of the others the first that holds:
 ///
-/// - `Memory`: there is none for what the device keeps, or for what the journal's sectors bear. No sector was written.
+/// - `Memory`: there is none for what the device keeps, or for what the journal's sectors bear. Nothing was done.
 /// - `Disk`: the disk failed.
-/// - `Super`: the superblock is refused. A disk without a sector has no magic.
-/// - `Geom`: the disk has no room for what the superblock tells.
-/// - `Mode`: there is a bitmap.
-/// - `Journal`: the journal is refused. No sector was written.
+/// - `Super`: the superblock is refused. A disk without a sector has no magic. Nothing was done.
+/// - `Geom`: the disk has no room for what the superblock tells. Nothing was done.
+/// - `Mode`: there is a bitmap; in bitmap mode, there is none. Nothing was done.
+/// - `Consent`: in bitmap mode, a bit is set, there is a key, and consent is withheld. Nothing was done.
+/// - `Journal`: the journal is refused. Nothing was done.
 pub(crate) fn open<'p, D: Disk>(
     alloc: Global,
     disk: &mut D,
@@ -49,7 +53,9 @@ pub(crate) fn open<'p, D: Disk>(
     ensures opened { IfOk result (λ parts. HasOpenedIn mode (key_of hash) (D.identity disk.old) parts
         (D.moments disk.old) (D.moments disk.new)) }
     ensures settled { IfOk result (λ parts. IsSettledIn mode (D.moments disk.new)) }
-    ensures refused { IfErr result (λ fault. IsRefused (key_of hash) (D.identity disk.old) fault
+    ensures accepted { IfOk result (λ parts. HasNoFault mode (key_of hash) (D.identity disk.old).sectors
+        (D.moments disk.old)) }
+    ensures refused { IfErr result (λ fault. IsRefused mode (key_of hash) (D.identity disk.old) fault
         (D.moments disk.old) (D.moments disk.new)) }
     ensures cause { HasOpenCause (D.faults disk.old) (D.faults disk.new) result }
     ensures leaves { LeavesOpening mode (key_of hash) (D.identity disk.old) (D.identity disk.new)
@@ -58,6 +64,7 @@ pub(crate) fn open<'p, D: Disk>(
     match mode {
         OpenMode::Direct => open_in_direct(alloc, disk, pool, hash),
         OpenMode::Journal => open_in_journal(alloc, disk, pool, hash),
+        OpenMode::Bitmap(consent) => open_in_bitmap(alloc, disk, hash, consent),
     }
 }
 
@@ -77,7 +84,9 @@ fn open_in_direct<'p, D: Disk>(
     ensures opened { IfOk result (λ parts. HasOpenedIn OpenMode.Direct (key_of hash) (D.identity disk.old) parts
         (D.moments disk.old) (D.moments disk.new)) }
     ensures settled { IfOk result (λ parts. IsSettledIn OpenMode.Direct (D.moments disk.new)) }
-    ensures refused { IfErr result (λ fault. IsRefused (key_of hash) (D.identity disk.old) fault
+    ensures accepted { IfOk result (λ parts. HasNoFault OpenMode.Direct (key_of hash) (D.identity disk.old).sectors
+        (D.moments disk.old)) }
+    ensures refused { IfErr result (λ fault. IsRefused OpenMode.Direct (key_of hash) (D.identity disk.old) fault
         (D.moments disk.old) (D.moments disk.new)) }
     ensures cause { HasOpenCause (D.faults disk.old) (D.faults disk.new) result }
     ensures leaves { LeavesOpening OpenMode.Direct (key_of hash) (D.identity disk.old) (D.identity disk.new)
@@ -105,7 +114,9 @@ fn open_in_journal<'p, D: Disk>(
 
     ensures opened { IfOk result (λ parts. HasOpenedIn OpenMode.Journal (key_of hash) (D.identity disk.old) parts
         (D.moments disk.old) (D.moments disk.new)) }
-    ensures refused { IfErr result (λ fault. IsRefused (key_of hash) (D.identity disk.old) fault
+    ensures accepted { IfOk result (λ parts. HasNoFault OpenMode.Journal (key_of hash) (D.identity disk.old).sectors
+        (D.moments disk.old)) }
+    ensures refused { IfErr result (λ fault. IsRefused OpenMode.Journal (key_of hash) (D.identity disk.old) fault
         (D.moments disk.old) (D.moments disk.new)) }
     ensures cause { HasOpenCause (D.faults disk.old) (D.faults disk.new) result }
     ensures leaves { LeavesOpening OpenMode.Journal (key_of hash) (D.identity disk.old) (D.identity disk.new)
@@ -115,5 +126,35 @@ fn open_in_journal<'p, D: Disk>(
     Ok(DeviceParts {
         common: opened.parts,
         mode: Mode::Journal(opened.journal),
+    })
+}
+
+/// Opens a device in bitmap mode.
+///
+/// # Errors
+///
+/// As `open` in that mode.
+fn open_in_bitmap<'p, D: Disk>(
+    alloc: Global,
+    disk: &mut D,
+    hash: Hash,
+    consent: Consent,
+) -> Result<DeviceParts<'p>, OpeningFault>
+    requires { IsBound (D.identity disk.old).name }
+
+    ensures opened { IfOk result (λ parts. HasOpenedIn (OpenMode.Bitmap consent) (key_of hash) (D.identity disk.old)
+        parts (D.moments disk.old) (D.moments disk.new)) }
+    ensures accepted { IfOk result (λ parts. HasNoFault (OpenMode.Bitmap consent) (key_of hash) (D.identity disk.old).sectors
+        (D.moments disk.old)) }
+    ensures refused { IfErr result (λ fault. IsRefused (OpenMode.Bitmap consent) (key_of hash) (D.identity disk.old)
+        fault (D.moments disk.old) (D.moments disk.new)) }
+    ensures cause { HasOpenCause (D.faults disk.old) (D.faults disk.new) result }
+    ensures leaves { LeavesOpening (OpenMode.Bitmap consent) (key_of hash) (D.identity disk.old) (D.identity disk.new)
+        (D.moments disk.old) (D.moments disk.new) }
+{
+    let opened = open_bitmap(alloc, disk, hash, consent)?;
+    Ok(DeviceParts {
+        common: opened.parts,
+        mode: Mode::Bitmap(opened.regions),
     })
 }

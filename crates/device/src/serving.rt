@@ -5,7 +5,8 @@ ghost use Rattle.request_slots.specs.Flight.{is_in_flight};
 ghost use Rattle.device_parts.specs.Answers.{HasStepCause, ServesNext, TurnsBroken};
 ghost use Rattle.device_parts.specs.declared.answers.Served.TheVariants.{Did, NoRoom};
 ghost use Rattle.device_parts.specs.declared.condition.Condition.TheVariants.{Working};
-ghost use Rattle.device.specs.Answers.{WritesInServe};
+ghost use Rattle.device_model.specs.Progress.{FailedServe};
+ghost use Rattle.device.specs.Answers.{KeepsClearTags, WritesInServe};
 ghost use Rattle.device.specs.Calls.{HasFewerTurns, Keeps, Serves, WritesServing};
 ghost use Rattle.device.specs.Device.{IsReady, any_mode};
 
@@ -40,6 +41,8 @@ pub(crate) fn serve<D: Disk>(
 
     ensures keeps { Keeps result parts.old parts.new
         (D.identity disk.old) (D.identity disk.new) (D.moments disk.new) }
+    ensures tags { KeepsClearTags parts.old.mode parts.old.common (FailedServe ticket.now)
+        (D.moments disk.old) (D.moments disk.new) }
     ensures writes { WritesServing condition.old ticket.now parts.old parts.new
         (D.moments disk.old) (D.moments disk.new) }
 {
@@ -75,11 +78,14 @@ fn serve_next<D: Disk>(
 
     ensures keeps { Keeps result parts.old parts.new
         (D.identity disk.old) (D.identity disk.new) (D.moments disk.new) }
+    ensures tags { KeepsClearTags parts.old.mode parts.old.common (FailedServe ticket.now)
+        (D.moments disk.old) (D.moments disk.new) }
     ensures writes { WritesInServe parts.old.mode ticket.now parts.old.common parts.new.common
         (D.moments disk.old) (D.moments disk.new) }
 {
     match &mut parts.mode {
         Mode::Direct => direct_device::serve(disk, &mut parts.common, ticket),
         Mode::Journal(journal) => journal_device::serve(disk, &mut parts.common, journal, ticket),
+        Mode::Bitmap(regions) => bitmap_device::serve(disk, &mut parts.common, regions, ticket),
     }
 }

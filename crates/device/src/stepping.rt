@@ -3,7 +3,8 @@ ghost use Rattle.std.specs.Prelude.{◌≡◌, ◌<◌, IfOk, Ok};
 ghost use Rattle.disk_model.specs.Causes.{HasCause};
 ghost use Rattle.device_parts.specs.Answers.{HasStepCause, StepsNext, TurnsBroken, actor_of};
 ghost use Rattle.device_parts.specs.declared.condition.Condition.TheVariants.{Working};
-ghost use Rattle.device.specs.Answers.{HasNoWork, WritesInStep, steps_left};
+ghost use Rattle.device_model.specs.Progress.{Step};
+ghost use Rattle.device.specs.Answers.{HasNoWork, KeepsClearTags, WritesInStep, steps_left};
 ghost use Rattle.device.specs.Calls.{Keeps, Steps, WritesStepping};
 ghost use Rattle.device.specs.Device.{IsReady, any_mode, mode_of};
 
@@ -35,6 +36,8 @@ pub(crate) fn step<D: Disk>(
         (D.identity disk.old) (D.identity disk.new) (D.moments disk.new) }
     ensures slots { parts.new.common.slots ≡ parts.old.common.slots }
     ensures idle { result ≡ Ok Moved.Idle → (parts.new ≡ parts.old) × (disk.new ≡ disk.old) }
+    ensures tags { KeepsClearTags parts.old.mode parts.old.common (Step (actor_of actor))
+        (D.moments disk.old) (D.moments disk.new) }
     ensures writes { WritesStepping condition.old actor parts.old (D.moments disk.old) (D.moments disk.new) }
     ensures quiet { HasNoWork (mode_of parts.old.mode) (actor_of actor) → disk.new ≡ disk.old }
 {
@@ -73,11 +76,14 @@ fn step_next<D: Disk>(
     ensures keeps { Keeps result parts.old parts.new
         (D.identity disk.old) (D.identity disk.new) (D.moments disk.new) }
     ensures slots { parts.new.common.slots ≡ parts.old.common.slots }
+    ensures tags { KeepsClearTags parts.old.mode parts.old.common (Step (actor_of actor))
+        (D.moments disk.old) (D.moments disk.new) }
     ensures writes { WritesInStep parts.old.mode actor parts.old.common (D.moments disk.old) (D.moments disk.new) }
     ensures quiet { HasNoWork (mode_of parts.old.mode) (actor_of actor) → disk.new ≡ disk.old }
 {
     match &mut parts.mode {
         Mode::Direct => Ok(direct_device::step(actor)),
         Mode::Journal(journal) => journal_device::step(disk, &mut parts.common, journal, actor),
+        Mode::Bitmap(regions) => bitmap_device::step(disk, &mut parts.common, regions, actor),
     }
 }

@@ -1,5 +1,5 @@
 -- From what is left of an image that was recovered and emptied to the device in direct mode that is open.
-use Rattle.std.proofs.Common.{◌≡◌, ℕ, ◌*◌, ◌<◌, false, refl, sym, ◌∙◌, ap, subst, Option, None, Some, Ok, List}
+use Rattle.std.proofs.Common.{◌≡◌, ℕ, ◌*◌, ◌<◌, false, refl, sym, ◌∙◌, ap, subst, Option, Some, List}
 use Rattle.std.proofs.lemmas.Bool.{true≢false}
 use Rattle.std.proofs.lemmas.Option.{none-some, same_Some}
 use Rattle.disk_model.specs.Disk.{Content, EachImage, HasNothingPending, Image, last_image}
@@ -7,14 +7,13 @@ use Rattle.disk_model.specs.Identity.{DiskIdentity}
 use Rattle.disk_model.specs.Moments.{EachSince, HasNow, content_now}
 use Rattle.image_model.specs.declared.flags.TheConstants.{DIRTY_BITMAP}
 use Rattle.image_model.specs.Bitmap.{is_to_recalculate}
-use Rattle.image_model.specs.Geometry.{Geometry}
 use Rattle.image_model.specs.Superblock.{has_flag}
 use Rattle.device_model.specs.Mode.{Direct}
-use Rattle.place_model.specs.Format.{DiskFormat, HasCells, IsReadAs, OpensAs, cells_on, format_on}
+use Rattle.place_model.specs.Format.{DiskFormat, HasCells, IsReadAs, cells_on, format_on}
 use Rattle.place_model.specs.Kind.{CanOpenIn, kind_in}
 use Rattle.place_model.specs.Left.{IsLeftInDirect}
 use Rattle.place_model.specs.Opened.{awaiting_on, base_on, blocks_of, device_format, next_on, opened_on, set_bits_on}
-use Rattle.place_model.proofs.FormatLemmas.{format_on-is, opens_on}
+use Rattle.place_model.proofs.FormatLemmas.{format_on-is}
 use Rattle.place_model.proofs.KindLemmas.{direct_kind_law}
 use Rattle.direct_model.specs.DirectDisk as InDirect
 use Rattle.direct_model.specs.DirectDisk.{DirectDisk}

@@ -1,5 +1,5 @@
 -- What an opening is, by an image that was judged, which leaves the disk as it was.
-use Rattle.std.proofs.Common.{◌≡◌, ℕ, ◌*◌, false, refl, sym, ◌∙◌, ap, subst, Option, None, Some, Ok, Err, Result, List}
+use Rattle.std.proofs.Common.{◌≡◌, ℕ, ◌*◌, false, sym, ◌∙◌, ap, subst, Option, None, Some, Ok, Result, List}
 use Rattle.std.specs.List.{AllByRecursion}
 use Rattle.std.specs.Option.{option_map}
 use Rattle.disk_model.specs.Causes.{HasCause}

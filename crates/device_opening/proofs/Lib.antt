@@ -8,3 +8,4 @@ pub mod EmptiedLemmas
 pub mod EmptyingLemmas
 pub mod JournalLemmas
 pub mod DirectLemmas
+pub mod BitmapLemmas

@@ -1,5 +1,5 @@
 -- What an opening tells of a disk that it refuses, by what judging told.
-use Rattle.std.proofs.Common.{◌≡◌, ◌≢◌, None, Option, Result, Ok, Err, List, refl, sym, ◌∙◌, ap}
+use Rattle.std.proofs.Common.{◌≡◌, ◌≢◌, None, Option, Result, Ok, Err, List, refl, ◌∙◌, ap}
 use Rattle.std.proofs.lemmas.Option.{none-some}
 use Rattle.disk_model.specs.Disk.{Content, Image, last_image}
 use Rattle.disk_model.specs.Moments.{HasNow}

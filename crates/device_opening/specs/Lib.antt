@@ -7,3 +7,4 @@ pub mod FirstSync
 pub mod Opening
 pub mod JournalOpening
 pub mod DirectOpening
+pub mod BitmapOpening

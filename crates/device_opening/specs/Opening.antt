@@ -26,16 +26,21 @@ use Rattle.device_parts.specs.Device.{CanOpenRead, IsReady}
 use Rattle.device_opening.specs.declared.judging.JudgedImage.{JudgedImage}
 use Rattle.device_opening.specs.declared.recovering.RecoveredImage.{RecoveredImage}
 use Rattle.device_opening.specs.declared.room.DeviceRoom.{DeviceRoom}
+use Rattle.device_opening.specs.declared.room.RecoveryRoom.{RecoveryRoom}
 use Rattle.device_opening.specs.declared.room.TheConstants.{HELD_SECTORS}
 
 -- ---- memory
 
--- What is allocated has room for the journal's sectors, for requests and one block, and holds no sector of tags.
+-- What is allocated has room for requests and one block, and holds no sector of tags.
 pub record IsRoomFor (g : Geometry) (room : DeviceRoom) : Type 0 where
   pub cache : sectors_of room.cache ≡ no_sectors HELD_SECTORS
-  pub pool : length room.pool.bytes ≡ 512 * journal_sectors g
   pub slots : room.slots ≡ no_requests g.blocks (512 * g.shape.spb)
   pub buffer : length room.buffer.items ≡ 512 * g.shape.spb
+
+-- So it has, and for the journal's sectors.
+pub record IsRecoveryRoomFor (g : Geometry) (room : RecoveryRoom) : Type 0 where
+  pub device : IsRoomFor g room.device
+  pub pool : length room.pool.bytes ≡ 512 * journal_sectors g
 
 -- ---- an image that is refused
 

@@ -10,11 +10,11 @@ ghost use Rattle.device_parts.specs.Device.{HasOpened};
 ghost use Rattle.direct_device.specs.Device.{in_direct};
 ghost use Rattle.device_opening.specs.DirectOpening.{HasOpenOn, KeepsEmpty, LeavesEmpty, WritesEmptying};
 ghost use Rattle.device_opening.specs.Judged.{HasJudged, judged_format};
-ghost use Rattle.device_opening.specs.Opening.{IsRoomFor, IsUnasked, LeavesImage, LeavesOpenable, Refuses};
+ghost use Rattle.device_opening.specs.Opening.{IsRecoveryRoomFor, IsUnasked, LeavesImage, LeavesOpenable, Refuses};
 
 use crate::emptying::recover_emptied;
 use crate::judging::{JudgedImage, judge_image};
-use crate::room::DeviceRoom;
+use crate::room::{DeviceRoom, RecoveryRoom};
 use device_parts::Parts;
 use hmac_tag::Hash;
 use image_judging::OpeningFault;
@@ -40,7 +40,8 @@ use std::alloc::Global;
 /// - `Memory`: there is none for what is kept of the journal, or for what the device needs. Nothing was done.
 /// - `Disk`: the disk failed. Every image has the cells of the image at the entry, where that can be opened.
 /// - `Super`, `Geom`, `Mode`: as `read_direct_format` tells them. Nothing was done.
-/// - `Journal`: the journal is refused, by its scan or for the first entry in the order of the replay. Nothing was done.
+/// - `Journal`: the journal is refused, by its scan or for the first entry in the order of the replay. Nothing was
+///   done.
 pub fn open_direct<D: Disk>(
     alloc: Global,
     disk: &mut D,
@@ -66,7 +67,7 @@ pub fn open_direct<D: Disk>(
         (D.moments disk.old) (D.moments disk.new) }
 {
     let image = judge_image(alloc, disk, hash)?;
-    let room = DeviceRoom::new(alloc, image.geometry(), pool)?;
+    let room = RecoveryRoom::new(alloc, image.geometry(), pool)?;
     let parts = open_judged(disk, image, room)?;
     Ok(parts)
 }
@@ -79,11 +80,11 @@ pub fn open_direct<D: Disk>(
 fn open_judged<D: Disk>(
     disk: &mut D,
     image: JudgedImage,
-    room: DeviceRoom<'_>,
+    room: RecoveryRoom<'_>,
 ) -> Result<Parts, Failed>
     requires bound { IsBound (D.identity disk.old).name }
     requires judged { HasJudged (D.identity disk.old).sectors image (D.moments disk.old) }
-    requires room { IsRoomFor image.format.geometry room }
+    requires room { IsRecoveryRoomFor image.format.geometry room }
 
     ensures opened { IfOk result (λ parts. HasOpenOn (judged_format (D.identity disk.old).sectors image)
         parts (D.moments disk.old) (D.moments disk.new)) }
@@ -97,12 +98,12 @@ fn open_judged<D: Disk>(
         (D.moments disk.old) (D.moments disk.new) }
     ensures keeps { EachSince (KeepsEmpty image.format.geometry) (D.moments disk.old) (D.moments disk.new) }
 {
+    let RecoveryRoom { device, mut pool } = room;
     let DeviceRoom {
         cache,
-        mut pool,
         slots,
         buffer,
-    } = room;
+    } = device;
     let spb = image.geometry().shape().spb;
     let recovered = recover_emptied(disk, image, cache, &mut pool)?;
     Ok(Parts {

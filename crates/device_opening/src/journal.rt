@@ -10,12 +10,12 @@ ghost use Rattle.device_parts.specs.Device.{HasOpened};
 ghost use Rattle.journal_device.specs.Device.{in_journal};
 ghost use Rattle.device_opening.specs.JournalOpening.{HasEmptyRing, HasOpenOn};
 ghost use Rattle.device_opening.specs.Judged.{HasJudged, judged_format};
-ghost use Rattle.device_opening.specs.Opening.{IsRoomFor, IsUnasked, KeepsRecovered, LeavesImage, LeavesOpenable};
+ghost use Rattle.device_opening.specs.Opening.{IsRecoveryRoomFor, IsUnasked, KeepsRecovered, LeavesImage, LeavesOpenable};
 ghost use Rattle.device_opening.specs.Opening.{Refuses, WritesOpening};
 
 use crate::judging::{JudgedImage, judge_image};
 use crate::recovering::recover_image;
-use crate::room::DeviceRoom;
+use crate::room::{DeviceRoom, RecoveryRoom};
 use device_parts::Parts;
 use hmac_tag::Hash;
 use image_judging::OpeningFault;
@@ -32,8 +32,8 @@ use std::alloc::Global;
 /// 2. The journal is read in runs and judged, with memory for what is kept of it.
 /// 3. Memory is taken for the journal's sectors, for tags and for requests.
 /// 4. The disk is synced, so that nothing of an earlier run is pending.
-/// 5. The image is recovered: where its journal has entries that count it is read once more, into the region. Nothing is
-///    written of one whose journal is at rest, with all its entries in their places.
+/// 5. The image is recovered: where its journal has entries that count it is read once more, into the region. Nothing
+///    is written of one whose journal is at rest, with all its entries in their places.
 ///
 /// # Errors
 ///
@@ -42,7 +42,8 @@ use std::alloc::Global;
 /// - `Memory`: there is none for what is kept of the journal, or for what the device needs. Nothing was done.
 /// - `Disk`: the disk failed. Every image has the cells of the image at the entry, where that can be opened.
 /// - `Super`, `Geom`, `Mode`: as `read_direct_format` tells them. Nothing was done.
-/// - `Journal`: the journal is refused, by its scan or for the first entry in the order of the replay. Nothing was done.
+/// - `Journal`: the journal is refused, by its scan or for the first entry in the order of the replay. Nothing was
+///   done.
 pub fn open_journal<'p, D: Disk>(
     alloc: Global,
     disk: &mut D,
@@ -71,7 +72,7 @@ pub fn open_journal<'p, D: Disk>(
 {
     let image = judge_image(alloc, disk, hash)?;
     let journal = JournalRoom::new(alloc, image.geometry())?;
-    let room = DeviceRoom::new(alloc, image.geometry(), pool)?;
+    let room = RecoveryRoom::new(alloc, image.geometry(), pool)?;
     let device = open_judged(disk, image, journal, room)?;
     Ok(device)
 }
@@ -85,11 +86,11 @@ fn open_judged<'p, D: Disk>(
     disk: &mut D,
     image: JudgedImage,
     journal: JournalRoom,
-    room: DeviceRoom<'p>,
+    room: RecoveryRoom<'p>,
 ) -> Result<JournalParts<'p>, Failed>
     requires bound { IsBound (D.identity disk.old).name }
     requires judged { HasJudged (D.identity disk.old).sectors image (D.moments disk.old) }
-    requires room { IsRoomFor image.format.geometry room }
+    requires room { IsRecoveryRoomFor image.format.geometry room }
     requires journal { journal ≡ image.format.geometry }
 
     ensures opened { IfOk result (λ device. HasOpenOn (judged_format (D.identity disk.old).sectors image)
@@ -106,12 +107,12 @@ fn open_judged<'p, D: Disk>(
     // An image that was closed is not written.
     ensures in_place { KeepsRecovered (λ found. image.format.geometry) (D.moments disk.old) (D.moments disk.new) }
 {
+    let RecoveryRoom { device, mut pool } = room;
     let DeviceRoom {
         cache,
-        mut pool,
         slots,
         buffer,
-    } = room;
+    } = device;
     let spb = image.geometry().shape().spb;
     let recovered = recover_image(disk, image, cache, &mut pool)?;
     let parts = Parts {

@@ -37,8 +37,8 @@ impl JudgedImage {
     }
 }
 
-/// Judges the image of a disk: its first sector, and then its journal. Nothing is done but reads, and the memory that is
-/// taken is for what the journal is judged with.
+/// Judges the image of a disk: its first sector, and then its journal. Nothing is done but reads, and the memory that
+/// is taken is for what the journal is judged with.
 ///
 /// # Errors
 ///
@@ -75,7 +75,7 @@ pub(crate) fn judge_image<D: Disk>(
 }
 
 /// What makes the tags of a disk of this format.
-fn maker_of(hash: Hash, format: &ImageFormat) -> TagMaker
+pub(crate) fn maker_of(hash: Hash, format: &ImageFormat) -> TagMaker
     ensures { result ≡ rule_of (key_of hash) format.now }
 {
     let shape = format.geometry.shape();

@@ -1,8 +1,9 @@
 //! The memory of an opening.
 ghost use Rattle.std.specs.Prelude.{IfOk};
-ghost use Rattle.device_opening.specs.Opening.{IsRoomFor};
+ghost use Rattle.device_opening.specs.Opening.{IsRecoveryRoomFor, IsRoomFor};
 
 use buffer_cache::Cache;
+use journal_reading::JOURNAL_AT;
 use layout::Geometry;
 use request_slots::Slots;
 use sector_disk::Memory;
@@ -14,36 +15,24 @@ use std::alloc::Global;
 /// Own: 128 KiB of them.
 const HELD_SECTORS: u64 = 256;
 
-/// Where the journal begins, in sectors.
-///
-/// Source: Linux, `drivers/md/dm-integrity.c`, `SB_SECTORS`.
-const JOURNAL_AT: u64 = 8;
-
 /// What is allocated in every mode once the image is judged, before the disk is synced.
 #[derive(Drop)]
-pub(crate) struct DeviceRoom<'p> {
+pub(crate) struct DeviceRoom {
     /// What holds sectors of tags, none yet.
     pub(crate) cache: Cache,
-    /// As many sectors as the journal has.
-    pub(crate) pool: Run<'p>,
     /// The requests in flight, none yet.
     pub(crate) slots: Slots,
     /// One block, as it is read.
     pub(crate) buffer: Vec<u8>,
 }
 
-impl<'p> DeviceRoom<'p> {
-    /// Takes the memory for a device with these places. The region gets the sectors of the journal, in place of those
-    /// that it had.
+impl DeviceRoom {
+    /// Takes the memory for a device with these places.
     ///
     /// # Errors
     ///
     /// - `Memory`: there is none.
-    pub(crate) fn new(
-        alloc: Global,
-        geometry: Geometry,
-        pool: &'p mut Region,
-    ) -> Result<DeviceRoom<'p>, Memory>
+    pub(crate) fn new(alloc: Global, geometry: Geometry) -> Result<DeviceRoom, Memory>
         ensures { IfOk result (IsRoomFor geometry) }
     {
         let size = 512 * geometry.shape().spb as usize;
@@ -54,14 +43,44 @@ impl<'p> DeviceRoom<'p> {
             return Err(Memory);
         };
         let cache = Cache::new(alloc, HELD_SECTORS)?;
+        Ok(DeviceRoom {
+            cache,
+            slots,
+            buffer,
+        })
+    }
+}
+
+/// The same, with the memory in which a journal is recovered.
+#[derive(Drop)]
+pub(crate) struct RecoveryRoom<'p> {
+    /// What is allocated in every mode.
+    pub(crate) device: DeviceRoom,
+    /// As many sectors as the journal has.
+    pub(crate) pool: Run<'p>,
+}
+
+impl<'p> RecoveryRoom<'p> {
+    /// Takes the memory for a device with these places. The region gets the sectors of the journal, in place of those
+    /// that it had.
+    ///
+    /// # Errors
+    ///
+    /// - `Memory`: there is none.
+    pub(crate) fn new(
+        alloc: Global,
+        geometry: Geometry,
+        pool: &'p mut Region,
+    ) -> Result<RecoveryRoom<'p>, Memory>
+        ensures { IfOk result (IsRecoveryRoomFor geometry) }
+    {
+        let device = DeviceRoom::new(alloc, geometry)?;
         let Ok(()) = pool.reserve(alloc, geometry.initial() - JOURNAL_AT) else {
             return Err(Memory);
         };
-        Ok(DeviceRoom {
-            cache,
+        Ok(RecoveryRoom {
+            device,
             pool: pool.whole(),
-            slots,
-            buffer,
         })
     }
 }

@@ -1,4 +1,5 @@
 pub mod TurnLemmas
+pub mod NextLemmas
 pub mod LeftLemmas
 pub mod ReadyLemmas
 pub mod Worked

@@ -1,23 +1,14 @@
 -- After each serve the device is the one after its event.
-use Rattle.std.proofs.Common.{◌≡◌, ℕ, zero, suc, ◌+◌, ◌*◌, ◌<◌, ◌++◌, Bool, true, false, if◌then◌else◌, List, [], ◌∷◌, length, take, drop, set, get_or, slice_get, Option, None, Some, IfSome, refl, sym, ◌∙◌, ap, subst, arith}
-use Rattle.std.specs.List.{list_any}
+use Rattle.std.proofs.Common.{◌≡◌, ℕ, suc, ◌+◌, ◌<◌, ◌++◌, Bool, true, false, if◌then◌else◌, List, [], ◌∷◌, length, slice_get, None, Some, IfSome, refl, sym, ◌∙◌, ap, subst}
 use Rattle.std.specs.Str.{bytes_eq}
-use Rattle.std.proofs.lemmas.Bool.{true≢false}
-use Rattle.std.proofs.lemmas.Option.{none-some}
 use Rattle.disk_model.specs.Disk.{Content, Reads}
 use Rattle.disk_model.specs.Moments.{EachMoment, HasNow, content_now}
 use Rattle.image_model.specs.Geometry.{Geometry, data_at}
-use Rattle.image_model.specs.Cells.{Cell}
 use Rattle.device_model.specs.History.{BlockWrite, cells_now}
 use Rattle.device_model.specs.Mode.{DeviceFormat}
 use Rattle.device_model.specs.Progress as Model
-use Rattle.device_model.specs.Reply as ModelReply
 use Rattle.device_model.specs.Request as Asks
-use Rattle.device_model.specs.Serial.{readable_cells, serial_cells}
-use Rattle.device_model.specs.RequestLaws.{requests_of}
-use Rattle.device_model.specs.Submission as Submissions
-use Rattle.device_model.proofs.SerialLemmas.{IsServedPart}
-use Rattle.device_model.proofs.SubmissionLemmas.{get_or-blocks_in, length-blocks_in, result-working}
+use Rattle.device_model.proofs.SubmissionLemmas.{result-working}
 use Rattle.place_model.specs.Format.{DiskFormat, IsReadAs, format_on, tagger_of}
 use Rattle.place_model.specs.Opened.{blocks_of}
 use Rattle.place_model.specs.Kind.{placed_kind}
@@ -30,26 +21,24 @@ use Rattle.direct_mode.specs.EventLaws.{after_block}
 use Rattle.direct_mode.specs.MomentLaws.{IsLeftNow}
 use Rattle.direct_mode.specs.ServeLaws.{KeepsDevice}
 use Rattle.direct_mode.proofs.CallLemmas.{any_awaiting_law, block_read_law, none_awaits_law, still_law}
-use Rattle.direct_mode.proofs.DeviceLemmas.{serving-works}
 use Rattle.direct_mode.proofs.EventLemmas.{held_law, served_law, serve_read_law, unserved_law}
 use Rattle.direct_mode.proofs.ServeLemmas.{failed_flush_law, failed_read_law, served_flush_law, served_kept_law}
 use Rattle.direct_mode.specs.Cells.{HasCells, KeepsDisk}
 use Rattle.direct_mode.specs.Serving as WriteModel
 use Rattle.direct_mode.specs.Serving.{HasFailed, HasServed, ServedWrite, WritesNext}
 use Rattle.tag_store.specs.Store.{given_tags}
-use Rattle.request_slots.specs.Flight.{Flight, bytes_in, is_in_flight, is_of, slot_of, turn_of}
-use Rattle.request_slots.specs.InFlight.{IsFlightOf, blocks_read, bytes_now, request_with, slot_for}
+use Rattle.request_slots.specs.Flight.{Flight, slot_of, turn_of}
+use Rattle.request_slots.specs.InFlight.{IsFlightOf}
 use Rattle.request_slots.specs.Serving.{next_bytes, with_block_counted, with_block_read, with_change, with_fault, with_finish}
-use Rattle.request_slots.specs.declared.slot.Slot.{Slot}
-use Rattle.request_slots.specs.declared.turn.Turn.{Turn}
-use Rattle.request_slots.proofs.ServeEventLemmas.{flight_fault, flight_flushed, flight_read, flight_written, got_none}
+use Rattle.request_slots.proofs.ServeEventLemmas.{flight_flushed, flight_written}
 use Rattle.device_parts.specs.declared.answers.Served.TheVariants as Serves
 use Rattle.device_parts.specs.declared.condition.Condition.{Condition}
 use Rattle.device_parts.specs.declared.condition.Condition.TheVariants as Conditions
 use Rattle.device_parts.specs.declared.parts.Parts.{Parts}
 use Rattle.device_parts.specs.Answers.{served_by}
 use Rattle.device_parts.specs.Device.{condition_of, rule_on}
-use Rattle.device_parts.proofs.TurnLemmas.{IsTurnOf, answer_is, placed, slot-is, turn_is}
+use Rattle.device_parts.proofs.NextLemmas.{bytes-next, finished-is, flight_put, held-is, open_then, requests_then, served_asked, there_then}
+use Rattle.device_parts.proofs.TurnLemmas.{answer_is}
 use Rattle.direct_device.specs.Device.{DirectStanding, IsOverDisk}
 use Rattle.direct_device.proofs.OverDisk.{HasFailedIn, IsAfter, IsServedAs}
 
@@ -129,41 +118,8 @@ module _ (w : DirectStanding) (parts : Parts) (a : List Content) (is : IsOverDis
   pub stands_still : (b : List Content) → b ≡ a → StandsThrough w.disk a b
   stands_still b same = still_law w.disk a b same (λ c told. (cells.now c told).stands)
 
-  -- The request of a ticket in flight, and what is done next for it.
-  pub record IsNext (ticket : ℕ) (turn : Turn) : Type 0 where
-    pub k : ℕ
-    pub asked : Asks.Asked
-    pub ticket_ : ticket ≡ suc k
-    pub there : slice_get s.progress.requests k ≡ Some asked
-    pub open_ : Asks.is_over asked.state ≡ false
-    pub turn_ : IsTurnOf s.progress.requests k asked turn
-
-  pub next_of_ticket : (ticket : ℕ) (turn : Turn) → is_in_flight ticket parts.slots ≡ true → turn_of parts.slots ticket ≡ turn → IsNext ticket turn
-  next_of_ticket ticket turn in_flight told =
-      let place = placed ticket 1 s.progress.requests (sym (ap (λ (xs : List Slot). list_any (is_of ticket) xs) is.flight.slots) ∙ in_flight) in
-      let ticket_is : ticket ≡ suc place.place = let same = place.is in omega (arith, same) in
-      record {
-        k = place.place;
-        asked = place.asked;
-        ticket_ = ticket_is;
-        there = place.there;
-        open_ = place.open_;
-        turn_ = subst (IsTurnOf s.progress.requests place.place place.asked) (ap (turn_of parts.slots) (sym ticket_is) ∙ told)
-            (turn_is f parts.slots s.progress.requests is.flight place.place place.asked place.there place.open_);
-      }
-
   module _ (k : ℕ) (r : Asks.Asked) (there : slice_get s.progress.requests k ≡ Some r) where
     -- ---- nothing is done
-
-    serve-state : (state : Asks.RequestState) → r.state ≡ state → Model.event_result f s (Model.Serve (suc k)) ≡ Model.serve_by f s k r state
-    serve-state state e = result-working f s (Model.Serve (suc k)) works ∙ ap (Model.serve_asked f s k) there ∙ ap (Model.serve_by f s k r) e
-
-    finished-is : r.state ≡ Asks.Finished → Model.event_result f s (Model.Serve (suc k)) ≡ Model.only_answers s.progress Model.Done
-    finished-is e = serve-state Asks.Finished e
-
-    held-is : (by : ℕ) → r.state ≡ Asks.Unfinished → Asks.held_by s.progress.requests k r.request ≡ Some by
-        → Model.event_result f s (Model.Serve (suc k)) ≡ Model.only_answers s.progress (Model.HeldBy by)
-    held-is by e held = serve-state Asks.Unfinished e ∙ ap (Model.serve_unheld f s k r) held
 
     flight-same : (answer : Model.Answer) → Model.event_result f s (Model.Serve (suc k)) ≡ Model.only_answers s.progress answer
         → IsFlightOf f parts.slots (Model.after_event f s (Model.Serve (suc k))).progress.requests
@@ -171,19 +127,19 @@ module _ (w : DirectStanding) (parts : Parts) (a : List Content) (is : IsOverDis
 
     pub served_finished : (b : List Content) → b ≡ a → r.state ≡ Asks.Finished → IsServedAs w (suc k) Serves.Done parts a b
     served_finished b same e = record {
-      answer = ap (λ (x : Model.EventResult). x.answer) (finished-is e);
+      answer = ap (λ (x : Model.EventResult). x.answer) (finished-is f s works k r there e);
       done = still w Conditions.Working parts a is (Model.Serve (suc k)) Conditions.Working parts b same
           (unserved_law f s w.disk (suc k) is.device (ap Asks.is_to_serve there ∙ ap Asks.is_unfinished e))
-          (stands_still b same) (flight-same Model.Done (finished-is e)) refl works (λ _. subst (HasCells w.disk s.progress.regions.awaiting parts.tags) (sym same) cells);
+          (stands_still b same) (flight-same Model.Done (finished-is f s works k r there e)) refl works (λ _. subst (HasCells w.disk s.progress.regions.awaiting parts.tags) (sym same) cells);
     }
 
     pub served_held : (b : List Content) (by : ℕ) → b ≡ a → r.state ≡ Asks.Unfinished → Asks.held_by s.progress.requests k r.request ≡ Some by
         → IsServedAs w (suc k) (Serves.Held by) parts a b
     served_held b by same e held = record {
-      answer = ap (λ (x : Model.EventResult). x.answer) (held-is by e held);
+      answer = ap (λ (x : Model.EventResult). x.answer) (held-is f s works k r there by e held);
       done = still w Conditions.Working parts a is (Model.Serve (suc k)) Conditions.Working parts b same
           (held_law f s w.disk k by r is.device there held)
-          (stands_still b same) (flight-same (Model.HeldBy by) (held-is by e held)) refl works (λ _. subst (HasCells w.disk s.progress.regions.awaiting parts.tags) (sym same) cells);
+          (stands_still b same) (flight-same (Model.HeldBy by) (held-is f s works k r there by e held)) refl works (λ _. subst (HasCells w.disk s.progress.regions.awaiting parts.tags) (sym same) cells);
     }
 
     -- ---- the disk failed
@@ -215,42 +171,19 @@ module _ (w : DirectStanding) (parts : Parts) (a : List Content) (is : IsOverDis
       pub is_served : IsServed s k r
       is_served = record { works = works; there = there; unfinished = unfinished; unheld = unheld }
 
-      abbrev pub served_asked : Asks.Asked
-      served_asked = Model.with_block f (cells_now f.blocks.tag s.history) r
+      abbrev then_ : List Asks.Asked
+      then_ = requests_then f s k r
 
       result_is : Model.event_result f s (Model.Serve (suc k)) ≡ Model.serve_with f s k r (Some s.progress.journal)
       result_is = served_law f s w.disk k r is.device is_served
 
-      abbrev pub requests_then : List Asks.Asked
-      requests_then = set s.progress.requests k served_asked
-
-      there_then : slice_get requests_then k ≡ Some served_asked
-      there_then = set_there s.progress.requests k r there served_asked
-        where
-          set_there : (xs : List Asks.Asked) (i : ℕ) (x : Asks.Asked) → slice_get xs i ≡ Some x → (y : Asks.Asked) → slice_get (set xs i y) i ≡ Some y
-          set_there [] i x at y = absurd (none-some x at)
-          set_there (z ∷ xs) zero x at y = refl
-          set_there (z ∷ xs) (suc i) x at y = set_there xs i x at y
-
-      finished_open : (b : Bool) → Asks.is_over (Model.finished_if b) ≡ false
-      finished_open true = refl
-      finished_open false = refl
-
-      open_then : Asks.is_over served_asked.state ≡ false
-      open_then = by r.request refl
-        where
-          by : (q : Asks.Request) → r.request ≡ q → Asks.is_over served_asked.state ≡ false
-          by (Asks.Read first count) e = ap (λ (x : Asks.Request). Asks.is_over (Model.with_block_of f (cells_now f.blocks.tag s.history) r x).state) e ∙ finished_open _
-          by (Asks.Write first blocks fua) e = ap (λ (x : Asks.Request). Asks.is_over (Model.with_block_of f (cells_now f.blocks.tag s.history) r x).state) e ∙ finished_open _
-          by Asks.Flush e = ap (λ (x : Asks.Request). Asks.is_over (Model.with_block_of f (cells_now f.blocks.tag s.history) r x).state) e
-
       -- where those in flight are the requests with it, it answers by what is done next,
-      pub served_done : (new : Parts) (b : List Content) (d : DirectDisk) → IsFlightOf f new.slots requests_then → new.maker ≡ parts.maker
+      pub served_done : (new : Parts) (b : List Content) (d : DirectDisk) → IsFlightOf f new.slots then_ → new.maker ≡ parts.maker
           → KeepsDevice f s (Model.Serve (suc k)) w.entry w.disk d a b → d.format ≡ w.disk.format
           → (awaiting : ℕ → Bool) → HasCells d awaiting new.tags b
           → IsServedAs w (suc k) (served_by (turn_of new.slots (suc k))) new a b
       served_done new b d flight maker keeps same awaiting has = record {
-        answer = ap (λ (x : Model.EventResult). x.answer) result_is ∙ answer_is f new.slots requests_then flight k served_asked there_then open_then;
+        answer = ap (λ (x : Model.EventResult). x.answer) result_is ∙ answer_is f new.slots then_ flight k (served_asked f s r) (there_then f s k r is_served) (open_then f s k r is_served);
         done = done w Conditions.Working parts a is (Model.Serve (suc k)) d Conditions.Working new b keeps same
             (subst (λ (x : Model.EventResult). IsFlightOf f new.slots x.progress.requests) (sym result_is) flight) maker works awaiting (λ _. has);
       }
@@ -260,7 +193,7 @@ module _ (w : DirectStanding) (parts : Parts) (a : List Content) (is : IsOverDis
           → new.maker ≡ parts.maker → StandsThrough w.disk a b → HasCells (after_flush w.disk) s.progress.regions.awaiting new.tags b
           → IsServedAs w (suc k) Serves.Done new a b
       served_flush new b e slots maker through has =
-          let flight = subst (λ (x : Flight). IsFlightOf f x requests_then) (sym slots) (flight_flushed f (cells_now f.blocks.tag s.history) parts.slots s.progress.requests k r is.flight there unfinished e) in
+          let flight = subst (λ (x : Flight). IsFlightOf f x then_) (sym slots) (flight_flushed f (cells_now f.blocks.tag s.history) parts.slots s.progress.requests k r is.flight there unfinished e) in
           let as_told = served_done new b (after_flush w.disk) flight maker
           (served_flush_law f s w.disk k r w.entry s.progress.regions.awaiting (given_tags new.tags) a b is.device is.opened is_served e through has.now) refl s.progress.regions.awaiting has in
           record {
@@ -277,33 +210,6 @@ module _ (w : DirectStanding) (parts : Parts) (a : List Content) (is : IsOverDis
       failed_read first count new b e slots maker through = failed_still new b slots maker through (failed_read_law f s w.disk k r first count is.device is_served e)
 
       -- a block that was read, with the tag that is stored for it
-      flight_put : (first count block : ℕ) (bytes stored computed : List ℕ) → r.request ≡ Asks.Read first count → block ≡ first + r.served → length bytes ≡ f.blocks.block_size
-          → computed ≡ tagger_of w.disk.format block bytes
-          → ModelReply.block_reply f.blocks.tag block (readable_cells f (cells_now f.blocks.tag s.history) block) ≡ ModelReply.block_reply (tagger_of w.disk.format) block (record { bytes = bytes; tag = stored })
-          → IsFlightOf f (if bytes_eq stored computed then with_change (suc k) (with_block_read parts.slots.block_size bytes) parts.slots
-          else with_change (suc k) (with_fault block stored computed) parts.slots) requests_then
-      flight_put first count block bytes stored computed e block_ size computed_ told = by (bytes_eq stored computed) refl
-        where
-          cells_then : ℕ → Cell
-          cells_then = cells_now f.blocks.tag s.history
-
-          next_told : ModelReply.block_reply f.blocks.tag (Model.next_block r) (readable_cells f cells_then (Model.next_block r))
-              ≡ (if bytes_eq stored computed then ModelReply.Bytes bytes else ModelReply.TagFault block stored computed)
-          next_told =
-              ap (λ (n : ℕ). ModelReply.block_reply f.blocks.tag n (readable_cells f cells_then n)) (ap (λ (q : Asks.Request). Asks.first_of q + r.served) e ∙ sym block_)
-              ∙ told ∙ ap (λ (x : List ℕ). if bytes_eq stored x then ModelReply.Bytes bytes else ModelReply.TagFault block stored x) (sym computed_)
-
-          by : (c : Bool) → bytes_eq stored computed ≡ c → IsFlightOf f (if bytes_eq stored computed then with_change (suc k) (with_block_read parts.slots.block_size bytes) parts.slots
-              else with_change (suc k) (with_fault block stored computed) parts.slots) requests_then
-          by true q =
-              subst (λ (x : Bool). IsFlightOf f (if x then with_change (suc k) (with_block_read parts.slots.block_size bytes) parts.slots else with_change (suc k) (with_fault block stored computed) parts.slots) requests_then) (sym q)
-              (flight_read f cells_then parts.slots s.progress.requests k r is.flight there unfinished first count bytes e size
-              (next_told ∙ ap (λ (x : Bool). if x then ModelReply.Bytes bytes else ModelReply.TagFault block stored computed) q))
-          by false q =
-              subst (λ (x : Bool). IsFlightOf f (if x then with_change (suc k) (with_block_read parts.slots.block_size bytes) parts.slots else with_change (suc k) (with_fault block stored computed) parts.slots) requests_then) (sym q)
-              (flight_fault f cells_then parts.slots s.progress.requests k r is.flight there unfinished first count block stored computed e
-              (next_told ∙ ap (λ (x : Bool). if x then ModelReply.Bytes bytes else ModelReply.TagFault block stored computed) q))
-
       pub served_read : (first count block : ℕ) (bytes stored computed : List ℕ) (new : Parts) (b : List Content) → r.request ≡ Asks.Read first count → block ≡ first + r.served
           → block < parts.slots.blocks → length bytes ≡ parts.slots.block_size → computed ≡ tagger_of w.disk.format block bytes
           → new.slots ≡ (if bytes_eq stored computed then with_change (suc k) (with_block_read parts.slots.block_size bytes) parts.slots
@@ -317,7 +223,7 @@ module _ (w : DirectStanding) (parts : Parts) (a : List Content) (is : IsOverDis
           let told = (block_read_law f s w.disk awaiting (given_tags parts.tags) a block bytes stored is.device works cells.now (subst (λ (n : ℕ). block < n) is.flight.blocks low)
           ((none_awaits_law f s w.disk w.entry is.device is.reads).1 awaiting block) whole
           (subst (λ (g : Geometry). HasNow (Reads (data_at g block) bytes) a) (sym cells.geometry) reads) tag is.told is.is_told).1 in
-          served_done new b w.disk (subst (λ (x : Flight). IsFlightOf f x requests_then) (sym slots) (flight_put first count block bytes stored computed e block_ whole computed_ told)) maker
+          served_done new b w.disk (subst (λ (x : Flight). IsFlightOf f x then_) (sym slots) (flight_put f s k r is_served parts.slots is.flight (tagger_of w.disk.format) first count block bytes stored computed e block_ whole computed_ told)) maker
           (served_kept_law f s (Model.Serve (suc k)) w.disk w.entry a b is.device is.opened (serve_read_law f s w.disk k r first count is.device is_served e) kept.through) refl awaiting kept.cells
 
       -- ---- a block of a write
@@ -325,43 +231,6 @@ module _ (w : DirectStanding) (parts : Parts) (a : List Content) (is : IsOverDis
       module _ (first : ℕ) (blocks : List (List ℕ)) (fua : Bool) (e : r.request ≡ Asks.Write first blocks fua) where
         abbrev pub write : ServedWrite
         write = record { format = f; state = s; disk = w.disk; entry = w.entry; place = k; asked = r; first = first; blocks = blocks; fua = fua }
-
-        below : r.served < length blocks
-        below =
-            let part : IsServedPart f (serial_cells f 1 s.history.base (take k (requests_of s.progress.requests))) r r.request = (serving-works f s is.device.reached works).stands.each k r there in
-            (subst (IsServedPart f (serial_cells f 1 s.history.base (take k (requests_of s.progress.requests))) r) e part).0 (ap Asks.is_unfinished unfinished)
-
-        abbrev blocks_in_request : Asks.Request → List (List ℕ)
-        blocks_in_request (Asks.Read x y) = []
-        blocks_in_request (Asks.Write x ys z) = ys
-        blocks_in_request Asks.Flush = []
-
-        abbrev is_write : Asks.Request → Bool
-        is_write (Asks.Read x y) = false
-        is_write (Asks.Write x ys z) = true
-        is_write Asks.Flush = false
-
-        given_is : get_or blocks r.served [] ≡ take f.blocks.block_size (drop (r.served * f.blocks.block_size) r.given)
-        given_is = let sub = (is.flight.each k r there).1 in by sub.submission (sym e ∙ sub.request) sub.given
-          where
-            by : (sub : Submissions.Submission) → Asks.Write first blocks fua ≡ Submissions.request_in f.blocks.block_size sub → r.given ≡ Submissions.bytes_in sub
-                → get_or blocks r.served [] ≡ take f.blocks.block_size (drop (r.served * f.blocks.block_size) r.given)
-            by (Submissions.Submission.Read x y buffer) same given = absurd (true≢false (ap is_write same))
-            by (Submissions.Submission.Write x many bytes z) same given =
-                let same_blocks : blocks ≡ Submissions.blocks_in f.blocks.block_size many bytes = ap blocks_in_request same in
-                let low : r.served < many = subst (λ (n : ℕ). r.served < n) (ap (λ (xs : List (List ℕ)). length xs) same_blocks ∙ length-blocks_in f.blocks.block_size many bytes) below in
-                ap (λ (xs : List (List ℕ)). get_or xs r.served []) same_blocks ∙ get_or-blocks_in f.blocks.block_size many bytes r.served low
-                ∙ ap (λ (xs : List ℕ). take f.blocks.block_size (drop (r.served * f.blocks.block_size) xs)) (sym given)
-            by Submissions.Submission.Flush same given = absurd (true≢false (ap is_write same))
-
-        bytes_is : next_bytes parts.slots.block_size (slot_for (1 + k) r) ≡ get_or blocks r.served []
-        bytes_is =
-            let read = (is.flight.each k r there).0 in
-            let none = got_none f.blocks.block_size r read (read.open_ (ap Asks.is_unfinished unfinished)) (ap (blocks_read r) e) in
-            ap (λ (n : ℕ). next_bytes n (slot_for (1 + k) r)) is.flight.block_size
-            ∙ ap (λ (q : Asks.Request). take f.blocks.block_size (drop (r.served * f.blocks.block_size) (bytes_in (request_with q (bytes_now r))))) e
-            ∙ ap (λ (xs : List ℕ). take f.blocks.block_size (drop (r.served * f.blocks.block_size) (xs ++ drop (length xs) r.given))) none
-            ∙ sym given_is
 
         pub writes_next : (block : ℕ) (bytes tag : List ℕ) (flushes : Bool) → block ≡ first + r.served → flushes ≡ Model.is_flushed_by r blocks fua
             → IfSome (slot_of (suc k) parts.slots) (λ slot. bytes ≡ next_bytes parts.slots.block_size slot)
@@ -373,8 +242,7 @@ module _ (w : DirectStanding) (parts : Parts) (a : List Content) (is : IsOverDis
           request = e;
           cells = cells;
           block_ = block_;
-          bytes_ = subst (λ (o : Option Slot). IfSome o (λ slot. bytes ≡ next_bytes parts.slots.block_size slot))
-              (slot-is f parts.slots s.progress.requests is.flight k r there (ap Asks.is_over unfinished)) bytes_ ∙ bytes_is;
+          bytes_ = bytes-next f s k r is_served parts.slots is.flight is.device.reached first blocks fua e bytes bytes_;
           tag_ = tag_;
           flushes_ = flushes_;
         }
@@ -388,7 +256,7 @@ module _ (w : DirectStanding) (parts : Parts) (a : List Content) (is : IsOverDis
             → IsServedAs w (suc k) (served_by (turn_of new.slots (suc k))) new a b
         served_write flushes new b has slots maker =
             served_done new b (after_block flushes (WriteModel.next_of write) w.disk)
-            (subst (λ (x : Flight). IsFlightOf f x requests_then) (sym slots) (flight_written f (cells_now f.blocks.tag s.history) parts.slots s.progress.requests k r is.flight there unfinished first blocks fua e))
+            (subst (λ (x : Flight). IsFlightOf f x then_) (sym slots) (flight_written f (cells_now f.blocks.tag s.history) parts.slots s.progress.requests k r is.flight there unfinished first blocks fua e))
             maker has.device (after_block-same flushes (WriteModel.next_of write)) s.progress.regions.awaiting has.cells
 
         pub failed_write : (new : Parts) (b : List Content) → HasFailed write a b → new.slots ≡ parts.slots → new.maker ≡ parts.maker → HasFailedIn w (suc k) new a b

@@ -16,16 +16,18 @@ use Rattle.tag_store.specs.Store.{given_tags}
 use Rattle.hmac_tag.specs.TagMaker.{TagRule}
 use Rattle.request_slots.specs.Flight.{Flight, is_in_flight, slot_of, turn_of}
 use Rattle.request_slots.specs.Serving.{next_bytes, with_block_counted, with_block_read, with_change, with_fault, with_finish}
+use Rattle.request_slots.specs.declared.turn.Turn.{Turn}
 use Rattle.request_slots.specs.declared.turn.Turn.TheVariants as Turns
 use Rattle.device_parts.specs.declared.answers.Served.TheVariants as Serves
 use Rattle.device_parts.specs.declared.condition.Condition.TheVariants as Conditions
 use Rattle.device_parts.specs.declared.parts.Parts.{Parts}
 use Rattle.device_parts.specs.Answers.{after_read, served_by, tag_by}
 use Rattle.device_parts.specs.Device.{IsReady}
+use Rattle.device_parts.proofs.NextLemmas.{IsNext, next_of_ticket}
 use Rattle.device_parts.proofs.ReadyLemmas.{block-low, length-tag_by}
 use Rattle.direct_device.specs.Device.{DirectStanding, IsOverDisk}
 use Rattle.direct_device.proofs.OverDisk.{HasFailedIn, IsServedAs}
-use Rattle.direct_device.proofs.DoneLemmas.{IsNext, failed_flush, failed_read, failed_write, next_of_ticket, served_finished, served_flush, served_held, served_read, served_write, writes_next}
+use Rattle.direct_device.proofs.DoneLemmas.{failed_flush, failed_read, failed_write, served_finished, served_flush, served_held, served_read, served_write, writes_next}
 
 -- ---- a block of a request
 
@@ -46,19 +48,25 @@ module _ (parts : Parts) (disk : DiskIdentity) (moments : List Content) (ready :
 -- ---- a serve
 
 module _ (w : DirectStanding) (parts : Parts) (a : List Content) (is : IsOverDisk w Conditions.Working parts a) (ticket : ℕ) (there : is_in_flight ticket parts.slots ≡ true) where
+  abbrev Next : Turn → Type 0
+  Next turn = IsNext w.state.progress.requests ticket turn
+
+  next_told : (turn : Turn) → turn_of parts.slots ticket ≡ turn → Next turn
+  next_told turn told = next_of_ticket w.format parts.slots w.state.progress.requests is.flight ticket turn there told
+
   pub serve_finished : (b : List Content) → b ≡ a → turn_of parts.slots ticket ≡ Turns.Finished → IsServedAs w ticket Serves.Done parts a b
   serve_finished b same turn =
-      let next = next_of_ticket w parts a is ticket Turns.Finished there turn in
+      let next = next_told Turns.Finished turn in
       subst (λ (t : ℕ). IsServedAs w t Serves.Done parts a b) (sym next.ticket_) (served_finished w parts a is next.k next.asked next.there b same next.turn_)
 
   pub serve_held : (b : List Content) (by : ℕ) → b ≡ a → turn_of parts.slots ticket ≡ Turns.Held by → IsServedAs w ticket (Serves.Held by) parts a b
   serve_held b by same turn =
-      let next = next_of_ticket w parts a is ticket (Turns.Held by) there turn in
+      let next = next_told (Turns.Held by) turn in
       subst (λ (t : ℕ). IsServedAs w t (Serves.Held by) parts a b) (sym next.ticket_) (served_held w parts a is next.k next.asked next.there b by same next.turn_.0 next.turn_.1)
 
   module _ (turn : turn_of parts.slots ticket ≡ Turns.Flush) where
-    flush_next : IsNext w parts a is ticket Turns.Flush
-    flush_next = next_of_ticket w parts a is ticket Turns.Flush there turn
+    flush_next : Next Turns.Flush
+    flush_next = next_told Turns.Flush turn
 
     pub serve_flush_done : (new : Parts) (b : List Content) → new.slots ≡ with_change ticket with_finish parts.slots → new.maker ≡ parts.maker
         → StandsThrough w.disk a b → HasCells (after_flush w.disk) w.state.progress.regions.awaiting new.tags b → IsServedAs w ticket Serves.Done new a b
@@ -81,8 +89,8 @@ module _ (w : DirectStanding) (parts : Parts) (a : List Content) (is : IsOverDis
       (ready.spb ∙ sym (ap (λ (g : Geometry). g.shape.spb) (is.cells refl).geometry))
 
   module _ (block : ℕ) (turn : turn_of parts.slots ticket ≡ Turns.Read block) (low : block < parts.slots.blocks) where
-    read_next : IsNext w parts a is ticket (Turns.Read block)
-    read_next = next_of_ticket w parts a is ticket (Turns.Read block) there turn
+    read_next : Next (Turns.Read block)
+    read_next = next_told (Turns.Read block) turn
 
     pub serve_read_done : (disk : DiskIdentity) (mid new : Parts) (stored : List ℕ) (b : List Content) → IsReady parts disk a
         → mid.slots ≡ parts.slots → mid.maker ≡ parts.maker → mid.spb ≡ parts.spb → length mid.buffer.items ≡ parts.slots.block_size
@@ -113,8 +121,8 @@ module _ (w : DirectStanding) (parts : Parts) (a : List Content) (is : IsOverDis
 
   module _ (block : ℕ) (flushes : Bool) (turn : turn_of parts.slots ticket ≡ Turns.Write block flushes) (disk : DiskIdentity) (ready : IsReady parts disk a) (bytes : List ℕ)
       (bytes_ : IfSome (slot_of ticket parts.slots) (λ slot. bytes ≡ next_bytes parts.slots.block_size slot)) where
-    pub write_next : IsNext w parts a is ticket (Turns.Write block flushes)
-    write_next = next_of_ticket w parts a is ticket (Turns.Write block flushes) there turn
+    pub write_next : Next (Turns.Write block flushes)
+    write_next = next_told (Turns.Write block flushes) turn
 
     module _ (tag : List ℕ) (tag_ : tag ≡ tag_by parts.maker parts.spb block bytes) where
       abbrev pub served_of : ServedWrite

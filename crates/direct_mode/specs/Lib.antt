@@ -7,3 +7,4 @@ pub use Rattle.direct_laws.specs.ServeLaws
 pub mod Cells
 pub mod Places
 pub mod Serving
+pub mod Calls

@@ -1,13 +1,10 @@
 //! Flushing all that was written.
-ghost use Rattle.std.specs.Prelude.{◌≡◌, ℕ, Bool, OnOk};
+ghost use Rattle.std.specs.Prelude.{◌≡◌, OnOk};
 ghost use Rattle.disk_model.specs.Causes.{HasCause};
 ghost use Rattle.disk_model.specs.Disk.{OnlyAdds, newest_only};
 ghost use Rattle.disk_model.specs.Moments.{EachSince, IsChangedBy};
-ghost use Rattle.direct_model.specs.DirectDisk.{DirectDisk};
-ghost use Rattle.direct_model.specs.Steps.{after_flush};
-ghost use Rattle.direct_laws.specs.CallLaws.{StandsThrough};
 ghost use Rattle.buffer_cache.specs.Cached.{HasNoMark, written_back};
-ghost use Rattle.direct_mode.specs.Cells.{HasCells};
+ghost use Rattle.direct_mode.specs.Calls.{FlushesEach, StandsEach};
 ghost use Rattle.tag_store.specs.Store.{IsMarkedTags, IsStore};
 
 use sector_disk::{Disk, Failed};
@@ -21,9 +18,7 @@ use tag_store::Tags;
 pub fn flush<D: Disk>(disk: &mut D, tags: &mut Tags) -> Result<(), Failed>
     requires store { IsStore tags.old (D.identity disk.old) (D.moments disk.old) }
 
-    ensures flushed { OnOk result ((d : DirectDisk) (awaiting : ℕ → Bool)
-        → HasCells d awaiting tags.old (D.moments disk.old)
-        → HasCells (after_flush d) awaiting tags.new (D.moments disk.new)) }
+    ensures flushed { OnOk result (FlushesEach tags.old tags.new (D.moments disk.old) (D.moments disk.new)) }
     ensures synced { OnOk result (IsChangedBy (λ c. newest_only (written_back tags.old.sectors c))
         (D.moments disk.old) (D.moments disk.new)) }
     ensures unmarked { OnOk result (HasNoMark tags.new.sectors) }
@@ -34,9 +29,7 @@ pub fn flush<D: Disk>(disk: &mut D, tags: &mut Tags) -> Result<(), Failed>
     ensures geometry { tags.new.geometry ≡ tags.old.geometry }
     ensures identity { D.identity disk.new ≡ D.identity disk.old }
 
-    ensures through { (d : DirectDisk) (awaiting : ℕ → Bool)
-        → HasCells d awaiting tags.old (D.moments disk.old)
-        → StandsThrough d (D.moments disk.old) (D.moments disk.new) }
+    ensures through { StandsEach tags.old (D.moments disk.old) (D.moments disk.new) }
     ensures moments { EachSince (OnlyAdds (IsMarkedTags tags.old))
         (D.moments disk.old) (D.moments disk.new) }
 {

@@ -1,11 +1,11 @@
 //! Reading one block with its tag.
-ghost use Rattle.std.specs.Prelude.{◌≡◌, ℕ, Bool, IfOk, OnOk};
+ghost use Rattle.std.specs.Prelude.{◌≡◌, IfOk, OnOk};
 ghost use Rattle.disk_model.specs.Causes.{HasCause};
 ghost use Rattle.disk_model.specs.Disk.{OnlyAdds, Reads};
 ghost use Rattle.disk_model.specs.Moments.{EachSince, HasNow};
 ghost use Rattle.image_model.specs.Geometry.{data_at};
-ghost use Rattle.direct_model.specs.DirectDisk.{DirectDisk};
-ghost use Rattle.direct_mode.specs.Cells.{HasCells, IsBlock, KeepsDisk};
+ghost use Rattle.direct_mode.specs.Calls.{KeepsEach};
+ghost use Rattle.direct_mode.specs.Cells.{IsBlock};
 ghost use Rattle.tag_store.specs.Store.{IsOutForTag, IsStore, given_tags};
 
 use hmac_tag::Tag;
@@ -33,9 +33,7 @@ pub fn read_block<D: Disk>(
 
     ensures cause { HasCause (D.faults disk.old) (D.faults disk.new) result }
 
-    ensures kept { (d : DirectDisk) (awaiting : ℕ → Bool)
-        → HasCells d awaiting tags.old (D.moments disk.old)
-        → KeepsDisk d awaiting tags.new (D.moments disk.old) (D.moments disk.new) }
+    ensures kept { KeepsEach tags.old tags.new (D.moments disk.old) (D.moments disk.new) }
 
     ensures store { IsStore tags.new (D.identity disk.new) (D.moments disk.new) }
     ensures geometry { tags.new.geometry ≡ tags.old.geometry }

@@ -3,8 +3,8 @@ ghost use Rattle.std.specs.Prelude.{◌≡◌, OnErr, OnOk};
 ghost use Rattle.disk_model.specs.Causes.{HasCause};
 ghost use Rattle.disk_model.specs.Disk.{OnlyAdds};
 ghost use Rattle.disk_model.specs.Moments.{EachSince};
+ghost use Rattle.direct_mode.specs.Calls.{FailsEach, ServesEach};
 ghost use Rattle.direct_mode.specs.Cells.{IsOfBlockOrTags, IsTaggedBlock};
-ghost use Rattle.direct_mode.specs.Serving.{HasFailed, HasServed, ServedWrite, WritesNext};
 ghost use Rattle.tag_store.specs.Store.{IsStore};
 
 use crate::flushing::flush;
@@ -29,14 +29,12 @@ pub fn serve_block<D: Disk>(
     requires store { IsStore tags.old (D.identity disk.old) (D.moments disk.old) }
     requires block { IsTaggedBlock tags.old.geometry block bytes.now tag.now }
 
-    ensures done { OnOk result ((w : ServedWrite)
-        → WritesNext w block bytes.now tag.now flushes tags.old (D.moments disk.old)
-        → HasServed w flushes tags.new (D.moments disk.old) (D.moments disk.new)) }
+    ensures done { OnOk result (ServesEach block bytes.now tag.now flushes tags.old tags.new
+        (D.moments disk.old) (D.moments disk.new)) }
 
     ensures cause { HasCause (D.faults disk.old) (D.faults disk.new) result }
-    ensures err { OnErr result ((w : ServedWrite)
-        → WritesNext w block bytes.now tag.now flushes tags.old (D.moments disk.old)
-        → HasFailed w (D.moments disk.old) (D.moments disk.new)) }
+    ensures err { OnErr result (FailsEach block bytes.now tag.now flushes tags.old
+        (D.moments disk.old) (D.moments disk.new)) }
 
     ensures store { IsStore tags.new (D.identity disk.new) (D.moments disk.new) }
     ensures geometry { tags.new.geometry ≡ tags.old.geometry }

@@ -1,14 +1,11 @@
 //! Writing one block in place.
-ghost use Rattle.std.specs.Prelude.{◌≡◌, ℕ, Bool, OnOk};
+ghost use Rattle.std.specs.Prelude.{◌≡◌, OnOk};
 ghost use Rattle.disk_model.specs.Causes.{HasCause};
 ghost use Rattle.disk_model.specs.Disk.{OnlyAdds, Reads};
 ghost use Rattle.disk_model.specs.Moments.{EachSince, HasNow};
 ghost use Rattle.image_model.specs.Geometry.{data_at};
-ghost use Rattle.place_model.specs.Format.{tagger_of};
-ghost use Rattle.direct_model.specs.DirectDisk.{DirectDisk};
-ghost use Rattle.direct_model.specs.Steps.{with_write};
-ghost use Rattle.direct_laws.specs.CallLaws.{StandsThrough};
-ghost use Rattle.direct_mode.specs.Cells.{HasCells, IsOfBlock, IsTaggedBlock, block_write};
+ghost use Rattle.direct_mode.specs.Calls.{StandsWriting, WritesEach};
+ghost use Rattle.direct_mode.specs.Cells.{IsOfBlock, IsTaggedBlock};
 ghost use Rattle.tag_store.specs.Store.{IsStore};
 
 use hmac_tag::Tag;
@@ -30,10 +27,8 @@ pub fn write_block<D: Disk>(
     requires store { IsStore tags.old (D.identity disk.old) (D.moments disk.old) }
     requires block { IsTaggedBlock tags.old.geometry block bytes.now tag.now }
 
-    ensures written { OnOk result ((d : DirectDisk) (ticket : ℕ) (awaiting : ℕ → Bool)
-        → HasCells d awaiting tags.old (D.moments disk.old) → tag.now ≡ tagger_of d.format block bytes.now
-        → let then_ = with_write d (block_write ticket block bytes.now) in
-        HasCells then_ awaiting tags.new (D.moments disk.new)) }
+    ensures written { OnOk result (WritesEach block bytes.now tag.now tags.old tags.new
+        (D.moments disk.old) (D.moments disk.new)) }
     ensures read { OnOk result (HasNow (Reads (data_at tags.old.geometry block) bytes.now)
         (D.moments disk.new)) }
 
@@ -43,10 +38,7 @@ pub fn write_block<D: Disk>(
     ensures geometry { tags.new.geometry ≡ tags.old.geometry }
     ensures identity { D.identity disk.new ≡ D.identity disk.old }
 
-    ensures through { (d : DirectDisk) (ticket : ℕ) (awaiting : ℕ → Bool)
-        → HasCells d awaiting tags.old (D.moments disk.old)
-        → let then_ = with_write d (block_write ticket block bytes.now) in
-        StandsThrough then_ (D.moments disk.old) (D.moments disk.new) }
+    ensures through { StandsWriting block bytes.now tags.old (D.moments disk.old) (D.moments disk.new) }
     ensures moments { EachSince (λ start. OnlyAdds (IsOfBlock block bytes.now tag.now tags.old start) start)
         (D.moments disk.old) (D.moments disk.new) }
 {

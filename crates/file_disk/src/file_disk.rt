@@ -6,7 +6,7 @@ ghost use Rattle.disk_model.specs.Causes.{HasCause, Rose};
 ghost use Rattle.disk_model.specs.Disk.{AddsSome, IsImage, IsRun, Reads, last_image, newest_only, with_run};
 ghost use Rattle.disk_model.specs.Identity.{IsBound, IsBoundTo};
 ghost use Rattle.disk_model.specs.Moments.{EachSince, HasNow, IsChangedBy, content_now};
-ghost use Rattle.file_disk.specs.Files.{TellsSame, named_as, no_disk, of_file};
+ghost use Rattle.file_disk.specs.Files.{BindsAgain, HasCauseOf, IsForWrites, ServesFor, TellsSame, TellsSameOf, named_as, no_disk, of_file};
 
 use crate::transfer::{open_file, read_all, sync_all, write_all};
 use crate::{Access, Folder, SectorFile};
@@ -46,20 +46,17 @@ impl<O: Folder + Drop> FileDisk<O> {
             ((of_file Access.Read O.File.access self.new.file ≡ Access.Write) ⊎ (access ≡ Access.Read)) }
         ensures opened { OnOk result (IsSome self.old.file
             ⊎ of_file Access.Read O.File.access self.new.file ≡ access) }
-        ensures again { IsBoundTo name.now (of_file no_disk O.File.identity self.old.file).name
-            → (of_file Access.Read O.File.access self.old.file ≡ Access.Write) ⊎ (access ≡ Access.Read)
-            → IsOk result × (self.new ≡ self.old) }
+        ensures again { BindsAgain O.File.identity name.now self.old.file
+            (ServesFor O.File.access self.old.file access) (IsOk result) self.old self.new }
         ensures kept { IsSome self.old.file → self.new.file ≡ self.old.file }
 
         ensures fails { OnErr result (IsSome self.old.file
             ⊎ Rose (O.faults self.old.folder) (O.faults self.new.folder)) }
-        ensures cause { HasCause
-            (self.old.faults + (O.faults self.old.folder + of_file 0 O.File.faults self.old.file))
-            (self.new.faults + (O.faults self.new.folder + of_file 0 O.File.faults self.new.file)) result }
+        ensures cause { HasCauseOf O.faults O.File.faults self.old.faults self.old.folder self.old.file
+            self.new.faults self.new.folder self.new.file result }
 
-        ensures same { TellsSame
-            (named_as O.File.identity O.File.moments (O.named self.old.folder name.now) self.old.file)
-            (named_as O.File.identity O.File.moments (O.named self.new.folder name.now) self.new.file) }
+        ensures same { TellsSameOf O.named O.File.identity O.File.moments name.now
+            self.old.folder self.old.file self.new.folder self.new.file }
     {
         if let Some(file) = &self.file
             && file.has_name(name)
@@ -92,20 +89,17 @@ impl<O: Folder + Drop> Named for FileDisk<O> {
         ensures bound { OnOk result
             (IsBoundTo name.now (of_file no_disk O.File.identity self.new.file).name) }
         ensures access { OnOk result (of_file Access.Read O.File.access self.new.file ≡ Access.Write) }
-        ensures again { IsBoundTo name.now (of_file no_disk O.File.identity self.old.file).name
-            → of_file Access.Read O.File.access self.old.file ≡ Access.Write
-            → IsOk result × (self.new ≡ self.old) }
+        ensures again { BindsAgain O.File.identity name.now self.old.file
+            (IsForWrites O.File.access self.old.file) (IsOk result) self.old self.new }
         ensures kept { IsSome self.old.file → self.new.file ≡ self.old.file }
 
         ensures fails { OnErr result (IsSome self.old.file
             ⊎ Rose (O.faults self.old.folder) (O.faults self.new.folder)) }
-        ensures cause { HasCause
-            (self.old.faults + (O.faults self.old.folder + of_file 0 O.File.faults self.old.file))
-            (self.new.faults + (O.faults self.new.folder + of_file 0 O.File.faults self.new.file)) result }
+        ensures cause { HasCauseOf O.faults O.File.faults self.old.faults self.old.folder self.old.file
+            self.new.faults self.new.folder self.new.file result }
 
-        ensures same { TellsSame
-            (named_as O.File.identity O.File.moments (O.named self.old.folder name.now) self.old.file)
-            (named_as O.File.identity O.File.moments (O.named self.new.folder name.now) self.new.file) }
+        ensures same { TellsSameOf O.named O.File.identity O.File.moments name.now
+            self.old.folder self.old.file self.new.folder self.new.file }
     {
         self.bind_for(name, Access::Write)
     }
@@ -121,13 +115,11 @@ impl<O: Folder + Drop> Named for FileDisk<O> {
 
         ensures fails { OnErr result (IsSome self.old.file
             ⊎ Rose (O.faults self.old.folder) (O.faults self.new.folder)) }
-        ensures cause { HasCause
-            (self.old.faults + (O.faults self.old.folder + of_file 0 O.File.faults self.old.file))
-            (self.new.faults + (O.faults self.new.folder + of_file 0 O.File.faults self.new.file)) result }
+        ensures cause { HasCauseOf O.faults O.File.faults self.old.faults self.old.folder self.old.file
+            self.new.faults self.new.folder self.new.file result }
 
-        ensures same { TellsSame
-            (named_as O.File.identity O.File.moments (O.named self.old.folder name.now) self.old.file)
-            (named_as O.File.identity O.File.moments (O.named self.new.folder name.now) self.new.file) }
+        ensures same { TellsSameOf O.named O.File.identity O.File.moments name.now
+            self.old.folder self.old.file self.new.folder self.new.file }
     {
         self.bind_for(name, Access::Read)
     }
@@ -158,9 +150,8 @@ impl<O: Folder + Drop> Disk for FileDisk<O> {
             (of_file 0 O.File.faults self.new.file)) }
         ensures passed { OnOk result (of_file 0 O.File.faults self.new.file
             ≡ of_file 0 O.File.faults self.old.file) }
-        ensures cause { HasCause
-            (self.old.faults + (O.faults self.old.folder + of_file 0 O.File.faults self.old.file))
-            (self.new.faults + (O.faults self.new.folder + of_file 0 O.File.faults self.new.file)) result }
+        ensures cause { HasCauseOf O.faults O.File.faults self.old.faults self.old.folder self.old.file
+            self.new.faults self.new.folder self.new.file result }
 
         ensures identity { of_file no_disk O.File.identity self.new.file
             ≡ of_file no_disk O.File.identity self.old.file }
@@ -185,9 +176,8 @@ impl<O: Folder + Drop> Disk for FileDisk<O> {
             (of_file 0 O.File.faults self.new.file)) }
         ensures passed { OnOk result (of_file 0 O.File.faults self.new.file
             ≡ of_file 0 O.File.faults self.old.file) }
-        ensures cause { HasCause
-            (self.old.faults + (O.faults self.old.folder + of_file 0 O.File.faults self.old.file))
-            (self.new.faults + (O.faults self.new.folder + of_file 0 O.File.faults self.new.file)) result }
+        ensures cause { HasCauseOf O.faults O.File.faults self.old.faults self.old.folder self.old.file
+            self.new.faults self.new.folder self.new.file result }
 
         ensures identity { of_file no_disk O.File.identity self.new.file
             ≡ of_file no_disk O.File.identity self.old.file }
@@ -213,9 +203,8 @@ impl<O: Folder + Drop> Disk for FileDisk<O> {
             (of_file 0 O.File.faults self.new.file)) }
         ensures passed { OnOk result (of_file 0 O.File.faults self.new.file
             ≡ of_file 0 O.File.faults self.old.file) }
-        ensures cause { HasCause
-            (self.old.faults + (O.faults self.old.folder + of_file 0 O.File.faults self.old.file))
-            (self.new.faults + (O.faults self.new.folder + of_file 0 O.File.faults self.new.file)) result }
+        ensures cause { HasCauseOf O.faults O.File.faults self.old.faults self.old.folder self.old.file
+            self.new.faults self.new.folder self.new.file result }
         ensures err { OnErr result (of_file [] O.File.moments self.new.file
             ≡ of_file [] O.File.moments self.old.file) }
 

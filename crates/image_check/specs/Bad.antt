@@ -21,6 +21,10 @@ abbrev pub bad_cell : (key salt : Option (List ℕ)) → Geometry → (block : �
 bad_cell key salt g block cell =
     bad_by block cell.tag (block_tag key salt g (block * g.shape.spb) cell.bytes)
 
+-- The same of what stands in the block's place.
+abbrev pub bad_placed : (key salt : Option (List ℕ)) → Geometry → Image → (block : ℕ) → Option Bad
+bad_placed key salt g image block = bad_cell key salt g block (placed_cells_of g image block)
+
 -- The bytes and the tag of a block that are judged: its cell, or what stands in its place.
 abbrev pub judged_cell : What → DiskFormat → Image → ℕ → Cell
 judged_cell Cells d image b = cells_on d image b

@@ -3,7 +3,7 @@ use Rattle.std.specs.Prelude.{◌≡◌, ℕ, false, Bool, if◌then◌else◌, 
 use Rattle.disk_model.specs.Disk.{Content, Image, last_image}
 use Rattle.disk_model.specs.Identity.{DiskIdentity, IsBound}
 use Rattle.disk_model.specs.Moments.{HasNow}
-use Rattle.image_model.specs.Cells.{placed_cells_of, salt_of}
+use Rattle.image_model.specs.Cells.{salt_of}
 use Rattle.image_model.specs.Geometry.{Geometry}
 use Rattle.image_format.specs.declared.reading.ImageFormat.{ImageFormat}
 use Rattle.image_format.specs.Format.{IsDirectFormat, disk_format}
@@ -11,7 +11,7 @@ use Rattle.hmac_tag.specs.TagMaker.{TagRule}
 use Rattle.journal_reading.specs.Newest.{newest_in}
 use Rattle.place_model.specs.Format.{DiskFormat, format_on}
 use Rattle.sector_window.specs.Window.{HasRoom, Window}
-use Rattle.image_check.specs.Bad.{bad_cell}
+use Rattle.image_check.specs.Bad.{bad_block, bad_blocks, bad_placed, first_bad_from}
 use Rattle.image_check.specs.declared.bad.Bad.{Bad}
 use Rattle.image_check.specs.declared.bad.What.{What}
 use Rattle.image_check.specs.declared.bad.What.TheVariants.{Cells, Placed}
@@ -44,7 +44,7 @@ IsJournalOf rule g image (Some newest) = IsIndexOn rule.key rule.salt g image ne
 -- Block b, where it is bad by what is kept: one that has an entry is not, since that was judged.
 abbrev pub bad_kept : TagRule → Geometry → Option (List (ℕ × ℕ)) → Image → ℕ → Option Bad
 bad_kept rule g journal image b =
-    if has_entry journal b then None else bad_cell rule.key rule.salt g b (placed_cells_of g image b)
+    if has_entry journal b then None else bad_placed rule.key rule.salt g image b
 
 -- All that is kept is of this disk, which is bound.
 pub record IsCheckOf (image : Checked) (disk : DiskIdentity) (moments : List Content) : Type 0 where
@@ -67,3 +67,16 @@ pub record IsSameCheck (old new : Checked) : Type 0 where
 -- The format that an image has on a disk of so many sectors, under the key of the check.
 abbrev pub checked_format : Checked → (sectors : ℕ) → Image → DiskFormat
 checked_format image sectors found = format_on image.rule.key sectors found
+
+-- Block b of an image that is checked, where it is bad by what is looked at,
+abbrev pub bad_at : Checked → (sectors : ℕ) → Image → (b : ℕ) → Option Bad
+bad_at checked sectors image b = bad_block (what_of checked.journal) (checked_format checked sectors image) image b
+
+-- the first bad block of it from a block on, if there is one,
+abbrev pub bad_behind : Checked → (sectors : ℕ) → Image → (from : ℕ) → Option Bad
+bad_behind checked sectors image from =
+    first_bad_from (what_of checked.journal) (checked_format checked sectors image) image from
+
+-- and all its bad blocks, in order.
+abbrev pub bad_in : Checked → (sectors : ℕ) → Image → List Bad
+bad_in checked sectors image = bad_blocks (what_of checked.journal) (checked_format checked sectors image) image

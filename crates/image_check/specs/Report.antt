@@ -3,7 +3,7 @@ use Rattle.std.specs.Prelude.{◌≡◌, ℕ, List, [], ◌∷◌, ◌++◌, len
 use Rattle.std.specs.List.{range_with_len}
 use Rattle.disk_model.specs.Disk.{Image}
 use Rattle.image_model.specs.Bitmap.{awaits}
-use Rattle.place_model.specs.Format.{DiskFormat}
+use Rattle.place_model.specs.Format.{DiskFormat, format_on}
 use Rattle.image_check.specs.Bad.{bad_blocks}
 use Rattle.image_check.specs.declared.bad.Bad.{Bad}
 use Rattle.image_check.specs.declared.bad.What.{What}
@@ -18,6 +18,10 @@ pub record IsReportOf (what : What) (d : DiskFormat) (image : Image) (report : R
   pub blocks : report.blocks ≡ d.geometry.blocks
   pub awaiting : report.awaiting ≡ awaiting_in d image
   pub bad : report.bad.items ≡ bad_blocks what d image
+
+-- The same, of an image on a disk of so many sectors, under a key.
+abbrev pub IsReportOn : What → (key : Option (List ℕ)) → (sectors : ℕ) → Image → Report → Type 0
+IsReportOn what key sectors image report = IsReportOf what (format_on key sectors image) image report
 
 -- Bad blocks, and one that was found, if it was.
 abbrev pub with_found : Option Bad → List Bad → List Bad

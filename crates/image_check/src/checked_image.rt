@@ -1,5 +1,5 @@
 //! An image that is checked: it is opened once, and asked for its bad blocks in order.
-ghost use Rattle.std.specs.Prelude.{◌≡◌, ◌≢◌, ◌<◌, option_map, Err, IfOk};
+ghost use Rattle.std.specs.Prelude.{◌≡◌, ◌<◌, IfOk};
 ghost use Rattle.disk_model.specs.Causes.{HasCause};
 ghost use Rattle.disk_model.specs.Disk.{last_image};
 ghost use Rattle.disk_model.specs.Identity.{IsBound};
@@ -7,10 +7,9 @@ ghost use Rattle.disk_model.specs.Moments.{HasNow};
 ghost use Rattle.hmac_tag.specs.TagMaker.{key_of};
 ghost use Rattle.image_model.specs.Cells.{salt_of};
 ghost use Rattle.image_format.specs.Format.{IsDirectFormat, IsReadNow};
-ghost use Rattle.image_judging.specs.Faults.{ByJournal, HasOpenCause, fault_in};
-ghost use Rattle.image_check.specs.Bad.{bad_block, first_bad_from};
-ghost use Rattle.image_check.specs.Checked.{IsCheckOf, IsSameCheck, checked_format, what_of};
-ghost use Rattle.image_check.specs.Faults.{fault_for, journal_fault_for};
+ghost use Rattle.image_judging.specs.Faults.{HasOpenCause};
+ghost use Rattle.image_check.specs.Checked.{IsCheckOf, IsSameCheck, bad_at, bad_behind, what_of};
+ghost use Rattle.image_check.specs.Faults.{TellsFault, TellsJournalFault, fault_for, journal_fault_for};
 
 use crate::judging::judge_block;
 use crate::opening::{read_journal, tag_maker};
@@ -85,9 +84,8 @@ impl CheckedImage {
         ensures what { IfOk result (λ image. what_of image.journal ≡ what) }
         ensures key { IfOk result (λ image. image.rule.key ≡ key_of hash) }
 
-        ensures refused { result ≢ Err OpeningFault.Memory → result ≢ Err OpeningFault.Disk
-            → HasNow (λ c. fault_in result ≡ fault_for what (key_of hash)
-            (D.identity disk.old).sectors (last_image c)) (D.moments disk.old) }
+        ensures refused { TellsFault result (fault_for what (key_of hash) (D.identity disk.old).sectors)
+            (D.moments disk.old) }
         ensures cause { HasOpenCause (D.faults disk.old) (D.faults disk.new) result }
 
         ensures identity { D.identity disk.new ≡ D.identity disk.old }
@@ -117,9 +115,8 @@ impl CheckedImage {
         ensures what { IfOk result (λ image. what_of image.journal ≡ what) }
         ensures key { IfOk result (λ image. image.rule.key ≡ key_of hash) }
 
-        ensures refused { result ≢ Err OpeningFault.Memory → result ≢ Err OpeningFault.Disk
-            → HasNow (λ c. fault_in result ≡ option_map ByJournal (journal_fault_for what (key_of hash)
-            (salt_of format.fields) format.geometry (last_image c))) (D.moments disk.old) }
+        ensures refused { TellsJournalFault result
+            (journal_fault_for what (key_of hash) (salt_of format.fields) format.geometry) (D.moments disk.old) }
         ensures cause { HasOpenCause (D.faults disk.old) (D.faults disk.new) result }
 
         ensures identity { D.identity disk.new ≡ D.identity disk.old }
@@ -154,9 +151,8 @@ impl CheckedImage {
     pub fn next_bad<D: Disk>(&mut self, disk: &mut D, from: u64) -> Result<Option<Bad>, Failed>
         requires image { IsCheckOf self.old (D.identity disk.old) (D.moments disk.old) }
 
-        ensures bad { IfOk result (λ answer. HasNow (λ c. answer ≡ first_bad_from (what_of self.old.journal)
-            (checked_format self.old (D.identity disk.old).sectors (last_image c)) (last_image c) from)
-            (D.moments disk.old)) }
+        ensures bad { IfOk result (λ answer. HasNow (λ c. answer
+            ≡ bad_behind self.old (D.identity disk.old).sectors (last_image c) from) (D.moments disk.old)) }
 
         ensures cause { HasCause (D.faults disk.old) (D.faults disk.new) result }
 
@@ -183,9 +179,8 @@ impl CheckedImage {
         requires image { IsCheckOf self.old (D.identity disk.old) (D.moments disk.old) }
         requires block { block < self.old.format.geometry.blocks }
 
-        ensures bad { IfOk result (λ answer. HasNow (λ c. answer ≡ bad_block (what_of self.old.journal)
-            (checked_format self.old (D.identity disk.old).sectors (last_image c)) (last_image c) block)
-            (D.moments disk.old)) }
+        ensures bad { IfOk result (λ answer. HasNow (λ c. answer
+            ≡ bad_at self.old (D.identity disk.old).sectors (last_image c) block) (D.moments disk.old)) }
 
         ensures cause { HasCause (D.faults disk.old) (D.faults disk.new) result }
 

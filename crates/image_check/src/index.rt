@@ -1,11 +1,12 @@
 //! Which blocks have an entry in the journal of an image that would be replayed.
-ghost use Rattle.std.specs.Prelude.{◌≡◌, ◌≢◌, option_map, Err, IfOk};
+ghost use Rattle.std.specs.Prelude.{◌≡◌, IfOk};
 ghost use Rattle.disk_model.specs.Disk.{last_image};
 ghost use Rattle.disk_model.specs.Identity.{IsBound};
 ghost use Rattle.disk_model.specs.Moments.{HasNow};
 ghost use Rattle.image_model.specs.Geometry.{IsGeometry};
 ghost use Rattle.image_model.specs.Openable.{journal_fault_of};
-ghost use Rattle.image_judging.specs.Faults.{ByJournal, HasOpenCause, fault_in};
+ghost use Rattle.image_judging.specs.Faults.{HasOpenCause};
+ghost use Rattle.image_check.specs.Faults.{TellsJournalFault};
 ghost use Rattle.image_check.specs.Index.{IsIndexOn};
 
 use hmac_tag::TagMaker;
@@ -15,8 +16,8 @@ use layout::Geometry;
 use sector_disk::Disk;
 use std::alloc::Global;
 
-/// Judges the journal of an image, and tells which blocks have an entry in it that would be replayed. It is read in runs,
-/// and no memory is taken for it as a whole.
+/// Judges the journal of an image, and tells which blocks have an entry in it that would be replayed. It is read in
+/// runs, and no memory is taken for it as a whole.
 ///
 /// # Errors
 ///
@@ -38,9 +39,8 @@ pub(crate) fn read_index<D: Disk>(
     ensures index { IfOk result (λ newest. HasNow (λ c. IsIndexOn maker.now.key maker.now.salt
         geometry.now (last_image c) newest) (D.moments disk.old)) }
 
-    ensures refused { result ≢ Err OpeningFault.Memory → result ≢ Err OpeningFault.Disk
-        → HasNow (λ c. fault_in result ≡ option_map ByJournal
-        (journal_fault_of maker.now.key maker.now.salt geometry.now (last_image c))) (D.moments disk.old) }
+    ensures refused { TellsJournalFault result (journal_fault_of maker.now.key maker.now.salt geometry.now)
+        (D.moments disk.old) }
     ensures cause { HasOpenCause (D.faults disk.old) (D.faults disk.new) result }
 
     ensures identity { D.identity disk.new ≡ D.identity disk.old }

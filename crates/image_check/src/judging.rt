@@ -5,9 +5,9 @@ ghost use Rattle.disk_model.specs.Causes.{HasCause};
 ghost use Rattle.disk_model.specs.Disk.{last_image};
 ghost use Rattle.disk_model.specs.Identity.{IsBound};
 ghost use Rattle.disk_model.specs.Moments.{HasNow};
-ghost use Rattle.image_model.specs.Cells.{block_tag, placed_cells_of};
+ghost use Rattle.image_model.specs.Cells.{block_tag};
 ghost use Rattle.image_model.specs.Geometry.{IsGeometry};
-ghost use Rattle.image_check.specs.Bad.{bad_by, bad_cell};
+ghost use Rattle.image_check.specs.Bad.{bad_by, bad_placed};
 ghost use Rattle.image_check.specs.Checked.{bad_kept, has_entry};
 ghost use Rattle.sector_window.specs.Window.{HasRoom};
 
@@ -68,8 +68,8 @@ pub(crate) fn judge_placed<D: Disk>(
     requires blocks { HasRoom 8 blocks.old (D.moments disk.old) }
     requires block { block < geometry.now.blocks }
 
-    ensures bad { IfOk result (λ answer. HasNow (λ c. answer ≡ bad_cell maker.now.key maker.now.salt
-        geometry.now block (placed_cells_of geometry.now (last_image c) block)) (D.moments disk.old)) }
+    ensures bad { IfOk result (λ answer. HasNow (λ c. answer
+        ≡ bad_placed maker.now.key maker.now.salt geometry.now (last_image c) block) (D.moments disk.old)) }
 
     ensures cause { HasCause (D.faults disk.old) (D.faults disk.new) result }
 

@@ -1,5 +1,5 @@
 //! What an image is checked with: the maker of its tags, and its journal where that is looked at.
-ghost use Rattle.std.specs.Prelude.{◌≡◌, ◌≢◌, option_map, Err, IfOk};
+ghost use Rattle.std.specs.Prelude.{◌≡◌, IfOk};
 ghost use Rattle.disk_model.specs.Disk.{last_image};
 ghost use Rattle.disk_model.specs.Identity.{IsBound};
 ghost use Rattle.disk_model.specs.Moments.{HasNow};
@@ -7,8 +7,8 @@ ghost use Rattle.image_model.specs.Cells.{salt_of};
 ghost use Rattle.image_model.specs.Geometry.{IsGeometry};
 ghost use Rattle.hmac_tag.specs.TagMaker.{key_of};
 ghost use Rattle.image_check.specs.Checked.{IsJournalOf, what_of};
-ghost use Rattle.image_judging.specs.Faults.{ByJournal, HasOpenCause, fault_in};
-ghost use Rattle.image_check.specs.Faults.{journal_fault_for};
+ghost use Rattle.image_judging.specs.Faults.{HasOpenCause};
+ghost use Rattle.image_check.specs.Faults.{TellsJournalFault, journal_fault_for};
 
 use crate::What;
 use crate::index::read_index;
@@ -59,9 +59,8 @@ pub(crate) fn read_journal<D: Disk>(
         (D.moments disk.old)) }
     ensures what { IfOk result (λ journal. what_of journal ≡ what) }
 
-    ensures refused { result ≢ Err OpeningFault.Memory → result ≢ Err OpeningFault.Disk
-        → HasNow (λ c. fault_in result ≡ option_map ByJournal (journal_fault_for what
-        maker.now.key maker.now.salt geometry.now (last_image c))) (D.moments disk.old) }
+    ensures refused { TellsJournalFault result
+        (journal_fault_for what maker.now.key maker.now.salt geometry.now) (D.moments disk.old) }
     ensures cause { HasOpenCause (D.faults disk.old) (D.faults disk.new) result }
 
     ensures identity { D.identity disk.new ≡ D.identity disk.old }

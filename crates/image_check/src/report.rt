@@ -1,15 +1,13 @@
 //! What a check tells of an image.
-ghost use Rattle.std.specs.Prelude.{◌≡◌, ◌≢◌, Err, IfOk, None, OnOk};
+ghost use Rattle.std.specs.Prelude.{◌≡◌, IfOk, None, OnOk};
 ghost use Rattle.disk_model.specs.Disk.{last_image};
 ghost use Rattle.disk_model.specs.Identity.{IsBound};
 ghost use Rattle.disk_model.specs.Moments.{HasNow};
 ghost use Rattle.hmac_tag.specs.TagMaker.{key_of};
-ghost use Rattle.place_model.specs.Format.{format_on};
 ghost use Rattle.image_judging.specs.Faults.{HasOpenCause, fault_in};
-ghost use Rattle.image_check.specs.Bad.{bad_blocks};
-ghost use Rattle.image_check.specs.Checked.{IsCheckOf, checked_format, what_of};
-ghost use Rattle.image_check.specs.Faults.{fault_for};
-ghost use Rattle.image_check.specs.Report.{IsReportOf, with_found};
+ghost use Rattle.image_check.specs.Checked.{IsCheckOf, bad_in};
+ghost use Rattle.image_check.specs.Faults.{TellsFault, fault_for};
+ghost use Rattle.image_check.specs.Report.{IsReportOn, with_found};
 
 use crate::{Bad, CheckedImage, What};
 use hmac_tag::Hash;
@@ -44,13 +42,11 @@ pub fn check<D: Disk>(
 ) -> Result<Report, OpeningFault>
     requires { IsBound (D.identity disk.old).name }
 
-    ensures report { IfOk result (λ report. HasNow (λ c. IsReportOf what
-        (format_on (key_of hash) (D.identity disk.old).sectors (last_image c)) (last_image c) report)
-        (D.moments disk.old)) }
+    ensures report { IfOk result (λ report. HasNow (λ c. IsReportOn what (key_of hash)
+        (D.identity disk.old).sectors (last_image c) report) (D.moments disk.old)) }
 
-    ensures refused { result ≢ Err OpeningFault.Memory → result ≢ Err OpeningFault.Disk
-        → HasNow (λ c. fault_in result ≡ fault_for what (key_of hash)
-        (D.identity disk.old).sectors (last_image c)) (D.moments disk.old) }
+    ensures refused { TellsFault result (fault_for what (key_of hash) (D.identity disk.old).sectors)
+        (D.moments disk.old) }
     ensures cause { HasOpenCause (D.faults disk.old) (D.faults disk.new) result }
 
     ensures identity { D.identity disk.new ≡ D.identity disk.old }
@@ -78,9 +74,8 @@ fn list_bad<D: Disk>(
 ) -> Result<Vec<Bad>, OpeningFault>
     requires image { IsCheckOf image.old (D.identity disk.old) (D.moments disk.old) }
 
-    ensures bad { IfOk result (λ bad. HasNow (λ c. bad.items ≡ bad_blocks (what_of image.old.journal)
-        (checked_format image.old (D.identity disk.old).sectors (last_image c)) (last_image c))
-        (D.moments disk.old)) }
+    ensures bad { IfOk result (λ bad. HasNow (λ c. bad.items
+        ≡ bad_in image.old (D.identity disk.old).sectors (last_image c)) (D.moments disk.old)) }
 
     ensures refused { fault_in result ≡ None }
     ensures cause { HasOpenCause (D.faults disk.old) (D.faults disk.new) result }

@@ -1,9 +1,10 @@
 -- What a dump tells of an image: its format and the state of its journal, or the first fault.
 -- Own: the superblock is judged before the geometry, and the geometry before the journal. Of the journal the
 -- commit numbers are judged, and no entry.
-use Rattle.std.specs.Prelude.{◌≡◌, ◌≢◌, ℕ, ◌≤◌, false, if◌then◌else◌, Result, Ok, Err}
+use Rattle.std.specs.Prelude.{◌≡◌, ◌≢◌, ℕ, ◌≤◌, false, if◌then◌else◌, List, Result, Ok, Err}
 use Rattle.disk_model.specs.Causes.{Rose}
-use Rattle.disk_model.specs.Disk.{Image}
+use Rattle.disk_model.specs.Disk.{Content, Image, last_image}
+use Rattle.disk_model.specs.Moments.{HasNow}
 use Rattle.image_model.specs.declared.flags.TheConstants.{DIRTY_BITMAP}
 use Rattle.image_model.specs.declared.journal_plan.Plan.{Plan}
 use Rattle.image_model.specs.declared.scan_fault.ScanFault.{ScanFault}
@@ -52,6 +53,11 @@ pub record IsScanned (sectors : ℕ) (image : Image) : Type 0 where
   pub format : ImageFormat
   pub told : format_of sectors image ≡ Ok format
   pub no_bitmap : has_flag DIRTY_BITMAP format.fields.flags ≡ false
+
+-- Where neither memory nor the disk failed, a call tells what is shown of the image that stands, or why it is not.
+abbrev pub TellsDump : Result Dump DumpFault → (Image → Result Dump DumpFault) → List Content → Type 0
+TellsDump result shown moments = result ≢ Err Memory → result ≢ Err Disk
+    → HasNow (λ c. result ≡ shown (last_image c)) moments
 
 -- The count of faults never falls; `Disk` comes only where it rose, and else it is as it was.
 pub record HasDumpCause {T : Type 0} (before after : ℕ) (result : Result T DumpFault) : Type 0 where

@@ -1,11 +1,11 @@
 //! Shows an image: first its format is read and judged, then its journal.
-ghost use Rattle.std.specs.Prelude.{◌≡◌, ◌≢◌, false, Err, IfOk};
+ghost use Rattle.std.specs.Prelude.{◌≡◌, false, Err, IfOk};
 ghost use Rattle.disk_model.specs.Disk.{last_image};
 ghost use Rattle.disk_model.specs.Identity.{IsBound};
 ghost use Rattle.disk_model.specs.Moments.{HasNow};
 ghost use Rattle.image_model.specs.Superblock.{has_flag};
 ghost use Rattle.image_format.specs.Format.{IsFormat};
-ghost use Rattle.image_dump.specs.Dump.{HasDumpCause, IsScanned, dump_in, dump_of, fault_of};
+ghost use Rattle.image_dump.specs.Dump.{HasDumpCause, IsScanned, TellsDump, dump_in, dump_of, fault_of};
 
 use crate::{Dump, DumpFault, DumpJournal};
 use commit_id::scan;
@@ -31,8 +31,7 @@ pub fn dump<D: Disk>(alloc: Global, disk: &mut D) -> Result<Dump, DumpFault>
 
     ensures format { IfOk result (λ dump. IsFormat (D.identity disk.old).sectors dump.format) }
 
-    ensures told { result ≢ Err DumpFault.Memory → result ≢ Err DumpFault.Disk → HasNow (λ c. result
-        ≡ dump_of (D.identity disk.old).sectors (last_image c)) (D.moments disk.old) }
+    ensures told { TellsDump result (dump_of (D.identity disk.old).sectors) (D.moments disk.old) }
     ensures memory { result ≡ Err DumpFault.Memory → HasNow (λ c.
         IsScanned (D.identity disk.old).sectors (last_image c)) (D.moments disk.old) }
     ensures cause { HasDumpCause (D.faults disk.old) (D.faults disk.new) result }
@@ -70,8 +69,7 @@ fn show<D: Disk>(alloc: Global, disk: &mut D, format: ImageFormat) -> Result<Dum
 
     ensures format { IfOk result (λ dump. dump.format ≡ format) }
 
-    ensures told { result ≢ Err DumpFault.Memory → result ≢ Err DumpFault.Disk → HasNow (λ c. result
-        ≡ dump_in format (last_image c)) (D.moments disk.old) }
+    ensures told { TellsDump result (dump_in format) (D.moments disk.old) }
     ensures memory { result ≡ Err DumpFault.Memory → has_flag DIRTY_BITMAP format.fields.flags ≡ false }
     ensures cause { HasDumpCause (D.faults disk.old) (D.faults disk.new) result }
 

@@ -1,19 +1,21 @@
 -- Which images tell a format.
-use Rattle.std.proofs.Common.{◌≡◌, inl, inr, ℕ, Bool, false, refl, sym, ◌∙◌, ap, subst, Result, Option, Ok, Err, IsOk, is_ok, List}
+use Rattle.std.proofs.Common.{◌≡◌, inl, inr, ℕ, Bool, true, false, refl, sym, ◌∙◌, ap, subst, Result, Option, Ok, Err, IsOk, is_ok, List, [], if◌then◌else◌}
+use Rattle.std.specs.List.{AllByRecursion}
 use Rattle.std.proofs.lemmas.Bool.{cases_Bool, true≢false}
 use Rattle.disk_model.specs.Disk.{Image}
 use Rattle.image_model.specs.declared.flags.TheConstants.{DIRTY_BITMAP}
 use Rattle.image_model.specs.declared.geom_fault.GeomFault.{GeomFault}
 use Rattle.image_model.specs.declared.super_fields.SuperFault.{SuperFault}
+use Rattle.image_model.specs.Cells.{replayed_entries, salt_of}
 use Rattle.image_model.specs.Geometry.{Geometry, geometry_of}
-use Rattle.image_model.specs.Openable.{IsReadable, first_sector}
+use Rattle.image_model.specs.Openable.{IsOpenable, IsReadable, IsReplayable, first_sector}
 use Rattle.image_model.specs.Superblock.{Superblock, has_flag, superblock_of}
 use Rattle.place_model.specs.Format.{DiskFormat, format_on}
 use Rattle.place_model.proofs.FormatLemmas.{read_format_law}
 use Rattle.image_format.specs.declared.open_fault.OpenFault.{OpenFault}
 use Rattle.image_format.specs.declared.reading.ImageFormat.{ImageFormat}
-use Rattle.image_format.specs.Format.{disk_format, told_fields, format_with, format_by, format_of, in_direct_mode}
-use Rattle.image_format.specs.FormatLaws.{ReadLaw, DirectLaw}
+use Rattle.image_format.specs.Format.{disk_format, told_fields, format_with, format_by, format_of, in_bitmap_mode, in_direct_mode}
+use Rattle.image_format.specs.FormatLaws.{BitmapLaw, ReadLaw, DirectLaw}
 
 -- ---- read
 
@@ -45,6 +47,31 @@ direct-clear format ok = elim (cases_Bool (has_flag DIRTY_BITMAP format.fields.f
 
 clear-direct : (format : ImageFormat) → has_flag DIRTY_BITMAP format.fields.flags ≡ false → IsOk (in_direct_mode (Ok format))
 clear-direct format clear = rw clear refl
+
+-- ---- in bitmap mode
+
+bitmap-ok : (r : Result ImageFormat OpenFault) → IsOk (in_bitmap_mode r) → IsOk r
+bitmap-ok (Ok format) ok = refl
+bitmap-ok (Err fault) ok = ok
+
+bitmap-set : (format : ImageFormat) → IsOk (in_bitmap_mode (Ok format)) → has_flag DIRTY_BITMAP format.fields.flags ≡ true
+bitmap-set format ok = elim (cases_Bool (has_flag DIRTY_BITMAP format.fields.flags)) [
+  | inl set ↦ set
+  | inr clear ↦ absurd (true≢false (sym (rw clear at ok)))
+]
+
+set-bitmap : (format : ImageFormat) → has_flag DIRTY_BITMAP format.fields.flags ≡ true → IsOk (in_bitmap_mode (Ok format))
+set-bitmap format set = rw set refl
+
+-- No entry of a journal counts there.
+pub bitmap_openable : (key : Option (List ℕ)) (sectors : ℕ) (image : Image) (readable : IsReadable sectors image)
+    → has_flag DIRTY_BITMAP readable.superblock.flags ≡ true → IsOpenable key sectors image
+bitmap_openable key sectors image readable set = record {
+  readable = readable;
+  walk = λ clear. absurd (true≢false (sym set ∙ clear));
+  entries = subst (λ (b : Bool). AllByRecursion (IsReplayable key (salt_of readable.superblock) readable.geometry)
+      (if b then [] else replayed_entries readable.geometry image)) (sym set) tt;
+}
 
 -- An image that can be read is in its own format.
 own_format : (key : Option (List ℕ)) (sectors : ℕ) (image : Image) (readable : IsReadable sectors image)
@@ -78,4 +105,20 @@ direct_law key sectors image = (
       let told = format_of-readable sectors image readable in
       let clear = ap flag_of (sym (own_format key sectors image readable)) ∙ opens.1 in
       subst (λ (r : Result ImageFormat OpenFault). IsOk (in_direct_mode r)) (sym told) (clear-direct format clear),
+)
+
+pub bitmap_law : BitmapLaw
+bitmap_law key sectors image = (
+  λ ok.
+      let readable = (read_law sectors image).0 (bitmap-ok (format_of sectors image) ok) in
+      let format : ImageFormat = record { fields = readable.superblock; geometry = readable.geometry } in
+      let told = format_of-readable sectors image readable in
+      let set = bitmap-set format (subst (λ (r : Result ImageFormat OpenFault). IsOk (in_bitmap_mode r)) told ok) in
+      (bitmap_openable key sectors image readable set, ap flag_of (own_format key sectors image readable) ∙ set),
+  λ opens.
+      let readable = opens.0.readable in
+      let format : ImageFormat = record { fields = readable.superblock; geometry = readable.geometry } in
+      let told = format_of-readable sectors image readable in
+      let set = ap flag_of (sym (own_format key sectors image readable)) ∙ opens.1 in
+      subst (λ (r : Result ImageFormat OpenFault). IsOk (in_bitmap_mode r)) (sym told) (set-bitmap format set),
 )

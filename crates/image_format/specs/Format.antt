@@ -1,6 +1,6 @@
 -- What an image tells an opening: the fields of its superblock and its geometry, or the first fault.
 -- Own: the superblock is judged before the geometry, and the geometry before the mode.
-use Rattle.std.specs.Prelude.{◌≡◌, ◌≢◌, ℕ, ◌≤◌, false, if◌then◌else◌, Option, List, Result, Ok, Err}
+use Rattle.std.specs.Prelude.{◌≡◌, ◌≢◌, ℕ, ◌≤◌, true, false, if◌then◌else◌, Option, List, Result, Ok, Err}
 use Rattle.disk_model.specs.Causes.{Rose}
 use Rattle.disk_model.specs.Disk.{Content, Image, last_image}
 use Rattle.image_model.specs.declared.flags.TheConstants.{DIRTY_BITMAP}
@@ -9,8 +9,9 @@ use Rattle.image_model.specs.declared.super_fields.SuperFault.{SuperFault}
 use Rattle.image_model.specs.Geometry.{Geometry, IsGeometry, geometry_of}
 use Rattle.image_model.specs.Openable.{first_sector}
 use Rattle.image_model.specs.Superblock.{Superblock, IsAccepted, has_flag, superblock_of}
+use Rattle.device_model.specs.Mode.{Bitmap}
 use Rattle.place_model.specs.Format.{DiskFormat, HasWholeSectors, IsReadAs, format_on}
-use Rattle.place_model.specs.Kind.{CanOpenPlaced}
+use Rattle.place_model.specs.Kind.{CanOpenIn, CanOpenPlaced}
 use Rattle.image_format.specs.declared.open_fault.OpenFault.{OpenFault}
 use Rattle.image_format.specs.declared.open_fault.OpenFault.TheVariants.{Disk, Super, Geom, Mode}
 use Rattle.image_format.specs.declared.reading.ImageFormat.{ImageFormat}
@@ -51,6 +52,17 @@ in_direct_mode (Err fault) = Err fault
 abbrev pub direct_format_of : (sectors : ℕ) → Image → Result ImageFormat OpenFault
 direct_format_of sectors image = in_direct_mode (format_of sectors image)
 
+-- The same, where bitmap mode is asked for: with a bitmap.
+-- Source: Linux, drivers/md/dm-integrity.c, dm_integrity_ctr and SB_FLAG_DIRTY_BITMAP.
+abbrev pub in_bitmap_mode : Result ImageFormat OpenFault → Result ImageFormat OpenFault
+in_bitmap_mode (Ok format) =
+    if has_flag DIRTY_BITMAP format.fields.flags then Ok format else Err (Mode format.fields.flags)
+in_bitmap_mode (Err fault) = Err fault
+
+-- What it tells bitmap mode.
+abbrev pub bitmap_format_of : (sectors : ℕ) → Image → Result ImageFormat OpenFault
+bitmap_format_of sectors image = in_bitmap_mode (format_of sectors image)
+
 -- ---- what is told
 
 -- Fields that are accepted, with their geometry on a disk of so many sectors.
@@ -63,6 +75,11 @@ pub record IsFormat (sectors : ℕ) (format : ImageFormat) : Type 0 where
 pub record IsDirectFormat (sectors : ℕ) (format : ImageFormat) : Type 0 where
   pub accepted : IsFormat sectors format
   pub no_bitmap : has_flag DIRTY_BITMAP format.fields.flags ≡ false
+
+-- The same of a disk that bitmap mode opens.
+pub record IsBitmapFormat (sectors : ℕ) (format : ImageFormat) : Type 0 where
+  pub accepted : IsFormat sectors format
+  pub bitmap : has_flag DIRTY_BITMAP format.fields.flags ≡ true
 
 -- The disk's format under a key.
 abbrev pub disk_format : Option (List ℕ) → (sectors : ℕ) → ImageFormat → DiskFormat
@@ -83,6 +100,11 @@ pub record IsReadNow (key : Option (List ℕ)) (sectors : ℕ) (format : ImageFo
 pub record IsOpenedNow (key : Option (List ℕ)) (sectors : ℕ) (format : ImageFormat) (c : Content) : Type 0 where
   pub read : IsReadNow key sectors format c
   pub opens : CanOpenPlaced key sectors (last_image c)
+
+-- It can be opened in bitmap mode.
+pub record IsBitmapNow (key : Option (List ℕ)) (sectors : ℕ) (format : ImageFormat) (c : Content) : Type 0 where
+  pub read : IsReadNow key sectors format c
+  pub opens : CanOpenIn Bitmap key sectors (last_image c)
 
 -- ---- why
 

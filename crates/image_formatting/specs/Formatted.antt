@@ -135,6 +135,10 @@ IsLeftSynced key sectors new start = EachImage
 abbrev pub HasSynced : Option (List ℕ) → (sectors : ℕ) → NewImage → (before after : List Content) → Type 0
 HasSynced key sectors new = HasFirstSync (IsLeftUnsynced sectors) (IsLeftSynced key sectors new)
 
+-- It has, where the disk tells its content.
+abbrev pub SyncsNew : Option (List ℕ) → (sectors : ℕ) → NewImage → (before after : List Content) → Type 0
+SyncsNew key sectors new before after = HasNow (λ start. HasSynced key sectors new before after) before
+
 -- It has, or the formatting has not come beyond those zeros.
 abbrev pub IsLeftInOrder : Option (List ℕ) → (sectors : ℕ) → NewImage → (before after : List Content) → Type 0
 IsLeftInOrder key sectors new = IsInOrder (IsLeftUnsynced sectors) (IsLeftSynced key sectors new)

@@ -1,4 +1,5 @@
 pub mod Blocks
+pub mod Tagging
 pub mod FirstSector
 pub mod Formatted
 pub mod FormattedLaws

@@ -2,7 +2,7 @@
 -- Own: what was there can come back only until the first sync has succeeded.
 use Rattle.std.specs.Prelude.{◌≡◌, ◌⊎◌, List, ◌∷◌}
 use Rattle.disk_model.specs.Disk.{Content, Image, IsImage, EachImage}
-use Rattle.disk_model.specs.Moments.{EachMoment, EachSince, FromStart}
+use Rattle.disk_model.specs.Moments.{EachMoment, EachSince, FromStart, HasNow}
 use Rattle.image_formatting.specs.FirstSector.{forgotten}
 
 -- Nothing has been settled: a cut leaves any image that was there at the start, or one with P.
@@ -22,6 +22,10 @@ pub record HasFirstSync (Early Late : (start later : Content) → Type 0) (befor
   pub settled : Content
   pub is_settled : FromStart before IsForgotten settled
   pub later : EachMoment (settled ∷ unsynced) after (FromStart before Late)
+
+-- It has, where the disk tells its content.
+abbrev pub SyncsFirst : (Early Late : (start later : Content) → Type 0) → (before after : List Content) → Type 0
+SyncsFirst Early Late before after = HasNow (λ start. HasFirstSync Early Late before after) before
 
 -- It has, or each content since the start is of the first kind.
 abbrev pub IsInOrder : (Early Late : (start later : Content) → Type 0) → (before after : List Content) → Type 0

@@ -5,10 +5,10 @@
 ghost use Rattle.std.specs.Prelude.{◌≡◌, ◌<◌, length, Ok, OnOk};
 ghost use Rattle.disk_model.specs.Causes.{HasCause};
 ghost use Rattle.disk_model.specs.Identity.{IsBound};
-ghost use Rattle.disk_model.specs.Moments.{EachSince, HasNow, IsChangedBy};
+ghost use Rattle.disk_model.specs.Moments.{EachSince, IsChangedBy};
 ghost use Rattle.image_model.specs.Superblock.{IsAccepted, superblock_of};
 ghost use Rattle.image_formatting.specs.FirstSector.{HasZeroHead, IsAmidFounding, forgotten, founded, head_of};
-ghost use Rattle.image_formatting.specs.Order.{HasFirstSync, IsForgotten, IsInOrder, IsUnsettled};
+ghost use Rattle.image_formatting.specs.Order.{IsForgotten, IsInOrder, IsUnsettled, SyncsFirst};
 
 use sector_disk::{Disk, Failed};
 use superblock::{Super, write};
@@ -23,8 +23,8 @@ pub(crate) fn forget<D: Disk>(disk: &mut D) -> Result<(), Failed>
     requires sectors { 0 < (D.identity disk.old).sectors }
 
     ensures forgotten { OnOk result (IsChangedBy forgotten (D.moments disk.old) (D.moments disk.new)) }
-    ensures synced { OnOk result (HasNow (λ start. HasFirstSync (IsUnsettled HasZeroHead) IsForgotten
-        (D.moments disk.old) (D.moments disk.new)) (D.moments disk.old)) }
+    ensures synced { OnOk result (SyncsFirst (IsUnsettled HasZeroHead) IsForgotten
+        (D.moments disk.old) (D.moments disk.new)) }
 
     ensures cause { HasCause (D.faults disk.old) (D.faults disk.new) result }
 

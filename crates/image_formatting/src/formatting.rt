@@ -1,13 +1,12 @@
 //! Making a new image: it is planned, all memory is taken, and then it is written.
-ghost use Rattle.std.specs.Prelude.{◌≡◌, ◌≢◌, ◌↔◌, ℕ, Err, IfErr, IfOk, OnOk};
+ghost use Rattle.std.specs.Prelude.{◌≡◌, ◌≢◌, ◌↔◌, Err, IfErr, IfOk, OnOk};
 ghost use Rattle.disk_model.specs.Causes.{HasCause};
 ghost use Rattle.disk_model.specs.Identity.{IsBound};
 ghost use Rattle.disk_model.specs.Moments.{HasNow};
-ghost use Rattle.commit_id.specs.Shape.{as_shape};
 ghost use Rattle.hmac_tag.specs.TagMaker.{key_of};
 ghost use Rattle.image_format.specs.Format.{IsFormat};
 ghost use Rattle.image_model.specs.declared.geom_fault.GeomFault.{GeomFault};
-ghost use Rattle.image_formatting.specs.Formatted.{HasFormatCause, HasMade, HasSynced, IsLeftInOrder, IsWritten, IsWrittenBehindSync, IsWrittenInOrder, format_with};
+ghost use Rattle.image_formatting.specs.Formatted.{HasFormatCause, HasMade, IsLeftInOrder, IsWritten, IsWrittenBehindSync, IsWrittenInOrder, SyncsNew};
 ghost use Rattle.image_formatting.specs.NewImage.{IsNewImage, provided_of};
 ghost use Rattle.image_formatting.specs.Room.{HasRoom};
 
@@ -45,8 +44,8 @@ pub fn format<D: Disk>(
 
     ensures made { IfOk result (λ provided. HasMade (key_of hash) (D.identity disk.old).sectors new provided
         (D.moments disk.old) (D.moments disk.new)) }
-    ensures synced { OnOk result (HasNow (λ start. HasSynced (key_of hash) (D.identity disk.old).sectors new
-        (D.moments disk.old) (D.moments disk.new)) (D.moments disk.old)) }
+    ensures synced { OnOk result (SyncsNew (key_of hash) (D.identity disk.old).sectors new
+        (D.moments disk.old) (D.moments disk.new)) }
 
     ensures geom { (fault : GeomFault) → (result ≡ Err (FormatFault.Geom fault))
         ↔ (provided_of new (D.identity disk.old).sectors ≡ Err fault) }

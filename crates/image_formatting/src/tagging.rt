@@ -1,5 +1,5 @@
 //! The tags of blocks of zeros, in whole sectors.
-ghost use Rattle.std.specs.Prelude.{◌≡◌, ◌+◌, ◌*◌, ◌/◌, ◌%◌, ◌<◌, ◌≤◌, ◌^◌, ℕ, length, slice_index, OnOk};
+ghost use Rattle.std.specs.Prelude.{◌≡◌, ◌+◌, ◌*◌, ◌<◌, ◌≤◌, ◌^◌, ℕ, length, slice_index, OnOk};
 ghost use Rattle.commit_id.specs.Shape.{IsShape};
 ghost use Rattle.disk_model.specs.Causes.{HasCause};
 ghost use Rattle.disk_model.specs.Disk.{last_image};
@@ -9,7 +9,7 @@ ghost use Rattle.image_model.specs.Geometry.{quotient_up};
 ghost use Rattle.image_model.specs.Sectors.{zero_bytes};
 ghost use Rattle.journal_section.specs.Entries.{IsWithin};
 ghost use Rattle.image_formatting.specs.Blocks.{HasTagRun, HoldsTags};
-ghost use Rattle.image_formatting.specs.Room.{tags_at_once, zeros_at_once};
+ghost use Rattle.image_formatting.specs.Tagging.{HasReadBehind, MakesTags};
 ghost use Rattle.image_formatting.specs.Runs.{ChangesOnly};
 ghost use Rattle.image_formatting.specs.Stays.{IsRunByte, ReadsKeep};
 
@@ -35,10 +35,7 @@ pub(crate) fn write_tags<D: Disk>(
     count: u64,
 ) -> Result<(), Failed>
     requires bound { IsBound (D.identity disk.old).name }
-    requires shape { IsShape shape }
-    requires size { maker.now.size ≡ shape.tag }
-    requires zeros { zeros.now ≡ zeros_at_once }
-    requires room { length tags.old ≡ tags_at_once shape.tag }
+    requires makes { MakesTags maker.now shape zeros.now tags.old }
     requires run { at + quotient_up (count * shape.tag) 512 ≤ (D.identity disk.old).sectors }
     requires device { (D.identity disk.old).sectors ≤ 2 ^ 48 }
     requires blocks { first + count ≤ 2 ^ 48 }
@@ -80,10 +77,7 @@ fn write_tag_run<D: Disk>(
     count: u64,
 ) -> Result<(), Failed>
     requires bound { IsBound (D.identity disk.old).name }
-    requires shape { IsShape shape }
-    requires size { maker.now.size ≡ shape.tag }
-    requires zeros { zeros.now ≡ zeros_at_once }
-    requires room { length tags.old ≡ tags_at_once shape.tag }
+    requires makes { MakesTags maker.now shape zeros.now tags.old }
     requires some { 1 ≤ count }
     requires fits { count * shape.tag ≤ length tags.old }
     requires run { at + quotient_up (count * shape.tag) 512 ≤ (D.identity disk.old).sectors }
@@ -124,9 +118,7 @@ fn read_behind<D: Disk>(disk: &mut D, at: u64, size: usize, run: &mut [u8]) -> R
     requires inside { at + quotient_up size 512 ≤ (D.identity disk.old).sectors }
     requires device { (D.identity disk.old).sectors ≤ 2 ^ 48 }
 
-    ensures behind { OnOk result ((p : ℕ) → size ≤ p → p < length run.old
-        → HasNow (λ c. slice_index run.new p ≡ slice_index (last_image c (at + p / 512)) (p % 512))
-        (D.moments disk.old)) }
+    ensures behind { OnOk result (HasReadBehind at size (length run.old) run.new (D.moments disk.old)) }
 
     ensures cause { HasCause (D.faults disk.old) (D.faults disk.new) result }
 

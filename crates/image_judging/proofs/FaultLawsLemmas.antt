@@ -1,5 +1,5 @@
 -- Which images have a fault.
-use Rattle.std.proofs.Common.{◌≡◌, ℕ, false, refl, sym, ◌∙◌, ap, Result, Option, None, Some, Ok, Err, IsOk, List}
+use Rattle.std.proofs.Common.{◌≡◌, ℕ, Bool, true, false, if◌then◌else◌, refl, sym, ◌∙◌, ap, Result, Option, None, Some, Ok, Err, IsOk, List}
 use Rattle.std.specs.Option.{option_map}
 use Rattle.std.proofs.lemmas.Option.{none-some}
 use Rattle.disk_model.specs.Disk.{Image}
@@ -16,10 +16,11 @@ use Rattle.place_model.specs.Format.{format_on}
 use Rattle.place_model.proofs.FormatLemmas.{reads_on}
 use Rattle.image_format.specs.declared.open_fault.OpenFault.{OpenFault}
 use Rattle.image_format.specs.declared.reading.ImageFormat.{ImageFormat}
-use Rattle.image_format.specs.Format.{direct_format_of, format_by, format_with, in_direct_mode, told_fields}
-use Rattle.image_format.specs.FormatLaws.{DirectLaw}
-use Rattle.image_judging.specs.FaultLaws.{OpensLaw}
-use Rattle.image_judging.specs.Faults.{ByFormat, ByJournal, fault_by, fault_in_format, fault_of}
+use Rattle.image_format.specs.Format.{bitmap_format_of, direct_format_of, format_by, format_with, in_bitmap_mode, in_direct_mode, told_fields}
+use Rattle.image_format.specs.FormatLaws.{BitmapLaw, DirectLaw}
+use Rattle.image_judging.specs.declared.consent.Consent.{Consent}
+use Rattle.image_judging.specs.FaultLaws.{BitmapOpensLaw, OpensLaw}
+use Rattle.image_judging.specs.Faults.{ByConsent, ByFormat, ByJournal, bitmap_fault_by, bitmap_fault_of, fault_by, fault_in_format, fault_of, has_dirty_region, lacks_consent}
 
 no_fault : (o : Option model.JournalFault) → option_map ByJournal o ≡ None → o ≡ None
 no_fault None e = refl
@@ -56,4 +57,50 @@ opens_law direct key sectors image = (
   λ opens.
       let clear = own_flag key sectors image opens.0.readable ∙ opens.1 in
       fault_of-readable sectors image opens.0.readable clear key ∙ ap (option_map ByJournal) (IsOpenable-journal key sectors image opens.0 clear),
+)
+
+-- ---- in bitmap mode
+
+bitmap-told-ok : (key : Option (List ℕ)) (consent : Consent) (image : Image) (r : Result ImageFormat OpenFault) → bitmap_fault_by key consent image r ≡ None → IsOk r
+bitmap-told-ok key consent image (Ok format) e = refl
+bitmap-told-ok key consent image (Err fault) e = absurd (none-some (ByFormat fault) (sym e))
+
+-- No fault, where nothing lacks.
+no_lack : (flags : ℕ) (b : Bool) → (if b then Some (ByConsent flags) else None) ≡ None → b ≡ false
+no_lack flags true e = absurd (none-some (ByConsent flags) (sym e))
+no_lack flags false e = refl
+
+module _ (sectors : ℕ) (image : Image) (readable : IsReadable sectors image) (set : has_flag DIRTY_BITMAP readable.superblock.flags ≡ true) where
+  bitmap_format_of-readable : bitmap_format_of sectors image ≡ Ok (record { fields = readable.superblock; geometry = readable.geometry })
+  bitmap_format_of-readable =
+      ap (λ (r : Result Superblock SuperFault). in_bitmap_mode (format_by sectors (told_fields r))) readable.has_superblock
+      ∙ ap (λ (r : Result Geometry GeomFault). in_bitmap_mode (format_with readable.superblock r)) readable.has_geometry
+      ∙ rw set refl
+
+  bitmap_fault_of-readable : (key : Option (List ℕ)) (consent : Consent) → bitmap_fault_of key consent sectors image
+      ≡ (if lacks_consent key consent (has_dirty_region readable.geometry image) then Some (ByConsent readable.superblock.flags) else None)
+  bitmap_fault_of-readable key consent = ap (bitmap_fault_by key consent image) bitmap_format_of-readable
+
+-- The geometry of a readable image, by its own fields.
+own_geometry : (key : Option (List ℕ)) (sectors : ℕ) (image : Image) (readable : IsReadable sectors image) → readable.geometry ≡ (format_on key sectors image).geometry
+own_geometry key sectors image readable =
+    let reads = reads_on key sectors image readable in
+    (IsReadable-same sectors image readable reads.readable).1 ∙ reads.geometry
+
+pub bitmap_opens_law : BitmapLaw → BitmapOpensLaw
+bitmap_opens_law bitmap key consent sectors image = (
+  λ none.
+      let opens = (bitmap key sectors image).0 (bitmap-told-ok key consent image (bitmap_format_of sectors image) none) in
+      let readable = opens.0.readable in
+      let set = own_flag key sectors image readable ∙ opens.1 in
+      let lacks = no_lack readable.superblock.flags (lacks_consent key consent (has_dirty_region readable.geometry image))
+      (sym (bitmap_fault_of-readable sectors image readable set key consent) ∙ none) in
+      (opens, ap (λ (g : Geometry). lacks_consent key consent (has_dirty_region g image)) (sym (own_geometry key sectors image readable)) ∙ lacks),
+  λ given.
+      let opens = given.0 in
+      let readable = opens.0.readable in
+      let set = own_flag key sectors image readable ∙ opens.1 in
+      let lacks = ap (λ (g : Geometry). lacks_consent key consent (has_dirty_region g image)) (own_geometry key sectors image readable) ∙ given.1 in
+      bitmap_fault_of-readable sectors image readable set key consent
+      ∙ ap (λ (b : Bool). if b then Some (ByConsent readable.superblock.flags) else None) lacks,
 )

@@ -9,6 +9,7 @@ use Rattle.journal_reading.specs.declared.faults.ReplayFault.TheVariants as Repl
 use Rattle.journal_reading.specs.Faults.{refusal_in}
 use Rattle.image_judging.specs.declared.opening_fault.OpeningFault.{OpeningFault}
 use Rattle.image_judging.specs.declared.opening_fault.OpeningFault.TheVariants.{Memory, Disk, Super, Geom, Mode, Journal}
+use Rattle.image_judging.specs.declared.opening_fault.OpeningFault.TheVariants as Refusals
 use Rattle.image_judging.specs.Faults.{ByJournal, fault_by, fault_in, fault_in_format, fault_of, of_replay}
 
 -- ---- the fault of an image
@@ -42,3 +43,4 @@ fault_in-err T U (Super fault) = refl
 fault_in-err T U (Geom fault) = refl
 fault_in-err T U (Mode flags) = refl
 fault_in-err T U (Journal fault) = refl
+fault_in-err T U (Refusals.Consent flags) = refl

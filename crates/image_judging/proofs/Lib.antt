@@ -1,2 +1,3 @@
 pub mod FaultsLemmas
 pub mod FaultLawsLemmas
+mod Worked

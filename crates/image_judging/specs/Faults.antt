@@ -1,19 +1,25 @@
 -- Why a disk is not opened: the fault that is told, and the one that an image has.
--- Own: the superblock is judged before the geometry, that before the mode, and the journal last.
-use Rattle.std.specs.Prelude.{◌≡◌, ◌≢◌, ℕ, ◌≤◌, Option, Some, None, option_map, List, Result, Ok, Err}
+-- Own: the superblock is judged before the geometry, that before the mode, and the journal, or the consent, last.
+use Rattle.std.specs.Prelude.{◌≡◌, ◌≢◌, ℕ, ◌≤◌, Bool, false, if◌then◌else◌, is_some, Option, Some, None, option_map, List, Result, Ok, Err}
 use Rattle.disk_model.specs.Causes.{Rose}
 use Rattle.disk_model.specs.Disk.{Image}
+use Rattle.image_model.specs.Bitmap.{is_dirty}
 use Rattle.image_model.specs.Cells.{salt_of}
+use Rattle.image_model.specs.Geometry.{Geometry, regions}
 use Rattle.image_model.specs.Openable as model
 use Rattle.image_model.specs.Openable.{journal_fault_of}
+use Rattle.device_model.specs.Regions.{least_region}
 use Rattle.image_format.specs.declared.open_fault.OpenFault.{OpenFault}
 use Rattle.image_format.specs.declared.open_fault.OpenFault.TheVariants as FormatFaults
 use Rattle.image_format.specs.declared.reading.ImageFormat.{ImageFormat}
-use Rattle.image_format.specs.Format.{direct_format_of}
+use Rattle.image_format.specs.Format.{bitmap_format_of, direct_format_of}
 use Rattle.journal_reading.specs.declared.faults.ReplayFault.{ReplayFault}
 use Rattle.journal_reading.specs.declared.faults.ReplayFault.TheVariants as ReplayFaults
 use Rattle.journal_reading.specs.Faults.{as_fault}
+use Rattle.image_judging.specs.declared.consent.Consent.{Consent}
+use Rattle.image_judging.specs.declared.consent.Consent.TheVariants.{Given, Withheld}
 use Rattle.image_judging.specs.declared.opening_fault.OpeningFault.{OpeningFault}
+use Rattle.image_judging.specs.declared.opening_fault.OpeningFault.TheVariants as Refusals
 use Rattle.image_judging.specs.declared.opening_fault.OpeningFault.TheVariants.{Memory, Disk, Super, Geom, Mode, Journal}
 
 -- ---- what is told
@@ -34,9 +40,10 @@ of_replay (ReplayFaults.Journal fault) = Journal fault
 
 -- ---- what an image has
 
--- Why an image is refused: by its format, or by its journal.
+-- Why an image is refused: by its format; for want of consent, with the flags of the superblock; or by its journal.
 pub data ImageFault : Type 0 where
   ByFormat : (fault : OpenFault) → ImageFault
+  ByConsent : (flags : ℕ) → ImageFault
   ByJournal : (fault : model.JournalFault) → ImageFault
 
 -- The fault of an image, by what its first sector tells: of the format, and else of the journal, if that has one.
@@ -53,6 +60,30 @@ fault_in_format key image format = journal_fault_of key (salt_of format.fields) 
 abbrev pub fault_of : (key : Option (List ℕ)) → (sectors : ℕ) → Image → Option ImageFault
 fault_of key sectors image = fault_by (fault_in_format key image) (direct_format_of sectors image)
 
+-- The image has a region whose bit is set.
+abbrev pub has_dirty_region : Geometry → Image → Bool
+has_dirty_region g image = is_some (least_region (regions g) (is_dirty g image))
+
+-- Tags under a key would be made anew of bytes that no tag vouches for, where some await them, without consent to that.
+-- Source: Linux, drivers/md/dm-integrity.c, legacy_recalculate.
+abbrev pub lacks_consent : (key : Option (List ℕ)) → Consent → (some_await : Bool) → Bool
+lacks_consent None consent some_await = false
+lacks_consent (Some key) Given some_await = false
+lacks_consent (Some key) Withheld some_await = some_await
+
+-- The fault of an image where bitmap mode is asked for, by what its first sector tells: of the format, and else want of
+-- consent.
+abbrev pub bitmap_fault_by : (key : Option (List ℕ)) → Consent → Image → Result ImageFormat OpenFault
+    → Option ImageFault
+bitmap_fault_by key consent image (Ok format) =
+    if lacks_consent key consent (has_dirty_region format.geometry image)
+    then Some (ByConsent format.fields.flags)
+    else None
+bitmap_fault_by key consent image (Err fault) = Some (ByFormat fault)
+
+abbrev pub bitmap_fault_of : (key : Option (List ℕ)) → Consent → (sectors : ℕ) → Image → Option ImageFault
+bitmap_fault_of key consent sectors image = bitmap_fault_by key consent image (bitmap_format_of sectors image)
+
 -- The fault of an image that an answer tells, if it tells one.
 abbrev pub fault_in : {T : Type 0} → Result T OpeningFault → Option ImageFault
 fault_in (Ok answer) = None
@@ -61,6 +92,7 @@ fault_in (Err Disk) = None
 fault_in (Err (Super fault)) = Some (ByFormat (FormatFaults.Super fault))
 fault_in (Err (Geom fault)) = Some (ByFormat (FormatFaults.Geom fault))
 fault_in (Err (Mode flags)) = Some (ByFormat (FormatFaults.Mode flags))
+fault_in (Err (Refusals.Consent flags)) = Some (ByConsent flags)
 fault_in (Err (Journal fault)) = Some (ByJournal (as_fault fault))
 
 -- ---- why

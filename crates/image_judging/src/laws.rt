@@ -1,11 +1,13 @@
 //! What the words of the contracts say, as the contract of a function that does nothing.
-ghost use Rattle.image_judging.specs.FaultLaws.{OpensLaw};
+ghost use Rattle.image_judging.specs.FaultLaws.{BitmapOpensLaw, OpensLaw};
 
 use image_format::images_that_open_are_told;
 
-/// An image has no fault exactly where journal mode can open it.
+/// An image has no fault exactly where journal mode can open it, and none in bitmap mode exactly where that can and
+/// consent is not lacking.
 pub fn images_that_open_have_no_fault()
-    ensures { OpensLaw }
+    ensures journal { OpensLaw }
+    ensures bitmap { BitmapOpensLaw }
 {
     images_that_open_are_told();
 }

@@ -26,9 +26,12 @@ pub enum OpeningFault {
     /// The disk has no room for what the superblock tells.
     #[error("the geometry is refused")]
     Geom(GeomFault),
-    /// The superblock has other `flags` than the mode wants: there is a bitmap.
+    /// The superblock has other `flags` than the mode wants: there is a bitmap, or in bitmap mode none.
     #[error("the mode does not fit the flags")]
     Mode { flags: u32 },
+    /// A bit of the bitmap is set, there is a key, and consent is withheld. The superblock has these `flags`.
+    #[error("tags may not be made anew without consent")]
+    Consent { flags: u32 },
     /// The journal is refused, by its scan or for an entry.
     #[error("the journal is refused")]
     Journal(JournalFault),

@@ -11,7 +11,7 @@ use Rattle.device_model.specs.Ending.{Ending, Complete, DiskFailed, NoMemory, Si
 use Rattle.stream_io.specs.Stream.{with_bytes, AddsPrefix}
 use Rattle.script_session.specs.LineRun.{held_with}
 use Rattle.image_check.specs.Bad.{bad_blocks_from}
-use Rattle.image_check.specs.Checked.{Checked, IsCheckOf, IsSameCheck, checked_format, what_of}
+use Rattle.image_check.specs.Checked.{Checked, IsCheckOf, IsSameCheck, bad_in, checked_format, what_of}
 use Rattle.image_check.specs.declared.bad.Bad.{Bad}
 use Rattle.image_check.specs.declared.bad.What.{What}
 use Rattle.image_judging.specs.declared.opening_fault.OpeningFault.{OpeningFault}
@@ -23,7 +23,7 @@ use Rattle.image_check.proofs.CheckedLemmas.{awaiting_none, blocks_are, judged_i
 use Rattle.place_model.specs.Format.{format_on}
 use Rattle.command_ending.specs.Ended.{ending_of}
 use Rattle.command_model.specs.CommandRun.{Outset, Prints, IsEndedShort, only_prints}
-use Rattle.integrity_tool.specs.Checking.{IsListed, IsPrintedShort, bad_in, bad_line, check_outset, counts_line, has_bad, last_line, lines_in, outset_by_check}
+use Rattle.integrity_tool.specs.Checking.{IsListed, IsPrintedShort, bad_line, check_outset, counts_line, has_bad, last_line, lines_in, outset_by_check}
 use Rattle.integrity_tool.specs.Opening.{HasRunOn}
 use Rattle.integrity_tool.specs.Refusing.{ended_by_opening, ending_by_refusal}
 use Rattle.integrity_tool.proofs.PrintingLemmas.{all_printed, part_printed, same_now}
@@ -209,6 +209,7 @@ module _ (what : What) (key : Option (List ℕ)) (sectors : ℕ) (start : Conten
   not_checked (OpeningFaults.Super fault) held refused = refused_as _ held (refused (λ is. absurd (cc)) (λ is. absurd (cc)))
   not_checked (OpeningFaults.Geom fault) held refused = refused_as _ held (refused (λ is. absurd (cc)) (λ is. absurd (cc)))
   not_checked (OpeningFaults.Mode flags) held refused = refused_as _ held (refused (λ is. absurd (cc)) (λ is. absurd (cc)))
+  not_checked (OpeningFaults.Consent flags) held refused = refused_as _ held (refused (λ is. absurd (cc)) (λ is. absurd (cc)))
   not_checked (OpeningFaults.Journal fault) held refused = refused_as _ held (refused (λ is. absurd (cc)) (λ is. absurd (cc)))
 
   -- It is opened.

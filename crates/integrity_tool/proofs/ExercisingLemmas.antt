@@ -294,13 +294,13 @@ module _ (law : OpensLaw) (disk now : DiskIdentity) (count seed : ℕ) (a b : Li
     now = left_opening;
   }
 
-  no_fault : (fault : OpeningFault) → IsRefused None disk fault a b → fault ≢ OpeningFaults.Disk
+  no_fault : (fault : OpeningFault) → IsRefused OpenModes.Journal None disk fault a b → fault ≢ OpeningFaults.Disk
       → fault ≢ OpeningFaults.Memory → fault_in {T = DeviceParts} (Err fault) ≡ None
   no_fault fault refused not_disk not_memory =
       refused.told not_disk not_memory made told ∙ (law None disk.sectors image).1 can
 
   -- A new image is not refused: the disk failed, or there was no memory.
-  pub not_opened : (fault : OpeningFault) → IsRefused None disk fault a b
+  pub not_opened : (fault : OpeningFault) → IsRefused OpenModes.Journal None disk fault a b
       → IsExercisedOn disk.sectors count seed made (Err (ended_by_opening fault)) a b
   not_opened OpeningFaults.Memory refused = refused_as Endings.Memory (inr refl)
   not_opened OpeningFaults.Disk refused = refused_as Endings.Disk (inl refl)
@@ -310,6 +310,8 @@ module _ (law : OpensLaw) (disk now : DiskIdentity) (count seed : ℕ) (a b : Li
       let none = no_fault (OpeningFaults.Geom fault) refused (λ is. absurd (cc)) (λ is. absurd (cc)) in absurd (cc)
   not_opened (OpeningFaults.Mode flags) refused =
       let none = no_fault (OpeningFaults.Mode flags) refused (λ is. absurd (cc)) (λ is. absurd (cc)) in absurd (cc)
+  not_opened (OpeningFaults.Consent flags) refused =
+      let none = no_fault (OpeningFaults.Consent flags) refused (λ is. absurd (cc)) (λ is. absurd (cc)) in absurd (cc)
   not_opened (OpeningFaults.Journal fault) refused =
       let none = no_fault (OpeningFaults.Journal fault) refused (λ is. absurd (cc)) (λ is. absurd (cc)) in absurd (cc)
 

@@ -11,16 +11,16 @@ use Rattle.device_model.specs.Ending.{Ending, DiskFailed, NoMemory}
 use Rattle.device_model.specs.Mode as Modes
 use Rattle.device_model.specs.ScriptRun.{ScriptRun, IsRunOf, changes_in}
 use Rattle.image_model.specs.Geometry.{Geometry}
-use Rattle.place_model.specs.Kind.{CanOpenIn, kind_in}
+use Rattle.place_model.specs.Kind.{kind_in}
 use Rattle.image_judging.specs.declared.opening_fault.OpeningFault.{OpeningFault}
 use Rattle.image_judging.specs.declared.opening_fault.OpeningFault.TheVariants as OpeningFaults
-use Rattle.image_judging.specs.FaultLaws.{OpensLaw}
-use Rattle.image_judging.specs.Faults.{ImageFault, fault_in, fault_of}
+use Rattle.image_judging.specs.FaultLaws.{BitmapOpensLaw, OpensLaw}
+use Rattle.image_judging.specs.Faults.{ImageFault, fault_in}
 use Rattle.device_opening.proofs.MomentsLemmas.{each_from}
 use Rattle.device.specs.declared.mode.DeviceParts.{DeviceParts}
 use Rattle.device.specs.declared.opening.OpenMode.{OpenMode}
-use Rattle.device.specs.declared.opening.OpenMode.TheVariants.{Direct, Journal}
-use Rattle.device.specs.Opening.{IsRefused, LeavesOpening, WritesInOpening, asked_mode}
+use Rattle.device.specs.declared.opening.OpenMode.TheVariants.{Bitmap, Direct, Journal}
+use Rattle.device.specs.Opening.{IsRefused, LeavesOpening, WritesInOpening, asked_mode, fault_in_mode}
 use Rattle.device_parts.specs.Device.{opened_standing}
 use Rattle.device.specs.Writes.{IsOfRun}
 use Rattle.device.proofs.RunLemmas.{EachMoment-both}
@@ -34,23 +34,18 @@ use Rattle.integrity_tool.proofs.StartLemmas.{IsAsBefore, as_same, before_may_be
 
 -- ---- an image that the mode opens
 
-module _ (law : OpensLaw) (mode : OpenMode) (key : Option (List ℕ)) (sectors : ℕ) (image : Image) where
-  in_journal : (mode : OpenMode) → (kind_in (asked_mode mode) key sectors).CanOpen image → CanOpenIn Modes.Journal key sectors image
-  in_journal Direct can = can
-  in_journal Journal can = can
+module _ (law : OpensLaw) (bitmap : BitmapOpensLaw) (key : Option (List ℕ)) (sectors : ℕ) (image : Image) where
+  -- An image without a fault is one that the mode opens.
+  can_open : (mode : OpenMode) → fault_in_mode mode key sectors image ≡ None → (kind_in (asked_mode mode) key sectors).CanOpen image
+  can_open Direct none = (law key sectors image).0 none
+  can_open Journal none = (law key sectors image).0 none
+  can_open (Bitmap consent) none = ((bitmap key consent sectors image).0 none).0
 
-  in_mode : (mode : OpenMode) → CanOpenIn Modes.Journal key sectors image → (kind_in (asked_mode mode) key sectors).CanOpen image
-  in_mode Direct can = can
-  in_mode Journal can = can
-
-  -- An image without a fault is one that the mode opens,
-  can_open : fault_of key sectors image ≡ None → (kind_in (asked_mode mode) key sectors).CanOpen image
-  can_open none = in_mode mode ((law key sectors image).0 none)
-
-  -- and a script runs on one that it opens.
-  pub runs_on : (kind_in (asked_mode mode) key sectors).CanOpen image
+module _ (mode : OpenMode) (key : Option (List ℕ)) (sectors : ℕ) (image : Image) where
+  -- A script runs on one that has none.
+  pub runs_on : fault_in_mode mode key sectors image ≡ None
       → outset_on mode key sectors image ≡ RunsOn (kind_in (asked_mode mode) key sectors) image
-  runs_on can = ap (outset_by mode key sectors image) ((law key sectors image).1 (in_journal mode can))
+  runs_on none = ap (outset_by mode key sectors image) none
 
 -- What holds of the content that is told at the start holds of each.
 pub at_told : (P : Content → Type 0) (moments : List Content) (start : Content) → content_now moments ≡ Some start → P start
@@ -64,10 +59,11 @@ pub written_in : (mode : OpenMode) (key : Option (List ℕ)) (sectors : ℕ) (st
 written_in Direct key sectors start told writes =
     EachMoment-both (each_from _ start told writes.recovers) (each_from _ start told writes.keeps)
 written_in Journal key sectors start told writes = each_from _ start told writes
+written_in (Bitmap consent) key sectors start told writes = each_from _ start told writes
 
 -- ---- the opening
 
-module _ (law : OpensLaw) (mode : OpenMode) (key : Option (List ℕ)) (disk now : DiskIdentity) (a b : List Content)
+module _ (law : OpensLaw) (bitmap : BitmapOpensLaw) (mode : OpenMode) (key : Option (List ℕ)) (disk now : DiskIdentity) (a b : List Content)
     (start : Content) (told : content_now a ≡ Some start) (script : List ℕ) where
   abbrev image : Image
   image = last_image start
@@ -82,23 +78,23 @@ module _ (law : OpensLaw) (mode : OpenMode) (key : Option (List ℕ)) (disk now 
   g = geometry_on disk.sectors image
 
   module _ (leaves : LeavesOpening mode key disk now a b) where
-    left_by : (refusal : Option ImageFault) → fault_of key disk.sectors image ≡ refusal
+    left_by : (refusal : Option ImageFault) → fault_in_mode mode key disk.sectors image ≡ refusal
         → EachMoment a b (IsAsBefore (outset_by mode key disk.sectors image refusal) start)
     left_by None none =
-        let left = leaves.left (at_told _ a start told (can_open law mode key disk.sectors image none)) in
+        let left = leaves.left (at_told _ a start told (can_open law bitmap key disk.sectors image mode none)) in
         EachMoment-weaker (λ c both. inr (record { opens = both.0; left = both.1 }))
         (EachMoment-both (each_from _ start told left.opens) (each_from _ start told left.left))
     left_by (Some refusal) is = untouched_through start told (leaves.refused start told refusal is)
 
     -- Each moment is as before,
     left_each : EachMoment a b (IsAsBefore outset start)
-    left_each = left_by (fault_of key disk.sectors image) refl
+    left_each = left_by (fault_in_mode mode key disk.sectors image) refl
 
     -- and so is the end.
     left_now : HasNow (IsAsBefore outset start) b
     left_now = content_at_end left_each (at_told (IsAsBefore outset start) a start told (as_same outset start start refl))
 
-    writes_by : (run : ScriptRun) (refusal : Option ImageFault) → fault_of key disk.sectors image ≡ refusal
+    writes_by : (run : ScriptRun) (refusal : Option ImageFault) → fault_in_mode mode key disk.sectors image ≡ refusal
         → EachMoment a b (WritesOnlyBy (outset_by mode key disk.sectors image refusal) g run start)
     writes_by run None none =
         EachMoment-weaker (λ c of. record {
@@ -117,12 +113,12 @@ module _ (law : OpensLaw) (mode : OpenMode) (key : Option (List ℕ)) (disk now 
         (λ c both. record { left = both.0; only = record { run = run.0; is_run = run.1; only = both.1 } })
         (EachMoment-both
         (EachMoment-weaker (before_may_be_left outset (of_run mode key disk.sectors image) start script) left_each)
-        (writes_by run.0 (fault_of key disk.sectors image) refl))
+        (writes_by run.0 (fault_in_mode mode key disk.sectors image) refl))
 
     -- ---- no device is open
 
     module _ (held : Option (List ℕ)) where
-      told_by : (refusal : ImageFault) (fault : OpeningFault) → IsRefused key disk fault a b → fault ≢ OpeningFaults.Disk
+      told_by : (refusal : ImageFault) (fault : OpeningFault) → IsRefused mode key disk fault a b → fault ≢ OpeningFaults.Disk
           → fault ≢ OpeningFaults.Memory → fault_in {T = DeviceParts} (Err fault) ≡ Some refusal
           → HasRunOn outset start script (ending_by_refusal refusal) b held held
       told_by refusal fault refused not_disk not_memory is =
@@ -131,7 +127,7 @@ module _ (law : OpensLaw) (mode : OpenMode) (key : Option (List ℕ)) (disk now 
           (untouched_now start told (EachMoment-kept _ (refused.untouched not_disk))) held held refl
 
       -- What ended the run is that the image is refused, or comes from outside.
-      pub refused_by_opening : (fault : OpeningFault) → IsRefused key disk fault a b
+      pub refused_by_opening : (fault : OpeningFault) → IsRefused mode key disk fault a b
           → HasRunOn outset start script (ending_of (ended_by_opening fault)) b held held
       refused_by_opening OpeningFaults.Memory refused =
           nothing_run outset (fine_on mode key disk.sectors image) start script NoMemory tt b left_now held held refl
@@ -143,17 +139,19 @@ module _ (law : OpensLaw) (mode : OpenMode) (key : Option (List ℕ)) (disk now 
           told_by _ (OpeningFaults.Geom fault) refused (λ is. absurd (cc)) (λ is. absurd (cc)) refl
       refused_by_opening (OpeningFaults.Mode flags) refused =
           told_by _ (OpeningFaults.Mode flags) refused (λ is. absurd (cc)) (λ is. absurd (cc)) refl
+      refused_by_opening (OpeningFaults.Consent flags) refused =
+          told_by _ (OpeningFaults.Consent flags) refused (λ is. absurd (cc)) (λ is. absurd (cc)) refl
       refused_by_opening (OpeningFaults.Journal fault) refused =
           told_by _ (OpeningFaults.Journal fault) refused (λ is. absurd (cc)) (λ is. absurd (cc)) refl
 
     -- ---- a device is open, and its run came so far
 
-    module _ (can : kind.CanOpen image) (run : ScriptRun) (ending : Ending) (after : List Content)
+    module _ (none : fault_in_mode mode key disk.sectors image ≡ None) (run : ScriptRun) (ending : Ending) (after : List Content)
         (held_before held : Option (List ℕ))
         (is_run : IsRunOf (kind.format image) (kind.opened image) script run)
         (stopped : IsStopped (opened_standing (asked_mode mode) key disk.sectors image) run ending b after held_before held) where
       is_outset : outset ≡ RunsOn kind image
-      is_outset = runs_on law mode key disk.sectors image can
+      is_outset = runs_on mode key disk.sectors image none
 
       ran : HasRunOn outset start script ending after held_before held
       ran =
@@ -207,14 +205,14 @@ module _ (law : OpensLaw) (mode : OpenMode) (key : Option (List ℕ)) (disk now 
       ran_on = (ran, EachMoment-then opening_moments ran_moments)
 
 -- What is taken of the script is so of the command's.
-pub read_on_image : (law : OpensLaw) (mode : OpenMode) (key : Option (List ℕ)) (sectors : ℕ) (image : Image) (script : List ℕ)
-    → let kind = kind_in (asked_mode mode) key sectors in kind.CanOpen image
+pub read_on_image : (mode : OpenMode) (key : Option (List ℕ)) (sectors : ℕ) (image : Image) (script : List ℕ)
+    → let kind = kind_in (asked_mode mode) key sectors in fault_in_mode mode key sectors image ≡ None
     → (run : ScriptRun) (left held_before held : Option (List ℕ)) → IsRunOf (kind.format image) (kind.opened image) script run
     → HasReadTo run script left held_before held
     → HasReadIn (outset_on mode key sectors image) script left held_before held
-read_on_image law mode key sectors image script can run left held_before held is_run read = record {
+read_on_image mode key sectors image script none run left held_before held is_run read = record {
   run = run;
-  is_run = subst (λ (o : Outset). IsRunAt o script run) (sym (runs_on law mode key sectors image can)) is_run;
+  is_run = subst (λ (o : Outset). IsRunAt o script run) (sym (runs_on mode key sectors image none)) is_run;
   read = read;
 }
 

@@ -79,7 +79,7 @@ reopening_law law key sectors entry changes later left by image =
     let own = first key sectors entry left h is in
     record {
       starts = λ script run is_run.
-          subst (λ (o : Outset). IsRunAt o script run) (sym (runs_on law Modes.Journal key sectors left (by.opens left image))) is_run;
+          subst (λ (o : Outset). IsRunAt o script run) (sym (runs_on Modes.Journal key sectors left ((law key sectors left).1 (by.opens left image)))) is_run;
       blocks = is.blocks;
       kept = own.kept;
       flushed = own.flushed;

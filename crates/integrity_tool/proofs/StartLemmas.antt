@@ -26,7 +26,8 @@ use Rattle.image_check.specs.declared.bad.Bad.{Bad}
 use Rattle.image_check.specs.declared.bad.What.{What}
 use Rattle.image_judging.specs.Faults as faults
 use Rattle.image_check.specs.Faults.{fault_for}
-use Rattle.image_judging.specs.Faults.{ImageFault, fault_of}
+use Rattle.image_judging.specs.Faults.{ImageFault}
+use Rattle.device.specs.Opening.{fault_in_mode}
 use Rattle.place_model.specs.Format.{DiskFormat, format_on}
 use Rattle.image_dump.specs.declared.dump_fault.DumpFault.{DumpFault}
 use Rattle.image_dump.specs.declared.dump_fault.DumpFault.TheVariants as DumpFaults
@@ -85,6 +86,7 @@ fine_format_fault (OpenFaults.Mode flags) = no_complete _ (λ (x : ⊥). x)
 
 fine_refused : (refusal : ImageFault) → IsFine (RefusedBy (ending_by_refusal refusal))
 fine_refused (faults.ByFormat fault) = fine_format_fault fault
+fine_refused (faults.ByConsent flags) = no_complete _ (λ (x : ⊥). x)
 fine_refused (faults.ByJournal fault) = no_complete _ (λ (x : ⊥). x)
 
 fine_by : (mode : OpenMode) (key : Option (List ℕ)) (sectors : ℕ) (image : Image) (refusal : Option ImageFault) → IsFine (outset_by mode key sectors image refusal)
@@ -92,7 +94,7 @@ fine_by mode key sectors image None = tt
 fine_by mode key sectors image (Some refusal) = fine_refused refusal
 
 pub fine_on : (mode : OpenMode) (key : Option (List ℕ)) (sectors : ℕ) (image : Image) → IsFine (outset_on mode key sectors image)
-fine_on mode key sectors image = fine_by mode key sectors image (fault_of key sectors image)
+fine_on mode key sectors image = fine_by mode key sectors image (fault_in_mode mode key sectors image)
 
 -- Lines have a text where the first one has.
 some_lines : (line : List ℕ) (lines : List (List ℕ)) → 0 < length line → 0 < length (joined_lines (line ∷ lines))
@@ -181,7 +183,7 @@ of_run_by mode key sectors image None = tt
 of_run_by mode key sectors image (Some refusal) = tt
 
 pub of_run : (mode : OpenMode) (key : Option (List ℕ)) (sectors : ℕ) (image : Image) → IsOfRun (outset_on mode key sectors image)
-of_run mode key sectors image = of_run_by mode key sectors image (fault_of key sectors image)
+of_run mode key sectors image = of_run_by mode key sectors image (fault_in_mode mode key sectors image)
 
 -- ---- no sector is written
 
@@ -484,6 +486,7 @@ no_key_refused (faults.ByFormat OpenFaults.Disk) is = is
 no_key_refused (faults.ByFormat (OpenFaults.Super fault)) is = is
 no_key_refused (faults.ByFormat (OpenFaults.Geom fault)) is = is
 no_key_refused (faults.ByFormat (OpenFaults.Mode flags)) is = is
+no_key_refused (faults.ByConsent flags) is = is
 no_key_refused (faults.ByJournal fault) is = is
 
 no_key_by : (mode : OpenMode) (key : Option (List ℕ)) (sectors : ℕ) (image : Image) (refusal : Option ImageFault) → IsRefusedByKey (outset_by mode key sectors image refusal) → ⊥
@@ -511,7 +514,7 @@ no_key_checked what d image None is = is
 no_key_checked what d image (Some refusal) is = no_key_refused refusal is
 
 no_key_at : (task : Task) (key : Option (List ℕ)) (sectors : ℕ) (image : Image) → IsRefusedByKey (outset_at task key sectors image) → ⊥
-no_key_at (Tasks.Run mode) key sectors image is = no_key_by mode key sectors image (fault_of key sectors image) is
+no_key_at (Tasks.Run mode) key sectors image is = no_key_by mode key sectors image (fault_in_mode mode key sectors image) is
 no_key_at Tasks.Dump key sectors image is = no_key_shown (dump_of sectors image) is
 no_key_at (Tasks.Check what) key sectors image is = no_key_checked what (format_on key sectors image) image (fault_for what key sectors image) is
 no_key_at (Tasks.Format new) key sectors image is = no_key_made key sectors new (provided_of new sectors) is

@@ -1,13 +1,15 @@
 -- What `check` prints, or why an image is refused by it.
 -- Own: the texts. Each bad block has a line, in order, and the last line tells how many there are.
-use Rattle.std.specs.Prelude.{◌≡◌, ℕ, ltb, Bool, List, [], ◌∷◌, ◌++◌, length, map, flat_map, codes, Option, Some, None}
+use Rattle.std.specs.Prelude.{◌≡◌, ℕ, ltb, Bool, List, [], ◌∷◌, ◌++◌, length, map, flat_map, codes, Option, Some, None, Result, IfErr, IfOk}
 use Rattle.std.specs.Fmt.{decimal}
 use Rattle.hex.specs.Hex.{encode_lower}
-use Rattle.disk_model.specs.Disk.{Image}
+use Rattle.disk_model.specs.Disk.{Content, Image, last_image}
+use Rattle.disk_model.specs.Identity.{DiskIdentity}
+use Rattle.disk_model.specs.Moments.{HasNow}
 use Rattle.device_model.specs.Ending.{Ending}
 use Rattle.device_model.specs.Transcript.{with_newline}
 use Rattle.image_check.specs.Bad.{bad_blocks}
-use Rattle.image_check.specs.Checked.{Checked, checked_format, what_of}
+use Rattle.image_check.specs.Checked.{Checked, bad_in, checked_format}
 use Rattle.image_check.specs.declared.bad.Bad.{Bad}
 use Rattle.image_check.specs.declared.bad.What.{What}
 use Rattle.image_check.specs.Faults.{fault_for}
@@ -15,6 +17,8 @@ use Rattle.image_judging.specs.Faults.{ImageFault}
 use Rattle.image_check.specs.Report.{awaiting_in}
 use Rattle.place_model.specs.Format.{DiskFormat, format_on}
 use Rattle.script_session.specs.LineRun.{held_with}
+use Rattle.command_ending.specs.Ended.{ending_of}
+use Rattle.command_ending.specs.declared.ended.Ended.{Ended}
 use Rattle.command_model.specs.CommandRun.{Outset, RefusedBy, Prints, IsEndedShort, only_prints}
 use Rattle.integrity_tool.specs.Refusing.{ending_by_refusal}
 
@@ -58,10 +62,6 @@ check_outset what key sectors image =
 
 -- ---- an image that is checked
 
--- Its bad blocks.
-abbrev pub bad_in : Checked → (sectors : ℕ) → Image → List Bad
-bad_in checked sectors image = bad_blocks (what_of checked.journal) (checked_format checked sectors image) image
-
 -- All its lines.
 abbrev pub lines_in : Checked → (sectors : ℕ) → Image → List (List ℕ)
 lines_in checked sectors image = lines_with (checked_format checked sectors image) image (bad_in checked sectors image)
@@ -76,3 +76,18 @@ pub record IsPrintedShort (texts : List (List ℕ)) (ending : Ending) (held_befo
   pub text : List ℕ
   pub ended : (found_fault : Bool) → IsEndedShort (only_prints texts found_fault) text [] ending
   pub told : held ≡ held_with text held_before
+
+-- ---- over a disk and a sink
+
+-- The lines of all bad blocks of the image are printed,
+abbrev pub ListsBad : {D O E : Type 0} → (D → DiskIdentity) → (D → List Content) → (O → Option (List ℕ)) → Checked
+    → Result ℕ E → D → (sink out : O) → Type 0
+ListsBad identity moments held checked result first sink out = IfOk result (λ count. HasNow (λ c.
+    IsListed (bad_in checked (identity first).sectors (last_image c)) count (held sink) (held out)) (moments first))
+
+-- or some of what was to be printed, and something ended it.
+abbrev pub CutsList : {T D O : Type 0} → (D → DiskIdentity) → (D → List Content) → (O → Option (List ℕ)) → Checked
+    → Result T Ended → D → (sink out : O) → Type 0
+CutsList identity moments held checked result first sink out = IfErr result (λ ended. HasNow (λ c.
+    IsPrintedShort (lines_in checked (identity first).sectors (last_image c)) (ending_of ended) (held sink) (held out))
+    (moments first))

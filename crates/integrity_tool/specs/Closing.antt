@@ -1,12 +1,18 @@
 -- How a run ends at its close.
-use Rattle.std.specs.Prelude.{◌≢◌, ◌≡◌, ℕ, ◌≤◌, Result, Ok, Err}
+use Rattle.std.specs.Prelude.{◌≢◌, ◌≡◌, ℕ, ◌≤◌, List, Option, Result, Ok, Err}
+use Rattle.disk_model.specs.Disk.{Content}
 use Rattle.device_model.specs.Ending.{Ending, Complete, DiskFailed, SinkFailed}
+use Rattle.device_parts.specs.declared.condition.Condition.TheVariants.{Working}
+use Rattle.device_parts.specs.Device.{Standing}
+use Rattle.device.specs.declared.mode.DeviceParts.{DeviceParts}
+use Rattle.device.specs.Device.{IsDevice}
 use Rattle.command_ending.specs.declared.ended.Ended.{Ended}
 use Rattle.command_ending.specs.declared.ended.Ended.TheVariants as Endings
 use Rattle.script_session.specs.declared.tags_found.TagsFound.{TagsFound}
 use Rattle.script_session.specs.Told.{finds_fault}
 use Rattle.integrity_tool.specs.declared.closing.CloseFault.{CloseFault}
 use Rattle.integrity_tool.specs.declared.closing.CloseFault.TheVariants.{Disk, Sink}
+use Rattle.integrity_tool.specs.Running.{IsStopped, only_close}
 
 -- The counts of faults of disk and sink never fall, and each rises only where it is what failed.
 pub record HasCloseCounts (disk_before disk sink_before sink : ℕ) (result : Result TagsFound CloseFault) : Type 0 where
@@ -32,3 +38,10 @@ ended_close (Err fault) = Err (fault_ended fault)
 abbrev pub close_ending : Result TagsFound CloseFault → Ending
 close_ending (Ok found) = Complete (finds_fault found)
 close_ending (Err fault) = fault_ending fault
+
+-- The close of a device that works stops a run so, of which nothing else is left.
+abbrev pub StopsAtClose : {D O : Type 0} → (D → List Content) → (O → Option (List ℕ)) → TagsFound
+    → Result TagsFound CloseFault → DeviceParts → (first last : D) → (sink out : O) → Type 0
+StopsAtClose moments held found result parts first last sink out = (w : Standing)
+    → IsDevice w Working parts (moments first)
+    → IsStopped w (only_close w found) (close_ending result) (moments first) (moments last) (held sink) (held out)

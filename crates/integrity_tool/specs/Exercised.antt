@@ -1,15 +1,17 @@
 -- What came of an exercise on a device: what was counted, what is left, and what is printed.
 use Rattle.std.specs.Prelude.{◌≡◌, ◌⊎◌, ℕ, List, take, Option, None, Result, Ok, Err, IfErr}
 use Rattle.disk_model.specs.Disk.{Content, EachImage, last_image}
+use Rattle.disk_model.specs.Identity.{DiskIdentity}
 use Rattle.disk_model.specs.Moments.{EachMoment, HasNow}
 use Rattle.device_model.specs.History.{Change, with_changes}
 use Rattle.device_model.specs.Mode.{Journal}
 use Rattle.device_model.specs.ScriptRun.{ScriptRun}
 use Rattle.place_model.specs.Kind.{CanOpenIn, kind_in}
 use Rattle.direct_laws.specs.MomentLaws.{IsLeftNow}
-use Rattle.device.specs.Device.{kind_of}
-use Rattle.device_parts.specs.Device.{Standing}
-use Rattle.device_parts.specs.Device.{opened_standing}
+use Rattle.device_parts.specs.declared.condition.Condition.TheVariants.{Working}
+use Rattle.device_parts.specs.Device.{Standing, opened_standing}
+use Rattle.device.specs.declared.mode.DeviceParts.{DeviceParts}
+use Rattle.device.specs.Device.{IsDevice, kind_of}
 use Rattle.device.specs.Run.{IsLeftWithin}
 use Rattle.device.specs.Writes.{WritesOnly}
 use Rattle.stream_io.specs.Stream.{AddsPrefix}
@@ -120,3 +122,26 @@ pub record IsExercisedTo (sectors count seed : ℕ) (made : Content) (result : R
   pub counted : Result Tally Ended
   pub exercised : IsExercisedOn sectors count seed made counted before after
   pub told : IsCountTold counted held_before held result
+
+-- ---- over a disk and a sink
+
+-- Whichever device it is that works, it is exercised so far.
+abbrev pub ExercisesDevice : {D : Type 0} → (D → List Content) → (seed count : ℕ) → Result Tally Stop → DeviceParts
+    → (first last : D) → Type 0
+ExercisesDevice moments seed count result parts first last = (w : Standing) → IsDevice w Working parts (moments first)
+    → IsExercised w count seed result (moments first) (moments last)
+
+-- A new image that can be opened is exercised so far,
+abbrev pub ExercisesNew : {D : Type 0} → (D → DiskIdentity) → (D → List Content) → (seed count : ℕ)
+    → Result Tally Ended → (first last : D) → Type 0
+ExercisesNew identity moments seed count result first last = HasNow (λ c.
+    CanOpenIn Journal None (identity first).sectors (last_image c)
+    → IsExercisedOn (identity first).sectors count seed c result (moments first) (moments last)) (moments first)
+
+-- and this is told of it.
+abbrev pub TellsExercise : {D O : Type 0} → (D → DiskIdentity) → (D → List Content) → (O → Option (List ℕ))
+    → (seed count : ℕ) → Result TagsFound Ended → (first last : D) → (sink out : O) → Type 0
+TellsExercise identity moments held seed count result first last sink out = HasNow (λ c.
+    CanOpenIn Journal None (identity first).sectors (last_image c)
+    → IsExercisedTo (identity first).sectors count seed c result (moments first) (moments last) (held sink)
+    (held out)) (moments first)

@@ -7,6 +7,7 @@ pub mod Order
 pub mod Outset
 pub mod Running
 pub mod Top
+pub mod Calls
 pub mod Refusing
 pub mod Reopening
 pub mod Checking

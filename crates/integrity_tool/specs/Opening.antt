@@ -1,11 +1,11 @@
 -- What the run of a script on an image tells and leaves.
 use Rattle.std.specs.Prelude.{◌≡◌, ◌⊎◌, ℕ, List, Option}
-use Rattle.disk_model.specs.Disk.{Content, OnlyAdds, last_image}
+use Rattle.disk_model.specs.Disk.{Content, OnlyAdds, last_image, newest_only}
 use Rattle.disk_model.specs.Moments.{HasNow}
 use Rattle.command_model.specs.CommandRun.{Exercising, Outset, RefusedBy, RunsOn, Prints, Makes, Exercises, ReadsOn, Changes, IsEndedBy, IsLeftAfter, IsRunAt, IsUntouched, MayBeLeftAt}
 use Rattle.device_model.specs.Ending.{Ending}
 use Rattle.device_model.specs.History.{Change}
-use Rattle.device_model.specs.Mode.{Mode, Direct, Journal}
+use Rattle.device_model.specs.Mode.{Mode, Bitmap, Direct, Journal}
 use Rattle.device_model.specs.ScriptRun.{ScriptRun, changes_in}
 use Rattle.image_model.specs.Geometry.{Geometry}
 use Rattle.device_opening.specs.DirectOpening.{KeepsEmpty}
@@ -32,9 +32,10 @@ pub record HasRunOn (outset : Outset) (start : Content) (script : List ℕ) (end
 
 -- The content comes by an opening in this mode: what was pending is settled, and behind that nothing is written but
 -- entries of the image's journal in their places, sectors of tags, and empty sections of the journal; in direct mode
--- sectors of tags alone where the journal was empty.
+-- sectors of tags alone where the journal was empty, and in bitmap mode nothing.
 abbrev pub IsOfOpeningIn : Mode → Geometry → (start opened : Content) → Type 0
 IsOfOpeningIn Direct g start opened = IsOfOpening g start opened × KeepsEmpty g start opened
+IsOfOpeningIn Bitmap g start opened = opened ≡ newest_only start
 IsOfOpeningIn mode g start opened = IsOfOpening g start opened
 
 -- It does, or all is as it was.
@@ -42,8 +43,8 @@ abbrev pub IsOpenedTo : Mode → Geometry → (start opened : Content) → Type 
 IsOpenedTo mode g start opened = (opened ≡ start) ⊎ IsOfOpeningIn mode g start opened
 
 -- What is written up to a moment of a run in this mode: in its opening what that may write; and then in direct mode
--- sectors of tags, and of the data of blocks that the run writes, and in journal mode sectors of the journal, of tags,
--- and of the data of blocks. Neither the superblock, nor padding, nor a sector behind the data is ever among them.
+-- sectors of tags, and of the data of blocks that the run writes, in bitmap mode these and sectors of the bitmap, and in
+-- journal mode sectors of the journal, of tags, and of the data of blocks. Neither the superblock, nor padding, nor a sector behind the data is ever among them.
 pub record IsWrittenByRun (mode : Mode) (g : Geometry) (run : ScriptRun) (start later : Content) : Type 0 where
   pub opened : Content
   pub opening : IsOpenedTo mode g start opened

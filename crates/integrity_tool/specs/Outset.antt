@@ -6,9 +6,9 @@ use Rattle.device_model.specs.Ending.{RefusedWords, RefusedKey, KeyRefusal, Empt
 use Rattle.image_model.specs.Geometry.{Geometry}
 use Rattle.place_model.specs.Format.{format_on}
 use Rattle.place_model.specs.Kind.{kind_in}
-use Rattle.image_judging.specs.Faults.{ImageFault, fault_of}
+use Rattle.image_judging.specs.Faults.{ImageFault}
 use Rattle.device.specs.declared.opening.OpenMode.{OpenMode}
-use Rattle.device.specs.Opening.{asked_mode}
+use Rattle.device.specs.Opening.{asked_mode, fault_in_mode}
 use Rattle.integrity_tool.specs.declared.asked.Asked.{Asked}
 use Rattle.integrity_tool.specs.declared.asked.Task.{Task}
 use Rattle.integrity_tool.specs.declared.asked.Task.TheVariants as Tasks
@@ -44,7 +44,7 @@ outset_by mode key sectors image (Some refusal) = RefusedBy (ending_by_refusal r
 
 -- What a run in this mode starts on, on a disk of so many sectors with this image, under a key.
 abbrev pub outset_on : OpenMode → (key : Option (List ℕ)) → (sectors : ℕ) → Image → Outset
-outset_on mode key sectors image = outset_by mode key sectors image (fault_of key sectors image)
+outset_on mode key sectors image = outset_by mode key sectors image (fault_in_mode mode key sectors image)
 
 -- What is done on such a disk starts on this, with this key.
 abbrev pub outset_at : Task → (key : Option (List ℕ)) → (sectors : ℕ) → Image → Outset

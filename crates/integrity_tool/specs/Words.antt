@@ -14,6 +14,8 @@ use Rattle.command_words.specs.declared.command.Format.{Format}
 use Rattle.command_words.specs.declared.command.Run.{Run}
 use Rattle.command_words.specs.declared.values.Checked.{Checked}
 use Rattle.command_words.specs.declared.values.Checked.TheVariants as checks
+use Rattle.command_words.specs.declared.values.Consent as words_consent
+use Rattle.command_words.specs.declared.values.Consent.TheVariants as consents
 use Rattle.command_words.specs.declared.values.HashChoice.{HashChoice}
 use Rattle.command_words.specs.declared.values.HashChoice.TheVariants.{Sha256, HmacSha256}
 use Rattle.command_words.specs.declared.values.Mode.{Mode}
@@ -30,8 +32,10 @@ use Rattle.image_formatting.specs.declared.new_image.Padding.TheVariants.{Fixed,
 use Rattle.image_formatting.specs.declared.new_image.Wipe.{Wipe}
 use Rattle.image_formatting.specs.declared.new_image.Wipe.TheVariants.{Wiped, Kept}
 use Rattle.image_formatting.specs.NewImage.{IsNewImage}
+use Rattle.image_judging.specs.declared.consent.Consent.{Consent}
+use Rattle.image_judging.specs.declared.consent.Consent.TheVariants.{Given, Withheld}
 use Rattle.device.specs.declared.opening.OpenMode.{OpenMode}
-use Rattle.device.specs.declared.opening.OpenMode.TheVariants.{Direct, Journal}
+use Rattle.device.specs.declared.opening.OpenMode.TheVariants.{Bitmap, Direct, Journal}
 use Rattle.integrity_tool.specs.declared.asked.Asked.{Asked}
 use Rattle.integrity_tool.specs.declared.asked.Task.{Task}
 use Rattle.integrity_tool.specs.declared.asked.Task.TheVariants as Tasks
@@ -74,13 +78,18 @@ IsTask (Tasks.Exercise seed count) = count ≤ most_requests
 abbrev pub format_asked : Format → Asked
 format_asked format = record { image = format.image; hash = format.hash; task = Tasks.Format (new_image_of format) }
 
--- The mode of a run.
-abbrev pub mode_as : Mode → OpenMode
-mode_as modes.Journal = Journal
-mode_as modes.Direct = Direct
+abbrev pub consent_as : words_consent.Consent → Consent
+consent_as consents.Given = Given
+consent_as consents.Withheld = Withheld
+
+-- The mode of a run. Bitmap mode alone asks for consent.
+abbrev pub mode_as : Mode → words_consent.Consent → OpenMode
+mode_as modes.Journal consent = Journal
+mode_as modes.Direct consent = Direct
+mode_as modes.Bitmap consent = Bitmap (consent_as consent)
 
 abbrev pub run_asked : Run → Asked
-run_asked run = record { image = run.image; hash = run.hash; task = Tasks.Run (mode_as run.mode) }
+run_asked run = record { image = run.image; hash = run.hash; task = Tasks.Run (mode_as run.mode run.consent) }
 
 -- A dump looks at no tag, and needs no key.
 abbrev pub dump_asked : Dump → Asked

@@ -2,13 +2,13 @@
 ghost use Rattle.std.specs.Prelude.{◌≡◌, ◌⊎◌, Err, IfErr, IfOk, None, Some, map};
 ghost use Rattle.std.specs.String.{string_bytes};
 ghost use Rattle.command_ending.specs.declared.ended.Ended.TheVariants as Endings;
-ghost use Rattle.integrity_tool.specs.Words.{IsTask, asked_by, asked_of, check_asked, dump_asked, exercise_asked, format_asked, mode_as, new_image_of, padding_as, run_asked, what_as, wipe_as};
+ghost use Rattle.integrity_tool.specs.Words.{IsTask, asked_by, asked_of, check_asked, consent_as, dump_asked, exercise_asked, format_asked, mode_as, new_image_of, padding_as, run_asked, what_as, wipe_as};
 ghost use Rattle.image_formatting.specs.NewImage.{IsNewImage};
 
 use command_ending::Ended;
 use command_words::{
-    Check, Checked, Command, Dump, Exercise, FileName, Format, HashChoice, Mode, Padding, Run,
-    Wipe, WordsFault, parse,
+    Check, Checked, Command, Consent, Dump, Exercise, FileName, Format, HashChoice, Mode, Padding,
+    Run, Wipe, WordsFault, parse,
 };
 use device::OpenMode;
 use image_check::What;
@@ -100,17 +100,28 @@ fn run_asked(run: Run) -> Asked
     Asked {
         image: run.image,
         hash: run.hash,
-        task: Task::Run(mode(run.mode)),
+        task: Task::Run(mode(run.mode, run.consent)),
     }
 }
 
-/// The same mode.
-fn mode(mode: Mode) -> OpenMode
-    ensures { result ≡ mode_as mode }
+/// The same mode. Bitmap mode alone asks for consent.
+fn mode(mode: Mode, by: Consent) -> OpenMode
+    ensures { result ≡ mode_as mode by }
 {
     match mode {
         Mode::Journal => OpenMode::Journal,
         Mode::Direct => OpenMode::Direct,
+        Mode::Bitmap => OpenMode::Bitmap(consent(by)),
+    }
+}
+
+/// The same consent.
+fn consent(consent: Consent) -> device::Consent
+    ensures { result ≡ consent_as consent }
+{
+    match consent {
+        Consent::Given => device::Consent::Given,
+        Consent::Withheld => device::Consent::Withheld,
     }
 }
 

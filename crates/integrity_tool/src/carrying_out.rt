@@ -1,16 +1,12 @@
 //! Does what is asked on the image that the disk is bound to.
-ghost use Rattle.std.specs.Prelude.{◌≡◌, ◌≤◌, IfErr, List, ℕ, Some};
-ghost use Rattle.disk_model.specs.Causes.{Rose};
-ghost use Rattle.disk_model.specs.Disk.{last_image};
+ghost use Rattle.std.specs.Prelude.{◌≡◌, IfErr};
 ghost use Rattle.disk_model.specs.Identity.{IsBound};
-ghost use Rattle.disk_model.specs.Moments.{HasNow};
 ghost use Rattle.hmac_tag.specs.TagMaker.{key_of};
-ghost use Rattle.integrity_tool.specs.Opening.{EndsImage, HasReadIn, HasRunOn};
-ghost use Rattle.integrity_tool.specs.Order.{HasMomentsAt};
+ghost use Rattle.integrity_tool.specs.Calls.{HasCauseOfRun, IsCountedInRun, LeavesScript, ReadsOnlyRun, RunsAsked};
+ghost use Rattle.integrity_tool.specs.Opening.{EndsImage};
 ghost use Rattle.integrity_tool.specs.Outset.{outset_at};
-ghost use Rattle.integrity_tool.specs.Running.{HasEndCause, HasTaken, IsCounted, ending_by};
+ghost use Rattle.integrity_tool.specs.Running.{HasTaken, ending_by};
 ghost use Rattle.integrity_tool.specs.Tasks.{found_by};
-ghost use Rattle.integrity_tool.specs.Top.{IsBeforeScript};
 ghost use Rattle.integrity_tool.specs.Words.{IsScriptless, IsTask};
 
 use crate::asked::Task;
@@ -46,25 +42,19 @@ pub(crate) fn carry_out<D: Disk, S: Source, O: Sink>(
     requires bound { IsBound (D.identity disk.old).name }
     requires task { IsTask task }
 
-    ensures runs { (left : List ℕ) → S.left script.old ≡ Some left
-        → HasNow (λ c. let outset = outset_at task (key_of hash) (D.identity disk.old).sectors (last_image c) in
-        HasRunOn outset c left (ending_by result) (D.moments disk.new) (O.held out.old) (O.held out.new)
-        × HasMomentsAt task (key_of hash) (D.identity disk.old).sectors c left
-        (D.moments disk.old) (D.moments disk.new)) (D.moments disk.old) }
+    ensures runs { RunsAsked D.identity D.moments S.left O.held task (key_of hash) (ending_by result)
+        disk.old disk.new script.old out.old out.new }
 
     ensures ends { IfErr result EndsImage }
-    ensures cause { IfErr result (HasEndCause (Rose (D.faults disk.old) (D.faults disk.new))
-        (Rose (S.faults script.old) (S.faults script.new)) (Rose (O.faults out.old) (O.faults out.new))) }
-    ensures counted { IsCounted Ended.Disk (D.faults disk.old) (D.faults disk.new) result
-        × IsCounted Ended.Script (S.faults script.old) (S.faults script.new) result
-        × IsCounted Ended.Sink (O.faults out.old) (O.faults out.new) result }
+    ensures cause { HasCauseOfRun D.faults S.faults O.faults result
+        disk.old disk.new script.old script.new out.old out.new }
+    ensures counted { IsCountedInRun D.faults S.faults O.faults result
+        disk.old disk.new script.old script.new out.old out.new }
 
-    ensures unread { IfErr result (λ ended. IsBeforeScript ended → script.new ≡ script.old)
-        × (IsScriptless task → script.new ≡ script.old) }
+    ensures unread { LeavesScript result (IsScriptless task) script.old script.new }
     ensures taken { HasTaken (S.left script.old) (S.left script.new) }
-    ensures ahead { (left : List ℕ) → S.left script.old ≡ Some left
-        → HasNow (λ c. HasReadIn (outset_at task (key_of hash) (D.identity disk.old).sectors (last_image c)) left
-        (S.left script.new) (O.held out.old) (O.held out.new)) (D.moments disk.old) }
+    ensures ahead { ReadsOnlyRun D.identity D.moments S.left O.held (outset_at task (key_of hash))
+        disk.old script.old script.new out.old out.new }
     ensures identity { D.identity disk.new ≡ D.identity disk.old }
 {
     match task {

@@ -1,21 +1,20 @@
 //! Prints the bad blocks of an image, as they are found, and then how many there are.
 //!
 //! A line is printed before the next block is judged, so that memory does not grow with the number of bad blocks.
-ghost use Rattle.std.specs.Prelude.{◌≡◌, ◌≤◌, ltb, [], IfErr, IfOk, List, ℕ};
+ghost use Rattle.std.specs.Prelude.{◌≡◌, ltb, [], IfErr, IfOk};
 ghost use Rattle.std.specs.Option.{IsSomeAnd};
 ghost use Rattle.disk_model.specs.Causes.{HasCause, Rose};
-ghost use Rattle.disk_model.specs.Disk.{last_image};
 ghost use Rattle.disk_model.specs.Identity.{IsBound};
-ghost use Rattle.disk_model.specs.Moments.{HasNow};
 ghost use Rattle.hmac_tag.specs.TagMaker.{key_of};
 ghost use Rattle.stream_io.specs.Stream.{AddsPrefix};
 ghost use Rattle.image_check.specs.Checked.{IsCheckOf};
 ghost use Rattle.image_check.specs.Report.{with_found};
 ghost use Rattle.script_session.specs.Told.{finds_fault};
-ghost use Rattle.command_ending.specs.Ended.{Puts, ending_of};
-ghost use Rattle.integrity_tool.specs.Checking.{IsListed, IsPrintedShort, bad_in, bad_line, check_outset, counts_line, lines_in};
-ghost use Rattle.integrity_tool.specs.Opening.{HasRunOn};
-ghost use Rattle.integrity_tool.specs.Running.{HasEndCause, IsCounted, ending_by};
+ghost use Rattle.command_ending.specs.Ended.{Puts};
+ghost use Rattle.integrity_tool.specs.declared.asked.Task.TheVariants.{Check};
+ghost use Rattle.integrity_tool.specs.Calls.{IsCountedInTask, RunsTask};
+ghost use Rattle.integrity_tool.specs.Checking.{CutsList, IsListed, ListsBad, bad_line, counts_line};
+ghost use Rattle.integrity_tool.specs.Running.{HasEndCause, ending_by};
 ghost use Rattle.integrity_tool.specs.Tasks.{EndsTask};
 
 use crate::refusing::ended_by_opening;
@@ -45,15 +44,13 @@ pub(crate) fn print_check<D: Disk, O: Sink>(
 ) -> Result<TagsFound, Ended>
     requires { IsBound (D.identity disk.old).name }
 
-    ensures runs { (script : List ℕ) → HasNow (λ c.
-        HasRunOn (check_outset what (key_of hash) (D.identity disk.old).sectors (last_image c)) c script
-        (ending_by result) (D.moments disk.new) (O.held out.old) (O.held out.new)) (D.moments disk.old) }
+    ensures runs { RunsTask D.identity D.moments O.held (Check what) (key_of hash) (ending_by result)
+        disk.old disk.new out.old out.new }
 
     ensures ends { IfErr result EndsTask }
     ensures cause { IfErr result (HasEndCause (Rose (D.faults disk.old) (D.faults disk.new)) ⊥
         (Rose (O.faults out.old) (O.faults out.new))) }
-    ensures counted { IsCounted Ended.Disk (D.faults disk.old) (D.faults disk.new) result
-        × IsCounted Ended.Sink (O.faults out.old) (O.faults out.new) result }
+    ensures counted { IsCountedInTask D.faults O.faults result disk.old disk.new out.old out.new }
 
     ensures identity { D.identity disk.new ≡ D.identity disk.old }
     ensures kept { D.moments disk.new ≡ D.moments disk.old }
@@ -85,18 +82,13 @@ fn print_bad<D: Disk, O: Sink>(
 ) -> Result<u64, Ended>
     requires { IsCheckOf image.old (D.identity disk.old) (D.moments disk.old) }
 
-    ensures listed { IfOk result (λ count. HasNow (λ c.
-        IsListed (bad_in image.old (D.identity disk.old).sectors (last_image c)) count
-        (O.held out.old) (O.held out.new)) (D.moments disk.old)) }
+    ensures listed { ListsBad D.identity D.moments O.held image.old result disk.old out.old out.new }
 
-    ensures cut { IfErr result (λ ended. HasNow (λ c.
-        IsPrintedShort (lines_in image.old (D.identity disk.old).sectors (last_image c)) (ending_of ended)
-        (O.held out.old) (O.held out.new)) (D.moments disk.old)) }
+    ensures cut { CutsList D.identity D.moments O.held image.old result disk.old out.old out.new }
     ensures ends { IfErr result EndsTask }
     ensures cause { IfErr result (HasEndCause (Rose (D.faults disk.old) (D.faults disk.new)) ⊥
         (Rose (O.faults out.old) (O.faults out.new))) }
-    ensures counted { IsCounted Ended.Disk (D.faults disk.old) (D.faults disk.new) result
-        × IsCounted Ended.Sink (O.faults out.old) (O.faults out.new) result }
+    ensures counted { IsCountedInTask D.faults O.faults result disk.old disk.new out.old out.new }
 
     ensures format { image.new.format ≡ image.old.format }
     ensures identity { D.identity disk.new ≡ D.identity disk.old }

@@ -1,12 +1,8 @@
 //! The end of a run that has come to its last line: the device is closed, and that is printed.
-ghost use Rattle.std.specs.Prelude.{◌≡◌, ◌≤◌, Err};
+ghost use Rattle.std.specs.Prelude.{◌≡◌, Err};
 ghost use Rattle.disk_model.specs.Causes.{Rose};
-ghost use Rattle.device_parts.specs.declared.condition.Condition.TheVariants.{Working};
 ghost use Rattle.device.specs.Calls.{Works};
-ghost use Rattle.device.specs.Device.{IsDevice};
-ghost use Rattle.device_parts.specs.Device.{Standing};
-ghost use Rattle.integrity_tool.specs.Closing.{HasCloseCounts, close_ending, fault_ended};
-ghost use Rattle.integrity_tool.specs.Running.{IsStopped, only_close};
+ghost use Rattle.integrity_tool.specs.Closing.{HasCloseCounts, StopsAtClose, fault_ended};
 
 use command_ending::Ended;
 use device::Device;
@@ -48,9 +44,8 @@ pub(crate) fn close<'d, 'p, D: Disk, O: Sink>(
 ) -> (Result<TagsFound, CloseFault>, &'d mut D)
     requires works { Works D.identity D.moments device.condition device.parts device.disk.now }
 
-    ensures stopped { (w : Standing) → IsDevice w Working device.entry.parts (D.moments device.entry.disk.now)
-        → IsStopped w (only_close w found) (close_ending result.0) (D.moments device.entry.disk.now)
-        (D.moments result.1.now) (O.held out.old) (O.held out.new) }
+    ensures stopped { StopsAtClose D.moments O.held found result.0 device.entry.parts
+        device.entry.disk.now result.1.now out.old out.new }
 
     ensures disk { result.0 ≡ Err CloseFault.Disk
         → Rose (D.faults device.entry.disk.now) (D.faults result.1.now) }

@@ -1,12 +1,11 @@
 //! Prints what an image shows.
-ghost use Rattle.std.specs.Prelude.{◌≡◌, ◌≤◌, IfErr, List, ℕ};
+ghost use Rattle.std.specs.Prelude.{◌≡◌, IfErr, None};
 ghost use Rattle.disk_model.specs.Causes.{Rose};
-ghost use Rattle.disk_model.specs.Disk.{last_image};
 ghost use Rattle.disk_model.specs.Identity.{IsBound};
-ghost use Rattle.disk_model.specs.Moments.{HasNow};
-ghost use Rattle.integrity_tool.specs.Dumping.{dump_outset, ended_by_dump};
-ghost use Rattle.integrity_tool.specs.Opening.{HasRunOn};
-ghost use Rattle.integrity_tool.specs.Running.{HasEndCause, IsCounted};
+ghost use Rattle.integrity_tool.specs.declared.asked.Task.TheVariants.{Dump};
+ghost use Rattle.integrity_tool.specs.Calls.{IsCountedInTask, RunsTask};
+ghost use Rattle.integrity_tool.specs.Dumping.{ended_by_dump};
+ghost use Rattle.integrity_tool.specs.Running.{HasEndCause};
 ghost use Rattle.integrity_tool.specs.Tasks.{EndsTask, ending_done};
 
 use command_ending::{Ended, ImageFault};
@@ -30,15 +29,13 @@ pub(crate) fn print_image<D: Disk, O: Sink>(
 ) -> Result<(), Ended>
     requires { IsBound (D.identity disk.old).name }
 
-    ensures runs { (script : List ℕ) → HasNow (λ c.
-        HasRunOn (dump_outset (D.identity disk.old).sectors (last_image c)) c script (ending_done result)
-        (D.moments disk.new) (O.held out.old) (O.held out.new)) (D.moments disk.old) }
+    ensures runs { RunsTask D.identity D.moments O.held Dump None (ending_done result)
+        disk.old disk.new out.old out.new }
 
     ensures ends { IfErr result EndsTask }
     ensures cause { IfErr result (HasEndCause (Rose (D.faults disk.old) (D.faults disk.new)) ⊥
         (Rose (O.faults out.old) (O.faults out.new))) }
-    ensures counted { IsCounted Ended.Disk (D.faults disk.old) (D.faults disk.new) result
-        × IsCounted Ended.Sink (O.faults out.old) (O.faults out.new) result }
+    ensures counted { IsCountedInTask D.faults O.faults result disk.old disk.new out.old out.new }
 
     ensures identity { D.identity disk.new ≡ D.identity disk.old }
     ensures kept { D.moments disk.new ≡ D.moments disk.old }

@@ -1,24 +1,15 @@
 //! Makes a new image, exercises a device on it, and prints what was counted.
-ghost use Rattle.std.specs.Prelude.{◌≡◌, ◌≢◌, ◌≤◌, [], IfErr, IfOk, List, ℕ, None};
+ghost use Rattle.std.specs.Prelude.{◌≡◌, ◌≤◌, [], IfErr, None};
 ghost use Rattle.disk_model.specs.Causes.{Rose};
-ghost use Rattle.disk_model.specs.Disk.{last_image};
 ghost use Rattle.disk_model.specs.Identity.{IsBound};
-ghost use Rattle.disk_model.specs.Moments.{HasNow};
-ghost use Rattle.device_model.specs.Mode.{Journal};
-ghost use Rattle.place_model.specs.Kind.{CanOpenIn};
-ghost use Rattle.device_parts.specs.declared.condition.Condition.TheVariants.{Working};
 ghost use Rattle.device.specs.Calls.{Works};
-ghost use Rattle.device.specs.Device.{IsDevice};
-ghost use Rattle.device_parts.specs.Device.{Standing};
 ghost use Rattle.script_session.specs.Stop.{HasStopCause};
 ghost use Rattle.script_session.specs.Told.{finds_fault};
 ghost use Rattle.command_model.specs.Exercise.{finds_faults};
 ghost use Rattle.integrity_tool.specs.declared.asked.Task.TheVariants.{Exercise};
-ghost use Rattle.integrity_tool.specs.Exercised.{EndsExercise, IsExercised, IsExercisedOn, IsExercisedTo, IsTallyTold, ended_count};
+ghost use Rattle.integrity_tool.specs.Calls.{IsCountedInTask, PassesMoments, RunsTask};
+ghost use Rattle.integrity_tool.specs.Exercised.{EndsExercise, ExercisesDevice, ExercisesNew, IsTallyTold, TellsExercise, ended_count};
 ghost use Rattle.integrity_tool.specs.Exercising as Exercising;
-ghost use Rattle.integrity_tool.specs.Exercising.{exercise_outset};
-ghost use Rattle.integrity_tool.specs.Opening.{HasRunOn};
-ghost use Rattle.integrity_tool.specs.Order.{HasMomentsAt};
 ghost use Rattle.integrity_tool.specs.Running.{HasEndCause, IsCounted, ending_by};
 ghost use Rattle.integrity_tool.specs.Tasks.{EndsTask};
 ghost use Rattle.integrity_tool.specs.Words.{most_requests};
@@ -59,18 +50,14 @@ pub(crate) fn exercise_image<D: Disk, O: Sink>(
     requires bound { IsBound (D.identity disk.old).name }
     requires count { count ≤ most_requests }
 
-    ensures runs { (script : List ℕ) → HasNow (λ c.
-        HasRunOn (exercise_outset (D.identity disk.old).sectors count seed) c script (ending_by result)
-        (D.moments disk.new) (O.held out.old) (O.held out.new)) (D.moments disk.old) }
-    ensures moments { (script : List ℕ) → HasNow (λ c.
-        HasMomentsAt (Exercise seed count) None (D.identity disk.old).sectors c script
-        (D.moments disk.old) (D.moments disk.new)) (D.moments disk.old) }
+    ensures runs { RunsTask D.identity D.moments O.held (Exercise seed count) None (ending_by result)
+        disk.old disk.new out.old out.new }
+    ensures moments { PassesMoments D.identity D.moments (Exercise seed count) None disk.old disk.new }
 
     ensures ends { IfErr result EndsTask }
     ensures cause { IfErr result (HasEndCause (Rose (D.faults disk.old) (D.faults disk.new)) ⊥
         (Rose (O.faults out.old) (O.faults out.new))) }
-    ensures counted { IsCounted Ended.Disk (D.faults disk.old) (D.faults disk.new) result
-        × IsCounted Ended.Sink (O.faults out.old) (O.faults out.new) result }
+    ensures counted { IsCountedInTask D.faults O.faults result disk.old disk.new out.old out.new }
 
     ensures identity { D.identity disk.new ≡ D.identity disk.old }
 {
@@ -116,15 +103,13 @@ fn exercise_made<D: Disk, O: Sink>(
     requires bound { IsBound (D.identity disk.old).name }
     requires count { count ≤ most_requests }
 
-    ensures exercised { HasNow (λ c. CanOpenIn Journal None (D.identity disk.old).sectors (last_image c)
-        → IsExercisedTo (D.identity disk.old).sectors count seed c result
-        (D.moments disk.old) (D.moments disk.new) (O.held out.old) (O.held out.new)) (D.moments disk.old) }
+    ensures exercised { TellsExercise D.identity D.moments O.held seed count result
+        disk.old disk.new out.old out.new }
 
     ensures ends { IfErr result EndsTask }
     ensures cause { IfErr result (HasEndCause (Rose (D.faults disk.old) (D.faults disk.new)) ⊥
         (Rose (O.faults out.old) (O.faults out.new))) }
-    ensures counted { IsCounted Ended.Disk (D.faults disk.old) (D.faults disk.new) result
-        × IsCounted Ended.Sink (O.faults out.old) (O.faults out.new) result }
+    ensures counted { IsCountedInTask D.faults O.faults result disk.old disk.new out.old out.new }
 
     ensures identity { D.identity disk.new ≡ D.identity disk.old }
 {
@@ -147,9 +132,7 @@ fn exercise_new<'d, D: Disk>(
     requires bound { IsBound (D.identity disk.old).name }
     requires count { count ≤ most_requests }
 
-    ensures exercised { HasNow (λ c. CanOpenIn Journal None (D.identity disk.old).sectors (last_image c)
-        → IsExercisedOn (D.identity disk.old).sectors count seed c counted.new
-        (D.moments disk.old) (D.moments result.now)) (D.moments disk.old) }
+    ensures exercised { ExercisesNew D.identity D.moments seed count counted.new disk.old result.now }
 
     ensures ends { IfErr counted.new EndsExercise }
     ensures cause { IfErr counted.new (HasEndCause (Rose (D.faults disk.old) (D.faults result.now)) ⊥ ⊥) }
@@ -191,9 +174,8 @@ fn exercise_device<'d, 'p, D: Disk>(
         × (device.parts.common.slots.submitted ≡ 0) }
     requires count { count ≤ most_requests }
 
-    ensures exercised { (w : Standing)
-        → IsDevice w Working device.entry.parts (D.moments device.entry.disk.now)
-        → IsExercised w count seed result.0 (D.moments device.entry.disk.now) (D.moments result.1.now) }
+    ensures exercised { ExercisesDevice D.moments seed count result.0 device.entry.parts
+        device.entry.disk.now result.1.now }
 
     ensures cause { HasStopCause (D.faults device.entry.disk.now) (D.faults result.1.now) result.0 }
 

@@ -1,6 +1,5 @@
 //! The hash of tags, with the key that a file has.
-ghost use Rattle.std.specs.Prelude.{◌≡◌, ◌≤◌, Err, IfErr, IfOk, IsOk, List, ℕ};
-ghost use Rattle.disk_model.specs.Causes.{Rose};
+ghost use Rattle.std.specs.Prelude.{◌≡◌, Err, IfErr, IfOk, IsOk};
 ghost use Rattle.hmac_tag.specs.TagMaker.{key_of};
 ghost use Rattle.integrity_tool.specs.Words.{key_file_of};
 ghost use Rattle.integrity_tool.specs.KeyFile.{HasHash, HasReadKey, IsKeyRefused, IsKeyed};

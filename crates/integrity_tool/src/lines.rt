@@ -1,14 +1,14 @@
 //! Reads and runs one line of a script.
-ghost use Rattle.std.specs.Prelude.{◌≡◌, ◌≤◌, ◌+◌, ◌++◌, ◌<◌, ◌^◌, Err, IfErr, IfOk, Ok, OnOk, true};
+ghost use Rattle.std.specs.Prelude.{◌≡◌, ◌+◌, ◌<◌, ◌^◌, IfErr, Ok, OnOk, true};
 ghost use Rattle.std.specs.Option.{ForSome, IsSomeAnd};
 ghost use Rattle.disk_model.specs.Causes.{Rose};
 ghost use Rattle.device_parts.specs.declared.condition.Condition.TheVariants.{Working};
 ghost use Rattle.device.specs.Calls.{Works};
-ghost use Rattle.device.specs.Device.{IsDevice};
-ghost use Rattle.device_parts.specs.Device.{Standing};
-ghost use Rattle.script_reader.specs.Reading.{IsWithin, TakesLine};
-ghost use Rattle.script_session.specs.Tickets.{AreInFlight, Stays};
-ghost use Rattle.integrity_tool.specs.Lines.{HasAdvanced, HasRunBytes, IsStoppedByBytes, ended_by};
+ghost use Rattle.script_reader.specs.Reading.{IsWithin};
+ghost use Rattle.script_session.specs.Calls.{StaysOn};
+ghost use Rattle.script_session.specs.Tickets.{AreInFlight};
+ghost use Rattle.integrity_tool.specs.Calls.{IsCountedInTask, RunsBytes, StopsAtBytes, TakesNextLine};
+ghost use Rattle.integrity_tool.specs.Lines.{HasAdvanced, ended_by};
 ghost use Rattle.integrity_tool.specs.Running.{EndsScript, HasEndCause, HasRead, IsCounted};
 
 use command_ending::{Ended, FormFault, LineRefusal};
@@ -36,8 +36,7 @@ pub(crate) fn advance<S: Source>(
         (λ later. HasAdvanced number reader.old reader.new left later result)) }
     ensures taken { result ≡ Ok true → reader.old.taken < reader.new.taken }
     ensures read { HasRead reader.old reader.new (S.left script.old) (S.left script.new) }
-    ensures line { ForSome (S.left script.old) (λ left. IsSomeAnd (S.left script.new)
-        (λ later. TakesLine reader.old reader.new (reader.old.unread ++ left) (reader.new.unread ++ later))) }
+    ensures line { TakesNextLine reader.old reader.new (S.left script.old) (S.left script.new) }
     ensures within { IsWithin reader.new }
 
     ensures ends { IfErr result EndsScript }
@@ -75,26 +74,22 @@ pub(crate) fn run_bytes<'d, 'p, D: Disk, O: Sink>(
     requires tickets { AreInFlight tickets.old device.old.parts.common.slots }
     requires number { device.old.parts.common.slots.submitted + 1 < 2 ^ 64 }
 
-    ensures ran { IfOk result (λ found. (w : Standing)
-        → IsDevice w Working device.old.parts (D.moments device.old.disk.now)
-        → HasRunBytes w bytes.now found device.new.parts (D.moments device.old.disk.now)
-        (D.moments device.new.disk.now) (O.held out.old) (O.held out.new)) }
+    ensures ran { RunsBytes D.moments O.held bytes.now result device.old.parts device.new.parts
+        device.old.disk.now device.new.disk.now out.old out.new }
 
-    ensures stopped { IfErr result (λ ended. (w : Standing)
-        → IsDevice w Working device.old.parts (D.moments device.old.disk.now)
-        → IsStoppedByBytes w number bytes.now ended (D.moments device.old.disk.now)
-        (D.moments device.new.disk.now) (O.held out.old) (O.held out.new)) }
+    ensures stopped { StopsAtBytes D.moments O.held number bytes.now result device.old.parts
+        device.old.disk.now device.new.disk.now out.old out.new }
 
     ensures ends { IfErr result EndsScript }
     ensures cause { IfErr result (HasEndCause
         (Rose (D.faults device.old.disk.now) (D.faults device.new.disk.now))
         ⊥ (Rose (O.faults out.old) (O.faults out.new))) }
-    ensures counted { IsCounted Ended.Disk (D.faults device.old.disk.now) (D.faults device.new.disk.now) result
-        × IsCounted Ended.Sink (O.faults out.old) (O.faults out.new) result }
+    ensures counted { IsCountedInTask D.faults O.faults result
+        device.old.disk.now device.new.disk.now out.old out.new }
 
     ensures works { OnOk result (device.new.condition ≡ Working) }
-    ensures stays { Stays device.new.condition device.old.parts device.new.parts tickets.new
-        (D.identity device.old.disk.now) (D.identity device.new.disk.now) (D.moments device.new.disk.now) }
+    ensures stays { StaysOn D.identity D.moments device.new.condition device.old.parts device.new.parts
+        tickets.new device.old.disk.now device.new.disk.now }
     ensures same_disk { device.new.disk.ghost_name ≡ device.old.disk.ghost_name }
 {
     match read_line(bytes) {

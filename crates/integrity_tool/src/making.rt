@@ -1,16 +1,14 @@
 //! Makes a new image, and tells how many sectors it provides.
-ghost use Rattle.std.specs.Prelude.{◌≡◌, ◌≤◌, IfErr, List, ℕ};
+ghost use Rattle.std.specs.Prelude.{◌≡◌, IfErr};
 ghost use Rattle.disk_model.specs.Causes.{HasCause, Rose};
 ghost use Rattle.disk_model.specs.Identity.{IsBound};
-ghost use Rattle.disk_model.specs.Moments.{HasNow};
 ghost use Rattle.hmac_tag.specs.TagMaker.{key_of};
 ghost use Rattle.image_formatting.specs.NewImage.{IsNewImage};
 ghost use Rattle.command_ending.specs.Ended.{Puts};
 ghost use Rattle.integrity_tool.specs.declared.asked.Task.TheVariants.{Format};
-ghost use Rattle.integrity_tool.specs.Making.{ended_by_format, format_outset, formatted_text};
-ghost use Rattle.integrity_tool.specs.Opening.{HasRunOn};
-ghost use Rattle.integrity_tool.specs.Order.{HasMomentsAt};
-ghost use Rattle.integrity_tool.specs.Running.{HasEndCause, IsCounted};
+ghost use Rattle.integrity_tool.specs.Calls.{IsCountedInTask, PassesMoments, RunsTask};
+ghost use Rattle.integrity_tool.specs.Making.{ended_by_format, formatted_text};
+ghost use Rattle.integrity_tool.specs.Running.{HasEndCause};
 ghost use Rattle.integrity_tool.specs.Tasks.{EndsTask, ending_done};
 
 use command_ending::{Ended, ImageFault, put_pieces};
@@ -38,18 +36,14 @@ pub(crate) fn make_image<D: Disk, O: Sink>(
     requires bound { IsBound (D.identity disk.old).name }
     requires new { IsNewImage new }
 
-    ensures runs { (script : List ℕ) → HasNow (λ c.
-        HasRunOn (format_outset (key_of hash) (D.identity disk.old).sectors new) c script (ending_done result)
-        (D.moments disk.new) (O.held out.old) (O.held out.new)) (D.moments disk.old) }
-    ensures moments { (script : List ℕ) → HasNow (λ c.
-        HasMomentsAt (Format new) (key_of hash) (D.identity disk.old).sectors c script
-        (D.moments disk.old) (D.moments disk.new)) (D.moments disk.old) }
+    ensures runs { RunsTask D.identity D.moments O.held (Format new) (key_of hash) (ending_done result)
+        disk.old disk.new out.old out.new }
+    ensures moments { PassesMoments D.identity D.moments (Format new) (key_of hash) disk.old disk.new }
 
     ensures ends { IfErr result EndsTask }
     ensures cause { IfErr result (HasEndCause (Rose (D.faults disk.old) (D.faults disk.new)) ⊥
         (Rose (O.faults out.old) (O.faults out.new))) }
-    ensures counted { IsCounted Ended.Disk (D.faults disk.old) (D.faults disk.new) result
-        × IsCounted Ended.Sink (O.faults out.old) (O.faults out.new) result }
+    ensures counted { IsCountedInTask D.faults O.faults result disk.old disk.new out.old out.new }
 
     ensures identity { D.identity disk.new ≡ D.identity disk.old }
 {

@@ -1,14 +1,12 @@
 //! Opens a device on an image, and runs a script on it.
-ghost use Rattle.std.specs.Prelude.{◌≡◌, ◌≤◌, [], IfErr, List, ℕ, Some};
-ghost use Rattle.disk_model.specs.Causes.{Rose};
-ghost use Rattle.disk_model.specs.Disk.{last_image};
+ghost use Rattle.std.specs.Prelude.{◌≡◌, [], IfErr};
 ghost use Rattle.disk_model.specs.Identity.{IsBound};
-ghost use Rattle.disk_model.specs.Moments.{EachMoment, HasNow};
 ghost use Rattle.hmac_tag.specs.TagMaker.{key_of};
+ghost use Rattle.integrity_tool.specs.Calls.{HasCauseOfRun, IsCountedInRun, ReadsOnlyRun, RunsScript};
 ghost use Rattle.integrity_tool.specs.Closing.{ended_close};
-ghost use Rattle.integrity_tool.specs.Opening.{EndsImage, HasReadIn, HasRunOn, IsMomentOn};
+ghost use Rattle.integrity_tool.specs.Opening.{EndsImage};
 ghost use Rattle.integrity_tool.specs.Outset.{outset_on};
-ghost use Rattle.integrity_tool.specs.Running.{HasEndCause, HasTaken, IsCounted, ending_by};
+ghost use Rattle.integrity_tool.specs.Running.{HasTaken, ending_by};
 ghost use Rattle.integrity_tool.specs.Top.{IsBeforeScript};
 
 use crate::closing::{CloseFault, close};
@@ -44,24 +42,19 @@ pub(crate) fn run_image<D: Disk, S: Source, O: Sink>(
 ) -> Result<TagsFound, Ended>
     requires { IsBound (D.identity disk.old).name }
 
-    ensures runs { (left : List ℕ) → S.left script.old ≡ Some left
-        → HasNow (λ c. let outset = outset_on mode (key_of hash) (D.identity disk.old).sectors (last_image c) in
-        HasRunOn outset c left (ending_by result) (D.moments disk.new) (O.held out.old) (O.held out.new)
-        × EachMoment (D.moments disk.old) (D.moments disk.new)
-        (IsMomentOn mode (key_of hash) (D.identity disk.old).sectors c left)) (D.moments disk.old) }
+    ensures runs { RunsScript D.identity D.moments S.left O.held mode (key_of hash) (ending_by result)
+        disk.old disk.new script.old out.old out.new }
 
     ensures ends { IfErr result EndsImage }
-    ensures cause { IfErr result (HasEndCause (Rose (D.faults disk.old) (D.faults disk.new))
-        (Rose (S.faults script.old) (S.faults script.new)) (Rose (O.faults out.old) (O.faults out.new))) }
-    ensures counted { IsCounted Ended.Disk (D.faults disk.old) (D.faults disk.new) result
-        × IsCounted Ended.Script (S.faults script.old) (S.faults script.new) result
-        × IsCounted Ended.Sink (O.faults out.old) (O.faults out.new) result }
+    ensures cause { HasCauseOfRun D.faults S.faults O.faults result
+        disk.old disk.new script.old script.new out.old out.new }
+    ensures counted { IsCountedInRun D.faults S.faults O.faults result
+        disk.old disk.new script.old script.new out.old out.new }
 
     ensures unread { IfErr result (λ ended. IsBeforeScript ended → script.new ≡ script.old) }
     ensures taken { HasTaken (S.left script.old) (S.left script.new) }
-    ensures ahead { (left : List ℕ) → S.left script.old ≡ Some left
-        → HasNow (λ c. HasReadIn (outset_on mode (key_of hash) (D.identity disk.old).sectors (last_image c)) left
-        (S.left script.new) (O.held out.old) (O.held out.new)) (D.moments disk.old) }
+    ensures ahead { ReadsOnlyRun D.identity D.moments S.left O.held (outset_on mode (key_of hash))
+        disk.old script.old script.new out.old out.new }
     ensures identity { D.identity disk.new ≡ D.identity disk.old }
 {
     let Ok(mut reader) = LineReader::new(alloc) else {
@@ -106,24 +99,19 @@ fn run_device<'d, D: Disk, S: Source, O: Sink>(
     requires bound { IsBound (D.identity disk.old).name }
     requires reader { reader.old ≡ record { unread = []; line = []; taken = 0 } }
 
-    ensures runs { (left : List ℕ) → S.left script.old ≡ Some left
-        → HasNow (λ c. let outset = outset_on mode (key_of hash) (D.identity disk.old).sectors (last_image c) in
-        HasRunOn outset c left (ending_by ended.new) (D.moments result.now) (O.held out.old) (O.held out.new)
-        × EachMoment (D.moments disk.old) (D.moments result.now)
-        (IsMomentOn mode (key_of hash) (D.identity disk.old).sectors c left)) (D.moments disk.old) }
+    ensures runs { RunsScript D.identity D.moments S.left O.held mode (key_of hash) (ending_by ended.new)
+        disk.old result.now script.old out.old out.new }
 
     ensures ends { IfErr ended.new EndsImage }
-    ensures cause { IfErr ended.new (HasEndCause (Rose (D.faults disk.old) (D.faults result.now))
-        (Rose (S.faults script.old) (S.faults script.new)) (Rose (O.faults out.old) (O.faults out.new))) }
-    ensures counted { IsCounted Ended.Disk (D.faults disk.old) (D.faults result.now) ended.new
-        × IsCounted Ended.Script (S.faults script.old) (S.faults script.new) ended.new
-        × IsCounted Ended.Sink (O.faults out.old) (O.faults out.new) ended.new }
+    ensures cause { HasCauseOfRun D.faults S.faults O.faults ended.new
+        disk.old result.now script.old script.new out.old out.new }
+    ensures counted { IsCountedInRun D.faults S.faults O.faults ended.new
+        disk.old result.now script.old script.new out.old out.new }
 
     ensures unread { IfErr ended.new (λ ended. IsBeforeScript ended → script.new ≡ script.old) }
     ensures taken { HasTaken (S.left script.old) (S.left script.new) }
-    ensures ahead { (left : List ℕ) → S.left script.old ≡ Some left
-        → HasNow (λ c. HasReadIn (outset_on mode (key_of hash) (D.identity disk.old).sectors (last_image c)) left
-        (S.left script.new) (O.held out.old) (O.held out.new)) (D.moments disk.old) }
+    ensures ahead { ReadsOnlyRun D.identity D.moments S.left O.held (outset_on mode (key_of hash))
+        disk.old script.old script.new out.old out.new }
     ensures identity { D.identity result.now ≡ D.identity disk.old }
     ensures same_disk { result.ghost_name ≡ disk.entry.ghost_name }
 {

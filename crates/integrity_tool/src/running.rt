@@ -1,15 +1,12 @@
 //! Runs the lines of a script, one after the other: each is run, and its text printed whole, before the next
 //! one is taken.
-ghost use Rattle.std.specs.Prelude.{◌≡◌, ◌≤◌, ◌||◌, [], IfErr, IfOk, List, ℕ, OnOk, Some};
-ghost use Rattle.device_model.specs.ScriptRun.{ScriptRun, IsRunOf};
-ghost use Rattle.disk_model.specs.Causes.{Rose};
+ghost use Rattle.std.specs.Prelude.{◌≡◌, ◌||◌, IfErr, OnOk};
 ghost use Rattle.device_parts.specs.declared.condition.Condition.TheVariants.{Working};
 ghost use Rattle.device.specs.Calls.{Works};
-ghost use Rattle.device.specs.Device.{IsDevice, IsReady};
-ghost use Rattle.device_parts.specs.Device.{Standing};
+ghost use Rattle.device.specs.Device.{IsReady};
 ghost use Rattle.script_session.specs.Told.{finds_fault};
-ghost use Rattle.command_ending.specs.Ended.{ending_of};
-ghost use Rattle.integrity_tool.specs.Running.{EndsScript, HasEndCause, HasReadTo, HasTaken, IsAtClose, IsCounted, IsStopped};
+ghost use Rattle.integrity_tool.specs.Calls.{BeginsScript, HasCauseOfRun, IsCountedInRun, ReadsLines, RunsLines, StopsLines};
+ghost use Rattle.integrity_tool.specs.Running.{EndsScript};
 
 use crate::lines::{advance, run_bytes};
 use command_ending::Ended;
@@ -36,34 +33,21 @@ pub(crate) fn run_lines<'d, 'p, D: Disk, S: Source, O: Sink>(
     out: &mut O,
 ) -> Result<TagsFound, Ended>
     requires works { Works D.identity D.moments device.old.condition device.old.parts device.old.disk.now }
-    requires requests { (device.old.parts.common.slots.slots ≡ [])
-        × (device.old.parts.common.slots.submitted ≡ 0) }
-    requires reader { reader.old ≡ record { unread = []; line = []; taken = 0 } }
+    requires begins { BeginsScript device.old.parts.common.slots reader.old }
 
-    ensures lines { IfOk result (λ found. (w : Standing) (left : List ℕ) (run : ScriptRun)
-        → IsDevice w Working device.old.parts (D.moments device.old.disk.now) → S.left script.old ≡ Some left
-        → IsRunOf w.format w.state left run
-        → IsAtClose w run (D.moments device.old.disk.now) (O.held out.old) found device.new.parts
-        (D.moments device.new.disk.now) (O.held out.new)) }
+    ensures lines { RunsLines D.moments S.left O.held result device.old.parts device.new.parts
+        device.old.disk.now device.new.disk.now script.old out.old out.new }
 
-    ensures stopped { IfErr result (λ ended. (w : Standing) (left : List ℕ) (run : ScriptRun)
-        → IsDevice w Working device.old.parts (D.moments device.old.disk.now) → S.left script.old ≡ Some left
-        → IsRunOf w.format w.state left run
-        → IsStopped w run (ending_of ended) (D.moments device.old.disk.now) (D.moments device.new.disk.now)
-        (O.held out.old) (O.held out.new)) }
+    ensures stopped { StopsLines D.moments S.left O.held result device.old.parts
+        device.old.disk.now device.new.disk.now script.old out.old out.new }
     ensures ends { IfErr result EndsScript }
-    ensures cause { IfErr result (HasEndCause
-        (Rose (D.faults device.old.disk.now) (D.faults device.new.disk.now))
-        (Rose (S.faults script.old) (S.faults script.new)) (Rose (O.faults out.old) (O.faults out.new))) }
-    ensures counted { IsCounted Ended.Disk (D.faults device.old.disk.now) (D.faults device.new.disk.now) result
-        × IsCounted Ended.Script (S.faults script.old) (S.faults script.new) result
-        × IsCounted Ended.Sink (O.faults out.old) (O.faults out.new) result }
+    ensures cause { HasCauseOfRun D.faults S.faults O.faults result
+        device.old.disk.now device.new.disk.now script.old script.new out.old out.new }
+    ensures counted { IsCountedInRun D.faults S.faults O.faults result
+        device.old.disk.now device.new.disk.now script.old script.new out.old out.new }
 
-    ensures taken { HasTaken (S.left script.old) (S.left script.new)
-        × ((w : Standing) (left : List ℕ) (run : ScriptRun)
-        → IsDevice w Working device.old.parts (D.moments device.old.disk.now) → S.left script.old ≡ Some left
-        → IsRunOf w.format w.state left run
-        → HasReadTo run left (S.left script.new) (O.held out.old) (O.held out.new)) }
+    ensures taken { ReadsLines D.moments S.left O.held device.old.parts device.old.disk.now
+        script.old script.new out.old out.new }
     ensures works { OnOk result (device.new.condition ≡ Working) }
     ensures ready { IsReady device.new.condition device.new.parts
         (D.identity device.new.disk.now) (D.moments device.new.disk.now) }

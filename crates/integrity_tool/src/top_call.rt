@@ -1,6 +1,6 @@
 //! The top call: from the words to the status.
-ghost use Rattle.std.specs.Prelude.{◌≡◌, ◌⊎◌, ◌≤◌, Err, IfErr, IsOk, List, None, OnOk, Some, map, ℕ};
-ghost use Rattle.std.specs.Option.{ForSome, IsSomeAnd};
+ghost use Rattle.std.specs.Prelude.{◌≡◌, ◌⊎◌, ◌≤◌, IfErr, IsOk, OnOk, map};
+ghost use Rattle.std.specs.Option.{ForSome};
 ghost use Rattle.std.specs.String.{string_bytes};
 ghost use Rattle.disk_model.specs.Causes.{HasCause, Rose};
 ghost use Rattle.disk_model.specs.Identity.{IsBoundTo, IsThere};
@@ -9,10 +9,10 @@ ghost use Rattle.device_model.specs.Ending.{Complete, status_of};
 ghost use Rattle.script_session.specs.Told.{finds_fault};
 ghost use Rattle.integrity_tool.specs.Words.{HasNoScript, asked_of, image_name, key_file_of_asked};
 ghost use Rattle.integrity_tool.specs.KeyFile.{HasReadKey};
-ghost use Rattle.command_model.specs.CommandRun.{Tells};
-ghost use Rattle.integrity_tool.specs.Opening.{HasReadIn, HasRunOn};
+ghost use Rattle.integrity_tool.specs.Calls.{LeavesScript};
 ghost use Rattle.integrity_tool.specs.Running.{HasTaken, IsCounted, ending_by};
-ghost use Rattle.integrity_tool.specs.Top.{Given, HasCommandCause, HasMomentsIn, HasStatus, IsBeforeScript, IsGiven, IsRefusedByKey, outset_in};
+ghost use Rattle.integrity_tool.specs.Top.{EndsWithWords, HasCauseOfCommand, HasStatusBy, IsCountedInCommand};
+ghost use Rattle.integrity_tool.specs.Top.{KeepsSectors, PassesGiven, ReadsGiven, RefusesKeyFirst, RunsGiven, TellsGiven, TouchesNothing};
 
 use crate::asked::{Task, words_asked};
 use crate::carrying_out::carry_out;
@@ -47,37 +47,24 @@ pub fn integrity<D: Disk, K: NamedSource, S: Source, O: Sink>(
     out: &mut O,
 ) -> u8
     // The status, the text and what is left, by what the command is given.
-    ensures tells { (given : Given) (before : List ℕ)
-        → IsGiven (map string_bytes words.now) (K.named key.old)
-        (D.named disk.old (image_name (map string_bytes words.now))) (S.left script.old) given
-        → O.held out.old ≡ Some before → IsSomeAnd (O.held out.new) (λ after.
-        IsSomeAnd (content_now (D.named disk.new (image_name (map string_bytes words.now))).moments)
-        (Tells (outset_in given) given.content given.script before after result (record {
-          disk = Rose (D.faults disk.old) (D.faults disk.new);
-          key = Rose (K.faults key.old) (K.faults key.new);
-          script = Rose (S.faults script.old) (S.faults script.new);
-          sink = Rose (O.faults out.old) (O.faults out.new);
-        }))) }
+    ensures tells { TellsGiven (map string_bytes words.now) D.named K.named S.left O.held
+        D.faults K.faults S.faults O.faults result
+        disk.old disk.new key.old key.new script.old script.new out.old out.new }
     // What is left at each moment, what is written, and in which order an image is made.
-    ensures moments { (given : Given)
-        → IsGiven (map string_bytes words.now) (K.named key.old)
-        (D.named disk.old (image_name (map string_bytes words.now))) (S.left script.old) given
-        → HasMomentsIn given (D.named disk.old (image_name (map string_bytes words.now))).moments
-        (D.named disk.new (image_name (map string_bytes words.now))).moments }
+    ensures moments { PassesGiven (map string_bytes words.now) D.named K.named S.left
+        disk.old disk.new key.old script.old }
 
     // What each status but 0 to 3 comes from, and that no fault is passed over, whether the disk and the streams tell
     // what they hold or not.
-    ensures status { HasStatus (D.faults disk.old) (D.faults disk.new) (K.faults key.old) (K.faults key.new)
-        (S.faults script.old) (S.faults script.new) (O.faults out.old) (O.faults out.new) result }
+    ensures status { HasStatusBy D.faults K.faults S.faults O.faults result
+        disk.old disk.new key.old key.new script.old script.new out.old out.new }
 
     // Words that are no command touch nothing.
-    ensures words { asked_of (map string_bytes words.now) ≡ None → ((result ≡ 2) ⊎ (result ≡ 7))
-        × (disk.new ≡ disk.old) × (key.new ≡ key.old) × (script.new ≡ script.old) }
+    ensures words { TouchesNothing (map string_bytes words.now) ((result ≡ 2) ⊎ (result ≡ 7))
+        disk.old disk.new key.old key.new script.old script.new }
     // A key that is refused is so before the disk is called.
-    ensures key_first { (given : Given)
-        → IsGiven (map string_bytes words.now) (K.named key.old)
-        (D.named disk.old (image_name (map string_bytes words.now))) (S.left script.old) given
-        → IsRefusedByKey (outset_in given) → (disk.new ≡ disk.old) × (script.new ≡ script.old) }
+    ensures key_first { RefusesKeyFirst (map string_bytes words.now) D.named K.named S.left
+        disk.old disk.new key.old script.old script.new }
     // No key file is read but the one that the words name, and of that at most 4097 bytes.
     ensures key { HasReadKey (key_file_of_asked (asked_of (map string_bytes words.now))) (K.named key.old)
         (K.left key.new) (key.new ≡ key.old) (result ≤ 1) }
@@ -87,16 +74,11 @@ pub fn integrity<D: Disk, K: NamedSource, S: Source, O: Sink>(
         → script.new ≡ script.old }
     ensures taken { HasTaken (S.left script.old) (S.left script.new) }
     // A line is run before more than one piece behind it is taken.
-    ensures ahead { (given : Given)
-        → IsGiven (map string_bytes words.now) (K.named key.old)
-        (D.named disk.old (image_name (map string_bytes words.now))) (S.left script.old) given
-        → HasReadIn (outset_in given) given.script (S.left script.new) (O.held out.old) (O.held out.new) }
+    ensures ahead { ReadsGiven (map string_bytes words.now) D.named K.named S.left O.held
+        disk.old key.old script.old script.new out.old out.new }
     ensures bound { result ≤ 1
         → IsBoundTo (image_name (map string_bytes words.now)) (D.identity disk.new).name }
-    ensures sectors { ForSome
-        (content_now (D.named disk.old (image_name (map string_bytes words.now))).moments)
-        (λ c. (D.named disk.new (image_name (map string_bytes words.now))).sectors
-        ≡ (D.named disk.old (image_name (map string_bytes words.now))).sectors) }
+    ensures sectors { KeepsSectors (image_name (map string_bytes words.now)) (D.named disk.old) (D.named disk.new) }
 {
     match run(alloc, words, disk, key, script, out) {
         Ok(found) => complete_status(found),
@@ -131,43 +113,28 @@ fn run<D: Disk, K: NamedSource, S: Source, O: Sink>(
     script: &mut S,
     out: &mut O,
 ) -> Result<TagsFound, Ended>
-    ensures runs { (given : Given)
-        → IsGiven (map string_bytes words.now) (K.named key.old)
-        (D.named disk.old (image_name (map string_bytes words.now))) (S.left script.old) given
-        → HasRunOn (outset_in given) given.content given.script (ending_by result)
-        (D.named disk.new (image_name (map string_bytes words.now))).moments (O.held out.old) (O.held out.new)
-        × HasMomentsIn given (D.named disk.old (image_name (map string_bytes words.now))).moments
-        (D.named disk.new (image_name (map string_bytes words.now))).moments }
+    ensures runs { RunsGiven (map string_bytes words.now) D.named K.named S.left O.held (ending_by result)
+        disk.old disk.new key.old script.old out.old out.new }
 
-    ensures cause { IfErr result (HasCommandCause (Rose (D.faults disk.old) (D.faults disk.new))
-        (Rose (K.faults key.old) (K.faults key.new)) (Rose (S.faults script.old) (S.faults script.new))
-        (Rose (O.faults out.old) (O.faults out.new))) }
-    ensures counted { IsCounted Ended.Disk (D.faults disk.old) (D.faults disk.new) result
-        × IsCounted Ended.KeySource (K.faults key.old) (K.faults key.new) result
-        × IsCounted Ended.Script (S.faults script.old) (S.faults script.new) result
-        × IsCounted Ended.Sink (O.faults out.old) (O.faults out.new) result }
+    ensures cause { HasCauseOfCommand D.faults K.faults S.faults O.faults result
+        disk.old disk.new key.old key.new script.old script.new out.old out.new }
+    ensures counted { IsCountedInCommand D.faults K.faults S.faults O.faults result
+        disk.old disk.new key.old key.new script.old script.new out.old out.new }
 
-    ensures words { asked_of (map string_bytes words.now) ≡ None
-        → ((result ≡ Err Ended.Words) ⊎ (result ≡ Err Ended.Memory))
-        × (disk.new ≡ disk.old) × (key.new ≡ key.old) × (script.new ≡ script.old) }
-    ensures key_first { (given : Given)
-        → IsGiven (map string_bytes words.now) (K.named key.old)
-        (D.named disk.old (image_name (map string_bytes words.now))) (S.left script.old) given
-        → IsRefusedByKey (outset_in given) → (disk.new ≡ disk.old) × (script.new ≡ script.old) }
+    ensures words { TouchesNothing (map string_bytes words.now) (EndsWithWords result)
+        disk.old disk.new key.old key.new script.old script.new }
+    ensures key_first { RefusesKeyFirst (map string_bytes words.now) D.named K.named S.left
+        disk.old disk.new key.old script.old script.new }
     ensures key { HasReadKey (key_file_of_asked (asked_of (map string_bytes words.now))) (K.named key.old)
         (K.left key.new) (key.new ≡ key.old) (IsOk result) }
-    ensures unread { IfErr result (λ ended. IsBeforeScript ended → script.new ≡ script.old)
-        × (HasNoScript (asked_of (map string_bytes words.now)) → script.new ≡ script.old) }
-    ensures taken { HasTaken (S.left script.old) (S.left script.new) × ((given : Given)
-        → IsGiven (map string_bytes words.now) (K.named key.old)
-        (D.named disk.old (image_name (map string_bytes words.now))) (S.left script.old) given
-        → HasReadIn (outset_in given) given.script (S.left script.new) (O.held out.old) (O.held out.new)) }
+    ensures unread { LeavesScript result (HasNoScript (asked_of (map string_bytes words.now)))
+        script.old script.new }
+    ensures taken { HasTaken (S.left script.old) (S.left script.new) }
+    ensures ahead { ReadsGiven (map string_bytes words.now) D.named K.named S.left O.held
+        disk.old key.old script.old script.new out.old out.new }
     ensures bound { OnOk result (IsBoundTo (image_name (map string_bytes words.now))
         (D.identity disk.new).name) }
-    ensures sectors { ForSome
-        (content_now (D.named disk.old (image_name (map string_bytes words.now))).moments)
-        (λ c. (D.named disk.new (image_name (map string_bytes words.now))).sectors
-        ≡ (D.named disk.old (image_name (map string_bytes words.now))).sectors) }
+    ensures sectors { KeepsSectors (image_name (map string_bytes words.now)) (D.named disk.old) (D.named disk.new) }
 {
     let asked = words_asked(alloc, words)?;
     let hash = hash_of(alloc, key, &asked.hash)?;

@@ -1,7 +1,6 @@
 pub mod OverDisk
 pub mod KindLemmas
 pub mod DoneLemmas
-pub mod NextLemmas
 pub mod WriteLemmas
 pub mod ServingLemmas
 pub mod EventLemmas

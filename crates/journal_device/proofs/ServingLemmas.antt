@@ -40,6 +40,7 @@ use Rattle.device_parts.specs.declared.condition.Condition.TheVariants as Condit
 use Rattle.device_parts.specs.declared.parts.Parts.{Parts}
 use Rattle.device_parts.specs.Answers.{after_read, served_by, tag_by}
 use Rattle.device_parts.specs.Device.{IsReady}
+use Rattle.device_parts.proofs.NextLemmas.{IsNext, bytes-next, finished-is, flight_put, held-is, next_of_ticket, open_then, requests_then, result_is, serve_is, served_asked, there_then}
 use Rattle.device_parts.proofs.TurnLemmas.{answer_is}
 use Rattle.tag_store.specs.Store.{Store}
 use Rattle.journal_mode.specs.Commits.{HasFlushed}
@@ -53,7 +54,6 @@ use Rattle.journal_device.specs.Device.{IsOverDisk, JournaledStanding, standing_
 use Rattle.journal_device.specs.Writing.{HasFlushedIf}
 use Rattle.journal_device.proofs.DoneLemmas.{broken_done, idle_now, only_done, stands_now, working_done, working-is}
 use Rattle.journal_device.proofs.KindLemmas.{standing_now}
-use Rattle.journal_device.proofs.NextLemmas.{IsNext, bytes-next, flight_put, next_of_ticket, open_then, requests_then, result_is, serve_is, served_asked, there_then}
 
 none_of : {A : Type 0} (o : Option A) → is_some o ≡ false → o ≡ None
 none_of None none = refl
@@ -93,17 +93,17 @@ module _ (w : JournaledStanding) (parts : Parts) (journal : PlacedRing) (a : Lis
   y = standing_of w
 
   abbrev Next : ℕ → Turn → Type 0
-  Next ticket turn = IsNext f s parts.slots is.flight ticket turn
+  Next ticket turn = IsNext s.progress.requests ticket turn
 
   next_told : (ticket : ℕ) (turn : Turn) → is_in_flight ticket parts.slots ≡ true → turn_of parts.slots ticket ≡ turn → Next ticket turn
-  next_told ticket turn there told = next_of_ticket f s parts.slots is.flight ticket turn there told
+  next_told ticket turn there told = next_of_ticket f parts.slots s.progress.requests is.flight ticket turn there told
 
   -- ---- nothing is done
 
   pub serve_finished : (ticket : ℕ) (b : List Content) → is_in_flight ticket parts.slots ≡ true → turn_of parts.slots ticket ≡ Turns.Finished → b ≡ a → IsServedAs w ticket Serves.Done parts journal a b
   serve_finished ticket b there turn same =
       let next = next_told ticket Turns.Finished there turn in
-      let told = working-is w parts journal a is (Model.Serve (suc next.k)) ∙ ap (Model.serve_asked f s next.k) next.there ∙ ap (Model.serve_by f s next.k next.asked) next.turn_ in
+      let told = finished-is f s is.condition_ next.k next.asked next.there next.turn_ in
       subst (λ (t : ℕ). IsServedAs w t Serves.Done parts journal a b) (sym next.ticket_)
       (subst (λ (x : List Content). IsServedAs w (suc next.k) Serves.Done parts journal a x) (sym same)
       (only_done w Conditions.Working parts journal a is (Model.Serve (suc next.k)) Model.Done told refl))
@@ -111,8 +111,7 @@ module _ (w : JournaledStanding) (parts : Parts) (journal : PlacedRing) (a : Lis
   pub serve_held : (ticket by : ℕ) (b : List Content) → is_in_flight ticket parts.slots ≡ true → turn_of parts.slots ticket ≡ Turns.Held by → b ≡ a → IsServedAs w ticket (Serves.Held by) parts journal a b
   serve_held ticket by b there turn same =
       let next = next_told ticket (Turns.Held by) there turn in
-      let told = working-is w parts journal a is (Model.Serve (suc next.k)) ∙ ap (Model.serve_asked f s next.k) next.there ∙ ap (Model.serve_by f s next.k next.asked) next.turn_.0
-      ∙ ap (Model.serve_unheld f s next.k next.asked) next.turn_.1 in
+      let told = held-is f s is.condition_ next.k next.asked next.there by next.turn_.0 next.turn_.1 in
       subst (λ (t : ℕ). IsServedAs w t (Serves.Held by) parts journal a b) (sym next.ticket_)
       (subst (λ (x : List Content). IsServedAs w (suc next.k) (Serves.Held by) parts journal a x) (sym same)
       (only_done w Conditions.Working parts journal a is (Model.Serve (suc next.k)) (Model.HeldBy by) told refl))
@@ -121,7 +120,7 @@ module _ (w : JournaledStanding) (parts : Parts) (journal : PlacedRing) (a : Lis
 
   module _ (k : ℕ) (r : Asks.Asked) (served : IsServed s k r) where
     abbrev then_ : List Asks.Asked
-    then_ = requests_then f s parts.slots is.flight k r served
+    then_ = requests_then f s k r
 
     -- Once those in flight are the requests with its next block, and the journal stands for what that changes,
     served_done : (request : Asks.Request) (j : JournalCounts) → r.request ≡ request → Model.journal_with f s.progress.journal r request ≡ Some j
@@ -130,11 +129,11 @@ module _ (w : JournaledStanding) (parts : Parts) (journal : PlacedRing) (a : Lis
         → (kept : ℕ) (h : History) → h ≡ with_changes (take kept (Model.block_changes (suc k) r request)) s.history → EachMoment a b (EachImage (IsLeftInJournal w.disk.format h))
         → IsServedAs w (suc k) (served_by (turn_of new.slots (suc k))) new p a b
     served_done request j e put_is d same new p b flight maker stands kept h within m =
-        let told = result_is f s parts.slots is.flight k r served request j e put_is in
-        let asked = served_asked f s parts.slots is.flight k r served in
+        let told = result_is f s k r served request j e put_is in
+        let asked = served_asked f s r in
         record {
           answers = ap (λ (x : Model.EventResult). x.answer) told
-              ∙ answer_is f new.slots then_ flight k asked (there_then f s parts.slots is.flight k r served) (open_then f s parts.slots is.flight k r served);
+              ∙ answer_is f new.slots then_ flight k asked (there_then f s k r served) (open_then f s k r served);
           done = working_done w parts journal a is (Model.Serve (suc k)) (Model.serve_with f s k r (Some j)) told is.condition_ d same new p b flight maker
               (still_served f s.progress r r.request (ap (λ (x : DeviceFormat). is_bitmap x.mode) is.format) is.still)
               (subst (λ (q : Asks.Request). StandsAs (record { format = f; history = with_changes (Model.block_changes (suc k) r q) s.history; counts = j; disk = d }) p new.tags b) (sym e) stands)
@@ -152,7 +151,7 @@ module _ (w : JournaledStanding) (parts : Parts) (journal : PlacedRing) (a : Lis
         let told : Model.event_result f s (Model.FailedServe (suc k)) ≡ x =
         working-is w parts journal a is (Model.FailedServe (suc k))
         ∙ ap (λ (z : Model.EventResult). let result : Model.EventResult = record { answer = Model.DiskFailed; changes = Model.first_begun z.changes; progress = s.progress } in result)
-        (serve_is f s parts.slots is.flight k r served request e ∙ ap (Model.serve_with f s k r) put_is)
+        (serve_is f s k r served request e ∙ ap (Model.serve_with f s k r) put_is)
         ∙ ap (λ (q : Asks.Request). let result : Model.EventResult = record { answer = Model.DiskFailed; changes = Model.first_begun (Model.block_changes (suc k) r q); progress = s.progress } in result) e in
         broken_done w parts journal a is (Model.FailedServe (suc k)) x told (ap Model.after_failure is.condition_) new p b
         (subst (λ (z : Flight). IsFlightOf f z s.progress.requests) (sym slots) is.flight) maker refl
@@ -168,7 +167,7 @@ module _ (w : JournaledStanding) (parts : Parts) (journal : PlacedRing) (a : Lis
         (flight_flushed f (cells_now f.blocks.tag s.history) parts.slots s.progress.requests k r is.flight served.there served.unfinished e) in
         let as_told = served_done Asks.Flush (commit_all s.progress.journal) e refl has.disk has.format new p b flight maker (has.flushed (idle_now w parts journal a is)) 0 s.history refl m in
         record {
-          answers = ap (λ (x : Model.EventResult). x.answer) (result_is f s parts.slots is.flight k r served Asks.Flush (commit_all s.progress.journal) e refl)
+          answers = ap (λ (x : Model.EventResult). x.answer) (result_is f s k r served Asks.Flush (commit_all s.progress.journal) e refl)
               ∙ ap (λ (q : Asks.Request). Model.answer_by (Model.with_block_of f (cells_now f.blocks.tag s.history) r q).state) e;
           done = as_told.done;
         }
@@ -206,7 +205,7 @@ module _ (w : JournaledStanding) (parts : Parts) (journal : PlacedRing) (a : Lis
         let told : ModelReply.block_reply f.blocks.tag block (readable_cells f (cells_now f.blocks.tag s.history) block) ≡ ModelReply.block_reply (tagger_of w.disk.format) block cell =
         ap (ModelReply.block_reply f.blocks.tag block) readable ∙ ap (λ (x : DeviceFormat). ModelReply.block_reply x.blocks.tag block cell) is.format in
         let flight = subst (λ (x : Flight). IsFlightOf f x then_) (sym slots)
-        (flight_put f s parts.slots is.flight k r served (tagger_of w.disk.format) first count block bytes stored computed e block_ (size ∙ is.flight.block_size) computed_ told) in
+        (flight_put f s k r served parts.slots is.flight (tagger_of w.disk.format) first count block bytes stored computed e block_ (size ∙ is.flight.block_size) computed_ told) in
         served_done (Asks.Read first count) s.progress.journal e refl w.disk refl new journal b flight maker kept.now 0 s.history refl kept.left
 
     -- ---- a write
@@ -232,7 +231,7 @@ module _ (w : JournaledStanding) (parts : Parts) (journal : PlacedRing) (a : Lis
           let none = none_of (put f.sections f.entries (first + r.served) s.progress.journal.sections)
           (has_room_law f s.history s.progress.journal w.disk journal.ring (first + r.served) (stands_now w parts journal a is).device ∙ full) in
           only_done w Conditions.Working parts journal a is (Model.Serve (suc k)) Model.NoRoom
-          (working-is w parts journal a is (Model.Serve (suc k)) ∙ serve_is f s parts.slots is.flight k r served (Asks.Write first blocks fua) e
+          (working-is w parts journal a is (Model.Serve (suc k)) ∙ serve_is f s k r served (Asks.Write first blocks fua) e
           ∙ ap (Model.serve_with f s k r) (journal_is ∙ ap (option_map (counts_if (Model.is_flushed_by r blocks fua))) none)) refl
 
       module _ (z : BlockWrite) (to : z ≡ write) (mid : PlacedRing) (has : HasPut y z mid parts.tags a) where
@@ -357,7 +356,7 @@ module _ (w : JournaledStanding) (parts : Parts) (journal : PlacedRing) (a : Lis
           write_is : (next : Next ticket (Turns.Write block flushes)) → IsServed s next.k next.asked
               → block_write ticket block bytes ≡ next_write next.k next.turn_.first next.turn_.blocks next.asked.served
           write_is next served =
-              let same = bytes-next f s parts.slots is.flight next.k next.asked served is.reached next.turn_.first next.turn_.blocks next.turn_.fua next.turn_.request bytes
+              let same = bytes-next f s next.k next.asked served parts.slots is.flight is.reached next.turn_.first next.turn_.blocks next.turn_.fua next.turn_.request bytes
               (subst (λ (t : ℕ). IfSome (slot_of t parts.slots) (λ slot. bytes ≡ next_bytes parts.slots.block_size slot)) next.ticket_ bytes_) in
               ap (λ (t : ℕ). block_write t block bytes) next.ticket_ ∙ ap (λ (n : ℕ). block_write (suc next.k) n bytes) next.turn_.block_
               ∙ ap (block_write (suc next.k) (next.turn_.first + next.asked.served)) same

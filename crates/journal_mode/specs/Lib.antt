@@ -13,4 +13,5 @@ pub mod Commits
 pub mod Moves
 pub mod Freeing
 pub mod Closing
+pub mod Calls
 pub mod Opening

@@ -1,8 +1,6 @@
 //! Dropping the places of the sections that were freed.
-ghost use Rattle.std.specs.Prelude.{◌≡◌, ◌+◌, ◌<◌, ℕ};
-ghost use Rattle.journal_model.specs.Ring.{JournalRing};
-ghost use Rattle.journal_mode.specs.Freeing.{HasFreed};
-ghost use Rattle.journal_mode.specs.Journal.{places_of};
+ghost use Rattle.std.specs.Prelude.{◌≡◌, ◌+◌, ◌<◌};
+ghost use Rattle.journal_mode.specs.Freeing.{DropsFreed};
 ghost use Rattle.journal_ring.specs.Places.{oldest_at, oldest_of};
 ghost use Rattle.journal_ring.specs.Sections.{wrap};
 
@@ -28,8 +26,7 @@ fn drop_from(overlay: &mut Overlay, ring: &Ring<'_>, from: u64)
     requires from { from < ring.now.geometry.sections }
 
     ensures capacity { overlay.new.capacity ≡ overlay.old.capacity }
-    ensures kept { (old : JournalRing) (count : ℕ) → HasFreed old count ring.now → from ≡ oldest_at old
-        → overlay.old.kept ≡ places_of old → overlay.new.kept ≡ places_of ring.now }
+    ensures kept { DropsFreed from oldest_at ring.now overlay.old.kept overlay.new.kept }
 {
     let sections = ring.sections();
     let mut section = from;
@@ -45,8 +42,7 @@ fn drop_from(overlay: &mut Overlay, ring: &Ring<'_>, from: u64)
 /// Drops the places of the sections that were freed, where `oldest` was the oldest section before.
 pub(crate) fn drop_freed(overlay: &mut Overlay, ring: &Ring<'_>, oldest: Option<u64>)
     ensures capacity { overlay.new.capacity ≡ overlay.old.capacity }
-    ensures kept { (old : JournalRing) (count : ℕ) → HasFreed old count ring.now → oldest ≡ oldest_of old
-        → overlay.old.kept ≡ places_of old → overlay.new.kept ≡ places_of ring.now }
+    ensures kept { DropsFreed oldest oldest_of ring.now overlay.old.kept overlay.new.kept }
 {
     let Some(from) = oldest else {
         return;

@@ -1,20 +1,20 @@
 //! A journal in use, and the calls of a device over it.
-ghost use Rattle.std.specs.Prelude.{◌≡◌, ◌↔◌, ◌⊎◌, [], ◌*◌, ◌<◌, ℕ, List, None, Some, true, is_some, length, IfOk, IsOk, OnErr, OnOk};
+ghost use Rattle.std.specs.Prelude.{◌≡◌, ◌↔◌, ◌⊎◌, [], ◌*◌, ◌<◌, Some, true, is_some, length, IfOk, IsOk, OnErr, OnOk};
 ghost use Rattle.disk_model.specs.Causes.{HasCause};
-ghost use Rattle.disk_model.specs.Disk.{Content, OnlyAdds};
-ghost use Rattle.disk_model.specs.Moments.{EachSince, HasNow};
+ghost use Rattle.disk_model.specs.Disk.{OnlyAdds};
+ghost use Rattle.disk_model.specs.Moments.{EachSince};
 ghost use Rattle.image_model.specs.Geometry.{journal_sectors};
 ghost use Rattle.image_model.specs.Section.{Entry};
 ghost use Rattle.journal_laws.specs.Device.{IsJournalOf};
 ghost use Rattle.device_model.specs.Progress.{is_journaled};
-ghost use Rattle.replay.specs.DirectModeCells.{IsBlock, IsTaggedBlock, block_write};
+ghost use Rattle.replay.specs.DirectModeCells.{IsBlock, IsTaggedBlock};
 ghost use Rattle.journal_model.specs.Ring.{entries_of, has_room};
 ghost use Rattle.journal_ring.specs.Batch.{WritesBatch};
 ghost use Rattle.journal_ring.specs.Places.{entry_of};
 ghost use Rattle.journal_ring.specs.RoomLaws.{HasBounds};
 ghost use Rattle.replay.specs.Moves.{HasPlaced, HasSettled, WritesNext, WritesTags};
 ghost use Rattle.replay.specs.Placement.{placed_in};
-ghost use Rattle.tag_store.specs.Store.{IsOutForTag, IsStore, Store};
+ghost use Rattle.tag_store.specs.Store.{IsOutForTag, IsStore};
 
 use crate::freeing::drop_freed;
 use crate::reading::{read_entry, read_placed};
@@ -51,13 +51,11 @@ impl<'p> Model for Journal<'p> {
 impl<'p> Journal<'p> {
     ghost use Rattle.journal_mode.specs.Journal.{after_put, empty_journal};
     ghost use Rattle.journal_mode.specs.Standing.{IsLeftThrough, JournalStanding, StandsAs};
-    ghost use Rattle.journal_mode.specs.Puts.{HasPut, TakesWrite, sections_with};
-    ghost use Rattle.journal_mode.specs.Commits.{CommitsAs, HasCommitted, HasFlushed, WritesBatches};
-    ghost use Rattle.journal_mode.specs.Commits.{after_flush, after_one};
-    ghost use Rattle.journal_mode.specs.Closing.{HasClosed, HasPlacedMore, IsAllFree, WritesAll, WritesEntries};
-    ghost use Rattle.journal_mode.specs.Closing.{committed_to_place};
-    ghost use Rattle.journal_mode.specs.Moves.{PlacesAs, SettlesAs};
-    ghost use Rattle.journal_mode.specs.Reads.{GivesBlock, HasRead, KeepsStanding, newest_in};
+    ghost use Rattle.journal_mode.specs.Calls.{ClosesEach, CommitsEach, CountsEach, FlushesEach, KeepsEach};
+    ghost use Rattle.journal_mode.specs.Calls.{PlacesAll, PlacesEach, PutsEach, ReadsEach, SettlesEach};
+    ghost use Rattle.journal_mode.specs.Commits.{HasCommitted, WritesBatches, after_flush, after_one};
+    ghost use Rattle.journal_mode.specs.Closing.{IsAllFree, WritesAll, WritesEntries, committed_to_place};
+    ghost use Rattle.journal_mode.specs.Reads.{HasRead, newest_in};
 
     /// The journal of a device that has just been recovered, of which nothing is to be placed.
     pub fn new(room: JournalRoom, pool: Run<'p>, at: Recovered) -> Journal<'p>
@@ -108,15 +106,12 @@ impl<'p> Journal<'p> {
 
         ensures read { IfOk result (λ tag. HasRead (newest_in self.now.ring block) block out.new tag
             tags.old tags.new disk.old disk.new (D.moments disk.old)) }
-        ensures cell { IfOk result (λ tag. (w : JournalStanding)
-            → StandsAs w self.now tags.old (D.moments disk.old) → w.history.pending ≡ None
-            → HasNow (λ c. GivesBlock w block out.new tag) (D.moments disk.old)) }
+        ensures cell { IfOk result (λ tag. ReadsEach self.now block out.new tag tags.old (D.moments disk.old)) }
 
         ensures journaled { (entry : Entry) → newest_in self.now.ring block ≡ Some entry → IsOk result }
         ensures cause { HasCause (D.faults disk.old) (D.faults disk.new) result }
 
-        ensures kept { (w : JournalStanding) → StandsAs w self.now tags.old (D.moments disk.old)
-            → KeepsStanding w self.now tags.new (D.moments disk.old) (D.moments disk.new) }
+        ensures kept { KeepsEach self.now tags.old tags.new (D.moments disk.old) (D.moments disk.new) }
 
         ensures store { IsStore tags.new (D.identity disk.new) (D.moments disk.new) }
         ensures geometry { tags.new.geometry ≡ tags.old.geometry }
@@ -141,15 +136,10 @@ impl<'p> Journal<'p> {
 
         ensures put { OnOk result (self.new
             ≡ after_put (entry_of self.old.ring.geometry block bytes.now tag.now) self.old) }
-        ensures written { OnOk result ((w : JournalStanding) (ticket : ℕ) (store : Store)
-            (moments : List Content)
-            → TakesWrite w (block_write ticket block bytes.now) tag.now self.old store moments
-            → HasPut w (block_write ticket block bytes.now) self.new store moments) }
+        ensures written { OnOk result (PutsEach block bytes.now tag.now self.old self.new) }
 
         ensures room { IsOk result ↔ (has_room self.old.ring ≡ true) }
-        ensures counted { (w : JournalStanding)
-            → IsJournalOf w.format w.history w.counts w.disk self.old.ring
-            → IsOk result ↔ (is_some (sections_with w block) ≡ true) }
+        ensures counted { CountsEach self.old.ring block (IsOk result) }
         ensures err { OnErr result (self.new ≡ self.old) }
     {
         let place = self.ring.put(block, bytes, tag)?;
@@ -169,9 +159,8 @@ impl<'p> Journal<'p> {
 
         ensures moved { IfOk result (λ moved. HasCommitted moved self.old self.new disk.old disk.new
             (D.moments disk.old) (D.moments disk.new)) }
-        ensures committed { IfOk result (λ moved. (w : JournalStanding)
-            → StandsAs w self.old tags.now (D.moments disk.old)
-            → CommitsAs moved w self.old self.new tags.now (D.moments disk.new)) }
+        ensures committed { IfOk result (λ moved. CommitsEach moved self.old self.new tags.now
+            (D.moments disk.old) (D.moments disk.new)) }
 
         ensures cause { HasCause (D.faults disk.old) (D.faults disk.new) result }
         ensures err { OnErr result (self.new ≡ self.old) }
@@ -203,9 +192,8 @@ impl<'p> Journal<'p> {
 
         ensures all { OnOk result (self.new.ring.opened ≡ []) }
         ensures committed { OnOk result (self.new ≡ after_flush self.old) }
-        ensures flushed { OnOk result ((w : JournalStanding)
-            → StandsAs w self.old tags.now (D.moments disk.old)
-            → HasFlushed w self.new tags.now (D.moments disk.new)) }
+        ensures flushed { OnOk result (FlushesEach self.old self.new tags.now
+            (D.moments disk.old) (D.moments disk.new)) }
 
         ensures cause { HasCause (D.faults disk.old) (D.faults disk.new) result }
         ensures err { OnErr result ((self.new ≡ self.old) ⊎ (self.new ≡ after_one self.old)) }
@@ -235,9 +223,8 @@ impl<'p> Journal<'p> {
 
         ensures moved { IfOk result (λ moved. HasPlaced moved self.old.placement self.new.placement
             self.old.ring tags.old tags.new disk.old disk.new) }
-        ensures placed { IfOk result (λ moved. (w : JournalStanding)
-            → StandsAs w self.old tags.old (D.moments disk.old)
-            → PlacesAs moved w self.new tags.new (D.moments disk.new)) }
+        ensures placed { IfOk result (λ moved. PlacesEach moved self.old self.new tags.old tags.new
+            (D.moments disk.old) (D.moments disk.new)) }
 
         ensures cause { HasCause (D.faults disk.old) (D.faults disk.new) result }
         ensures err { OnErr result (self.new ≡ self.old) }
@@ -267,9 +254,8 @@ impl<'p> Journal<'p> {
 
         ensures moved { IfOk result (λ moved. HasSettled moved self.old.placement self.new.placement
             self.old.ring self.new.ring tags.old tags.new disk.old disk.new) }
-        ensures settled { IfOk result (λ moved. (w : JournalStanding)
-            → StandsAs w self.old tags.old (D.moments disk.old)
-            → SettlesAs moved w self.new tags.new (D.moments disk.new)) }
+        ensures settled { IfOk result (λ moved. SettlesEach moved self.old self.new tags.old tags.new
+            (D.moments disk.old) (D.moments disk.new)) }
 
         ensures cause { HasCause (D.faults disk.old) (D.faults disk.new) result }
         ensures err { OnErr result (self.new ≡ self.old) }
@@ -301,9 +287,8 @@ impl<'p> Journal<'p> {
 
         ensures all { OnOk result (placed_in self.new.placement self.new.ring
             ≡ length (entries_of self.new.ring.committed)) }
-        ensures placed { OnOk result ((w : JournalStanding)
-            → StandsAs w self.old tags.old (D.moments disk.old)
-            → HasPlacedMore w self.new tags.new (D.moments disk.new)) }
+        ensures placed { OnOk result (PlacesAll self.old self.new tags.old tags.new
+            (D.moments disk.old) (D.moments disk.new)) }
 
         ensures cause { HasCause (D.faults disk.old) (D.faults disk.new) result }
 
@@ -337,9 +322,8 @@ impl<'p> Journal<'p> {
         requires store { IsStore tags.old (D.identity disk.old) (D.moments disk.old) }
 
         ensures free { OnOk result (IsAllFree self.new.ring) }
-        ensures closed { OnOk result ((w : JournalStanding)
-            → StandsAs w self.old tags.old (D.moments disk.old)
-            → w.history.pending ≡ None → HasClosed w self.new tags.new (D.moments disk.new)) }
+        ensures closed { OnOk result (ClosesEach self.old self.new tags.old tags.new
+            (D.moments disk.old) (D.moments disk.new)) }
 
         ensures cause { HasCause (D.faults disk.old) (D.faults disk.new) result }
 

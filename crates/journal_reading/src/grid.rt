@@ -20,7 +20,7 @@ use std::alloc::Global;
 /// The first sector of the journal on every disk. The superblock has those before it.
 ///
 /// Source: Linux, `drivers/md/dm-integrity.c`, `SB_SECTORS`.
-pub(crate) const JOURNAL_AT: u64 = 8;
+pub const JOURNAL_AT: u64 = 8;
 
 /// How many sectors of a journal one call of the disk reads at most.
 ///
@@ -37,8 +37,8 @@ pub struct GridRoom {
 }
 
 impl GridRoom {
-    /// Takes the memory for the grid of a journal: for what each of its sectors bears, and for what one call of the disk
-    /// reads.
+    /// Takes the memory for the grid of a journal: for what each of its sectors bears, and for what one call of the
+    /// disk reads.
     ///
     /// # Errors
     ///

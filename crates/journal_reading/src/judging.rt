@@ -38,7 +38,8 @@ use std::alloc::Global;
 const LARGEST_BLOCK: usize = 8 * SECTOR_SIZE;
 
 /// Judges the used entries of the sections that count, in the order in which they would be replayed, and keeps which is
-/// the newest of each block. Each of these sections is read once, by one call of the disk, and each entry is hashed once.
+/// the newest of each block. Each of these sections is read once, by one call of the disk, and each entry is hashed
+/// once.
 ///
 /// Own: all are judged before any is replayed.
 ///
@@ -101,8 +102,8 @@ pub(crate) fn judge_planned<D: Disk>(
     })
 }
 
-/// Judges the entry with this number among those of a walk, if it is used, and tells how many used ones stand there: one
-/// or none. Its section is read where the window does not show it, and its bytes are put into `block`.
+/// Judges the entry with this number among those of a walk, if it is used, and tells how many used ones stand there:
+/// one or none. Its section is read where the window does not show it, and its bytes are put into `block`.
 ///
 /// # Errors
 ///
@@ -152,8 +153,8 @@ fn judge_at<D: Disk>(
     )
 }
 
-/// Judges an entry by the bytes of its section, if it is used, and makes it the newest of its block. Tells how many used
-/// ones stand there: one or none. Its bytes are put into `block`.
+/// Judges an entry by the bytes of its section, if it is used, and makes it the newest of its block. Tells how many
+/// used ones stand there: one or none. Its bytes are put into `block`.
 ///
 /// # Errors
 ///

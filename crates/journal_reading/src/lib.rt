@@ -17,7 +17,7 @@ mod reading;
 
 pub use entries::read_entry;
 pub use faults::{JournalFault, ReplayFault};
-pub use grid::{GridRoom, read_grid};
+pub use grid::{GridRoom, JOURNAL_AT, read_grid};
 pub use newest::NewestEntries;
 pub use places::{entry_count, entry_place};
 pub use reading::{JudgedJournal, judge_journal, read_journal};

@@ -4,4 +4,5 @@ pub mod RestLemmas
 pub mod TakingLemmas
 pub mod AwaitingLemmas
 pub mod LawsLemmas
+pub mod Worked
 mod ScratchServes

@@ -1,14 +1,11 @@
 -- A disk while data and tags of blocks come to their places, one after the other.
-use Rattle.std.proofs.Common.{◌≡◌, inl, inr, ⊎_elim, ℕ, ◌+◌, ◌-◌, ◌*◌, ◌/◌, ◌<◌, ◌==◌, Bool, true, false, refl, sym, ◌∙◌, ap, subst, arith, if◌then◌else◌, Some, List, length}
-use Rattle.std.specs.List.{Contains}
+use Rattle.std.proofs.Common.{◌≡◌, inl, inr, ⊎_elim, ℕ, ◌+◌, ◌-◌, ◌*◌, ◌<◌, Bool, false, refl, sym, ◌∙◌, ap, subst, arith, List, length}
 use Rattle.std.proofs.lemmas.Bool.{cases_eq, eq-eqb, ne_eqb}
-use Rattle.std.proofs.lemmas.Option.{same_Some}
 use Rattle.disk_model.specs.Disk.{AddsSome, Content, IsOfRun, OnlyAdds, Reads, last_image, sector_in, with_run}
 use Rattle.disk_model.specs.Moments.{EachMoment, EachSince, HasNow, IsChangedBy, content_now}
 use Rattle.disk_model.proofs.DiskLemmas.{AddsSome-adds, AddsSome-all, OnlyAdds-none, last_image-with_run, last_image-with_run_out}
 use Rattle.disk_model.proofs.MomentsLemmas.{EachMoment-then}
 use Rattle.image_model.specs.Bitmap.{is_to_recalculate}
-use Rattle.image_model.specs.Cells.{Cell}
 use Rattle.image_model.specs.Geometry.{Geometry, data_at}
 use Rattle.place_model.specs.Tags.{IsOfTags, KeepsOthers, with_block_tag}
 use Rattle.place_model.proofs.BlocksLemmas.{KeepsOthers-data}

@@ -1,5 +1,5 @@
 -- What the state of a journal says once its entries are in place.
-use Rattle.std.proofs.Common.{◌≡◌, ◌↔◌, ◌⊎◌, inl, inr, ℕ, ◌*◌, ◌<◌, Bool, false, refl, sym, ◌∙◌, ap, subst, arith, Some, Result, Ok, IfOk, List, [], ◌∷◌, length}
+use Rattle.std.proofs.Common.{◌≡◌, ◌↔◌, ◌⊎◌, inl, inr, ℕ, ◌*◌, ◌<◌, Bool, false, refl, sym, ◌∙◌, ap, subst, arith, Some, Result, IfOk, List, [], ◌∷◌, length}
 use Rattle.image_model.specs.declared.journal_plan.Plan.{Plan}
 use Rattle.image_model.specs.declared.journal_plan.State.TheVariants.{Rest, Mixed, Erasing, Blank}
 use Rattle.image_model.specs.declared.scan_fault.ScanFault.{ScanFault}

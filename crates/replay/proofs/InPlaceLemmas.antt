@@ -1,9 +1,9 @@
 -- Entries that are in their places already.
-use Rattle.std.proofs.Common.{◌≡◌, ℕ, ◌+◌, ◌*◌, ◌<◌, false, refl, sym, ◌∙◌, ap, subst, Option, Some, List, length, IsOk}
-use Rattle.disk_model.specs.Disk.{Content, Image, Reads, last_image, sector_in}
+use Rattle.std.proofs.Common.{◌≡◌, ℕ, ◌+◌, ◌*◌, ◌<◌, refl, sym, ◌∙◌, ap, subst, Some, List, length}
+use Rattle.disk_model.specs.Disk.{Content, Image, last_image, sector_in}
 use Rattle.disk_model.specs.Identity.{DiskIdentity}
-use Rattle.disk_model.specs.Moments.{HasNow, content_now}
-use Rattle.image_model.specs.Cells.{Cell, last_entry, placed_cells_of, replayed_entries}
+use Rattle.disk_model.specs.Moments.{content_now}
+use Rattle.image_model.specs.Cells.{Cell, placed_cells_of, replayed_entries}
 use Rattle.image_model.specs.Geometry.{Geometry, data_at, tag_at}
 use Rattle.image_model.specs.Section.{Entry}
 use Rattle.image_model.specs.Sectors.{bytes_at, piece}

@@ -7,6 +7,7 @@ pub mod ReplayingLemmas
 pub mod AmidLemmas
 pub mod TurnedLemmas
 pub mod InPlaceLemmas
+pub mod ReadPlacesLemmas
 pub mod RecoveryLemmas
 pub mod ErasedLemmas
 pub mod FinishingLemmas

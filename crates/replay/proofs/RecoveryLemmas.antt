@@ -1,13 +1,13 @@
 -- From the image at the entry of a recovery to what the disk stands for.
-use Rattle.std.proofs.Common.{◌≡◌, inl, inr, ℕ, ◌<◌, false, refl, sym, ◌∙◌, ap, subst, arith, Option, None, Some, IsOk, List, [], length, take}
+use Rattle.std.proofs.Common.{◌≡◌, inl, inr, ℕ, ◌<◌, false, refl, sym, ◌∙◌, ap, subst, arith, Some, List, [], length, take}
 use Rattle.std.proofs.lemmas.Option.{same_Some}
 use Rattle.std.proofs.lemmas.List.{take_all}
 use Rattle.disk_model.specs.Disk.{Content, EachImage, Image, last_image, sector_in}
 use Rattle.disk_model.specs.Moments.{EachMoment, content_now}
 use Rattle.disk_model.proofs.MomentsLemmas.{EachMoment-weaker}
 use Rattle.image_model.specs.declared.flags.TheConstants.{DIRTY_BITMAP}
-use Rattle.image_model.specs.Cells.{Cell, last_entry, placed_cells_of, recalculated_cell, replayed_entries, salt_of}
-use Rattle.image_model.specs.Geometry.{Geometry, IsGeometry, section_sectors}
+use Rattle.image_model.specs.Cells.{Cell, last_entry, placed_cells_of, recalculated_cell, replayed_entries}
+use Rattle.image_model.specs.Geometry.{Geometry, section_sectors}
 use Rattle.image_model.specs.Section.{Entry}
 use Rattle.image_model.specs.Superblock.{has_flag}
 use Rattle.image_model.specs.Tables.{IsAtRest}
@@ -29,7 +29,7 @@ use Rattle.journal_reading.specs.declared.reading.JudgedJournal.{JudgedJournal}
 use Rattle.journal_reading.specs.Journal.{IsJournalOn}
 use Rattle.place_writer.specs.Cells.{HasCells}
 use Rattle.disk_model.specs.Identity.{DiskIdentity}
-use Rattle.tag_store.specs.Store.{IsStore, Store, given, given_tags}
+use Rattle.tag_store.specs.Store.{Store, given, given_tags}
 use Rattle.replay.specs.declared.recovered.Recovered.{Recovered}
 use Rattle.replay.specs.Recovery.{EntersRecovery, IsReplayed, LeavesRecovered}
 use Rattle.replay.specs.Replaying.{IsToReplay, all_placed, with_placed}

@@ -1,11 +1,11 @@
 -- A recovery leaves a journal at rest as it is.
-use Rattle.std.proofs.Common.{◌≡◌, ℕ, ◌<◌, refl, sym, ◌∙◌, ap, subst, arith, Result, Ok, List, Some}
+use Rattle.std.proofs.Common.{◌≡◌, ℕ, ◌<◌, refl, sym, ◌∙◌, ap, subst, arith, Result, Ok, List}
 use Rattle.std.specs.List.{Contains}
 use Rattle.disk_model.specs.Disk.{Content, Image, OnlyAdds, last_image}
-use Rattle.disk_model.specs.Moments.{EachMoment, EachSince, HasNow}
+use Rattle.disk_model.specs.Moments.{EachSince, HasNow}
 use Rattle.disk_model.proofs.MomentsLemmas.{EachMoment-join, EachMoment-weaker, FromStart-weaker}
 use Rattle.image_model.specs.Cells.{replayed_entries}
-use Rattle.image_model.specs.Geometry.{Geometry, IsGeometry, Shape, section_sectors}
+use Rattle.image_model.specs.Geometry.{Geometry, IsGeometry, section_sectors}
 use Rattle.image_model.specs.Grid.{walk_of}
 use Rattle.image_model.specs.declared.journal_plan.Plan.{Plan}
 use Rattle.image_model.specs.declared.journal_plan.State.{State}

@@ -1,5 +1,5 @@
 -- A disk while the newest entries of a journal come to their places, in the order of the replay.
-use Rattle.std.proofs.Common.{◌≡◌, ◌⊎◌, inl, inr, ℕ, ◌+◌, ◌*◌, ◌/◌, ◌<◌, ◌≤◌, Bool, true, false, refl, sym, ◌∙◌, ap, subst, arith, Option, Some, None, List, [], length, slice_get, option_and_then}
+use Rattle.std.proofs.Common.{◌≡◌, ◌⊎◌, inl, inr, ℕ, ◌+◌, ◌/◌, ◌<◌, ◌≤◌, true, false, refl, sym, ◌∙◌, ap, arith, Option, Some, None, List, [], length, slice_get, option_and_then}
 use Rattle.std.specs.Option.{is_some, option_map}
 use Rattle.std.proofs.lemmas.Bool.{cases_Bool, cases_eq, eq-eqb, false≢true, ne_eqb}
 use Rattle.std.proofs.lemmas.List.{take_all}
@@ -11,13 +11,13 @@ use Rattle.image_model.specs.Geometry.{Geometry}
 use Rattle.image_model.specs.Section.{Entry}
 use Rattle.image_model.proofs.NumberLemmas.{cases_option}
 use Rattle.journal_model.specs.Entries.{IsBlockEntry, cell_after, cell_of}
-use Rattle.journal_model.specs.JournaledDisk.{IsFormed, IsSound, JournaledDisk, cell_at}
+use Rattle.journal_model.specs.JournaledDisk.{IsSound, JournaledDisk, cell_at}
 use Rattle.journal_model.proofs.EntriesLemmas.{cell_after-none, cell_after-some}
 use Rattle.journal_model.proofs.PlaceLemmas.{last_entry-tells}
 use Rattle.journal_reading.specs.Index.{IsIndexOf, counted_places, numbered_entry}
 use Rattle.journal_reading.proofs.IndexLemmas.{index-some}
 use Rattle.place_writer.specs.Cells.{HasCells}
-use Rattle.tag_store.specs.Store.{Store, given_tags}
+use Rattle.tag_store.specs.Store.{Store}
 use Rattle.replay.specs.Replaying.{HasAmid, HasTurned, IsAhead, IsToReplay, all_placed, last_cell, without}
 use Rattle.replay.proofs.ReplayingLemmas.{StandsFor-more, formed_more}
 

@@ -5,6 +5,7 @@ pub use Rattle.place_writer.specs.Moves
 pub use Rattle.place_writer.specs.Placement
 pub use Rattle.place_writer.specs.declared.placement.Placement as DeclaredPlacement
 pub mod Emptied
+pub mod ReadPlaces
 pub mod Replaying
 pub mod Recovery
 pub mod Writes

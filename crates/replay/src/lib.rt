@@ -9,6 +9,7 @@
 mod emptying;
 mod entering;
 mod finishing;
+mod place_run;
 mod placing;
 mod recovered;
 mod recovery;

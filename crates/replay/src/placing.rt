@@ -12,9 +12,11 @@ ghost use Rattle.journal_reading.specs.Newest.{newest_in};
 ghost use Rattle.journal_reading.specs.Places.{places_of};
 ghost use Rattle.place_writer.specs.Cells.{HasCells};
 ghost use Rattle.tag_store.specs.Store.{IsStore, given_tags};
+ghost use Rattle.replay.specs.ReadPlaces.{ShowsPlaces};
 ghost use Rattle.replay.specs.Replaying.{AreInPlace, HasTurned, IsReadOn, IsReplaying, IsStill, IsToReplay, all_placed, entries_on};
 ghost use Rattle.replay.specs.Writes.{IsOfPlacing};
 
+use crate::place_run::PlaceRun;
 use crate::writing::place_view;
 use image_model::SECTOR_SIZE;
 use journal_reading::{JudgedJournal, NewestEntries, entry_count, entry_place, read_entry};
@@ -24,6 +26,14 @@ use tag_store::Tags;
 
 /// The bytes of the largest block, of 8 sectors.
 const LARGEST_BLOCK: usize = 8 * SECTOR_SIZE;
+
+/// A journal that was judged, and the bytes that were read of it.
+#[derive(Clone, Copy)]
+struct ReadJournal<'j> {
+    geometry: &'j Geometry,
+    journal: &'j JudgedJournal,
+    bytes: &'j [u8],
+}
 
 /// Brings the newest entry of each block to its place, in the order of the replay: of each its bytes by one call of the
 /// disk, and then its tag through the store, both only where others are read there. Nothing is hashed.
@@ -66,16 +76,20 @@ pub(crate) fn place_all<D: Disk>(
     let size = SECTOR_SIZE * geometry.shape().spb as usize;
     let mut buffer = [0; LARGEST_BLOCK];
     let block = &mut buffer[..size];
-    let mut read = [0; LARGEST_BLOCK];
-    let found = &mut read[..size];
+    let mut run = PlaceRun::new(&journal.newest);
+    let read = ReadJournal {
+        geometry,
+        journal,
+        bytes,
+    };
     for k in 0..entry_count(geometry, &journal.plan.walk) {
-        place_entry(disk, tags, geometry, journal, bytes, k, block, found)?;
+        place_entry(disk, tags, &read, k, block, &mut run)?;
     }
     Ok(())
 }
 
-/// Brings the entry with this number among those of the walk to its place, if it is used and the newest of its block. Its
-/// bytes are put into `block`, and what is read of its place into `found`.
+/// Brings the entry with this number among those of the walk to its place, if it is used and the newest of its block.
+/// Its bytes are put into `block`.
 ///
 /// # Errors
 ///
@@ -83,49 +97,49 @@ pub(crate) fn place_all<D: Disk>(
 fn place_entry<D: Disk>(
     disk: &mut D,
     tags: &mut Tags,
-    geometry: &Geometry,
-    journal: &JudgedJournal,
-    bytes: &[u8],
+    read: &ReadJournal<'_>,
     number: u64,
     block: &mut [u8],
-    found: &mut [u8],
+    run: &mut PlaceRun<'_>,
 ) -> Result<(), Failed>
-    requires replaying { IsReplaying geometry.now bytes.now journal.now tags.old
+    requires replaying { IsReplaying read.now.geometry.now read.now.bytes.now read.now.journal.now tags.old
         (D.identity disk.old) (D.moments disk.old) }
-    requires number { number < length (places_of geometry.now journal.now.plan.walk) }
-    requires block { length block.old ≡ 512 * geometry.now.shape.spb }
-    requires found { length found.old ≡ 512 * geometry.now.shape.spb }
+    requires number { number < length (places_of read.now.geometry.now read.now.journal.now.plan.walk) }
+    requires block { length block.old ≡ 512 * read.now.geometry.now.shape.spb }
+    requires run { ShowsPlaces tags.old.geometry run.old (D.moments disk.old) }
 
-    ensures placed { OnOk result ((d : JournaledDisk) → IsToReplay d geometry.now d.journal
-        → IsReadOn geometry.now bytes.now journal.now d.journal
-        → HasTurned d (newest_in journal.now.newest) number tags.old (D.moments disk.old)
-        → HasTurned d (newest_in journal.now.newest) (number + 1) tags.new (D.moments disk.new)) }
+    ensures placed { OnOk result ((d : JournaledDisk) → IsToReplay d read.now.geometry.now d.journal
+        → IsReadOn read.now.geometry.now read.now.bytes.now read.now.journal.now d.journal
+        → HasTurned d (newest_in read.now.journal.now.newest) number tags.old (D.moments disk.old)
+        → HasTurned d (newest_in read.now.journal.now.newest) (number + 1) tags.new (D.moments disk.new)) }
 
     ensures cause { HasCause (D.faults disk.old) (D.faults disk.new) result }
 
+    ensures run { OnOk result (ShowsPlaces tags.new.geometry run.new (D.moments disk.new)) }
     ensures store { IsStore tags.new (D.identity disk.new) (D.moments disk.new) }
     ensures geometry { tags.new.geometry ≡ tags.old.geometry }
     ensures identity { D.identity disk.new ≡ D.identity disk.old }
 
-    ensures stands { (d : JournaledDisk) → IsToReplay d geometry.now d.journal
-        → IsReadOn geometry.now bytes.now journal.now d.journal
-        → HasTurned d (newest_in journal.now.newest) number tags.old (D.moments disk.old)
+    ensures stands { (d : JournaledDisk) → IsToReplay d read.now.geometry.now d.journal
+        → IsReadOn read.now.geometry.now read.now.bytes.now read.now.journal.now d.journal
+        → HasTurned d (newest_in read.now.journal.now.newest) number tags.old (D.moments disk.old)
         → EachMoment (D.moments disk.old) (D.moments disk.new) (StandsFor (all_placed d)) }
-    ensures moments { EachSince (OnlyAdds (IsOfPlacing geometry.now (Contains
-        (entries_on geometry.now (journal_image bytes.now) journal.now.plan.walk))))
+    ensures moments { EachSince (OnlyAdds (IsOfPlacing read.now.geometry.now (Contains
+        (entries_on read.now.geometry.now (journal_image read.now.bytes.now) read.now.journal.now.plan.walk))))
         (D.moments disk.old) (D.moments disk.new) }
     ensures still { HasNoMark tags.old.sectors → HasNow (λ c.
-        IsReadOn geometry.now bytes.now journal.now (last_image c)
-        → AreInPlace geometry.now (replayed_entries geometry.now (last_image c)) (given_tags tags.old c) c
+        IsReadOn read.now.geometry.now read.now.bytes.now read.now.journal.now (last_image c)
+        → AreInPlace read.now.geometry.now (replayed_entries read.now.geometry.now (last_image c))
+        (given_tags tags.old c) c
         → IsStill tags.old tags.new (D.moments disk.old) (D.moments disk.new)) (D.moments disk.old) }
 {
-    let place = entry_place(geometry, &journal.plan.walk, number);
-    let Some(view) = read_entry(geometry, bytes, place, block) else {
+    let place = entry_place(read.geometry, &read.journal.plan.walk, number);
+    let Some(view) = read_entry(read.geometry, read.bytes, place, block) else {
         return Ok(());
     };
-    let own = view.sector / geometry.shape().spb;
-    if is_newest(&journal.newest, own, number) {
-        place_view(disk, tags, geometry, &view, block, found)?;
+    let own = view.sector / read.geometry.shape().spb;
+    if is_newest(&read.journal.newest, own, number) {
+        place_view(disk, tags, read.geometry, &view, block, run)?;
     }
     Ok(())
 }

@@ -29,12 +29,12 @@ use tag_store::Tags;
 /// its place, and tells where writing goes on. It takes no memory, and nothing is hashed.
 ///
 /// 1. Where the journal has entries that count it is read once more, into `pool`, which has as many sectors.
-/// 2. The newest entry of each block is brought to its place, in their order: what differs there is written, data or tag.
-///    The tags are written back; sync.
+/// 2. The newest entry of each block is brought to its place, in their order: what differs there is written, data or
+///    tag. The tags are written back; sync.
 /// 3. A journal at rest goes on. One in which a commit or an erasure was cut is erased.
 ///
-/// Source: Linux, `drivers/md/dm-integrity.c`, `replay_journal`. Own: the erasure, and that nothing is written that stands
-/// there already.
+/// Source: Linux, `drivers/md/dm-integrity.c`, `replay_journal`. Own: the erasure, and that nothing is written that
+/// stands there already.
 ///
 /// # Errors
 ///
@@ -75,7 +75,8 @@ pub fn recover<D: Disk>(
     ensures moments { EachSince (λ start. OnlyAdds (IsOfRecovery geometry.now
         (replayed_entries geometry.now (last_image start))) start) (D.moments disk.old) (D.moments disk.new) }
     // Nothing of a journal at rest,
-    ensures rest { EachSince (λ start. KeepsResting geometry.now start start) (D.moments disk.old) (D.moments disk.new) }
+    ensures rest { EachSince (λ start. KeepsResting geometry.now start start)
+        (D.moments disk.old) (D.moments disk.new) }
     // and no sector at all where its entries are in their places already, and no tag is still to be written.
     ensures in_place { HasNoMark tags.old.sectors → HasNow (λ start.
         IsRecoveredAlready geometry.now (last_image start) → OnlySyncs (D.moments disk.old) (D.moments disk.new))

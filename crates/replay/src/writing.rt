@@ -6,21 +6,23 @@ ghost use Rattle.disk_model.specs.Moments.{EachMoment, EachSince, HasNow};
 ghost use Rattle.image_model.specs.Geometry.{data_at};
 ghost use Rattle.image_model.specs.Sectors.{bytes_at};
 ghost use Rattle.buffer_cache.specs.Cached.{HasNoMark};
+ghost use Rattle.direct_laws.specs.CallLaws.{KeepsOthersNow};
 ghost use Rattle.journal_model.specs.Entries.{cell_of};
 ghost use Rattle.journal_model.specs.JournaledDisk.{JournaledDisk, StandsFor};
 ghost use Rattle.journal_reading.specs.Entries.{entry_with};
 ghost use Rattle.tag_store.specs.Store.{HoldsTag, IsStore, given_tags};
+ghost use Rattle.replay.specs.ReadPlaces.{ShowsPlaces};
 ghost use Rattle.replay.specs.Replaying.{HasAmid, IsStill, all_placed, last_cell, without};
 ghost use Rattle.replay.specs.Writes.{IsOfPlacing};
 
+use crate::place_run::PlaceRun;
 use hmac_tag::Tag;
 use journal_section::EntryView;
 use layout::Geometry;
 use sector_disk::{Disk, Failed};
 use tag_store::Tags;
 
-/// Brings an entry to its place: its bytes and its tag are written where others are read there. What is read is put
-/// into `found`.
+/// Brings an entry to its place: its bytes and its tag are written where others are read there.
 ///
 /// # Errors
 ///
@@ -31,14 +33,14 @@ pub(crate) fn place_view<D: Disk>(
     geometry: &Geometry,
     view: &EntryView,
     block: &[u8],
-    found: &mut [u8],
+    run: &mut PlaceRun<'_>,
 ) -> Result<(), Failed>
     requires geometry { geometry.now ≡ tags.old.geometry }
     requires block { view.now.sector / tags.old.geometry.shape.spb < tags.old.geometry.blocks }
     requires bytes { length block.now ≡ 512 * tags.old.geometry.shape.spb }
     requires tag { length view.now.tag ≡ tags.old.geometry.shape.tag_size }
-    requires found { length found.old ≡ 512 * tags.old.geometry.shape.spb }
     requires store { IsStore tags.old (D.identity disk.old) (D.moments disk.old) }
+    requires run { ShowsPlaces tags.old.geometry run.old (D.moments disk.old) }
 
     ensures placed { OnOk result ((d : JournaledDisk) (ahead : ℕ → Bool)
         → let b = view.now.sector / tags.old.geometry.shape.spb in
@@ -48,6 +50,7 @@ pub(crate) fn place_view<D: Disk>(
 
     ensures cause { HasCause (D.faults disk.old) (D.faults disk.new) result }
 
+    ensures run { OnOk result (ShowsPlaces tags.new.geometry run.new (D.moments disk.new)) }
     ensures store { IsStore tags.new (D.identity disk.new) (D.moments disk.new) }
     ensures geometry { tags.new.geometry ≡ tags.old.geometry }
     ensures identity { D.identity disk.new ≡ D.identity disk.old }
@@ -66,11 +69,11 @@ pub(crate) fn place_view<D: Disk>(
 {
     let spb = geometry.shape().spb;
     let number = view.sector / spb;
-    place_data(disk, tags, number, block, found)?;
+    place_data(disk, tags, geometry, number, block, run)?;
     place_tag(disk, tags, number, &view.tag)
 }
 
-/// Writes the bytes of a block by one call of the disk, where others are read there. What is read is put into `found`.
+/// Writes the bytes of a block by one call of the disk, where others are read there.
 ///
 /// # Errors
 ///
@@ -78,14 +81,16 @@ pub(crate) fn place_view<D: Disk>(
 fn place_data<D: Disk>(
     disk: &mut D,
     tags: &Tags,
+    geometry: &Geometry,
     block: u64,
     bytes: &[u8],
-    found: &mut [u8],
+    run: &mut PlaceRun<'_>,
 ) -> Result<(), Failed>
+    requires geometry { geometry.now ≡ tags.now.geometry }
     requires block { block < tags.now.geometry.blocks }
     requires bytes { length bytes.now ≡ 512 * tags.now.geometry.shape.spb }
-    requires found { length found.old ≡ 512 * tags.now.geometry.shape.spb }
     requires store { IsStore tags.now (D.identity disk.old) (D.moments disk.old) }
+    requires run { ShowsPlaces tags.now.geometry run.old (D.moments disk.old) }
 
     ensures placed { OnOk result ((d : JournaledDisk) (data_ahead tag_ahead : ℕ → Bool)
         → (last_cell d block).bytes ≡ bytes.now → HasAmid d data_ahead tag_ahead tags.now (D.moments disk.old)
@@ -93,6 +98,7 @@ fn place_data<D: Disk>(
 
     ensures cause { HasCause (D.faults disk.old) (D.faults disk.new) result }
 
+    ensures run { OnOk result (ShowsPlaces tags.now.geometry run.new (D.moments disk.new)) }
     ensures store { IsStore tags.now (D.identity disk.new) (D.moments disk.new) }
     ensures identity { D.identity disk.new ≡ D.identity disk.old }
 
@@ -105,8 +111,7 @@ fn place_data<D: Disk>(
         bytes_at (last_image c) (data_at tags.now.geometry block) tags.now.geometry.shape.spb ≡ bytes.now
         → D.moments disk.new ≡ D.moments disk.old) (D.moments disk.old) }
 {
-    tags.read_block(disk, block, found)?;
-    if *found == *bytes {
+    if run.is_in_place(disk, geometry, tags, block, bytes)? {
         return Ok(());
     }
     tags.write_block(disk, block, bytes)
@@ -128,6 +133,7 @@ fn place_tag<D: Disk>(disk: &mut D, tags: &mut Tags, block: u64, tag: &Tag) -> R
 
     ensures cause { HasCause (D.faults disk.old) (D.faults disk.new) result }
 
+    ensures others { OnOk result (KeepsOthersNow tags.old.geometry (D.moments disk.old) (D.moments disk.new)) }
     ensures store { IsStore tags.new (D.identity disk.new) (D.moments disk.new) }
     ensures geometry { tags.new.geometry ≡ tags.old.geometry }
     ensures identity { D.identity disk.new ≡ D.identity disk.old }

@@ -1,5 +1,5 @@
 -- What is served and taken is the event of `device_model`.
-use Rattle.std.proofs.Common.{◌≡◌, ◌≢◌, ◌⊎◌, inl, inr, ℕ, zero, suc, ◌+◌, ◌*◌, ◌<◌, ◌≤◌, ◌==◌, ◌||◌, not, Bool, true, false, List, [], ◌∷◌, ◌++◌, length, take, drop, set, slice_get, if◌then◌else◌, Option, None, Some, refl, sym, ◌∙◌, ap, subst, arith, length-append}
+use Rattle.std.proofs.Common.{◌≡◌, inl, inr, ℕ, zero, suc, ◌+◌, ◌*◌, ◌<◌, ◌≤◌, ◌==◌, ◌||◌, Bool, true, false, List, [], ◌∷◌, ◌++◌, length, drop, set, slice_get, if◌then◌else◌, Some, refl, sym, ◌∙◌, ap, subst, arith, length-append}
 use Rattle.std.proofs.lemmas.Bool.{cases_Bool, eqb-true, false≢true}
 use Rattle.std.proofs.Math.Nat.{suc-mul}
 use Rattle.std.proofs.lemmas.List.{append-nil}
@@ -14,7 +14,7 @@ use Rattle.device_model.specs.Submission as Submissions
 use Rattle.device_model.specs.SubmissionLaws.{IsFitting, IsOfSubmission}
 use Rattle.device_model.specs.Transcript.{is_fault}
 use Rattle.request_slots.specs.Flight.{Flight}
-use Rattle.request_slots.specs.InFlight.{as_reply, blocks_read, bytes_now, outcome_by, outcome_in, request_with, returned_in, slot_for, slots_of, HasRead, IsFlightOf, IsNoFault, IsWhole}
+use Rattle.request_slots.specs.InFlight.{as_reply, blocks_read, bytes_now, outcome_by, outcome_in, request_with, returned_in, slot_for, HasRead, IsFlightOf, IsNoFault, IsWhole}
 use Rattle.request_slots.specs.Taking.{read_reply_of, reply_by, reply_of, without}
 use Rattle.request_slots.specs.declared.reply.Reply.TheVariants as Replies
 use Rattle.request_slots.specs.declared.slot.Outcome.{Outcome}

@@ -1,17 +1,16 @@
 -- A request that is submitted is the event of `device_model`: refused alike, and in flight alike.
-use Rattle.std.proofs.Common.{◌≡◌, ◌≢◌, ◌⊎◌, inl, inr, ℕ, zero, suc, ◌+◌, ◌*◌, ◌<◌, ◌≤◌, ◌==◌, ◌||◌, not, Bool, true, false, List, [], ◌∷◌, ◌++◌, length, take, drop, ltb, leb, filter, slice_get, if◌then◌else◌, Option, None, Some, option_map, refl, sym, ◌∙◌, ap, subst, arith}
+use Rattle.std.proofs.Common.{◌≡◌, inl, inr, ℕ, zero, suc, ◌+◌, ◌*◌, ◌≤◌, ◌==◌, ◌||◌, not, Bool, true, false, List, [], ◌∷◌, ◌++◌, length, drop, ltb, leb, filter, slice_get, if◌then◌else◌, Option, None, Some, option_map, refl, sym, ◌∙◌, ap, subst, arith}
 use Rattle.std.specs.Option.{option_or}
 use Rattle.std.proofs.lemmas.Bool.{cases_Bool}
 use Rattle.std.proofs.lemmas.List.Sums.{length-filter}
 use Rattle.std.proofs.lemmas.Option.{none-some, same_Some}
 use Rattle.device_model.specs.Mode.{DeviceFormat, is_recovery}
 use Rattle.device_model.specs.Progress as Model
-use Rattle.device_model.specs.Reply as ModelReply
 use Rattle.device_model.specs.Request as Asks
 use Rattle.device_model.specs.Submission as Submissions
 use Rattle.device_model.specs.SubmissionLaws.{AreBlocks, IsFitting, IsOfSubmission}
 use Rattle.request_slots.specs.Flight.{Flight, newly_slotted}
-use Rattle.request_slots.specs.InFlight.{as_answer, as_submission, bytes_now, request_with, slot_for, slots_of, submit_answer, HasRead, IsFlightOf}
+use Rattle.request_slots.specs.InFlight.{as_answer, as_submission, slot_for, slots_of, submit_answer, HasRead, IsFlightOf}
 use Rattle.request_slots.specs.Submitting.{after_submit, blocks_fault, fault_of, form_fault, slots_fault}
 use Rattle.request_slots.specs.declared.request.Request.{Request}
 use Rattle.request_slots.specs.declared.request.Request.TheVariants.{Read, Write, Flush}

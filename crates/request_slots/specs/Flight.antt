@@ -3,6 +3,7 @@ use Rattle.std.specs.Prelude.{◌≡◌, ℕ, suc, ◌+◌, ◌*◌, ◌<◌, �
 use Rattle.std.specs.List.{list_any}
 use Rattle.range_lock.specs.Asks.{ask_for, holder_of}
 use Rattle.range_lock.specs.declared.ask.Ask.{Ask}
+use Rattle.request_slots.specs.declared.block_range.BlockRange.{BlockRange}
 use Rattle.request_slots.specs.declared.request.Request.{Request}
 use Rattle.request_slots.specs.declared.request.Request.TheVariants.{Read, Write, Flush}
 use Rattle.request_slots.specs.declared.slot.Outcome.{Outcome}
@@ -54,6 +55,10 @@ is_unfinished slot = is_open slot.outcome
 
 abbrev pub is_of : ℕ → Slot → Bool
 is_of ticket slot = slot.ticket == ticket
+
+-- Its blocks. A flush has none.
+abbrev pub range_of : Slot → BlockRange
+range_of slot = record { first = first_in slot.request; count = count_in slot.request }
 
 -- What it asks of the blocks.
 abbrev pub ask_of : Slot → Ask

@@ -6,6 +6,7 @@
 //! requests of `device_model` this is.
 #![tactic(auto)]
 
+mod block_range;
 mod bytes;
 mod reply;
 mod request;
@@ -15,10 +16,11 @@ mod submit_fault;
 mod ticket;
 mod turn;
 
+pub use block_range::BlockRange;
 pub use bytes::Bytes;
 pub use reply::Reply;
 pub use request::Request;
-pub use slots::Slots;
+pub use slots::{MOST_SLOTS, Slots};
 pub use submit_fault::SubmitFault;
 pub use ticket::Ticket;
 pub use turn::Turn;

@@ -1,10 +1,11 @@
 //! The requests in flight.
-ghost use Rattle.std.specs.Prelude.{◌≡◌, ◌↔◌, ◌+◌, ◌<◌, ◌≤◌, ◌^◌, suc, true, length, position, IfOk, IfSome, IsTrue};
+ghost use Rattle.std.specs.Prelude.{◌≡◌, ◌↔◌, ◌+◌, ◌<◌, ◌≤◌, ◌^◌, suc, true, length, option_map, position, slice_get};
+ghost use Rattle.std.specs.Prelude.{IfOk, IfSome, IsTrue};
 ghost use Rattle.std.specs.List.{position_or_len};
 ghost use Rattle.request_slots.specs.Table.{with_unlocked};
 
 use crate::slot::Slot;
-use crate::{Reply, Request, SubmitFault, Ticket, Turn};
+use crate::{BlockRange, Reply, Request, SubmitFault, Ticket, Turn};
 use hmac_tag::Tag;
 use range_lock::{Asked, Memory, Ranges};
 use std::alloc::Global;
@@ -13,7 +14,7 @@ use std::marker::Model;
 /// How many requests may be submitted and not taken.
 ///
 /// Own: sixteen.
-const MOST_SLOTS: u64 = 16;
+pub const MOST_SLOTS: usize = 16;
 
 /// The requests in flight on a device of so many blocks: submitted and not taken.
 #[derive(Drop)]
@@ -37,11 +38,12 @@ impl Model for Slots {
 }
 
 impl Slots {
-    ghost use Rattle.request_slots.specs.Flight.{is_in_flight, is_of, no_requests, slot_of, turn_of};
+    ghost use Rattle.request_slots.specs.Flight.{is_in_flight, is_of, no_requests, range_of, slot_of, turn_of};
     ghost use Rattle.request_slots.specs.Flight.{FitsFlight, IsRead, IsTurnWithin, IsWrite};
     ghost use Rattle.request_slots.specs.Serving.{with_change, with_block_read, with_block_counted};
     ghost use Rattle.request_slots.specs.Serving.{with_fault, with_finish, next_bytes};
-    ghost use Rattle.request_slots.specs.Submitting.{answer_by, after_submit, blocks_fault, fault_of, slots_fault};
+    ghost use Rattle.request_slots.specs.Submitting.{answer_by, after_submit, blocks_fault, fault_of, most_slots};
+    ghost use Rattle.request_slots.specs.Submitting.{slots_fault};
     ghost use Rattle.request_slots.specs.Taking.{taken_by, after_take};
 
     /// No request, on a device of `blocks` blocks of `block_size` bytes each. It takes all memory that sixteen requests
@@ -57,8 +59,8 @@ impl Slots {
 
         ensures { IfOk result (λ slots. slots ≡ no_requests blocks block_size) }
     {
-        let locks = Ranges::new(alloc, MOST_SLOTS)?;
-        let Ok(slots) = Vec::with_capacity(alloc, MOST_SLOTS as usize) else {
+        let locks = Ranges::new(alloc, MOST_SLOTS as u64)?;
+        let Ok(slots) = Vec::with_capacity(alloc, MOST_SLOTS) else {
             return Err(Memory);
         };
         Ok(Slots {
@@ -96,6 +98,22 @@ impl Slots {
         ensures { result ≡ is_in_flight ticket.now self.now }
     {
         self.slots.iter().any(|slot| slot.ticket == ticket.number)
+    }
+
+    /// The blocks of the request that is at this place in order of submission, of those that are submitted and not
+    /// taken, done or not. A flush has none: its count is 0.
+    pub fn range_at(&self, place: usize) -> Option<BlockRange>
+        ensures range { result ≡ option_map range_of (slice_get self.now.slots place) }
+        ensures inside { IfSome result (λ range. range.first + range.count ≤ self.now.blocks) }
+
+        // What holds of all requests in flight: they are no more than there are slots.
+        ensures few { length self.now.slots ≤ most_slots }
+    {
+        let slot = self.slots.get(place)?;
+        Some(BlockRange {
+            first: slot.request.first(),
+            count: slot.request.count(),
+        })
     }
 
     /// Takes a request, which comes last in order.
@@ -258,10 +276,12 @@ impl Slots {
     fn slots_fault(&self) -> Option<SubmitFault>
         ensures { result ≡ slots_fault self.now }
     {
-        if (self.slots.len() as u64) < MOST_SLOTS {
+        if self.slots.len() < MOST_SLOTS {
             return None;
         }
-        Some(SubmitFault::SlotsFull { slots: MOST_SLOTS })
+        Some(SubmitFault::SlotsFull {
+            slots: MOST_SLOTS as u64,
+        })
     }
 
     // Where the request of a ticket is: behind all where it is not in flight.

@@ -1,6 +1,6 @@
 //! Requests in flight on eight blocks of two bytes each.
 use hmac_tag::Tag;
-use request_slots::{Bytes, Reply, Request, Slots, SubmitFault, Ticket, Turn};
+use request_slots::{BlockRange, Bytes, Reply, Request, Slots, SubmitFault, Ticket, Turn};
 use std::alloc::{AllocError, Global};
 use std::process::Abort;
 use std::test::Fail;
@@ -77,6 +77,8 @@ fn a_read_gives_its_blocks(rt: HostRuntime) -> Result<(), Fail> {
     };
     let ticket = submitted(&mut slots, read).expect(&rt, "it fits");
     assert_eq!(rt; ticket.number(), 1);
+    assert_eq!(rt; slots.range_at(0), Some(BlockRange { first: 3, count: 2 }));
+    assert_eq!(rt; slots.range_at(1), None);
     assert_eq!(rt;
         serve(&mut slots, &ticket, &[1, 2]),
         Some(Turn::Read { block: 3 })

@@ -1,6 +1,8 @@
+use Rattle.std.proofs.Common.{sym}
 use Rattle.std.proofs.lemmas.Result.{err_from_is_err_and}
 use Rattle.hmac_tag.specs.TagMaker.{key_of}
 use Rattle.device_parts.specs.declared.parts.Parts.{Parts}
+use Rattle.device.specs.declared.opening.OpenMode.TheVariants.{Direct}
 use Rattle.device.proofs.OpeningLemmas.{opened_direct, refused}
 use Rattle.device.proofs.opening.open_in_direct.Goals as goal
 
@@ -8,7 +10,7 @@ pub returns-in_err-common-clause-refused : goal.returns-in_err-common-clause-ref
 returns-in_err-common-clause-refused g c =
     let p = err_from_is_err_and c.from_residual.result c.from_residual.ensures.1 in
     let old = c.args.disk.now in
-    rw (p.1, p.2) (refused Parts (key_of c.args.hash) (g.D.Disk.identity old) (g.D.Disk.moments old)
+    rw (p.1, p.2) (refused Parts Direct (key_of c.args.hash) (g.D.Disk.identity old) (g.D.Disk.moments old)
     (g.D.Disk.moments c.open_direct.new.disk) c.in_err-common.field-0.0 c.in_err-common.ensures.refused)
 
 pub returns-clause-opened : goal.returns-clause-opened
@@ -41,3 +43,6 @@ returns-clause-leaves g c = record {
   refused = c.in_ok-common.ensures.refused.judged;
   writes = c.open_direct.ensures.moments;
 }
+
+pub returns-clause-accepted : goal.returns-clause-accepted
+returns-clause-accepted g c start told = sym (c.in_ok-common.ensures.refused.told (λ e. cc) (λ e. cc) start told)

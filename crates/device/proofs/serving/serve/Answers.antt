@@ -1,3 +1,5 @@
+use Rattle.device.proofs.ClearTagsLemmas.{clear_tags_still}
+use Rattle.device_model.specs.Progress.{FailedServe}
 use Rattle.std.proofs.Common.{refl, subst}
 use Rattle.device_model.specs.Progress.{FailedServe, Serve}
 use Rattle.device_parts.specs.declared.condition.Condition.{Condition}
@@ -52,3 +54,6 @@ returns-in-Err-clause-served g c w is =
 
 pub returns-in-Err-clause-condition : goal.returns-in-Err-clause-condition
 returns-in-Err-clause-condition g c = turns_failed c.args.condition.now _ _ c.in-Working.is
+
+pub returns-in-Broken-clause-tags : goal.returns-in-Broken-clause-tags
+returns-in-Broken-clause-tags g c = clear_tags_still c.args.parts.now.mode c.args.parts.now.common (FailedServe c.args.ticket.now) refl

@@ -1,4 +1,4 @@
-use Rattle.std.proofs.Common.{sym, ◌∙◌, ap}
+use Rattle.std.proofs.Common.{◌∙◌, ap}
 use Rattle.disk_model.specs.Disk.{last_image}
 use Rattle.image_model.specs.Geometry.{Geometry, Shape}
 use Rattle.device_opening.specs.Judged.{judged_format}
@@ -16,10 +16,10 @@ returns-clause-opened g c start told =
     let done = c.in_ok-recovered.ensures in
     let read = (c.requires.judged.now start told).read in
     let now = now_told c.recover_emptied.ensures.leaves.writes start told in
-    open_on f (last_image start) image.at (parts_of image c.args.room c.shape-spb.result.spb) (g.D.Disk.moments new) now.0 now.1 c.requires.judged.format.no_bitmap read.reads read.own done.made.geometry c.requires.room.slots
+    open_on f (last_image start) image.at (parts_of image c.args.room.device c.shape-spb.result.spb) (g.D.Disk.moments new) now.0 now.1 c.requires.judged.format.no_bitmap read.reads read.own done.made.geometry c.requires.room.device.slots
     (done.made.maker ∙ c.requires.judged.maker) (done.emptied.left start told now.0 now.1) done.emptied.unused
 
 pub returns-clause-unasked : goal.returns-clause-unasked
 returns-clause-unasked g c =
-    unasked c.args.image c.in_ok-recovered.recovered c.args.room c.shape-spb.result.spb (g.D.Disk.identity c.args.disk.now).sectors (g.D.Disk.identity c.recover_emptied.new.disk) c.requires.judged c.requires.room
+    unasked c.args.image c.in_ok-recovered.recovered c.args.room.device c.shape-spb.result.spb (g.D.Disk.identity c.args.disk.now).sectors (g.D.Disk.identity c.recover_emptied.new.disk) c.requires.judged c.requires.room.device
     c.in_ok-recovered.ensures.made (ap (λ (x : Shape). x.spb) c.shape-spb.ensures.shape ∙ ap (λ (x : Geometry). x.shape.spb) c.geometry.ensures)

@@ -11,37 +11,37 @@ use Rattle.image_formatting.proofs.tagging.write_tag_run.Goals as goal
 
 pub slice_bounds-put_tags-end : goal.slice_bounds-put_tags-end
 slice_bounds-put_tags-end g c =
-    let few = (shape_holds c.args.shape c.requires.shape).1 in
-    sym (ap length (part_of_zeros 512 c.args.shape.spb _ c.requires.zeros (omega (arith, few))) ∙ length-replicate {A = ℕ} (512 * c.args.shape.spb) 0)
+    let few = (shape_holds c.args.shape c.requires.makes.shape_).1 in
+    sym (ap length (part_of_zeros 512 c.args.shape.spb _ c.requires.makes.zeros_ (omega (arith, few))) ∙ length-replicate {A = ℕ} (512 * c.args.shape.spb) 0)
 
 pub put_tags-requires-clause-zeros : goal.put_tags-requires-clause-zeros
 put_tags-requires-clause-zeros g c =
-    let few = (shape_holds c.args.shape c.requires.shape).1 in
-    part_of_zeros 512 c.args.shape.spb _ c.requires.zeros (omega (arith, few))
+    let few = (shape_holds c.args.shape c.requires.makes.shape_).1 in
+    part_of_zeros 512 c.args.shape.spb _ c.requires.makes.zeros_ (omega (arith, few))
 
 pub returns-clause-tags : goal.returns-clause-tags
 returns-clause-tags g c =
     let multiple = c.next_multiple_of.ensures in
-    let whole = sectors_are (c.args.count * c.args.shape.tag) c.next_multiple_of.result (c.args.shape.tag * (512 / c.args.shape.tag)) multiple.lower_bound multiple.upper_bound (omega (arith, multiple.multiple)) (omega (arith, c.requires.fits, c.requires.room)) in
+    let whole = sectors_are (c.args.count * c.args.shape.tag) c.next_multiple_of.result (c.args.shape.tag * (512 / c.args.shape.tag)) multiple.lower_bound multiple.upper_bound (omega (arith, multiple.multiple)) (omega (arith, c.requires.fits, c.requires.makes.room)) in
     let long : length c.put_tags.new.bytes ≡ 512 * quotient_up (c.args.count * c.args.shape.tag) 512 =
-    c.put_tags.ensures.len ∙ c.read_behind.ensures.len ∙ length-take-le c.next_multiple_of.result c.args.tags.now (omega (arith, whole.1, c.requires.room)) ∙ whole.0 in
+    c.put_tags.ensures.len ∙ c.read_behind.ensures.len ∙ length-take-le c.next_multiple_of.result c.args.tags.now (omega (arith, whole.1, c.requires.makes.room)) ∙ whole.0 in
     on_ok_weaker c.write_run.result (λ written. tag_run_written _ _ c.args.maker.now c.args.shape.spb c.args.first c.args.count c.args.at c.args.shape.tag c.put_tags.new.bytes
-    c.requires.size c.put_tags.ensures.tags (omega (arith, long)) written) c.write_run.ensures.written
+    c.requires.makes.size c.put_tags.ensures.tags (omega (arith, long)) written) c.write_run.ensures.written
 
 pub returns-clause-moments : goal.returns-clause-moments
 returns-clause-moments g c =
     let multiple = c.next_multiple_of.ensures in
-    let whole = sectors_are (c.args.count * c.args.shape.tag) c.next_multiple_of.result (c.args.shape.tag * (512 / c.args.shape.tag)) multiple.lower_bound multiple.upper_bound (omega (arith, multiple.multiple)) (omega (arith, c.requires.fits, c.requires.room)) in
+    let whole = sectors_are (c.args.count * c.args.shape.tag) c.next_multiple_of.result (c.args.shape.tag * (512 / c.args.shape.tag)) multiple.lower_bound multiple.upper_bound (omega (arith, multiple.multiple)) (omega (arith, c.requires.fits, c.requires.makes.room)) in
     let long : length c.put_tags.new.bytes ≡ 512 * quotient_up (c.args.count * c.args.shape.tag) 512 =
-    c.put_tags.ensures.len ∙ c.read_behind.ensures.len ∙ length-take-le c.next_multiple_of.result c.args.tags.now (omega (arith, whole.1, c.requires.room)) ∙ whole.0 in
+    c.put_tags.ensures.len ∙ c.read_behind.ensures.len ∙ length-take-le c.next_multiple_of.result c.args.tags.now (omega (arith, whole.1, c.requires.makes.room)) ∙ whole.0 in
     rw c.read_behind.ensures.kept at (write_changes (IsWithin c.args.at (quotient_up (c.args.count * c.args.shape.tag) 512)) c.args.at c.put_tags.new.bytes (λ s low high. (low, omega (arith, high, long))) c.write_run.ensures.moments)
 
 pub returns-clause-stays : goal.returns-clause-stays
 returns-clause-stays g c =
     let multiple = c.next_multiple_of.ensures in
-    let whole = sectors_are (c.args.count * c.args.shape.tag) c.next_multiple_of.result (c.args.shape.tag * (512 / c.args.shape.tag)) multiple.lower_bound multiple.upper_bound (omega (arith, multiple.multiple)) (omega (arith, c.requires.fits, c.requires.room)) in
+    let whole = sectors_are (c.args.count * c.args.shape.tag) c.next_multiple_of.result (c.args.shape.tag * (512 / c.args.shape.tag)) multiple.lower_bound multiple.upper_bound (omega (arith, multiple.multiple)) (omega (arith, c.requires.fits, c.requires.makes.room)) in
     let long : length c.put_tags.new.bytes ≡ 512 * quotient_up (c.args.count * c.args.shape.tag) 512 =
-    c.put_tags.ensures.len ∙ c.read_behind.ensures.len ∙ length-take-le c.next_multiple_of.result c.args.tags.now (omega (arith, whole.1, c.requires.room)) ∙ whole.0 in
+    c.put_tags.ensures.len ∙ c.read_behind.ensures.len ∙ length-take-le c.next_multiple_of.result c.args.tags.now (omega (arith, whole.1, c.requires.makes.room)) ∙ whole.0 in
     let size = c.args.count * c.args.shape.tag in
     on_ok_weaker c.write_run.result (λ written. behind_keeps _ _ c.args.at size c.put_tags.new.bytes
     (λ p high low start told. c.put_tags.ensures.behind p high ∙ c.in_ok-read_behind.ensures.behind p high (omega (arith, low, c.put_tags.ensures.len, c.read_behind.ensures.len)) start told)

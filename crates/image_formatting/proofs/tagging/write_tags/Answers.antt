@@ -43,12 +43,12 @@ loop-done-preserved g c =
     let begins : c.loop-done.done % 512 ≡ 0 = ⊎_elim (λ e. e) (λ e. absurd (omega (arith, e, c.loop-done-test.true))) c.loop-done.invariant.whole in
     let whole = whole_tags c.loop-done.done c.args.shape.tag begins in
     let inside = next_run_inside c.args.at c.loop-done.done c.min-part.result c.args.count c.args.shape.tag whole (omega (arith, c.min-part.ensures, c.loop-done-test.true)) in
-    let size = c.requires.size in
+    let size = c.requires.makes.size in
     let sum : (c.loop-done.done + c.min-part.result) * c.args.shape.tag ≡ c.loop-done.done * c.args.shape.tag + c.min-part.result * c.args.shape.tag = omega arith in
     record {
       low = omega (arith, c.min-part.ensures, c.loop-done-test.true);
       whole = ⊎_elim inl (λ all. inr (omega (arith, all, c.loop-done-test.true))) (group_whole c.loop-done.done c.args.shape.tag (c.args.count - c.loop-done.done) c.min-part.result begins c.min-part.ensures);
-      tags = tags_next c.args.maker.now c.args.shape.spb c.args.first c.loop-done.done c.min-part.result c.args.at _ c.args.shape.tag size (omega (arith, c.requires.shape.tag)) whole c.loop-done.invariant.tags
+      tags = tags_next c.args.maker.now c.args.shape.spb c.args.first c.loop-done.done c.min-part.result c.args.at _ c.args.shape.tag size (omega (arith, c.requires.makes.shape_.tag)) whole c.loop-done.invariant.tags
           c.write_tag_run.ensures.moments c.in_ok-write_tag_run.ensures.tags;
       stays = keep_then _ _ _ (IsRunByte c.args.at ((c.loop-done.done + c.min-part.result) * c.args.shape.tag)) _ c.loop-done.invariant.moments
           (keep_wider _ _ (IsRunByte c.args.at (c.loop-done.done * c.args.shape.tag)) _ (λ s j low of. record { begins = of.begins; ends = omega (arith, of.ends, sum) }) c.loop-done.invariant.stays)

@@ -3,13 +3,13 @@ use Rattle.disk_model.specs.Disk.{last_image}
 use Rattle.disk_model.specs.Identity.{DiskIdentity}
 use Rattle.disk_model.specs.Moments.{content_now}
 use Rattle.hmac_tag.specs.TagMaker.{key_of}
-use Rattle.image_check.specs.Checked.{Checked, IsCheckOf}
+use Rattle.image_check.specs.Checked.{Checked, IsCheckOf, bad_in}
 use Rattle.image_judging.specs.declared.opening_fault.OpeningFault.TheVariants.{Memory, Disk}
 use Rattle.image_judging.proofs.FaultsLemmas.{fault_in-err}
 use Rattle.image_format.specs.declared.reading.ImageFormat.{ImageFormat}
 use Rattle.command_ending.specs.Ended.{ending_of}
 use Rattle.command_ending.specs.declared.ended.Ended.{Ended}
-use Rattle.integrity_tool.specs.Checking.{IsListed, IsPrintedShort, bad_in, check_outset, lines_in}
+use Rattle.integrity_tool.specs.Checking.{IsListed, IsPrintedShort, check_outset, lines_in}
 use Rattle.integrity_tool.specs.Opening.{HasRunOn}
 use Rattle.integrity_tool.proofs.CheckingLemmas.{check_cut, check_untold, check_whole, counts_told, not_checked}
 use Rattle.integrity_tool.proofs.checking.print_check.Goals as goal

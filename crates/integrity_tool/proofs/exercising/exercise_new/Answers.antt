@@ -11,7 +11,7 @@ pub returns-in-Err-clause-exercised : goal.returns-in-Err-clause-exercised
 returns-in-Err-clause-exercised g c made told can =
     let disk = g.D.Disk.identity c.args.disk.now in
     let before = g.D.Disk.moments c.args.disk.now in
-    let refused = not_opened c.images_that_open_have_no_fault.ensures disk _ c.args.count c.args.seed before _ made told can
+    let refused = not_opened c.images_that_open_have_no_fault.ensures.journal disk _ c.args.count c.args.seed before _ made told can
     c.in-Err.ensures.err c.in-Err.refused.fault c.in-Err.ensures.refused in
     subst (λ (m : List Content). IsExercisedOn disk.sectors c.args.count c.args.seed made (Err c.ended_by_opening.result) before m)
     (sym (ap g.D.Disk.moments c.handed_back-fault.ensures.disk))
@@ -24,6 +24,6 @@ returns-in-Ok-clause-exercised g c made told can =
     let w = new_standing disk.sectors made in
     subst (λ (r : Result Tally Ended). IsExercisedOn disk.sectors c.args.count c.args.seed made r (g.D.Disk.moments c.args.disk.now)
     (g.D.Disk.moments c.exercise_device-ended.result.1.now)) (sym c.ended_count.ensures)
-    (exercised_on c.images_that_open_have_no_fault.ensures disk _ c.args.count c.args.seed (g.D.Disk.moments c.args.disk.now) _ made told can
+    (exercised_on c.images_that_open_have_no_fault.ensures.journal disk _ c.args.count c.args.seed (g.D.Disk.moments c.args.disk.now) _ made told can
     c.in-Ok.ensures.leaves c.exercise_device-ended.result.0 _
     (c.exercise_device-ended.ensures.exercised w (c.in-Ok.ensures.opened.device made told)))

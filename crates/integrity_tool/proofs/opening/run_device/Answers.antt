@@ -29,15 +29,16 @@ returns-in-Err-clause-runs g c left told start told_start =
     let refused = g.D.Disk.moments c.in-Err.refused.disk.now in
     let held = g.O.Sink.held c.args.out.now in
     let leaves = c.in-Err.ensures.err in
-    let law = c.images_that_open_have_no_fault.ensures in
+    let law = c.images_that_open_have_no_fault.ensures.journal in
+    let bitmap = c.images_that_open_have_no_fault.ensures.bitmap in
     let fault_is = c.handed_back-fault.ensures.fault in
     let ending = ending_of c.ended_by_opening.result in
     given_back mode key disk.sectors start left ending before held held (
       subst (λ (e : Ended). HasRunOn (outset_on mode key disk.sectors (last_image start)) start left (ending_of e) refused held held)
           (sym (c.ended_by_opening.ensures ∙ ap ended_by_opening fault_is))
-          (refused_by_opening law mode key disk _ before refused start told_start left leaves held c.in-Err.refused.fault
+          (refused_by_opening law bitmap mode key disk _ before refused start told_start left leaves held c.in-Err.refused.fault
           c.in-Err.ensures.refused),
-      opening_moments law mode key disk _ before refused start told_start left leaves,
+      opening_moments law bitmap mode key disk _ before refused start told_start left leaves,
     ) (ap g.D.Disk.moments c.handed_back-fault.ensures.disk)
 
 pub returns-in-Ok-run_lines-clause-runs : goal.returns-in-Ok-run_lines-clause-runs
@@ -50,7 +51,7 @@ returns-in-Ok-run_lines-clause-runs g c left told start told_start =
     let run = has_run w.format w.state left in
     let at = c.in-Ok-run_lines.ensures.lines w left run.0 (opened.device start told_start) told run.1 in
     let after = g.D.Disk.moments c.close-closed.result.1.now in
-    let all = ran_on c.images_that_open_have_no_fault.ensures mode key disk _ _ _ start told_start left c.in-Ok.ensures.leaves (opened.can start told_start)
+    let all = ran_on c.images_that_open_have_no_fault.ensures.journal c.images_that_open_have_no_fault.ensures.bitmap mode key disk _ _ _ start told_start left c.in-Ok.ensures.leaves (c.in-Ok.ensures.accepted start told_start)
     run.0 (close_ending c.close-closed.result.0) after _ _ run.1
     (at.leads _ _ _ (c.close-closed.ensures.stopped at.here at.device)) in (
       subst (λ (e : Ending). HasRunOn (outset_on mode key disk.sectors (last_image start)) start left e after
@@ -69,7 +70,7 @@ returns-in-Err-run_lines-clause-runs g c left told start told_start =
     let run = has_run w.format w.state left in
     let ending = ending_of c.in-Err-run_lines.fault in
     given_back mode key disk.sectors start left ending (g.D.Disk.moments c.args.disk.now) _ _
-    (ran_on c.images_that_open_have_no_fault.ensures mode key disk _ _ _ start told_start left c.in-Ok.ensures.leaves (opened.can start told_start)
+    (ran_on c.images_that_open_have_no_fault.ensures.journal c.images_that_open_have_no_fault.ensures.bitmap mode key disk _ _ _ start told_start left c.in-Ok.ensures.leaves (c.in-Ok.ensures.accepted start told_start)
     run.0 ending (g.D.Disk.moments c.run_lines.new.device.disk.now) _ _ run.1
     (c.in-Err-run_lines.ensures.stopped w left run.0 (opened.device start told_start) told run.1)) (ap g.D.Disk.moments c.give_back.ensures.disk)
 
@@ -89,7 +90,7 @@ returns-in-Ok-run_lines-clause-ahead g c left told start told_start =
     let run = has_run w.format w.state left in
     let at = c.in-Ok-run_lines.ensures.lines w left run.0 (opened.device start told_start) told run.1 in
     let stopped = c.close-closed.ensures.stopped at.here at.device in
-    read_on_image c.images_that_open_have_no_fault.ensures mode key disk.sectors (last_image start) left (opened.can start told_start) run.0 _ _ _ run.1
+    read_on_image mode key disk.sectors (last_image start) left (c.in-Ok.ensures.accepted start told_start) run.0 _ _ _ run.1
     (read_further run.0 left _ _ _
     (c.run_lines.ensures.taken.1 w left run.0 (opened.device start told_start) told run.1)
     (record { more = stopped.text; is = stopped.told }))
@@ -102,7 +103,7 @@ returns-in-Err-run_lines-clause-ahead g c left told start told_start =
     let w = opened_standing (asked_mode mode) key disk.sectors (last_image start) in
     let opened = c.in-Ok.ensures.opened in
     let run = has_run w.format w.state left in
-    read_on_image c.images_that_open_have_no_fault.ensures mode key disk.sectors (last_image start) left (opened.can start told_start) run.0 _ _ _ run.1
+    read_on_image mode key disk.sectors (last_image start) left (c.in-Ok.ensures.accepted start told_start) run.0 _ _ _ run.1
     (c.run_lines.ensures.taken.1 w left run.0 (opened.device start told_start) told run.1)
 
 pub returns-in-Ok-run_lines-clause-taken : goal.returns-in-Ok-run_lines-clause-taken

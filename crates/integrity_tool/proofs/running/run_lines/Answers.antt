@@ -10,11 +10,11 @@ pub loop-tickets-init : goal.loop-tickets-init
 loop-tickets-init g c = record {
   ready = c.requires.works.ready;
   works = c.requires.works.is;
-  flight = none_in_flight _ _ c.new-tickets.ensures c.requires.requests.0;
-  submitted = let none = c.requires.requests.1 in omega (arith, none);
+  flight = none_in_flight _ _ c.new-tickets.ensures c.requires.begins.0;
+  submitted = let none = c.requires.begins.1 in omega (arith, none);
   number = omega arith;
-  taken = rw c.requires.reader (omega arith);
-  read = λ left told. read_at_start left c.args.reader.now _ told c.requires.reader;
+  taken = rw c.requires.begins.2 (omega arith);
+  read = λ left told. read_at_start left c.args.reader.now _ told c.requires.begins.2;
   disk_same = refl;
   script_same = refl;
   sink_same = refl;
@@ -22,7 +22,7 @@ loop-tickets-init g c = record {
   same_disk = refl;
   way = λ w left run is told is_run.
       at_start w _ _ _ left run c.args.reader.now
-      (g.S.Source.left c.args.script.now) is told is_run c.requires.reader;
+      (g.S.Source.left c.args.script.now) is told is_run c.requires.begins.2;
 }
 
 pub returns-in_err-advance-clause-stopped : goal.returns-in_err-advance-clause-stopped

@@ -87,17 +87,17 @@ returns-in-Err-clause-status g c =
     (status_ended n c.in-Err.ended cause counted.0 counted.1 counted.2)
 
 pub returns-in-Ok-clause-taken : goal.returns-in-Ok-clause-taken
-returns-in-Ok-clause-taken g c = c.run.ensures.taken.0
+returns-in-Ok-clause-taken g c = c.run.ensures.taken
 
 pub returns-in-Err-clause-taken : goal.returns-in-Err-clause-taken
-returns-in-Err-clause-taken g c = c.run.ensures.taken.0
+returns-in-Err-clause-taken g c = c.run.ensures.taken
 
 pub returns-in-Ok-clause-ahead : goal.returns-in-Ok-clause-ahead
-returns-in-Ok-clause-ahead g c = c.run.ensures.taken.1
+returns-in-Ok-clause-ahead g c = c.run.ensures.ahead
 
 pub returns-in-Err-clause-ahead : goal.returns-in-Err-clause-ahead
 returns-in-Err-clause-ahead g c given is =
-    read_in_further (outset_in given) given.script _ _ _ (c.run.ensures.taken.1 given is)
+    read_in_further (outset_in given) given.script _ _ _ (c.run.ensures.ahead given is)
     (last_line_holds c.put_last_line.result _ _ _ c.put_last_line.ensures.written c.put_last_line.ensures.err)
 
 pub returns-in-Ok-clause-key : goal.returns-in-Ok-clause-key

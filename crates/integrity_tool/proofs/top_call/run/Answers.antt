@@ -83,30 +83,39 @@ returns-clause-sectors g c content told =
     ap (λ (n : NamedDisk). n.sectors) ends ∙ ap (λ (d : DiskIdentity). d.sectors) c.carry_out.ensures.identity ∙ sym (ap (λ (n : NamedDisk). n.sectors) there)
 
 pub returns-in_err-asked-clause-taken : goal.returns-in_err-asked-clause-taken
-returns-in_err-asked-clause-taken g c = (none_taken _ _ refl, λ given is. read_none _ given.script _ is.script_is)
+returns-in_err-asked-clause-taken g c = none_taken _ _ refl
+
+pub returns-in_err-asked-clause-ahead : goal.returns-in_err-asked-clause-ahead
+returns-in_err-asked-clause-ahead g c given is = read_none _ given.script _ is.script_is
 
 pub returns-in_err-hash-clause-taken : goal.returns-in_err-hash-clause-taken
-returns-in_err-hash-clause-taken g c = (none_taken _ _ refl, λ given is. read_none _ given.script _ is.script_is)
+returns-in_err-hash-clause-taken g c = none_taken _ _ refl
+
+pub returns-in_err-hash-clause-ahead : goal.returns-in_err-hash-clause-ahead
+returns-in_err-hash-clause-ahead g c given is = read_none _ given.script _ is.script_is
 
 pub returns-in_err-bind_image-clause-taken : goal.returns-in_err-bind_image-clause-taken
-returns-in_err-bind_image-clause-taken g c = (none_taken _ _ refl, λ given is. read_none _ given.script _ is.script_is)
+returns-in_err-bind_image-clause-taken g c = none_taken _ _ refl
+
+pub returns-in_err-bind_image-clause-ahead : goal.returns-in_err-bind_image-clause-ahead
+returns-in_err-bind_image-clause-ahead g c given is = read_none _ given.script _ is.script_is
 
 pub returns-clause-taken : goal.returns-clause-taken
-returns-clause-taken g c = (
-  c.carry_out.ensures.taken,
-  λ given is.
-      let words = map string_bytes c.args.words.now in
-      let old = g.D.Disk.named c.args.disk.now in
-      let mid = c.bind_image.new.disk in
-      let asked = c.in_ok-asked.asked in
-      let asks = c.in_ok-asked.ensures.asked in
-      let name : image_name words ≡ c.as_str.result.now = ap image_of asks ∙ sym c.as_str.ensures in
-      let found = subst (λ (n : List ℕ). IsThere (old n) (g.D.Disk.identity mid).sectors (g.D.Disk.moments mid)) (sym name) c.in_ok-bind_image.ensures.found in
-      let there = found.is given.content is.content in
-      read_given given words (g.K.NamedSource.named c.args.key.now) (old (image_name words)) (g.S.Source.left c.args.script.now) is (g.O.Sink.held c.args.out.now) asked asks
-      (key_of c.in_ok-hash.hash) c.in_ok-hash.ensures.hash (g.D.Disk.identity mid).sectors (g.D.Disk.moments mid) there _ _
-      (c.carry_out.ensures.ahead given.script is.script_is given.content (told_there there is.content)),
-)
+returns-clause-taken g c = c.carry_out.ensures.taken
+
+pub returns-clause-ahead : goal.returns-clause-ahead
+returns-clause-ahead g c given is =
+    let words = map string_bytes c.args.words.now in
+    let old = g.D.Disk.named c.args.disk.now in
+    let mid = c.bind_image.new.disk in
+    let asked = c.in_ok-asked.asked in
+    let asks = c.in_ok-asked.ensures.asked in
+    let name : image_name words ≡ c.as_str.result.now = ap image_of asks ∙ sym c.as_str.ensures in
+    let found = subst (λ (n : List ℕ). IsThere (old n) (g.D.Disk.identity mid).sectors (g.D.Disk.moments mid)) (sym name) c.in_ok-bind_image.ensures.found in
+    let there = found.is given.content is.content in
+    read_given given words (g.K.NamedSource.named c.args.key.now) (old (image_name words)) (g.S.Source.left c.args.script.now) is (g.O.Sink.held c.args.out.now) asked asks
+    (key_of c.in_ok-hash.hash) c.in_ok-hash.ensures.hash (g.D.Disk.identity mid).sectors (g.D.Disk.moments mid) there _ _
+    (c.carry_out.ensures.ahead given.script is.script_is given.content (told_there there is.content))
 
 pub returns-clause-unread : goal.returns-clause-unread
 returns-clause-unread g c = (

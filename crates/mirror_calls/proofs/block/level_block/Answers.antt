@@ -56,7 +56,7 @@ returns-in-Ok-write_whole-clause-levelled g c a b m legs =
     let x = c.in-Given-second-2.other in
     let size = g.A.Leg.block_size c.read_whole.new.self in
     let long : length x ≡ size =
-    sym (ap (λ (r : BlockRead). length (buffer_in r)) c.in-Given-second-2.is) ∙ c.in-Ok-read_whole.ensures.buffer ∙ c.requires.other ∙ sym c.in-Ok.ensures.block_size in
+    sym (ap (λ (r : BlockRead). length (buffer_in r)) c.in-Given-second-2.is) ∙ c.in-Ok-read_whole.ensures.buffer ∙ c.requires.other ∙ sym c.in-Ok.ensures.same.size_ in
     let d = level_block-to_first (format_of a b) m block block c.in-Differs.stored c.in-Differs.computed x
     (sym (c.in-Ok.ensures.read a m.a legs.first) ∙ ap (block_answer block) c.in-Differs.is)
     (sym (c.in-Ok-read_whole.ensures.read b m.b legs.second) ∙ ap (block_answer block) c.in-Given-second-2.is) in
@@ -76,7 +76,7 @@ returns-in-Ok-write_whole-clause-first_moments g c a b m legs =
     let x = c.in-Given-second-2.other in
     let size = g.A.Leg.block_size c.read_whole.new.self in
     let long : length x ≡ size =
-    sym (ap (λ (r : BlockRead). length (buffer_in r)) c.in-Given-second-2.is) ∙ c.in-Ok-read_whole.ensures.buffer ∙ c.requires.other ∙ sym c.in-Ok.ensures.block_size in
+    sym (ap (λ (r : BlockRead). length (buffer_in r)) c.in-Given-second-2.is) ∙ c.in-Ok-read_whole.ensures.buffer ∙ c.requires.other ∙ sym c.in-Ok.ensures.same.size_ in
     let mends = level_block-mends_first (format_of a b) m block block c.in-Differs.stored c.in-Differs.computed x
     (sym (c.in-Ok.ensures.read a m.a legs.first) ∙ ap (block_answer block) c.in-Differs.is)
     (sym (c.in-Ok-read_whole.ensures.read b m.b legs.second) ∙ ap (block_answer block) c.in-Given-second-2.is) in
@@ -90,7 +90,7 @@ returns-in-Given-second-2-clause-first_moments g c a b m legs =
     let x = c.in-Given-second-2.other in
     let size = g.A.Leg.block_size c.read_whole.new.self in
     let long : length x ≡ size =
-    sym (ap (λ (r : BlockRead). length (buffer_in r)) c.in-Given-second-2.is) ∙ c.in-Ok-read_whole.ensures.buffer ∙ c.requires.other ∙ sym c.in-Ok.ensures.block_size in
+    sym (ap (λ (r : BlockRead). length (buffer_in r)) c.in-Given-second-2.is) ∙ c.in-Ok-read_whole.ensures.buffer ∙ c.requires.other ∙ sym c.in-Ok.ensures.same.size_ in
     let mends = level_block-mends_first (format_of a b) m block block c.in-Differs.stored c.in-Differs.computed x
     (sym (c.in-Ok.ensures.read a m.a legs.first) ∙ ap (block_answer block) c.in-Differs.is)
     (sym (c.in-Ok-read_whole.ensures.read b m.b legs.second) ∙ ap (block_answer block) c.in-Given-second-2.is) in

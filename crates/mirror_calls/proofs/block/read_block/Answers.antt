@@ -30,7 +30,7 @@ returns-in-Err-write_whole-clause-first_moments g c a b m legs =
     let gives : c.in-Ok-Given-read_whole.field-0 ≡ Given x = grind (arith, c.in-Ok-Given-read_whole.field-0-is) in
     let long : length x ≡ size =
     sym (ap (λ (r : BlockRead). length (buffer_in r)) gives) ∙ c.in-Ok-Given-read_whole.ensures.buffer
-    ∙ sym (ap (λ (r : BlockRead). length (buffer_in r)) differs) ∙ c.in-Ok-Differs.ensures.buffer ∙ c.requires.buffer ∙ sym c.in-Ok-Differs.ensures.block_size in
+    ∙ sym (ap (λ (r : BlockRead). length (buffer_in r)) differs) ∙ c.in-Ok-Differs.ensures.buffer ∙ c.requires.block.buffer_ ∙ sym c.in-Ok-Differs.ensures.same.size_ in
     let mends = read_block-mends (format_of a b) m block block c.in-Ok-Differs.stored c.in-Ok-Differs.computed x
     (sym (c.in-Ok-Differs.ensures.read a m.a legs.first) ∙ ap (block_answer block) differs)
     (sym (c.in-Ok-Given-read_whole.ensures.read b m.b legs.second) ∙ ap (block_answer block) gives) in
@@ -47,7 +47,7 @@ returns-clause-first_moments g c a b m legs =
     let gives : c.in-Ok-Given-read_whole.field-0 ≡ Given x = grind (arith, c.in-Ok-Given-read_whole.field-0-is) in
     let long : length x ≡ size =
     sym (ap (λ (r : BlockRead). length (buffer_in r)) gives) ∙ c.in-Ok-Given-read_whole.ensures.buffer
-    ∙ sym (ap (λ (r : BlockRead). length (buffer_in r)) differs) ∙ c.in-Ok-Differs.ensures.buffer ∙ c.requires.buffer ∙ sym c.in-Ok-Differs.ensures.block_size in
+    ∙ sym (ap (λ (r : BlockRead). length (buffer_in r)) differs) ∙ c.in-Ok-Differs.ensures.buffer ∙ c.requires.block.buffer_ ∙ sym c.in-Ok-Differs.ensures.same.size_ in
     let mends = read_block-mends (format_of a b) m block block c.in-Ok-Differs.stored c.in-Ok-Differs.computed x
     (sym (c.in-Ok-Differs.ensures.read a m.a legs.first) ∙ ap (block_answer block) differs)
     (sym (c.in-Ok-Given-read_whole.ensures.read b m.b legs.second) ∙ ap (block_answer block) gives) in

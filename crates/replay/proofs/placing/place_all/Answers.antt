@@ -8,6 +8,7 @@ use Rattle.journal_reading.proofs.PlacesLemmas.{IsWalk-fits}
 use Rattle.replay.proofs.ReplayingLemmas.{counted_read, geometry_of}
 use Rattle.replay.proofs.TurnedLemmas.{turned_all, turned_none}
 use Rattle.replay.proofs.InPlaceLemmas.{in_place_still, still_none, still_then}
+use Rattle.replay.proofs.ReadPlacesLemmas.{shows_none}
 use Rattle.replay.proofs.placing.place_all.Goals as goal
 
 pub entry_count-k-end-requires-clause-geometry : goal.entry_count-k-end-requires-clause-geometry
@@ -25,6 +26,7 @@ loop-k-init g c = record {
   moments = no_moment (g.D.Disk.moments c.args.disk.now) _;
   still = λ none start told read are. still_none c.args.tags.now (g.D.Disk.moments c.args.disk.now) none;
   faults = refl;
+  run = shows_none c.args.tags.now.geometry c.new-run.result (g.D.Disk.moments c.args.disk.now) c.new-run.ensures;
   store = c.requires.store_is;
   geometry = refl;
   identity = refl;
@@ -63,6 +65,7 @@ loop-k-preserved g c = record {
       (c.place_entry.ensures.still first.unmarked start (ap content_now first.kept ∙ told) read
       (in_place_still c.args.geometry.now _ (given_tags c.args.tags.now start) (given_tags c.loop-k.tags start) start (first.same start told) are));
   faults = c.in_ok-place_entry.ensures.cause.passed ∙ c.loop-k.invariant.faults;
+  run = c.in_ok-place_entry.ensures.run;
   store = c.place_entry.ensures.store;
   geometry = c.place_entry.ensures.geometry ∙ c.loop-k.invariant.geometry;
   identity = c.place_entry.ensures.identity ∙ c.loop-k.invariant.identity;

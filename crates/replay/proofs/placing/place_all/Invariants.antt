@@ -9,6 +9,7 @@ use Rattle.place_writer.specs.Cells.{HasCells}
 use Rattle.tag_store.specs.Store.{IsStore, given_tags}
 use Rattle.journal_reading.specs.Journal.{journal_image}
 use Rattle.journal_reading.specs.Newest.{newest_in}
+use Rattle.replay.specs.ReadPlaces.{ShowsPlaces}
 use Rattle.replay.specs.Replaying.{AreInPlace, HasTurned, IsReadOn, IsStill, IsToReplay, all_placed, entries_on}
 use Rattle.replay.specs.Writes.{IsOfPlacing}
 use Rattle.replay.proofs.placing.place_all.Given as goal
@@ -25,6 +26,7 @@ invariant-loop-k g l = record {
       → AreInPlace l.geometry (replayed_entries l.geometry (last_image c)) (given_tags l.fn.tags c) c
       → IsStill l.fn.tags l.tags (g.D.Disk.moments l.fn.disk) (g.D.Disk.moments l.disk)) (g.D.Disk.moments l.fn.disk);
   faults : g.D.Counted.faults l.disk ≡ g.D.Counted.faults l.fn.disk;
+  run : ShowsPlaces l.tags.geometry l.run (g.D.Disk.moments l.disk);
   store : IsStore l.tags (g.D.Disk.identity l.disk) (g.D.Disk.moments l.disk);
   geometry : l.tags.geometry ≡ l.fn.tags.geometry;
   identity : g.D.Disk.identity l.disk ≡ g.D.Disk.identity l.fn.disk;

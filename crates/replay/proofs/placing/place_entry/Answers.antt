@@ -1,7 +1,7 @@
-use Rattle.std.proofs.Common.{◌≡◌, ◌*◌, ◌^◌, ◌/◌, ◌<◌, ℕ, None, Some, Option, refl, sym, ◌∙◌, ap, subst}
+use Rattle.std.proofs.Common.{◌≡◌, ◌*◌, ◌^◌, ◌/◌, ◌<◌, ℕ, None, Some, sym, ◌∙◌, ap, subst}
 use Rattle.std.proofs.lemmas.Bool.{false≢true}
-use Rattle.disk_model.specs.Disk.{Image, last_image}
-use Rattle.image_model.specs.Cells.{entry_of, last_entry, replayed_entries}
+use Rattle.disk_model.specs.Disk.{last_image}
+use Rattle.image_model.specs.Cells.{last_entry, replayed_entries}
 use Rattle.image_model.specs.Geometry.{Geometry, Shape, data_at}
 use Rattle.image_model.specs.Section.{Entry}
 use Rattle.image_model.specs.Sectors.{bytes_at}
@@ -13,7 +13,7 @@ use Rattle.journal_reading.specs.Newest.{newest_in}
 use Rattle.journal_reading.proofs.PlacesLemmas.{IsWalk-fits, place-inside}
 use Rattle.commit_id.specs.Grid.{as_grid}
 use Rattle.tag_store.specs.Store.{given_tags}
-use Rattle.replay.specs.Replaying.{HasAmid, IsReadOn, last_cell, without}
+use Rattle.replay.specs.Replaying.{HasAmid, last_cell, without}
 use Rattle.replay.proofs.ReplayingLemmas.{among_entries, geometry_of, numbered_read}
 use Rattle.replay.proofs.TurnedLemmas.{newest_cell, newest_entry, turned_older, turned_one, turned_unused}
 use Rattle.replay.proofs.WritesLemmas.{among_more}
@@ -21,9 +21,9 @@ use Rattle.replay.proofs.placing.place_entry.Goals as goal
 
 pub entry_place-place-requires-clause-geometry : goal.entry_place-place-requires-clause-geometry
 entry_place-place-requires-clause-geometry g c =
-    let G = c.args.geometry.now in
-    let B = c.args.bytes.now in
-    let journal = c.args.journal.now in
+    let G = c.args.read.now.geometry.now in
+    let B = c.args.read.now.bytes.now in
+    let journal = c.args.read.now.journal.now in
     let replaying = c.requires.replaying in
     let geometry = geometry_of G c.args.tags.now (g.D.Disk.identity c.args.disk.now) (g.D.Disk.moments c.args.disk.now) replaying.geometry replaying.store_is in
     geometry
@@ -31,13 +31,13 @@ entry_place-place-requires-clause-geometry g c =
 pub entry_place-place-requires-clause-walk : goal.entry_place-place-requires-clause-walk
 entry_place-place-requires-clause-walk g c =
     let fits = c.requires.replaying.fits in
-    IsWalk-fits c.args.geometry.now (as_grid c.args.journal.now.grid) c.args.journal.now.plan fits.grid_ fits.plan_
+    IsWalk-fits c.args.read.now.geometry.now (as_grid c.args.read.now.journal.now.grid) c.args.read.now.journal.now.plan fits.grid_ fits.plan_
 
 pub read_entry-requires-clause-section : goal.read_entry-requires-clause-section
 read_entry-requires-clause-section g c =
-    let G = c.args.geometry.now in
-    let B = c.args.bytes.now in
-    let journal = c.args.journal.now in
+    let G = c.args.read.now.geometry.now in
+    let B = c.args.read.now.bytes.now in
+    let journal = c.args.read.now.journal.now in
     let replaying = c.requires.replaying in
     let geometry = geometry_of G c.args.tags.now (g.D.Disk.identity c.args.disk.now) (g.D.Disk.moments c.args.disk.now) replaying.geometry replaying.store_is in
     let place : ℕ × ℕ = (c.entry_place-place.result.section, c.entry_place-place.result.entry) in
@@ -46,9 +46,9 @@ read_entry-requires-clause-section g c =
 
 pub read_entry-requires-clause-entry : goal.read_entry-requires-clause-entry
 read_entry-requires-clause-entry g c =
-    let G = c.args.geometry.now in
-    let B = c.args.bytes.now in
-    let journal = c.args.journal.now in
+    let G = c.args.read.now.geometry.now in
+    let B = c.args.read.now.bytes.now in
+    let journal = c.args.read.now.journal.now in
     let replaying = c.requires.replaying in
     let geometry = geometry_of G c.args.tags.now (g.D.Disk.identity c.args.disk.now) (g.D.Disk.moments c.args.disk.now) replaying.geometry replaying.store_is in
     let place : ℕ × ℕ = (c.entry_place-place.result.section, c.entry_place-place.result.entry) in
@@ -57,9 +57,9 @@ read_entry-requires-clause-entry g c =
 
 pub place_view-requires-clause-block : goal.place_view-requires-clause-block
 place_view-requires-clause-block g c =
-    let G = c.args.geometry.now in
-    let B = c.args.bytes.now in
-    let journal = c.args.journal.now in
+    let G = c.args.read.now.geometry.now in
+    let B = c.args.read.now.bytes.now in
+    let journal = c.args.read.now.journal.now in
     let replaying = c.requires.replaying in
     let geometry = geometry_of G c.args.tags.now (g.D.Disk.identity c.args.disk.now) (g.D.Disk.moments c.args.disk.now) replaying.geometry replaying.store_is in
     let entry = entry_with c.read_entry.new.block c.in-Some.view in
@@ -78,9 +78,9 @@ place_view-requires-clause-tag g c = c.in-Some.ensures.tag ∙ ap (λ (x : Geome
 
 pub returns-in_err-place_view-clause-stands : goal.returns-in_err-place_view-clause-stands
 returns-in_err-place_view-clause-stands g c d to read has =
-    let G = c.args.geometry.now in
-    let B = c.args.bytes.now in
-    let journal = c.args.journal.now in
+    let G = c.args.read.now.geometry.now in
+    let B = c.args.read.now.bytes.now in
+    let journal = c.args.read.now.journal.now in
     let replaying = c.requires.replaying in
     let geometry = geometry_of G c.args.tags.now (g.D.Disk.identity c.args.disk.now) (g.D.Disk.moments c.args.disk.now) replaying.geometry replaying.store_is in
     let place : ℕ × ℕ = (c.entry_place-place.result.section, c.entry_place-place.result.entry) in
@@ -97,9 +97,9 @@ returns-in_err-place_view-clause-stands g c d to read has =
 
 pub returns-in_ok-place_view-clause-stands : goal.returns-in_ok-place_view-clause-stands
 returns-in_ok-place_view-clause-stands g c d to read has =
-    let G = c.args.geometry.now in
-    let B = c.args.bytes.now in
-    let journal = c.args.journal.now in
+    let G = c.args.read.now.geometry.now in
+    let B = c.args.read.now.bytes.now in
+    let journal = c.args.read.now.journal.now in
     let replaying = c.requires.replaying in
     let geometry = geometry_of G c.args.tags.now (g.D.Disk.identity c.args.disk.now) (g.D.Disk.moments c.args.disk.now) replaying.geometry replaying.store_is in
     let place : ℕ × ℕ = (c.entry_place-place.result.section, c.entry_place-place.result.entry) in
@@ -116,9 +116,9 @@ returns-in_ok-place_view-clause-stands g c d to read has =
 
 pub returns-in_ok-place_view-clause-placed : goal.returns-in_ok-place_view-clause-placed
 returns-in_ok-place_view-clause-placed g c d to read has =
-    let G = c.args.geometry.now in
-    let B = c.args.bytes.now in
-    let journal = c.args.journal.now in
+    let G = c.args.read.now.geometry.now in
+    let B = c.args.read.now.bytes.now in
+    let journal = c.args.read.now.journal.now in
     let replaying = c.requires.replaying in
     let geometry = geometry_of G c.args.tags.now (g.D.Disk.identity c.args.disk.now) (g.D.Disk.moments c.args.disk.now) replaying.geometry replaying.store_is in
     let place : ℕ × ℕ = (c.entry_place-place.result.section, c.entry_place-place.result.entry) in
@@ -139,9 +139,9 @@ returns-in_ok-place_view-clause-placed g c d to read has =
 
 pub returns-else-is_newest-clause-placed : goal.returns-else-is_newest-clause-placed
 returns-else-is_newest-clause-placed g c d to read has =
-    let G = c.args.geometry.now in
-    let B = c.args.bytes.now in
-    let journal = c.args.journal.now in
+    let G = c.args.read.now.geometry.now in
+    let B = c.args.read.now.bytes.now in
+    let journal = c.args.read.now.journal.now in
     let replaying = c.requires.replaying in
     let geometry = geometry_of G c.args.tags.now (g.D.Disk.identity c.args.disk.now) (g.D.Disk.moments c.args.disk.now) replaying.geometry replaying.store_is in
     let place : ℕ × ℕ = (c.entry_place-place.result.section, c.entry_place-place.result.entry) in
@@ -158,22 +158,22 @@ returns-else-is_newest-clause-placed g c d to read has =
 pub returns-in_err-place_view-clause-moments : goal.returns-in_err-place_view-clause-moments
 returns-in_err-place_view-clause-moments g c =
     let place : ℕ × ℕ = (c.entry_place-place.result.section, c.entry_place-place.result.entry) in
-    among_more c.args.geometry.now _ _ (λ (e : Entry) is.
-    among_entries c.args.geometry.now (journal_image c.args.bytes.now) c.args.journal.now.plan.walk c.args.number place e c.entry_place-place.ensures
+    among_more c.args.read.now.geometry.now _ _ (λ (e : Entry) is.
+    among_entries c.args.read.now.geometry.now (journal_image c.args.read.now.bytes.now) c.args.read.now.journal.now.plan.walk c.args.number place e c.entry_place-place.ensures
     (sym c.in-Some.ensures.entry ∙ ap (λ (x : Entry). Some x) (sym is))) c.place_view.ensures.moments
 
 pub returns-in_ok-place_view-clause-moments : goal.returns-in_ok-place_view-clause-moments
 returns-in_ok-place_view-clause-moments g c =
     let place : ℕ × ℕ = (c.entry_place-place.result.section, c.entry_place-place.result.entry) in
-    among_more c.args.geometry.now _ _ (λ (e : Entry) is.
-    among_entries c.args.geometry.now (journal_image c.args.bytes.now) c.args.journal.now.plan.walk c.args.number place e c.entry_place-place.ensures
+    among_more c.args.read.now.geometry.now _ _ (λ (e : Entry) is.
+    among_entries c.args.read.now.geometry.now (journal_image c.args.read.now.bytes.now) c.args.read.now.journal.now.plan.walk c.args.number place e c.entry_place-place.ensures
     (sym c.in-Some.ensures.entry ∙ ap (λ (x : Entry). Some x) (sym is))) c.place_view.ensures.moments
 
 pub returns-in_err-place_view-clause-still : goal.returns-in_err-place_view-clause-still
 returns-in_err-place_view-clause-still g c none start told read are =
-    let G = c.args.geometry.now in
-    let B = c.args.bytes.now in
-    let journal = c.args.journal.now in
+    let G = c.args.read.now.geometry.now in
+    let B = c.args.read.now.bytes.now in
+    let journal = c.args.read.now.journal.now in
     let replaying = c.requires.replaying in
     let geometry = geometry_of G c.args.tags.now (g.D.Disk.identity c.args.disk.now) (g.D.Disk.moments c.args.disk.now) replaying.geometry replaying.store_is in
     let place : ℕ × ℕ = (c.entry_place-place.result.section, c.entry_place-place.result.entry) in
@@ -193,9 +193,9 @@ returns-in_err-place_view-clause-still g c none start told read are =
 
 pub returns-in_ok-place_view-clause-still : goal.returns-in_ok-place_view-clause-still
 returns-in_ok-place_view-clause-still g c none start told read are =
-    let G = c.args.geometry.now in
-    let B = c.args.bytes.now in
-    let journal = c.args.journal.now in
+    let G = c.args.read.now.geometry.now in
+    let B = c.args.read.now.bytes.now in
+    let journal = c.args.read.now.journal.now in
     let replaying = c.requires.replaying in
     let geometry = geometry_of G c.args.tags.now (g.D.Disk.identity c.args.disk.now) (g.D.Disk.moments c.args.disk.now) replaying.geometry replaying.store_is in
     let place : ℕ × ℕ = (c.entry_place-place.result.section, c.entry_place-place.result.entry) in
@@ -215,9 +215,9 @@ returns-in_ok-place_view-clause-still g c none start told read are =
 
 pub returns-in_default-clause-placed : goal.returns-in_default-clause-placed
 returns-in_default-clause-placed g c d to read has =
-    let G = c.args.geometry.now in
-    let B = c.args.bytes.now in
-    let journal = c.args.journal.now in
+    let G = c.args.read.now.geometry.now in
+    let B = c.args.read.now.bytes.now in
+    let journal = c.args.read.now.journal.now in
     let replaying = c.requires.replaying in
     let geometry = geometry_of G c.args.tags.now (g.D.Disk.identity c.args.disk.now) (g.D.Disk.moments c.args.disk.now) replaying.geometry replaying.store_is in
     let place : ℕ × ℕ = (c.entry_place-place.result.section, c.entry_place-place.result.entry) in

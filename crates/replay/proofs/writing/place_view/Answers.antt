@@ -1,4 +1,4 @@
-use Rattle.std.proofs.Common.{◌≡◌, ◌/◌, ℕ, List, inl, inr, ap, subst, ◌∙◌}
+use Rattle.std.proofs.Common.{◌≡◌, ◌/◌, ℕ, List, inl, inr, ap, subst, sym, ◌∙◌}
 use Rattle.std.proofs.lemmas.Result.{on_ok_weaker}
 use Rattle.disk_model.proofs.MomentsLemmas.{EachMoment-then, adds_then, adds_wider, write_adds}
 use Rattle.image_model.specs.Cells.{Cell}
@@ -8,6 +8,8 @@ use Rattle.journal_reading.specs.Entries.{entry_with}
 use Rattle.place_writer.specs.DirectModeCells.{IsOfBlockOrTags}
 use Rattle.tag_store.specs.Store.{HoldsTag}
 use Rattle.replay.specs.Replaying.{HasAmid, last_cell, without}
+use Rattle.replay.specs.ReadPlaces.{ShowsPlaces}
+use Rattle.replay.proofs.ReadPlacesLemmas.{shows_others}
 use Rattle.replay.proofs.WritesLemmas.{entry_adds}
 use Rattle.replay.proofs.writing.place_view.Goals as goal
 
@@ -62,3 +64,11 @@ returns-clause-moments g c =
     entry_adds c.args.geometry.now own (entry_with c.args.block.now c.args.view.now) number c.requires.geometry same
     (adds_then W (write_adds W (data_at own number) c.args.block.now c.place_data.ensures.moments (λ s x of. inl of))
     (adds_wider (λ s x. HoldsTag own s) W (λ s x tag. inr tag) c.place_tag.ensures.moments))
+
+pub returns-clause-run : goal.returns-clause-run
+returns-clause-run g c = on_ok_weaker c.place_tag.result (λ others.
+    let own = c.args.tags.now.geometry in
+    let run = c.place_data.new.run in
+    let after = g.D.Disk.moments c.place_tag.new.disk in
+    subst (λ (y : Geometry). ShowsPlaces y run after) (sym c.place_tag.ensures.geometry)
+    (shows_others own run (λ s x. HoldsTag own s) (g.D.Disk.moments c.place_data.new.disk) after c.in_ok-place_data.ensures.run c.place_tag.ensures.moments others)) c.place_tag.ensures.others

@@ -1,0 +1,10 @@
+pub mod OverDisk
+pub mod TagLemmas
+pub mod EventLemmas
+pub mod DoneLemmas
+pub mod ServeLemmas
+pub mod HeldLemmas
+pub mod CountLemmas
+pub mod StepLemmas
+pub mod EndLemmas
+mod Worked

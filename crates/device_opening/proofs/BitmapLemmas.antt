@@ -1,0 +1,176 @@
+-- An image with a bitmap that is judged, and the device that is open on it once its disk is synced.
+use Rattle.std.proofs.Common.{◌≡◌, ℕ, ◌*◌, ◌<◌, ◌≤◌, Bool, if◌then◌else◌, is_some, refl, sym, ◌∙◌, ap, subst, Option, None, Some, Ok, List}
+use Rattle.std.proofs.lemmas.Option.{none-some}
+use Rattle.disk_model.specs.Disk.{Content, last_image, newest_only}
+use Rattle.disk_model.specs.Identity.{DiskIdentity}
+use Rattle.disk_model.specs.Moments.{EachMoment, EachSince, HasNow, IsChangedBy, content_now}
+use Rattle.image_model.specs.Bitmap.{is_dirty}
+use Rattle.image_model.specs.Cells.{placed_cells_of}
+use Rattle.image_model.specs.Geometry.{Geometry, bitmap_sectors, journal_sectors, layout_of, regions}
+use Rattle.image_model.specs.GeometryLaws.{FitsDisk}
+use Rattle.image_model.proofs.GeometryOf.{geometry_given}
+use Rattle.device_model.specs.Mode.{Bitmap}
+use Rattle.device_model.specs.Regions.{least_region}
+use Rattle.place_model.specs.Format.{DiskFormat, HasWholeSectors, format_on}
+use Rattle.place_model.specs.Opened.{device_format, opened_on}
+use Rattle.place_model.proofs.FormatLemmas.{reads_on}
+use Rattle.direct_laws.specs.CallLaws.{ReadsImage}
+use Rattle.bitmap_model.specs.Opening.{opened_disk}
+use Rattle.bitmap_laws.specs.MomentLaws.{CanOpenNow, IsOpenedOn}
+use Rattle.bitmap_laws.proofs.LeastLemmas.{least_law}
+use Rattle.bitmap_laws.proofs.MomentLemmas.{left_now_law, opening_done_law, opening_sync_law}
+use Rattle.buffer_cache.proofs.CachedLemmas.{changed_now}
+use Rattle.hmac_tag.specs.TagMaker.{TagRule}
+use Rattle.image_format.specs.declared.reading.ImageFormat.{ImageFormat}
+use Rattle.image_format.specs.Format.{IsBitmapFormat, bitmap_format_of, disk_format}
+use Rattle.image_judging.specs.declared.consent.Consent.{Consent}
+use Rattle.image_judging.specs.Faults.{ByConsent, ImageFault, bitmap_fault_by, bitmap_fault_of, has_dirty_region, lacks_consent}
+use Rattle.recalculation.specs.Awaiting.{awaiting_of}
+use Rattle.tag_store.specs.Store.{IsStore, Store, given_tags}
+use Rattle.request_slots.specs.Flight.{Flight, no_requests}
+use Rattle.device_parts.specs.declared.condition.Condition.TheVariants.{Working}
+use Rattle.device_parts.specs.declared.parts.Parts.{Parts}
+use Rattle.device_parts.specs.Device as Devices
+use Rattle.device_parts.specs.Device.{HasOpened, opened_standing, rule_on}
+use Rattle.bitmap_mode.specs.States.{States, counts_of, least_awaiting}
+use Rattle.bitmap_device.specs.declared.parts.BitmapParts.{BitmapParts}
+use Rattle.bitmap_device.specs.Device.{IsOverDisk, in_bitmap, kept, standing_on}
+use Rattle.journal_device.proofs.DoneLemmas.{told_then}
+use Rattle.device_opening.specs.declared.bitmap_judging.JudgedBitmap.{JudgedBitmap}
+use Rattle.device_opening.specs.declared.room.DeviceRoom.{DeviceRoom}
+use Rattle.device_opening.specs.BitmapOpening.{AreRegionsOf, HasJudgedBitmap}
+use Rattle.device_opening.specs.Opening.{IsRoomFor, LeavesOpenable}
+
+-- ---- what is judged
+
+module _ (sectors : ℕ) (format : ImageFormat) (is : IsBitmapFormat sectors format) where
+  given : (format.geometry ≡ layout_of format.fields) × FitsDisk format.fields sectors
+  given = (geometry_given format.fields sectors format.geometry).0 is.accepted.told
+
+  -- The geometry is that of the fields,
+  pub own_layout : format.geometry ≡ layout_of format.fields
+  own_layout = given.0
+
+  -- and the bitmap fits the journal's sectors.
+  pub bitmap_fits : bitmap_sectors format.geometry ≤ journal_sectors format.geometry
+  bitmap_fits = subst (λ (g : Geometry). bitmap_sectors g ≤ journal_sectors g) (sym given.0) (given.1.bitmap is.bitmap)
+
+module _ (key : Option (List ℕ)) (consent : Consent) (sectors : ℕ) (format : ImageFormat) (s : States) (a : List Content)
+    (told : HasNow (λ c. Ok format ≡ bitmap_format_of sectors (last_image c)) a) (are : AreRegionsOf format s a) where
+  -- A region awaits in memory exactly where a bit is set in the image.
+  some_dirty : (c : Content) → content_now a ≡ Some c → is_some (least_awaiting s) ≡ has_dirty_region format.geometry (last_image c)
+  some_dirty c now =
+      let counts = are.opened (disk_format None sectors format) refl c now in
+      ap is_some (
+      least_law (regions s.geometry) (awaiting_of s.awaiting) (is_dirty format.geometry (last_image c))
+      (λ r low. counts.awaiting r (subst (λ (g : Geometry). r < regions g) are.geometry low))
+      ∙ ap (λ (g : Geometry). least_region (regions g) (is_dirty format.geometry (last_image c))) are.geometry)
+
+  -- The fault of the image is want of consent, or it has none.
+  pub consent_fault : (lacks : Bool) → lacks ≡ lacks_consent key consent (is_some (least_awaiting s))
+      → HasNow (λ c. (if lacks then Some (ByConsent format.fields.flags) else None) ≡ bitmap_fault_of key consent sectors (last_image c)) a
+  consent_fault lacks is c now =
+      ap (λ (b : Bool). if b then Some (ByConsent format.fields.flags) else None) (is ∙ ap (lacks_consent key consent) (some_dirty c now))
+      ∙ ap (bitmap_fault_by key consent (last_image c)) (told c now)
+
+-- ---- what is open
+
+module _ (disk : DiskIdentity) (image : JudgedBitmap) (a b : List Content) (judged : HasJudgedBitmap disk.sectors image a) (reads : ReadsImage a) where
+  abbrev key : Option (List ℕ)
+  key = image.maker.key
+
+  can : CanOpenNow key disk.sectors a
+  can c now =
+      let read = judged.now c now in
+      (read.opens, subst (λ (f : DiskFormat). HasWholeSectors f (last_image c)) (sym read.read.own) read.read.whole)
+
+  -- While the disk is synced each image may be left of the device.
+  pub bitmap_left : EachSince (λ start c. c ≡ newest_only start) a b → LeavesOpenable Bitmap key disk.sectors a b
+  bitmap_left newest can_read =
+      let law = opening_sync_law key disk.sectors a b reads can newest in
+      record { opens = law.1; left = law.0 }
+
+  module _ (room : DeviceRoom) (has : IsRoomFor image.format.geometry room) (tags : Store) (spb : ℕ) (spb_is : spb ≡ image.format.geometry.shape.spb)
+      (same : tags.geometry ≡ image.format.geometry) (synced : IsChangedBy newest_only a b) (store : IsStore tags disk b)
+      (placed : (c : Content) (n : ℕ) → given_tags tags c n ≡ (placed_cells_of tags.geometry (last_image c) n).tag) where
+    -- What is kept of the device.
+    abbrev pub parts_of : Parts
+    parts_of = record { tags = tags; maker = image.maker; slots = room.slots; spb = spb; buffer = room.buffer }
+
+    slots_are : room.slots ≡ no_requests tags.geometry.blocks (512 * tags.geometry.shape.spb)
+    slots_are = has.slots ∙ ap (λ (g : Geometry). no_requests g.blocks (512 * g.shape.spb)) (sym same)
+
+    ready : Devices.IsReady parts_of disk b
+    ready = record {
+      store = store;
+      blocks = ap (λ (x : Flight). x.blocks) slots_are;
+      block_size = ap (λ (x : Flight). x.block_size) slots_are;
+      spb = spb_is ∙ ap (λ (g : Geometry). g.shape.spb) (sym same);
+      tag_size = ap (λ (r : TagRule). r.size) judged.maker ∙ ap (λ (g : Geometry). g.shape.tag_size) (sym same);
+      buffer = has.buffer ∙ sym (ap (λ (x : Flight). x.block_size) has.slots);
+    }
+
+    -- The places of the image are those of the store.
+    own_geometry : (start : Content) → content_now a ≡ Some start → (format_on key disk.sectors (last_image start)).geometry ≡ image.format.geometry
+    own_geometry start now = ap (λ (f : DiskFormat). f.geometry) (judged.now start now).read.own
+
+    opened : HasNow (λ start. IsOpenedOn key disk.sectors (last_image start) (given_tags tags) b) a
+    opened =
+        opening_done_law key disk.sectors (given_tags tags) a b reads can synced
+        (λ c now n low. placed c n ∙ ap (λ (g : Geometry). (placed_cells_of g (last_image c) n).tag) (same ∙ sym (geometry_then c now)))
+      where
+        geometry_then : (c : Content) → content_now b ≡ Some c → (format_on key disk.sectors (last_image c)).geometry ≡ image.format.geometry
+        geometry_then c now =
+            let first = changed_now newest_only (content_now a) (content_now b) synced c now in
+            ap (λ (y : Content). (format_on key disk.sectors (last_image y)).geometry) first.2 ∙ own_geometry first.0 first.1
+
+    over_disk : {P : Content → Type 0} → EachMoment a b P → (start : Content) → (now : content_now a ≡ Some start)
+        → let f = format_on key disk.sectors (last_image start) in
+        IsOverDisk (standing_on (opened_standing Bitmap key disk.sectors (last_image start)) (opened_disk f (last_image start))) Working parts_of image.regions b
+    over_disk moments start now =
+        let entry = last_image start in
+        let f = format_on key disk.sectors entry in
+        let on = opened start now in
+        let then_ = told_then a b start now moments in
+        let slots : room.slots ≡ no_requests f.geometry.blocks (512 * f.geometry.shape.spb) =
+        has.slots ∙ ap (λ (g : Geometry). no_requests g.blocks (512 * g.shape.spb)) (sym (own_geometry start now)) in
+        record {
+          device = on.device;
+          reads = reads_on key disk.sectors entry (can start now).0.0.readable;
+          opened = refl;
+          base = λ n low. refl;
+          flight = record {
+            blocks = ap (λ (x : Flight). x.blocks) slots;
+            block_size = ap (λ (x : Flight). x.block_size) slots;
+            most = refl;
+            submitted = ap (λ (x : Flight). x.submitted) slots;
+            slots = ap (λ (x : Flight). x.slots) slots;
+            each = λ k r there. absurd (none-some r there);
+          };
+          rule = judged.maker ∙ ap rule_on (sym (judged.now start now).read.own);
+          condition_ = refl;
+          told = then_.content;
+          is_told = then_.is;
+          stands = λ _. record {
+            geometry = own_geometry start now ∙ sym same;
+            regions_ = judged.regions_.opened f (own_geometry start now) start now;
+            now = on.keeps;
+          };
+          left =
+              left_now_law (device_format Bitmap f) (opened_on Bitmap f entry) (opened_disk f entry) entry b on.device refl
+              (λ c at. (on.keeps c at).cells.stands);
+        }
+
+    -- The device is open.
+    pub bitmap_opened : {P : Content → Type 0} → EachMoment a b P → HasOpened in_bitmap Bitmap key disk (kept parts_of image.regions) a b
+    bitmap_opened moments = record {
+      device = λ start now. record {
+        disk = opened_disk (format_on key disk.sectors (last_image start)) (last_image start);
+        format = refl;
+        over = over_disk moments start now;
+      };
+      ready = record { parts_ = ready; geometry = judged.regions_.geometry ∙ sym same };
+      asked_ = refl;
+      requests = slots_are;
+      can = λ c now. (can c now).0;
+    }

@@ -1,0 +1,119 @@
+//! Judging an image with a bitmap before anything is done to it.
+ghost use Rattle.std.specs.Prelude.{◌≡◌, ◌⊎◌, Err, IfOk, IsErr};
+ghost use Rattle.disk_model.specs.Identity.{IsBound};
+ghost use Rattle.hmac_tag.specs.TagMaker.{key_of};
+ghost use Rattle.image_format.specs.Format.{IsBitmapFormat};
+ghost use Rattle.image_judging.specs.Faults.{HasOpenCause, bitmap_fault_of, lacks_consent};
+ghost use Rattle.device_opening.specs.BitmapOpening.{AreRegionsOf, HasJudgedBitmap};
+ghost use Rattle.device_opening.specs.Opening.{TellsFault};
+
+use crate::judging::maker_of;
+use bitmap_mode::RegionStates;
+use dirty_bitmap::BitsFault;
+use hmac_tag::{Hash, TagMaker};
+use image_format::{ImageFormat, read_bitmap_format};
+use image_judging::{Consent, OpeningFault};
+use layout::Geometry;
+use sector_disk::Disk;
+use std::alloc::Global;
+
+/// An image with a bitmap that can be opened.
+#[derive(Drop)]
+pub(crate) struct JudgedBitmap {
+    /// What its first sector tells.
+    pub(crate) format: ImageFormat,
+    /// What makes its tags.
+    pub(crate) maker: TagMaker,
+    /// Its regions: each whose bit is set awaits.
+    pub(crate) regions: RegionStates,
+}
+
+impl JudgedBitmap {
+    /// Where all lies on its disk.
+    pub(crate) fn geometry(&self) -> Geometry
+        ensures { result ≡ self.now.format.geometry }
+    {
+        self.format.geometry
+    }
+}
+
+/// Judges the image of a disk: its first sector, and then its bitmap, which asks for consent where a bit is set and there
+/// is a key. Nothing is done but two reads, and the memory that is taken is for the regions.
+///
+/// # Errors
+///
+/// `Memory` and `Disk` come whenever they hold, and of the others the first that holds:
+///
+/// - `Memory`: there is none for the regions.
+/// - `Disk`: the disk failed at a read.
+/// - `Super`, `Geom`, `Mode`: as `read_bitmap_format` tells them.
+/// - `Consent`: a bit is set, there is a key, and consent is withheld.
+pub(crate) fn judge_bitmap<D: Disk>(
+    alloc: Global,
+    disk: &mut D,
+    hash: Hash,
+    consent: Consent,
+) -> Result<JudgedBitmap, OpeningFault>
+    requires { IsBound (D.identity disk.old).name }
+
+    ensures judged { IfOk result (λ image. HasJudgedBitmap (D.identity disk.old).sectors image (D.moments disk.old)) }
+    ensures key { IfOk result (λ image. image.maker.key ≡ key_of hash) }
+
+    ensures refused { TellsFault (bitmap_fault_of (key_of hash) consent (D.identity disk.old).sectors)
+        (D.moments disk.old) result }
+    ensures cause { HasOpenCause (D.faults disk.old) (D.faults disk.new) result }
+
+    ensures identity { D.identity disk.new ≡ D.identity disk.old }
+    ensures kept { D.moments disk.new ≡ D.moments disk.old }
+{
+    let format = read_bitmap_format(disk)?;
+    let regions = load_regions(alloc, disk, &format)?;
+    if lacks_consent(&hash, consent, regions.some_await()) {
+        let flags = format.fields.flags;
+        return Err(OpeningFault::Consent { flags });
+    }
+    let maker = maker_of(hash, &format);
+    Ok(JudgedBitmap {
+        format,
+        maker,
+        regions,
+    })
+}
+
+/// The regions of an image in this format, by one read of its bitmap.
+///
+/// # Errors
+///
+/// - `Memory`: there is none for them.
+/// - `Disk`: the disk failed at the read.
+fn load_regions<D: Disk>(
+    alloc: Global,
+    disk: &mut D,
+    format: &ImageFormat,
+) -> Result<RegionStates, OpeningFault>
+    requires bound { IsBound (D.identity disk.old).name }
+    requires format { IsBitmapFormat (D.identity disk.old).sectors format.now }
+
+    ensures loaded { IfOk result (λ regions. AreRegionsOf format.now regions (D.moments disk.old)) }
+    ensures err { IsErr result → (result ≡ Err OpeningFault.Memory) ⊎ (result ≡ Err OpeningFault.Disk) }
+    ensures cause { HasOpenCause (D.faults disk.old) (D.faults disk.new) result }
+
+    ensures identity { D.identity disk.new ≡ D.identity disk.old }
+    ensures kept { D.moments disk.new ≡ D.moments disk.old }
+{
+    match RegionStates::load(alloc, disk, &format.fields, format.geometry) {
+        Ok(regions) => Ok(regions),
+        Err(BitsFault::Memory) => Err(OpeningFault::Memory),
+        Err(BitsFault::Disk) => Err(OpeningFault::Disk),
+    }
+}
+
+/// Tags under a key would be made anew without consent to that, where some blocks await them.
+fn lacks_consent(hash: &Hash, consent: Consent, some_await: bool) -> bool
+    ensures { result ≡ lacks_consent (key_of hash.now) consent some_await }
+{
+    match (hash, consent) {
+        (Hash::Hmac(_), Consent::Withheld) => some_await,
+        _ => false,
+    }
+}

@@ -1,0 +1,99 @@
+-- Values of the definitions, computed: why bitmap mode does not open an image, of which a bit is set or none, under a
+-- key or without one, with consent or without.
+use Rattle.std.proofs.Common.{◌≡◌, ℕ, ◌==◌, true, false, if◌then◌else◌, refl, None, Some, List, [], ◌∷◌, ◌++◌, replicate}
+use Rattle.disk_model.specs.Disk.{Image}
+use Rattle.image_model.specs.Bitmap.{is_bit_set}
+use Rattle.image_model.specs.Geometry.{bitmap_sectors_for, entries_per_sector, entry_size, geometry_of, layout_of, regions_for, section_entries, section_sectors, sector_at, tag_run_of}
+use Rattle.image_model.specs.Superblock.{Superblock, fields_in, superblock_of}
+use Rattle.image_format.specs.declared.open_fault.OpenFault.TheVariants.{Mode}
+use Rattle.image_judging.specs.declared.consent.Consent.TheVariants.{Given, Withheld}
+use Rattle.image_judging.specs.Faults.{ByConsent, ByFormat, bitmap_fault_of, has_dirty_region, lacks_consent}
+
+-- The first sector of an image of 47 blocks of eight sectors on 1024 sectors, with tags of 32 bytes, with these flags.
+-- Source: the sizes and places of the superblock's fields, each with its lowest byte first.
+abbrev head_with : (flags : ℕ) → List ℕ
+head_with flags =
+    0x69 ∷ 0x6e ∷ 0x74 ∷ 0x65 ∷ 0x67 ∷ 0x72 ∷ 0x74 ∷ 0x00 ∷ 0x04 ∷ 0x03 ∷ 0x20 ∷ 0x00 ∷ 0x01 ∷ 0x00 ∷ 0x00 ∷ 0x00
+    ∷ 0x78 ∷ 0x01 ∷ 0x00 ∷ 0x00 ∷ 0x00 ∷ 0x00 ∷ 0x00 ∷ 0x00 ∷ flags ∷ 0x00 ∷ 0x00 ∷ 0x00 ∷ 0x03 ∷ 0x00 ∷ 0x00 ∷ 0x00
+    ∷ replicate 480 0
+
+-- The image with these flags, whose bitmap begins with this byte in sector 8. Its blocks have zeros.
+abbrev image_with : (flags byte : ℕ) → Image
+image_with flags byte sector =
+    if sector == 0 then head_with flags else
+    if sector == 8 then byte ∷ replicate 511 0 else replicate 512 0
+
+abbrev fields : Superblock
+fields = record {
+  version = 4;
+  log2_interleave = 3;
+  tag_size = 32;
+  sections = 1;
+  provided = 376;
+  flags = 0xc;
+  log2_spb = 3;
+  log2_region = 0;
+  recalc_sector = 0;
+  salt = replicate 16 0;
+}
+
+abbrev key : List ℕ
+key = 0x4a ∷ 0x65 ∷ 0x66 ∷ 0x65 ∷ []
+
+-- ---- a bit is set
+
+-- Cut with the bit of block 0 set, an image has a region whose bit is set,
+has_dirty_region-cut : has_dirty_region (layout_of fields) (image_with 0xc 0x01) ≡ true
+unfolding is_bit_set bitmap_sectors_for regions_for
+has_dirty_region-cut = refl
+
+-- which under a key needs consent.
+bitmap_fault_of-withheld : bitmap_fault_of (Some key) Withheld 1024 (image_with 0xc 0x01) ≡ Some (ByConsent 0xc)
+unfolding superblock_of fields_in geometry_of sector_at tag_run_of bitmap_sectors_for regions_for entry_size entries_per_sector section_entries section_sectors is_bit_set
+bitmap_fault_of-withheld = refl
+
+-- With consent it has no fault, and without a key none either.
+bitmap_fault_of-given : bitmap_fault_of (Some key) Given 1024 (image_with 0xc 0x01) ≡ None
+unfolding superblock_of fields_in geometry_of sector_at tag_run_of bitmap_sectors_for regions_for entry_size entries_per_sector section_entries section_sectors is_bit_set
+bitmap_fault_of-given = refl
+
+bitmap_fault_of-no_key : bitmap_fault_of None Withheld 1024 (image_with 0xc 0x01) ≡ None
+unfolding superblock_of fields_in geometry_of sector_at tag_run_of bitmap_sectors_for regions_for entry_size entries_per_sector section_entries section_sectors is_bit_set
+bitmap_fault_of-no_key = refl
+
+-- ---- no bit is set
+
+-- Where no bit is set, consent is no question: neither under a key,
+bitmap_fault_of-clear : bitmap_fault_of (Some key) Withheld 1024 (image_with 0xc 0) ≡ None
+unfolding superblock_of fields_in geometry_of sector_at tag_run_of bitmap_sectors_for regions_for entry_size entries_per_sector section_entries section_sectors is_bit_set
+bitmap_fault_of-clear = refl
+
+-- nor by a bit of no region: the regions have bits 0 to 46, and byte 5 has bit 47 alone.
+abbrev behind_all : Image
+behind_all sector = if sector == 8 then replicate 5 0 ++ 0x80 ∷ replicate 506 0xff else replicate 512 0
+
+has_dirty_region-behind_all : has_dirty_region (layout_of fields) behind_all ≡ false
+unfolding is_bit_set bitmap_sectors_for regions_for
+has_dirty_region-behind_all = refl
+
+-- ---- no bitmap
+
+-- An image with a journal is refused for its mode, whatever the consent.
+bitmap_fault_of-journal : bitmap_fault_of (Some key) Given 1024 (image_with 0x8 0x01) ≡ Some (ByFormat (Mode 0x8))
+unfolding superblock_of fields_in geometry_of sector_at tag_run_of bitmap_sectors_for regions_for entry_size entries_per_sector section_entries section_sectors is_bit_set
+bitmap_fault_of-journal = refl
+
+-- ---- consent
+
+-- It is lacking under a key alone, where it is withheld and some region awaits.
+lacks_consent-withheld : lacks_consent (Some key) Withheld true ≡ true
+lacks_consent-withheld = refl
+
+lacks_consent-none_awaits : lacks_consent (Some key) Withheld false ≡ false
+lacks_consent-none_awaits = refl
+
+lacks_consent-given : lacks_consent (Some key) Given true ≡ false
+lacks_consent-given = refl
+
+lacks_consent-no_key : lacks_consent None Withheld true ≡ false
+lacks_consent-no_key = refl
