@@ -1,11 +1,10 @@
-//! The bits of a disk in memory: where they come to lie, which calls are made, and what a failure leaves. And a set of
-//! regions without a disk.
+//! The bits of a disk in memory: where they come to lie, which calls are made, and what a failure leaves.
 ghost use Rattle.std.specs.Prelude.{◌≡◌, IfOk};
 ghost use Rattle.disk_model.specs.Identity.{IsBound};
 ghost use Rattle.image_model.specs.Geometry.{IsGeometry, bitmap_sectors, journal_sectors};
 
 use crate::places::{byte_of, geometry_on};
-use dirty_bitmap::{Bits, BitsFault, RegionSet};
+use dirty_bitmap::{Bits, BitsFault};
 use sector_disk::{Disk, Failed, MemDisk};
 use std::alloc::Global;
 use std::test::Fail;
@@ -165,18 +164,6 @@ fn a_failed_call_leaves_the_bit_in_memory(rt: HostRuntime) -> Result<(), Fail> {
     Ok(())
 }
 
-#[test]
-fn none_is_set_at_first(rt: HostRuntime) -> Result<(), Fail> {
-    let alloc = rt.alloc();
-    let disk = MemDisk::new(alloc, SECTORS, 1)?;
-    let geometry = geometry_on(&disk, &BLOCKS)?;
-    let bits = Bits::none(alloc, geometry)?;
-    assert_eq!(rt; bits.regions().size(), 33000);
-    assert_eq!(rt; bits.count(), 0);
-    assert!(rt; !is_set(&bits, 32999));
-    Ok(())
-}
-
 /// A bitmap as the kernel left it, and what it tells.
 #[derive(Clone, Copy)]
 struct Left<'a> {
@@ -306,57 +293,5 @@ fn bits_of_no_region_go_with_their_sector(rt: HostRuntime) -> Result<(), Fail> {
         assert_eq!(rt; byte_of(&mut disk, 8, 7)?, 0, "{}", left.name);
         assert_eq!(rt; byte_of(&mut disk, 9, 0)?, 0xff, "{}", left.name);
     }
-    Ok(())
-}
-
-#[test]
-fn a_set_has_what_was_put_in(rt: HostRuntime) -> Result<(), Fail> {
-    let alloc = rt.alloc();
-    let mut set = RegionSet::none(alloc, 100)?;
-    assert_eq!(rt; set.size(), 100);
-    assert_eq!(rt; set.count(), 0);
-    assert_eq!(rt; set.next(0), None);
-    set.insert(0);
-    set.insert(63);
-    set.insert(64);
-    set.insert(99);
-    assert_eq!(rt; set.count(), 4);
-    assert!(rt; set.has(63) && !set.has(62));
-    assert_eq!(rt; set.next(1), Some(63));
-    assert_eq!(rt; set.next(64), Some(64));
-    assert_eq!(rt; set.next(65), Some(99));
-    assert_eq!(rt; set.next(100), None);
-    let copy = set.copy(alloc)?;
-    set.remove(63);
-    assert_eq!(rt; set.next(1), Some(64));
-    assert_eq!(rt; copy.next(1), Some(63), "the copy is another set");
-    Ok(())
-}
-
-#[test]
-fn a_set_is_walked_from_word_to_word(rt: HostRuntime) -> Result<(), Fail> {
-    let mut set = RegionSet::none(rt.alloc(), 40000)?;
-    for (region, _, _, _) in EDGES {
-        if region < set.size() {
-            set.insert(region);
-        }
-    }
-    assert_eq!(rt; set.count(), 6);
-    assert_eq!(rt; set.next(9), Some(4095));
-    assert_eq!(rt; set.next(4097), Some(32767));
-    assert_eq!(rt; set.next(32768), Some(32768));
-    assert_eq!(rt; set.next(32769), None);
-    Ok(())
-}
-
-#[test]
-fn a_set_has_all_from_a_region_on(rt: HostRuntime) -> Result<(), Fail> {
-    for (first, _, _, _) in EDGES {
-        let set = RegionSet::from_region(rt.alloc(), 33000, first)?;
-        assert_eq!(rt; set.count().wrapping_add(first), 33000, "{first}");
-        assert_eq!(rt; set.next(0), Some(first), "{first}");
-    }
-    let none = RegionSet::from_region(rt.alloc(), 33000, 33000)?;
-    assert_eq!(rt; none.count(), 0);
     Ok(())
 }

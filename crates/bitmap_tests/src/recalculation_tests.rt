@@ -1,5 +1,5 @@
-//! What awaits on a disk in memory, and one of its regions recalculated: which tags change and to what, how often the
-//! disk is called, and what a failure leaves.
+//! A region of a disk in memory that awaits is recalculated: which tags change and to what, how often the disk is
+//! called, and what a failure leaves.
 ghost use Rattle.std.specs.Prelude.{◌≡◌, ◌≤◌, IfOk};
 ghost use Rattle.disk_model.specs.Identity.{IsBound};
 ghost use Rattle.image_model.specs.Geometry.{IsGeometry, bitmap_sectors, journal_sectors, layout_of};
@@ -105,70 +105,6 @@ fn count_awaiting(awaiting: &Awaiting, geometry: Geometry) -> u64
         }
     }
     count
-}
-
-/// The least region that awaits by a position, and how many do: log2 of a region's blocks, and the position.
-const POSITIONS: [(u8, u64, Option<u64>, u64); 12] = [
-    (2, 0, Some(0), 5),
-    // The second sector of block 3, and the first one of block 4.
-    (2, 7, Some(0), 5),
-    (2, 8, Some(1), 4),
-    // The last region has two blocks.
-    (2, 31, Some(3), 2),
-    (2, 35, Some(4), 1),
-    (2, 36, None, 0),
-    (2, u64::MAX, None, 0),
-    // Regions of one block, and of more than there are.
-    (0, 7, Some(3), 15),
-    (0, 35, Some(17), 1),
-    (47, 35, Some(0), 1),
-    (255, 0, Some(0), 1),
-    (255, 36, None, 0),
-];
-
-#[test]
-fn regions_await_from_that_of_the_position_on(rt: HostRuntime) -> Result<(), Fail> {
-    let alloc = rt.alloc();
-    let disk = MemDisk::new(alloc, SECTORS, 1)?;
-    for (log2_region, at, next, count) in POSITIONS {
-        let fields = small(log2_region);
-        let geometry = geometry_on(&disk, &fields)?;
-        let moved = positioned(&fields, FIXED_PADDING | RECALCULATING, at)?;
-        let awaiting = Awaiting::of(alloc, &moved, &geometry, None)?;
-        assert_eq!(rt; awaiting.next(), next, "{log2_region} {at}");
-        assert_eq!(rt;
-            count_awaiting(&awaiting, geometry),
-            count,
-            "{log2_region} {at}"
-        );
-        let unset = positioned(&fields, FIXED_PADDING, at)?;
-        let none = Awaiting::of(alloc, &unset, &geometry, None)?;
-        assert_eq!(rt; none.next(), None, "no region awaits without the flag");
-    }
-    Ok(())
-}
-
-#[test]
-fn with_a_bitmap_its_bits_alone_decide(rt: HostRuntime) -> Result<(), Fail> {
-    let alloc = rt.alloc();
-    let mut disk = MemDisk::new(alloc, SECTORS, 4)?;
-    let fields = small(2);
-    let geometry = geometry_on(&disk, &fields)?;
-    let none = Bits::none(alloc, geometry)?;
-    let bits = bits_on(alloc, &mut disk, geometry, &[1, 4])?;
-    for (flags, at) in [
-        (FIXED_PADDING, 0),
-        (FIXED_PADDING | RECALCULATING, 0),
-        (FIXED_PADDING | RECALCULATING, 36),
-    ] {
-        let moved = positioned(&fields, flags, at)?;
-        let awaiting = Awaiting::of(alloc, &moved, &geometry, Some(&bits))?;
-        assert_eq!(rt; awaiting.next(), Some(1), "{flags} {at}");
-        assert_eq!(rt; count_awaiting(&awaiting, geometry), 2, "{flags} {at}");
-        let nothing = Awaiting::of(alloc, &moved, &geometry, Some(&none))?;
-        assert_eq!(rt; nothing.next(), None, "{flags} {at}");
-    }
-    Ok(())
 }
 
 /// A store of tags that holds none yet.

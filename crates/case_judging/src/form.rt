@@ -1,4 +1,5 @@
 //! Where things lie on an image, by its superblock and by none of the program's code.
+use crate::key::Key;
 use sha2::{Digest, Sha256};
 use std::alloc::{AllocError, Global};
 
@@ -7,6 +8,9 @@ pub const SECTOR: usize = 512;
 
 /// The first sector of a journal.
 const JOURNAL_AT: u64 = 8;
+
+/// The byte where the flags of a superblock begin.
+pub(crate) const FLAGS_AT: usize = 24;
 
 /// How many sectors of a section hold its entries. Its data stand behind them.
 pub const ENTRY_SECTORS: u64 = 8;
@@ -33,6 +37,8 @@ pub struct Form {
     tag_run: u64,
     /// What stands before the number of a block when its tag is computed, if anything does.
     salt: Option<[u8; 16]>,
+    /// The key under which it is computed, if there is one.
+    key: Option<Key>,
 }
 
 /// The bytes from one on, where there are so many.
@@ -71,15 +77,24 @@ fn rounded_up(number: u64, to: u64) -> u64 {
     number.saturating_add(to.saturating_sub(rest))
 }
 
-/// What the superblock of these bytes says.
+/// The flag of an image that has a bitmap in its journal's place.
+///
+/// Source: Linux, drivers/md/dm-integrity.c, `SB_FLAG_DIRTY_BITMAP`.
+pub(crate) const HAS_BITMAP: u64 = 4;
+
+/// What the superblock of these bytes says. An image with a bitmap counts as none here.
+pub fn form_of(bytes: &[u8]) -> Form {
+    form_with(bytes, number_in(bytes, FLAGS_AT, 4))
+}
+
+/// What the superblock of these bytes says, if it has these flags.
 ///
 /// Source: Linux, drivers/md/dm-integrity.c, `struct superblock`, `calculate_journal_section_size` and
 /// `calculate_device_limits`.
-pub fn form_of(bytes: &[u8]) -> Form {
+pub(crate) fn form_with(bytes: &[u8], flags: u64) -> Form {
     let spb = 1u64 << (number_in(bytes, 28, 1) % 4);
     let tag_size = number_in(bytes, 10, 2);
     let area = 1u64 << (number_in(bytes, 9, 1) % 32);
-    let flags = number_in(bytes, 24, 4);
     let pad = if flags & 8 == 8 { 4096 } else { 131_072 };
     let area_blocks = area.checked_div(spb).unwrap_or(1);
     let entry_size = rounded_up(
@@ -107,6 +122,7 @@ pub fn form_of(bytes: &[u8]) -> Form {
         } else {
             None
         },
+        key: None,
     };
     if is_image(bytes, flags) && form.is_within(bytes.len()) {
         return form;
@@ -136,6 +152,14 @@ fn is_image(bytes: &[u8], flags: u64) -> bool {
 }
 
 impl Form {
+    /// The same where tags are computed under a key of these bytes.
+    pub fn under(self, key: &[u8]) -> Form {
+        Form {
+            key: Some(Key::of(key)),
+            ..self
+        }
+    }
+
     /// How many bytes a block has.
     pub fn size(&self) -> usize {
         self.spb.saturating_mul(512) as usize
@@ -226,17 +250,25 @@ impl Form {
         self.put_tag(bytes, block, tag);
     }
 
-    /// The digest of the salt, the number of a block's first sector, as 8 bytes with the lowest first, and its bytes.
+    /// The digest of the salt, the number of a block's first sector, as 8 bytes with the lowest first, and its bytes,
+    /// under the key, if there is one.
     ///
     /// Source: FIPS 180-4, section 6.2; Linux, drivers/md/dm-integrity.c, `integrity_sector_checksum`.
     pub fn digest_of(&self, block: u64, data: &[u8]) -> [u8; 32] {
-        let mut hasher = Sha256::new();
+        let mut hasher = match &self.key {
+            Some(key) => key.begun(),
+            None => Sha256::new(),
+        };
         if let Some(salt) = self.salt {
             hasher.update(salt);
         }
         hasher.update(block.saturating_mul(self.spb).to_le_bytes());
         hasher.update(data);
-        hasher.finalize()
+        let digest = hasher.finalize();
+        match &self.key {
+            Some(key) => key.ended(&digest),
+            None => digest,
+        }
     }
 
     /// The tag that a digest gives: its first bytes.

@@ -1,13 +1,13 @@
 //! The images that the lines of a script give, and what a cut of its run leaves of them.
 use crate::Wrong;
-use crate::form::{Form, form_of, run_at};
+use crate::form::{Form, run_at};
 use crate::judging::{is_skipped, told_lines, written_by};
 use std::alloc::{AllocError, Global};
 
 /// Which images a cut leaves blocks of, while so many lines are told.
 #[derive(Clone, Copy)]
 struct Reach {
-    /// The one that the last flush has settled.
+    /// The one that the last flush has settled, or the last write with `fua`.
     settled: usize,
     /// One behind the last that a line has begun to make.
     end: usize,
@@ -25,13 +25,18 @@ pub struct Images {
 }
 
 impl Images {
-    /// The images of a script whose runs begin with these bytes.
+    /// The images of a script whose runs begin with these bytes, of an image of a form.
     ///
     /// A write may be begun as soon as it is started. Where a script has started one, a flush may come
-    /// before it is done, and so nothing is settled. That a `fua` settles a write is not judged.
-    pub fn of_script(alloc: Global, base: &[u8], script: &str) -> Result<Images, AllocError> {
+    /// before it is done, and so nothing is settled.
+    pub fn of_script(
+        alloc: Global,
+        form: Form,
+        base: &[u8],
+        script: &str,
+    ) -> Result<Images, AllocError> {
         let mut all = Images {
-            form: form_of(base),
+            form,
             images: Vec::new(alloc),
             reaches: Vec::new(alloc),
         };
@@ -64,7 +69,8 @@ impl Images {
             end,
             has_started,
         })?;
-        let is_settled = line == "flush" && !has_started;
+        let is_flushed = line == "flush" || line.ends_with(" fua");
+        let is_settled = is_flushed && !has_started;
         Ok(Reach {
             settled: if is_settled {
                 end.saturating_sub(1)
@@ -79,7 +85,7 @@ impl Images {
     /// The images of which a cut leaves each block's data and tag from any, where a run has printed this text: what
     /// the last flush has settled that it tells, and behind it what each later write gives, up to the one that may
     /// have begun.
-    fn left_by(&self, text: &str) -> &[Vec<u8>] {
+    pub(crate) fn left_by(&self, text: &str) -> &[Vec<u8>] {
         let reach = match (self.reaches.get(told_lines(text)), self.reaches.last()) {
             (Some(reach), _) => *reach,
             (None, Some(reach)) => *reach,

@@ -173,7 +173,7 @@ pub fn with_journal_placed(
 }
 
 /// Puts zeros in the place of bytes.
-fn clear(bytes: &mut [u8], from: usize, end: usize) {
+pub(crate) fn clear(bytes: &mut [u8], from: usize, end: usize) {
     if let Some(place) = bytes.get_mut(from..end) {
         place.fill(0);
     }

@@ -3,15 +3,21 @@
 //! All is computed from the run's script and from the disk that it began with, by none of the program's code.
 #![tactic(auto)]
 
+mod bitmap;
+mod bitmapped;
 mod form;
 mod images;
 mod journal;
 mod journaled;
 mod judging;
+mod key;
+mod marks;
 mod reading;
 mod small;
 mod wrong;
 
+pub use bitmap::{Bitmap, bitmap_of};
+pub use bitmapped::judge_bitmapped;
 pub use form::{Form, form_of, put_at};
 pub use images::{Images, judge_left};
 pub use journal::{
@@ -20,6 +26,7 @@ pub use journal::{
 };
 pub use journaled::Writes;
 pub use judging::{Met, Told, judge_made, judge_text};
+pub use marks::judge_bits;
 pub use reading::{Known, judge_read_of_all, judge_reads, read_of_all, reads};
 pub use small::small_image;
 pub use wrong::Wrong;

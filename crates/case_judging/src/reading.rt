@@ -34,9 +34,8 @@ pub struct Known {
 }
 
 impl Known {
-    /// Computes these of a disk with these bytes. Of one that is no image they are of no use.
-    pub fn new(alloc: Global, bytes: Vec<u8>) -> Result<Known, AllocError> {
-        let form = form_of(&bytes);
+    /// Computes these of a disk with these bytes, of an image of a form. Of one that is no image they are of no use.
+    pub fn new(alloc: Global, form: Form, bytes: Vec<u8>) -> Result<Known, AllocError> {
         let mut digests = Vec::new(alloc);
         let mut replies = Vec::new(alloc);
         for block in 0..form.blocks {

@@ -113,8 +113,17 @@ pub fn is_keyed(case: &Case) -> bool {
 
 /// Whether the words of a case are those of a run in journal mode.
 pub fn is_journaled(case: &Case) -> bool {
-    let is_run = matches!(case.words.get(1), Some(word) if word.as_str() == "run");
-    is_run && case.words.iter().any(|word| word.as_str() == "J")
+    is_run(case) && case.words.iter().any(|word| word.as_str() == "J")
+}
+
+/// Whether the words of a case are those of a run in bitmap mode.
+pub fn is_bitmapped(case: &Case) -> bool {
+    is_run(case) && case.words.iter().any(|word| word.as_str() == "B")
+}
+
+/// Whether the words of a case are those of a run.
+fn is_run(case: &Case) -> bool {
+    matches!(case.words.get(1), Some(word) if word.as_str() == "run")
 }
 
 /// How a run has ended, and below it what the case shows. A script of the case is run by the command too.

@@ -3,6 +3,7 @@
 //! The command is whatever the caller gives, so that nothing here stands on the program.
 #![tactic(auto)]
 
+mod bitmaps;
 mod input;
 mod reads;
 mod recovering;

@@ -16,9 +16,22 @@ pub struct Reads {
 impl Reads {
     /// These reads of an image of a form in a mode, `D` or `J`.
     pub fn in_mode(alloc: Global, form: &Form, mode: &str) -> Result<Reads> {
+        Reads::by_words(alloc, form, mode, "", &[])
+    }
+
+    /// These reads of an image of a form by runs with a key, whose words are these and others from the mode on.
+    pub fn by_words(
+        alloc: Global,
+        form: &Form,
+        words: &str,
+        others: &str,
+        key: &[u8],
+    ) -> Result<Reads> {
+        let words = format!(in alloc; "{words}{others}")?;
+        let words = words.as_str();
         Ok(Reads {
-            at_once: case_in(alloc, read_of_all(alloc, form)?, mode)?,
-            alone: case_in(alloc, reads(alloc, form)?, mode)?,
+            at_once: case_by(alloc, read_of_all(alloc, form)?, words, key)?,
+            alone: case_by(alloc, reads(alloc, form)?, words, key)?,
         })
     }
 
@@ -55,11 +68,13 @@ impl Reads {
     }
 }
 
-/// A case with this script, in a mode.
-fn case_in(alloc: Global, script: Vec<u8>, mode: &str) -> Result<Case> {
+/// A case with this script and this key, whose words are these from the mode on.
+fn case_by(alloc: Global, script: Vec<u8>, words: &str, key: &[u8]) -> Result<Case> {
     let mut case = Case::new(alloc, script)?;
-    if let Some(word) = case.words.last_mut() {
-        *word = mode.to_string(alloc)?;
+    case.words.pop();
+    for word in words.split(' ') {
+        case.words.push(word.to_string(alloc)?)?;
     }
+    case.key = Vec::from_slice(alloc, key)?;
     Ok(case)
 }

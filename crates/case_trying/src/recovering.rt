@@ -57,7 +57,7 @@ pub fn recovered_by<C: Command>(
         judged_by(alloc, case, form, &base, script, text)?
     };
     Ok(Some(Recovered {
-        base: Known::new(alloc, base)?,
+        base: Known::new(alloc, form, base)?,
         judged,
         journaled,
         direct: Reads::in_mode(alloc, &form, "D")?,
@@ -77,7 +77,7 @@ fn judged_by(
         let writes = Writes::of_script(alloc, form, script, text)?;
         return Ok(Judged::Journaled(writes));
     }
-    Ok(Judged::Direct(Images::of_script(alloc, base, script)?))
+    Ok(Judged::Direct(Images::of_script(alloc, form, base, script)?))
 }
 
 /// Whether a run has told that its image is refused.

@@ -1,9 +1,10 @@
 //! Tries a case with each failure of a kind, until a run meets none.
+use crate::bitmaps::{Bitmapped, bitmapped_by, judge_bitmap_left};
 use crate::reads::Reads;
 use crate::recovering::{Recovered, judge_recovered, recovered_by};
 use anyhow::{Result, bail};
 use case_disks::choice_from;
-use case_judging::{Images, Known, Met, Told, judge_left, judge_made, judge_text};
+use case_judging::{Images, Known, Met, Told, form_of, judge_left, judge_made, judge_text};
 use case_running::{Command, Ended, is_keyed, outcome_of, run};
 use case_text::{CHOICES, Case, Fails, Kind, name_of, with_failure};
 use cut_disk::CutDisk;
@@ -37,6 +38,8 @@ pub struct Trial {
     made: Option<Vec<u8>>,
     /// What its runs recover, if the journal plays a part.
     recovered: Option<Recovered>,
+    /// What its runs are judged by, if they are in bitmap mode.
+    bitmapped: Option<Bitmapped>,
 }
 
 impl Trial {
@@ -53,10 +56,12 @@ impl Trial {
         };
         let text = undisturbed.text.as_str();
         let recovered = recovered_by(alloc, command, case, &base, script, text)?;
-        // What is recovered is judged by images of its own.
-        let script = if recovered.is_some() { "" } else { script };
-        let images = Images::of_script(alloc, &base, script)?;
-        let base = Known::new(alloc, base)?;
+        let bitmapped = bitmapped_by(alloc, case, &base, script)?;
+        // What is recovered, or has a bitmap, is judged by images of its own.
+        let has_own = recovered.is_some() || bitmapped.is_some();
+        let form = form_of(&base);
+        let images = Images::of_script(alloc, form, &base, if has_own { "" } else { script })?;
+        let base = Known::new(alloc, form, base)?;
         Ok(Trial {
             images,
             reads: Reads::in_mode(alloc, &base.form, "D")?,
@@ -64,7 +69,14 @@ impl Trial {
             is_keyed: is_keyed(case),
             made: made_by(alloc, case, undisturbed)?,
             recovered,
+            bitmapped,
         })
+    }
+
+    /// Whether what is left is judged. The tags of a keyed image without a bitmap are judged by the texts of its cases
+    /// alone, unless it is made anew.
+    fn judges_images(&self) -> bool {
+        !self.is_keyed || self.made.is_some() || self.bitmapped.is_some()
     }
 }
 
@@ -172,8 +184,7 @@ fn judge<C: Command>(
     if ended.key_calls > 0 && !trial.is_keyed {
         bail!("the key was touched");
     }
-    // The tags of a keyed image are judged by the texts of its cases alone, unless it is made anew.
-    if trial.is_keyed && trial.made.is_none() {
+    if !trial.judges_images() {
         return Ok(());
     }
     let mut tried: Vec<Vec<u32>> = Vec::new(alloc);
@@ -207,6 +218,9 @@ fn judge_choice<C: Command>(
     let text = ended.text.as_str();
     if let Some(recovered) = &trial.recovered {
         return judge_recovered(alloc, command, counts, recovered, base, &left, text);
+    }
+    if let Some(bitmapped) = &trial.bitmapped {
+        return judge_bitmap_left(alloc, command, counts, bitmapped, base, &left, text);
     }
     judge_left(alloc, &trial.images, &left, text)?;
     counts.runs = counts.runs.saturating_add(1);

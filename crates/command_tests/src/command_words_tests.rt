@@ -7,7 +7,7 @@ use std::test::Fail;
 /// Words that are a command, parted by `|`, and a part of what is shown of it.
 ///
 /// Source: what clap 4 makes of such words without settings of its own, and the ends of the values.
-static TAKEN: [(&str, &str); 33] = [
+static TAKEN: [(&str, &str); 35] = [
     (
         "run|I|--mode|D",
         "Run(Run { image: FileName { name: \"I\" }, mode: Direct, hash: Sha256, consent: Withheld })",
@@ -69,7 +69,7 @@ static TAKEN: [(&str, &str); 33] = [
     ),
     (
         "format|I",
-        "number: 15 }, salt: None, padding: Fixed, wipe: Zeros })",
+        "number: 15 }, salt: None, padding: Fixed, mode: Journal, wipe: Zeros })",
     ),
     (
         "format|I|--tag-size|1|--sections|1|--log2-blocks-per-bit|0",
@@ -98,8 +98,10 @@ static TAKEN: [(&str, &str); 33] = [
     ),
     (
         "format|I|--no-wipe|--integrity-legacy-padding",
-        "padding: Legacy, wipe: Nothing }",
+        "padding: Legacy, mode: Journal, wipe: Nothing }",
     ),
+    ("format|I|--mode=J", "mode: Journal, wipe: Zeros"),
+    ("format|--mode|B|I|--no-wipe", "mode: Bitmap, wipe: Nothing"),
     (
         "format|I|--salt|000102030405060708090a0b0c0d0eFF",
         "salt: Some([0, 1, 2, 3, 4, 5, 6, 7, 8, 9, 10, 11, 12, 13, 14, 255])",
@@ -107,7 +109,7 @@ static TAKEN: [(&str, &str); 33] = [
 ];
 
 /// Words that are no command: one beyond each end, and what clap 4 refuses.
-static REFUSED: [&str; 65] = [
+static REFUSED: [&str; 67] = [
     "run|I|--mode|X",
     "run|I|--mode|",
     "run|I|--mode",
@@ -167,7 +169,9 @@ static REFUSED: [&str; 65] = [
     "format|I|--salt|000102030405060708090a0b0c0d0e0",
     "format|I|--salt|000102030405060708090a0b0c0d0e0g",
     "format|I|--salt|",
-    "format|I|--mode|J",
+    "format|I|--mode|D",
+    "format|I|--mode|b",
+    "format|I|--mode|B|--mode|B",
     "format|I|--recalculate",
     "salvage|I",
     "frob",

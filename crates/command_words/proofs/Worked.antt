@@ -8,6 +8,10 @@ use Rattle.command_words.specs.Commands.{command_of}
 use Rattle.command_words.specs.declared.command.Command.TheVariants as command
 use Rattle.command_words.specs.declared.values.Consent.TheVariants.{Given, Withheld}
 use Rattle.command_words.specs.declared.values.HashChoice.TheVariants.{Sha256, HmacSha256}
+use Rattle.command_words.specs.declared.values.BlockSize.TheVariants.{Bytes512}
+use Rattle.command_words.specs.declared.values.ImageMode.TheVariants as images
+use Rattle.command_words.specs.declared.values.Padding.TheVariants.{Fixed}
+use Rattle.command_words.specs.declared.values.Wipe.TheVariants.{Zeros}
 use Rattle.command_words.specs.declared.values.Mode.TheVariants.{Bitmap, Direct, Journal}
 
 -- The largest number of 64 bits, and one more: 2^64 - 1 and 2^64.
@@ -85,6 +89,34 @@ command_of-needless_consent : command_of (codes "integrity" ∷ codes "run" ∷ 
     ≡ Some (command.Run (record { image = codes "I"; mode = Direct; hash = Sha256; consent = Given }))
 unfolding clap_on_literals
 command_of-needless_consent = refl
+
+-- A new image has a journal, or a bitmap; no image is of direct mode alone.
+command_of-format_bitmap : command_of (codes "integrity" ∷ codes "format" ∷ codes "I" ∷ codes "--mode" ∷ codes "B"
+    ∷ []) ≡ Some (command.Format (record {
+      image = codes "I";
+      hash = Sha256;
+      tag_size = 32;
+      block_size = Bytes512;
+      interleave = 32768;
+      sections = 4;
+      log2_blocks_per_bit = 15;
+      salt = None;
+      padding = Fixed;
+      mode = images.Bitmap;
+      wipe = Zeros;
+    }))
+unfolding clap_on_literals
+command_of-format_bitmap = refl
+
+command_of-format : command_of (codes "integrity" ∷ codes "format" ∷ codes "I" ∷ [])
+    ≡ command_of (codes "integrity" ∷ codes "format" ∷ codes "I" ∷ codes "--mode" ∷ codes "J" ∷ [])
+unfolding clap_on_literals
+command_of-format = refl
+
+command_of-format_direct : command_of (codes "integrity" ∷ codes "format" ∷ codes "I" ∷ codes "--mode" ∷ codes "D"
+    ∷ []) ≡ None
+unfolding clap_on_literals
+command_of-format_direct = refl
 
 -- The key file is given exactly where the hash is keyed.
 command_of-keyed : command_of (codes "integrity" ∷ codes "run" ∷ codes "I" ∷ codes "--mode" ∷ codes "J"

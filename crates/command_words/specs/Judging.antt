@@ -18,6 +18,8 @@ use Rattle.command_words.specs.declared.values.Consent.{Consent}
 use Rattle.command_words.specs.declared.values.Consent.TheVariants as consents
 use Rattle.command_words.specs.declared.values.HashChoice.{HashChoice}
 use Rattle.command_words.specs.declared.values.HashChoice.TheVariants.{Sha256, HmacSha256}
+use Rattle.command_words.specs.declared.values.ImageMode.{ImageMode}
+use Rattle.command_words.specs.declared.values.ImageMode.TheVariants as images
 use Rattle.command_words.specs.declared.values.Mode.{Mode}
 use Rattle.command_words.specs.declared.values.Mode.TheVariants.{Journal, Direct, Bitmap}
 use Rattle.command_words.specs.declared.values.Padding.{Padding}
@@ -41,12 +43,23 @@ abbrev pub hash_of : Given → Option HashChoice
 hash_of given =
     hash_named (unwrap_or (given (codes "integrity")) (codes "sha256")) (given (codes "integrity-key-file"))
 
+-- The mode of a run.
 abbrev pub mode_named : Text → Option Mode
 mode_named text =
     if bytes_eq text (codes "J") then Some Journal
     else if bytes_eq text (codes "D") then Some Direct
     else if bytes_eq text (codes "B") then Some Bitmap
     else None
+
+-- The mode of a new image.
+abbrev pub image_mode_named : Text → Option ImageMode
+image_mode_named text =
+    if bytes_eq text (codes "J") then Some images.Journal
+    else if bytes_eq text (codes "B") then Some images.Bitmap
+    else None
+
+abbrev pub image_mode_or_journal : Option Text → Option ImageMode
+image_mode_or_journal text = value_or images.Journal image_mode_named text
 
 abbrev pub consent_of : Given → Consent
 consent_of given = if has given (codes "integrity-legacy-recalculate") then consents.Given else consents.Withheld
@@ -106,6 +119,7 @@ format_of given = do
   sections ← sections_of given
   log2_blocks_per_bit ← log2_blocks_per_bit_of given
   salt ← salt_or_none (given (codes "salt"))
+  mode ← image_mode_or_journal (given (codes "mode"))
   Some (command.Format (record {
     image = image;
     hash = hash;
@@ -116,6 +130,7 @@ format_of given = do
     log2_blocks_per_bit = log2_blocks_per_bit;
     salt = salt;
     padding = padding_of given;
+    mode = mode;
     wipe = wipe_of given;
   }))
 

@@ -1,8 +1,8 @@
 //! A command, with its options.
 
 use crate::values::{
-    BlockSize, Checked, Consent, FileName, HashChoice, Interleave, Log2BlocksPerBit, Mode, Padding,
-    RequestCount, SectionCount, TagSize, Wipe,
+    BlockSize, Checked, Consent, FileName, HashChoice, ImageMode, Interleave, Log2BlocksPerBit,
+    Mode, Padding, RequestCount, SectionCount, TagSize, Wipe,
 };
 
 /// A command that the words of a program give.
@@ -41,6 +41,8 @@ pub struct Format {
     pub salt: Option<[u8; 16]>,
     /// The padding of tags.
     pub padding: Padding,
+    /// The mode that it is made for.
+    pub mode: ImageMode,
     /// What the blocks hold then.
     pub wipe: Wipe,
 }

@@ -12,7 +12,7 @@ use crate::table::{
     LEGACY_RECALCULATE, MODE, NO_WIPE, PLACED, SALT, SECTIONS, SECTOR_SIZE, SEED, TAG_SIZE,
 };
 use crate::values::{
-    BlockSize, Checked, Consent, FileName, HashChoice, Interleave, Mode, Padding, Wipe,
+    BlockSize, Checked, Consent, FileName, HashChoice, ImageMode, Interleave, Mode, Padding, Wipe,
 };
 use crate::words_fault::WordsFault;
 use hex::FromHex;
@@ -50,6 +50,7 @@ fn format(alloc: Global, given: &Given<'_>) -> Result<Command, WordsFault>
         WordsFault::Refused,
     )?;
     let salt = salt_or_none(given.value(SALT)).ok_or(WordsFault::Refused)?;
+    let mode = image_mode_or_journal(given.value(MODE)).ok_or(WordsFault::Refused)?;
     Ok(Command::Format(Format {
         image,
         hash,
@@ -60,6 +61,7 @@ fn format(alloc: Global, given: &Given<'_>) -> Result<Command, WordsFault>
         log2_blocks_per_bit,
         salt,
         padding: padding(given),
+        mode,
         wipe: wipe(given),
     }))
 }
@@ -140,7 +142,7 @@ fn hash(alloc: Global, given: &Given<'_>) -> Result<HashChoice, WordsFault>
     }
 }
 
-/// The mode. It has no default.
+/// The mode of a run. It has no default.
 fn mode(given: &Given<'_>) -> Option<Mode>
     ensures { result ≡ option_and_then Judging.mode_named (given_in given.now MODE.now) }
 {
@@ -196,6 +198,20 @@ fn salt_or_none(text: Option<&str>) -> Option<Option<[u8; 16]>>
     match text {
         Some(text) => Some(Some(<[u8; 16]>::from_hex(text).ok()?)),
         None => Some(None),
+    }
+}
+
+/// The mode of a new image, journal mode where none is given.
+fn image_mode_or_journal(text: Option<&str>) -> Option<ImageMode>
+    ensures { result ≡ Judging.image_mode_or_journal (option_map (λ text. text.now) text.entry) }
+{
+    let Some(text) = text else {
+        return Some(ImageMode::Journal);
+    };
+    match text {
+        "J" => Some(ImageMode::Journal),
+        "B" => Some(ImageMode::Bitmap),
+        _ => None,
     }
 }
 

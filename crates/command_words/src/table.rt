@@ -49,7 +49,7 @@ pub(crate) const INTEGRITY: &str = "integrity";
 /// Source: integritysetup(8), `--integrity-key-file`; that the whole file is the key is own.
 pub(crate) const KEY_FILE: &str = "integrity-key-file";
 
-/// Where a write goes first. Own.
+/// Where a write goes first; the mode that a new image is made for. Own.
 pub(crate) const MODE: &str = "mode";
 
 /// Tags under a key may be made anew of blocks whose bytes no tag vouches for.
@@ -135,6 +135,10 @@ static COMMANDS: [CommandRow; 5] = [
             OptionRow {
                 name: LEGACY_PADDING,
                 takes: Takes::Nothing,
+            },
+            OptionRow {
+                name: MODE,
+                takes: Takes::Value,
             },
             OptionRow {
                 name: NO_WIPE,

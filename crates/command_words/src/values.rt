@@ -186,6 +186,15 @@ pub enum Mode {
     Bitmap,
 }
 
+/// The mode that a new image is made for.
+#[derive(Clone, Copy, Debug, PartialEq, Eq)]
+pub enum ImageMode {
+    /// Journal mode, and direct mode: it has a journal.
+    Journal,
+    /// Bitmap mode: it has a bitmap of its regions in the journal's place.
+    Bitmap,
+}
+
 /// Whether tags under a key may be made anew of blocks whose bytes no tag vouches for.
 #[derive(Clone, Copy, Debug, PartialEq, Eq)]
 pub enum Consent {

@@ -1,5 +1,5 @@
 -- What one call of a device in bitmap mode writes, as what its event may.
-use Rattle.std.proofs.Common.{◌≡◌, inl, inr, ⊎_elim, ℕ, ◌*◌, ◌/◌, Bool, true, List, length, Option, None, Some, sym, ◌∙◌, ap, subst, arith}
+use Rattle.std.proofs.Common.{◌≡◌, inl, inr, ⊎_elim, ℕ, ◌/◌, Bool, true, List, length, Option, None, Some, ◌∙◌, ap, subst, arith}
 use Rattle.std.proofs.Math.Nat.{mul-div_cancel_left}
 use Rattle.disk_model.specs.Disk.{Content, IsOfRun as IsOfBytes, OnlyAdds}
 use Rattle.disk_model.specs.Moments.{EachSince}
@@ -25,7 +25,7 @@ use Rattle.bitmap_mode.specs.Closing.{IsOfClose, bits_cleared}
 use Rattle.bitmap_mode.specs.States.{States, counts_of, least_awaiting}
 use Rattle.bitmap_mode.specs.Writing.{IsOfMarkedBlock}
 use Rattle.bitmap_device.specs.Answers.{WritesAs, WritesClean, WritesFor, WritesRecalc, least_to_clean}
-use Rattle.device.specs.Writes.{IsInBitmap, IsOfRun, WritesOnly}
+use Rattle.device.specs.Writes.{IsOfRun, WritesOnly}
 use Rattle.device.proofs.WritesLemmas.{WritesOnly-kept}
 
 module _ (g : Geometry) (changes : List Change) where

@@ -14,7 +14,7 @@ use Rattle.device_parts.specs.declared.condition.Condition.{Condition}
 use Rattle.device_parts.specs.declared.condition.Condition.TheVariants as Conditions
 use Rattle.device_parts.specs.Answers.{actor_of, condition_by}
 use Rattle.device.specs.declared.mode.DeviceParts.{DeviceParts}
-use Rattle.device.specs.Answers.{WritesInStep}
+use Rattle.device.specs.Answers.{KeepsClearTags, WritesInStep}
 use Rattle.device_parts.specs.Answers.{HasStepped}
 use Rattle.device_parts.specs.Device.{Answers, KeepsParts}
 use Rattle.device.specs.Device.{IsDevice, IsReady, any_mode}
@@ -23,7 +23,7 @@ use Rattle.device.proofs.ModeLemmas.{condition_now}
 use Rattle.device.specs.Calls.{Runs, Works}
 use Rattle.device_parts.proofs.ReadyLemmas.{kept_flight, same_flight}
 use Rattle.device.specs.Run.{HasFailed, HasRun, standing_behind}
-use Rattle.device.proofs.EventWritesLemmas.{step_writes}
+use Rattle.device.proofs.LeavesLemmas.{step_leaves}
 use Rattle.device.proofs.RunLemmas.{failed_then, failed_wider, one_failed, run_none, run_one, run_then}
 
 -- ---- what stays
@@ -45,10 +45,11 @@ device_works w condition parts a works is = subst (λ (x : Condition). IsDevice 
 -- ---- one step
 
 module _ (w : Standing) (actor : Actor) (old new : DeviceParts) (a b : List Content)
-    (is : IsDevice w Conditions.Working old a) (writes : WritesInStep old.mode actor old.common a b) where
+    (is : IsDevice w Conditions.Working old a) (writes : WritesInStep old.mode actor old.common a b)
+    (tags : KeepsClearTags old.mode old.common (Step (actor_of actor)) a b) where
   pub stepped_run : (moved : Moved) → HasStepped any_mode w (actor_of actor) (Ok moved) Conditions.Working new a b
       → HasRun w (Step (actor_of actor) ∷ []) new a b
-  stepped_run moved has = run_one w (Step (actor_of actor)) new a b has.done (step_writes w old.common a old.mode is actor writes)
+  stepped_run moved has = run_one w (Step (actor_of actor)) new a b has.done (step_leaves w old.common a old.mode is actor writes tags)
 
   pub stepped_failed : (fault : StepFault) → HasStepped any_mode w (actor_of actor) (Err fault) Conditions.Broken new a b
       → fault ≡ Faults.Disk → HasFailed w (Step (actor_of actor) ∷ []) new a b
@@ -56,7 +57,7 @@ module _ (w : Standing) (actor : Actor) (old new : DeviceParts) (a b : List Cont
       one_failed w (Step (actor_of actor)) (FailedStep (actor_of actor)) new a b
       (condition_now w Conditions.Working old.mode old.common a is) refl
       (subst (λ (x : StepFault). HasStepped any_mode w (actor_of actor) (Err x) Conditions.Broken new a b) disk has).done
-      (step_writes w old.common a old.mode is actor writes)
+      (step_leaves w old.common a old.mode is actor writes tags)
 
 -- ---- steps until an actor is idle
 

@@ -1,7 +1,6 @@
 -- What one call of a device writes, as what its event may.
-use Rattle.std.proofs.Common.{◌≡◌, inl, inr, ⊎_elim, ℕ, zero, suc, ◌+◌, ◌*◌, ◌/◌, ◌<◌, ◌≤◌, Bool, true, false, if◌then◌else◌, List, [], ◌∷◌, length, slice_get, slice_index_or, Option, Some, None, refl, sym, ◌∙◌, ap, subst, arith}
+use Rattle.std.proofs.Common.{◌≡◌, inl, inr, ⊎_elim, ℕ, zero, suc, ◌+◌, ◌*◌, ◌/◌, ◌<◌, ◌≤◌, true, false, List, [], ◌∷◌, length, slice_get, slice_index_or, Option, Some, None, refl, sym, ◌∙◌, ap, subst, arith}
 use Rattle.std.specs.List.{AllByRecursion, Contains}
-use Rattle.std.proofs.lemmas.List.Elements.{Contains-append_left, Contains-push}
 use Rattle.std.proofs.lemmas.Bool.{cases_eq, eq-eqb, ne_eqb}
 use Rattle.std.proofs.lemmas.Grind.{flat_map-append}
 use Rattle.std.proofs.Math.Nat.{div-lt_iff_lt-mul, mul-div_cancel_left, mul-le-mul_right}
@@ -11,14 +10,13 @@ use Rattle.disk_model.proofs.MomentsLemmas.{adds_then, adds_wider}
 use Rattle.image_model.specs.Cells.{salt_of}
 use Rattle.image_model.specs.Geometry.{Geometry, data_at, section_at, section_sectors}
 use Rattle.image_model.specs.Section.{Entry}
-use Rattle.device_model.specs.History.{Begun, BlockWrite, Change, Flushed, IsWrittenIn, Written}
+use Rattle.device_model.specs.History.{Change, IsWrittenIn}
 use Rattle.device_model.specs.Mode as Model
-use Rattle.device_model.specs.Progress.{Event, EventResult, Serve, Step, block_changes, event_result, is_flushed_by, serve_with}
-use Rattle.device_model.specs.Request.{Asked, Write}
+use Rattle.device_model.specs.Progress.{Event, Serve, Step, changes_of, event_result}
+use Rattle.device_model.specs.Request.{Write}
 use Rattle.place_model.specs.Format.{DiskFormat}
 use Rattle.place_model.proofs.EachLemmas.{all_append, all_drop, all_flat, all_get}
 use Rattle.journal_laws.specs.Device.{block_of, freed_count}
-use Rattle.journal_laws.specs.EventLaws.{next_write}
 use Rattle.journal_laws.proofs.RingLemmas.{held_at}
 use Rattle.direct_laws.proofs.EventLemmas.{served_law}
 use Rattle.direct_mode.specs.Cells.{IsOfBlockOrTags}
@@ -51,7 +49,7 @@ use Rattle.journal_device.proofs.DoneLemmas.{stands_now}
 use Rattle.journal_device.specs.Standing.{StandsAs}
 use Rattle.device.specs.declared.mode.Mode.{Mode}
 use Rattle.bitmap_laws.proofs.EventLemmas.{served_law as bitmap_served_law}
-use Rattle.bitmap_device.specs.Device.{IsBitmapped, kept as bitmap_kept}
+use Rattle.bitmap_device.specs.Device.{kept as bitmap_kept}
 use Rattle.device.specs.declared.mode.Mode.TheVariants.{Bitmap, Direct, Journal}
 use Rattle.device.specs.Answers.{WritesInClose, WritesInServe, WritesInStep}
 use Rattle.device.specs.Device.{IsDeviceIn}
@@ -60,7 +58,7 @@ use Rattle.device.proofs.ModeLemmas.{own_direct, plain_bitmap, plain_journal}
 use Rattle.device.proofs.NextWritesLemmas.{next_is_written}
 use Rattle.device.proofs.BitmapWritesLemmas.{bitmap_close_only, bitmap_serve_only, bitmap_step_only}
 use Rattle.device_opening.specs.Writes.{IsOfPlacing}
-use Rattle.device.specs.Writes.{IsAnyBlock, IsInJournal, IsOfRun, WritesOnly, WritesOnlyOf}
+use Rattle.device.specs.Writes.{IsAnyBlock, IsInJournal, IsOfRun, WritesOnly}
 use Rattle.device.proofs.WritesLemmas.{WritesOnly-kept, WritesOnly-left}
 
 -- ---- elements
@@ -221,9 +219,13 @@ module _ (v : DirectStanding) (ticket : ℕ) (p : Parts) (a : List Content) (is 
 -- ---- for callers
 
 module _ (w : Standing) (common : Parts) (a : List Content) where
+  -- The sectors that an event may write.
+  abbrev pub WritesIn : Event → List Content → Type 0
+  WritesIn event b = WritesOnly w.format.mode w.on.geometry (changes_of w.format w.state (event ∷ [])) a b
+
   -- What is written of one event's changes is so of that event alone.
   alone : (event : Event) {b : List Content} → WritesOnly w.format.mode w.on.geometry (event_result w.format w.state event).changes a b
-      → WritesOnlyOf w (event ∷ []) a b
+      → WritesIn event b
   alone event writes = WritesOnly-left w.format.mode w.on.geometry (event_result w.format w.state event).changes [] writes
 
   at_mode : (mode : Model.Mode) (d : DiskFormat) (changes : List Change) {b : List Content} → mode ≡ w.format.mode → d ≡ w.on
@@ -247,7 +249,7 @@ module _ (w : Standing) (common : Parts) (a : List Content) where
     block_some = stands.device.sound.formed.is_geometry.spb.0
 
     journal_serve_only : (ticket : ℕ) {b : List Content} → WritesFor (turn_of common.slots ticket) common journal a b
-        → WritesOnlyOf w (Serve ticket ∷ []) a b
+        → WritesIn (Serve ticket) b
     journal_serve_only ticket writes =
         let changes = (event_result w.format w.state (Serve ticket)).changes in
         alone (Serve ticket) (at_mode Model.Journal is.disk.format changes (plain_journal.own w Conditions.Working (kept common journal) a is) is.format
@@ -277,7 +279,7 @@ module _ (w : Standing) (common : Parts) (a : List Content) where
         (all_append P (entries_of ring.committed) (entries_of ring.opened) committed_whole (all_flat P ring.opened stands.device.is_ring.each)))
 
     journal_step_only : (actor : Actor) {b : List Content} → WritesAs actor common journal a b
-        → WritesOnlyOf w (Step (actor_of actor) ∷ []) a b
+        → WritesIn (Step (actor_of actor)) b
     journal_step_only actor writes =
         let changes = (event_result w.format w.state (Step (actor_of actor))).changes in
         alone (Step (actor_of actor)) (at_mode Model.Journal is.disk.format changes (plain_journal.own w Conditions.Working (kept common journal) a is) is.format
@@ -290,7 +292,7 @@ module _ (w : Standing) (common : Parts) (a : List Content) where
 
   -- A serve writes what its event may,
   pub serve_writes : (mode : Mode) → IsDeviceIn mode w Conditions.Working common a → (ticket : ℕ) → is_in_flight ticket common.slots ≡ true
-      → (new : Parts) {b : List Content} → WritesInServe mode ticket common new a b → WritesOnlyOf w (Serve ticket ∷ []) a b
+      → (new : Parts) {b : List Content} → WritesInServe mode ticket common new a b → WritesIn (Serve ticket) b
   serve_writes Direct is ticket there new writes =
       let changes = (event_result w.format w.state (Serve ticket)).changes in
       alone (Serve ticket) (at_mode Model.Direct is.direct.disk.format changes (own_direct w Conditions.Working common a is) is.direct.format
@@ -308,7 +310,7 @@ module _ (w : Standing) (common : Parts) (a : List Content) where
 
   -- so does a step,
   pub step_writes : (mode : Mode) → IsDeviceIn mode w Conditions.Working common a → (actor : Actor) {b : List Content}
-      → WritesInStep mode actor common a b → WritesOnlyOf w (Step (actor_of actor) ∷ []) a b
+      → WritesInStep mode actor common a b → WritesIn (Step (actor_of actor)) b
   step_writes Direct is actor kept =
       alone (Step (actor_of actor)) (WritesOnly-kept w.format.mode w.on.geometry (event_result w.format w.state (Step (actor_of actor))).changes kept)
   step_writes (Journal journal) is actor writes = journal_step_only journal is actor writes

@@ -7,10 +7,12 @@ pub mod StepLemmas
 pub mod RequestLemmas
 pub mod OpeningLemmas
 pub mod WritesLemmas
+pub mod TagsLemmas
 pub mod RunLemmas
 mod NextWritesLemmas
 mod BitmapWritesLemmas
-pub mod EventWritesLemmas
+mod EventWritesLemmas
+pub mod LeavesLemmas
 pub mod CallLemmas
 pub mod FinishLemmas
 pub mod TurnRunLemmas

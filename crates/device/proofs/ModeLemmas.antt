@@ -24,8 +24,7 @@ use Rattle.device_parts.specs.Answers.{ServesNext, turns_left}
 use Rattle.device_parts.specs.Device.{DeviceMode, Does, Ends, HasDone, HasEnded, IsDone, KeepsFlight, Standing, condition_of, standing_after}
 use Rattle.direct_device.specs.Device.{in_direct, placed_on}
 use Rattle.direct_device.proofs.EventLemmas.{quiet_kept_law as direct_quiet_law}
-use Rattle.journal_device.specs.Journal.{PlacedRing}
-use Rattle.journal_device.specs.Device.{IsJournaled, in_journal, kept, kind_on}
+use Rattle.journal_device.specs.Device.{in_journal, kept, kind_on}
 use Rattle.journal_device.proofs.EventLemmas.{quiet_kept_law as journal_quiet_law}
 use Rattle.journal_device.specs.declared.parts.JournalParts.{JournalParts}
 use Rattle.bitmap_device.specs.declared.parts.BitmapParts.{BitmapParts}

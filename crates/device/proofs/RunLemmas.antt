@@ -22,8 +22,8 @@ use Rattle.device.specs.Device.{IsDevice, any_mode, kind_of}
 use Rattle.device_parts.specs.Device.{Standing}
 use Rattle.device.proofs.ModeLemmas.{left_now}
 use Rattle.device.specs.Run.{HasBegun, HasFailed, HasRun, IsCutOff, IsLeftWithin, failed_of, standing_behind}
-use Rattle.device.specs.Writes.{WritesOnly, WritesOnlyOf}
-use Rattle.device.proofs.WritesLemmas.{WritesOnly-kept, WritesOnly-left, WritesOnly-then}
+use Rattle.device.specs.Tags.{Leaves, LeavesIn}
+use Rattle.device.proofs.TagsLemmas.{leaves_all, leaves_left, leaves_then}
 
 -- ---- moments
 
@@ -101,9 +101,6 @@ module _ (w : Standing) where
   abbrev LeftIn : List Change → Content → Type 0
   LeftIn changes c = IsLeftWithin (kind_of w) w.entry s.history changes c
 
-  abbrev WritesIn : List Change → (before after : List Content) → Type 0
-  WritesIn changes before after = WritesOnly f.mode w.on.geometry changes before after
-
   since_wider : (xs ys : List Event) (c : Content) → LeftIn (changes_of f s xs) c
       → LeftIn (changes_of f s (xs ++ ys)) c
   since_wider xs ys c is =
@@ -119,26 +116,26 @@ module _ (w : Standing) where
       subst (λ (l : List Change). LeftIn l c) (sym (changes_of-append f s xs ys))
       (left-behind (kind_of w) w.entry s.history (changes_of f s xs) more c moved)
 
-  -- What is written of some events is written of them and more,
-  writes_wider : (xs ys : List Event) (a b : List Content) → WritesOnlyOf w xs a b → WritesOnlyOf w (xs ++ ys) a b
-  writes_wider xs ys a b writes =
-      subst (λ (l : List Change). WritesIn l a b) (sym (changes_of-append f s xs ys))
-      (WritesOnly-left f.mode w.on.geometry (changes_of f s xs) (changes_of f (after_events f s xs) ys) writes)
+  -- What some events leave is left by them and more,
+  others_wider : (xs ys : List Event) (a b : List Content) → LeavesIn w xs a b → LeavesIn w (xs ++ ys) a b
+  others_wider xs ys a b others =
+      subst (λ (l : List Change). Leaves w l a b) (sym (changes_of-append f s xs ys))
+      (leaves_left w (changes_of f s xs) (changes_of f (after_events f s xs) ys) others)
 
-  -- and so it is of those behind them.
-  writes_then : (xs ys : List Event) (a b c : List Content)
-      → WritesOnlyOf w xs a b → WritesOnlyOf (standing_behind w xs) ys b c → WritesOnlyOf w (xs ++ ys) a c
-  writes_then xs ys a b c first second =
+  -- and by those behind them, too.
+  others_then : (xs ys : List Event) (a b c : List Content)
+      → LeavesIn w xs a b → LeavesIn (standing_behind w xs) ys b c → LeavesIn w (xs ++ ys) a c
+  others_then xs ys a b c first second =
       let more = changes_of f (after_events f s xs) ys in
-      subst (λ (l : List Change). WritesIn l a c) (sym (changes_of-append f s xs ys))
-      (WritesOnly-then f.mode w.on.geometry (changes_of f s xs) more first second)
+      subst (λ (l : List Change). Leaves w l a c) (sym (changes_of-append f s xs ys))
+      (leaves_then w (after_events f s xs) (changes_of f s xs) more (history-after f s xs) first second)
 
   -- Nothing is done.
   pub run_none : (p : DeviceParts) (a : List Content) → IsDevice w Conditions.Working p a → HasRun w [] p a a
   run_none p a is = record {
     device = is;
     since = no_moment a _;
-    writes = WritesOnly-kept f.mode w.on.geometry [] refl;
+    others = leaves_all w [] refl;
   }
 
   pub none_begun : (events : List Event) (p q : DeviceParts) (a b : List Content) → IsDevice w Conditions.Working p a
@@ -158,7 +155,7 @@ module _ (w : Standing) where
     device = subst (λ (u : DeviceState). IsDevice (record w { state = u }) Conditions.Working q c)
         (sym (after_events-append f s xs ys)) second.device;
     since = EachMoment-then (EachMoment-weaker (since_wider xs ys) first.since) (EachMoment-weaker (since_behind xs ys) second.since);
-    writes = writes_then xs ys a b c first.writes second.writes;
+    others = others_then xs ys a b c first.others second.others;
   }
 
   -- They may be cut off,
@@ -167,7 +164,7 @@ module _ (w : Standing) where
   cut_then xs ys p a b c first second = record {
     since = EachMoment-then (EachMoment-weaker (since_wider xs ys) first.since) (EachMoment-weaker (since_behind xs ys) second.since);
     now = λ x told. since_behind xs ys x (second.now x told);
-    writes = writes_then xs ys a b c first.writes second.writes;
+    others = others_then xs ys a b c first.others second.others;
   }
 
   -- or not begun,
@@ -178,7 +175,7 @@ module _ (w : Standing) where
     now = λ x told.
         let left = left_now (standing_behind w xs) Conditions.Working p.mode p.common b first.device in
         since_behind xs ys x (record { made = 0; opens = left.opens x told; left = left.left x told });
-    writes = writes_wider xs ys a b first.writes;
+    others = others_wider xs ys a b first.others;
   }
 
   -- as where the first were cut off.
@@ -186,7 +183,7 @@ module _ (w : Standing) where
   cut_wider xs ys a b cut = record {
     since = EachMoment-weaker (since_wider xs ys) cut.since;
     now = λ x told. since_wider xs ys x (cut.now x told);
-    writes = writes_wider xs ys a b cut.writes;
+    others = others_wider xs ys a b cut.others;
   }
 
   -- Events that come to the same.
@@ -196,7 +193,7 @@ module _ (w : Standing) where
   run_same xs ys p a b after changes run = record {
     device = subst (λ (u : DeviceState). IsDevice (record w { state = u }) Conditions.Working p b) after run.device;
     since = EachMoment-weaker (λ c is. subst (λ (l : List Change). LeftIn l c) changes is) run.since;
-    writes = subst (λ (l : List Change). WritesIn l a b) changes run.writes;
+    others = subst (λ (l : List Change). Leaves w l a b) changes run.others;
   }
 
   pub cut_same : (xs ys : List Event) (a b : List Content) → changes_of f s xs ≡ changes_of f s ys
@@ -204,7 +201,7 @@ module _ (w : Standing) where
   cut_same xs ys a b changes cut = record {
     since = EachMoment-weaker (λ c is. subst (λ (l : List Change). LeftIn l c) changes is) cut.since;
     now = λ x told. subst (λ (l : List Change). LeftIn l x) changes (cut.now x told);
-    writes = subst (λ (l : List Change). WritesIn l a b) changes cut.writes;
+    others = subst (λ (l : List Change). Leaves w l a b) changes cut.others;
   }
 
   -- ---- a serve that failed
@@ -261,8 +258,8 @@ module _ (w : Standing) where
   -- ---- one event
 
   pub run_one : (event : Event) (p : DeviceParts) (a b : List Content) → HasDone any_mode w event Conditions.Working p a b
-      → WritesOnlyOf w (event ∷ []) a b → HasRun w (event ∷ []) p a b
-  run_one event p a b done writes =
+      → LeavesIn w (event ∷ []) a b → HasRun w (event ∷ []) p a b
+  run_one event p a b done others =
       let changes = (event_result f s event).changes in
       record {
         device = done.device;
@@ -272,7 +269,7 @@ module _ (w : Standing) where
           left = subst (λ (h : History). EachImage ((kind_of w).MayBeLeft w.entry h) c)
               (is.1.within.is ∙ ap (λ (l : List Change). with_changes (take is.1.within.kept l) s.history) (sym (append-nil changes))) is.1.each;
         }) (EachMoment-both done.through.opens done.through.left);
-        writes = writes;
+        others = others;
       }
 
   -- A call in which the disk failed makes some of the first changes that it would make else.
@@ -280,7 +277,7 @@ module _ (w : Standing) where
     pub count : ℕ
     pub is : (event_result f s failed).changes ≡ take count (event_result f s event).changes
 
-  first_of : (event failed : Event) → s.condition ≡ Working → failed_of event ≡ Some failed → IsFirstOf event failed
+  pub first_of : (event failed : Event) → s.condition ≡ Working → failed_of event ≡ Some failed → IsFirstOf event failed
   first_of (Submit submission) failed works same = absurd (none-some failed same)
   first_of (Serve ticket) failed works same =
       let changes = (event_result f s (Serve ticket)).changes in
@@ -301,8 +298,8 @@ module _ (w : Standing) where
   first_of FailedClose failed works same = absurd (none-some failed same)
 
   cut_failed : (event failed : Event) (p : DeviceParts) (a b : List Content) → IsFirstOf event failed
-      → HasDone any_mode w failed Conditions.Broken p a b → WritesOnlyOf w (event ∷ []) a b → IsCutOff w (event ∷ []) a b
-  cut_failed event failed p a b first done writes =
+      → HasDone any_mode w failed Conditions.Broken p a b → LeavesIn w (event ∷ []) a b → IsCutOff w (event ∷ []) a b
+  cut_failed event failed p a b first done others =
       let changes = (event_result f s event).changes in
       record {
         since = EachMoment-weaker (λ c is.
@@ -325,15 +322,15 @@ module _ (w : Standing) where
                   (ap (λ (l : List Change). with_changes l s.history) first.is
                   ∙ ap (λ (l : List Change). with_changes (take first.count l) s.history) (sym (append-nil changes))) (left.left x told);
             };
-        writes = writes;
+        others = others;
       }
 
   -- An event in which the disk failed.
   pub one_failed : (event failed : Event) (p : DeviceParts) (a b : List Content) → s.condition ≡ Working
-      → failed_of event ≡ Some failed → HasDone any_mode w failed Conditions.Broken p a b → WritesOnlyOf w (event ∷ []) a b
+      → failed_of event ≡ Some failed → HasDone any_mode w failed Conditions.Broken p a b → LeavesIn w (event ∷ []) a b
       → HasFailed w (event ∷ []) p a b
-  one_failed event failed p a b works fails done writes = record {
-    cut = cut_failed event failed p a b (first_of event failed works fails) done writes;
+  one_failed event failed p a b works fails done others = record {
+    cut = cut_failed event failed p a b (first_of event failed works fails) done others;
     made = [];
     event = event;
     rest = [];

@@ -15,14 +15,14 @@ use Rattle.device_parts.specs.declared.answers.Served.{Served}
 use Rattle.device_parts.specs.declared.answers.Served.TheVariants as Serves
 use Rattle.device_parts.specs.Answers.{served_answer}
 use Rattle.device.specs.declared.mode.DeviceParts.{DeviceParts}
-use Rattle.device.specs.Answers.{WritesInServe}
+use Rattle.device.specs.Answers.{KeepsClearTags, WritesInServe}
 use Rattle.device_parts.specs.Answers.{HasServed}
 use Rattle.device_parts.specs.Device.{Answers}
 use Rattle.device.specs.Device.{IsDevice, any_mode}
 use Rattle.device_parts.specs.Device.{Standing}
 use Rattle.device.proofs.ModeLemmas.{condition_now, flight_now, reached_now}
 use Rattle.device.specs.Run.{HasFailed, HasRun, standing_behind}
-use Rattle.device.proofs.EventWritesLemmas.{serve_writes}
+use Rattle.device.proofs.LeavesLemmas.{serve_leaves}
 use Rattle.device.proofs.FinishLemmas.{begins, more_by, turn-alone, turn-with_room, whole_finish-by}
 use Rattle.device.proofs.RunLemmas.{failed_then, failed_wider, one_failed, run_none, run_one, run_then}
 
@@ -30,10 +30,11 @@ use Rattle.device.proofs.RunLemmas.{failed_then, failed_wider, one_failed, run_n
 
 module _ (w : Standing) (ticket : ℕ) (old new : DeviceParts) (a b : List Content)
     (is : IsDevice w Conditions.Working old a) (there : is_in_flight ticket old.common.slots ≡ true)
-    (writes : WritesInServe old.mode ticket old.common new.common a b) where
+    (writes : WritesInServe old.mode ticket old.common new.common a b)
+    (tags : KeepsClearTags old.mode old.common (FailedServe ticket) a b) where
   pub served_run : (served : Served) → HasServed any_mode w ticket (Ok served) Conditions.Working new a b
       → HasRun w (Serve ticket ∷ []) new a b
-  served_run served has = run_one w (Serve ticket) new a b has.done (serve_writes w old.common a old.mode is ticket there new.common writes)
+  served_run served has = run_one w (Serve ticket) new a b has.done (serve_leaves w old.common a old.mode is ticket there new.common writes tags)
 
   pub served_failed : (fault : StepFault) → HasServed any_mode w ticket (Err fault) Conditions.Broken new a b
       → fault ≡ Faults.Disk → HasFailed w (Serve ticket ∷ []) new a b
@@ -41,7 +42,7 @@ module _ (w : Standing) (ticket : ℕ) (old new : DeviceParts) (a b : List Conte
       one_failed w (Serve ticket) (FailedServe ticket) new a b
       (condition_now w Conditions.Working old.mode old.common a is) refl
       (subst (λ (x : StepFault). HasServed any_mode w ticket (Err x) Conditions.Broken new a b) disk has).done
-      (serve_writes w old.common a old.mode is ticket there new.common writes)
+      (serve_leaves w old.common a old.mode is ticket there new.common writes tags)
 
 -- ---- a turn
 

@@ -12,4 +12,5 @@ pub mod Calls
 pub mod Device
 pub mod Opening
 pub mod Run
+pub mod Tags
 pub mod Writes

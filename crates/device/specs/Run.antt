@@ -12,7 +12,7 @@ use Rattle.device_parts.specs.Answers.{actor_of}
 use Rattle.device.specs.declared.mode.DeviceParts.{DeviceParts}
 use Rattle.device_parts.specs.Device.{Standing}
 use Rattle.device.specs.Device.{IsDevice, kind_of}
-use Rattle.device.specs.Writes.{WritesOnlyOf}
+use Rattle.device.specs.Tags.{LeavesIn}
 
 -- Some of the first changes are made at a moment: each image can be opened, and may be left by that history.
 pub record IsLeftWithin (kind : DeviceKind) (entry : Image) (h : History) (changes : List Change) (c : Content)
@@ -62,14 +62,14 @@ pub record HasRun (w : Standing) (events : List Event) (parts : DeviceParts) (be
     : Type 0 where
   pub device : IsDevice (standing_behind w events) Conditions.Working parts after
   pub since : IsLeftSince w events before after
-  pub writes : WritesOnlyOf w events before after
+  pub others : LeavesIn w events before after
 
 -- They were cut off: of their changes some of the first are made, at each moment and now.
 pub record IsCutOff (w : Standing) (events : List Event) (before after : List Content) : Type 0 where
   pub since : IsLeftSince w events before after
   pub now : HasNow
       (IsLeftWithin (kind_of w) w.entry w.state.history (changes_of w.format w.state events)) after
-  pub writes : WritesOnlyOf w events before after
+  pub others : LeavesIn w events before after
 
 -- The event in which a disk fails where it would be this one, if it calls the disk.
 abbrev pub failed_of : Event → Option Event

@@ -5,9 +5,7 @@ use Rattle.disk_model.specs.Moments.{EachSince}
 use Rattle.image_model.specs.Geometry.{Geometry, bitmap_sectors, initial}
 use Rattle.device_model.specs.History.{Change, IsWrittenIn}
 use Rattle.device_model.specs.Mode as Model
-use Rattle.device_model.specs.Progress.{Event, changes_of}
 use Rattle.direct_mode.specs.Places.{IsOfPlaces}
-use Rattle.device_parts.specs.Device.{Standing}
 
 -- The sector is one of the journal's: behind those of the superblock, and before those of tags.
 pub record IsInJournal (g : Geometry) (sector : ℕ) : Type 0 where
@@ -35,8 +33,3 @@ IsOfRun mode g changes sector x = IsOfPlaces g (IsWrittenIn changes) sector x
 -- Between two moments nothing else was written.
 abbrev pub WritesOnly : Model.Mode → Geometry → List Change → (before after : List Content) → Type 0
 WritesOnly mode g changes before after = EachSince (OnlyAdds (IsOfRun mode g changes)) before after
-
--- So it is for these events of a device.
-abbrev pub WritesOnlyOf : Standing → List Event → (before after : List Content) → Type 0
-WritesOnlyOf w events before after =
-    WritesOnly w.format.mode w.on.geometry (changes_of w.format w.state events) before after

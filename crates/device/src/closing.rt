@@ -13,8 +13,8 @@ use crate::{DeviceParts, Mode};
 use device_parts::{Condition, StepFault};
 use sector_disk::{Disk, Failed};
 
-/// Flushes all that was written; in journal mode all is committed, placed and settled, and in bitmap mode the bit of each
-/// region is cleared that does not await. A broken device makes no call of its disk.
+/// Flushes all that was written; in journal mode all is committed, placed and settled, and in bitmap mode the bit of
+/// each region is cleared that does not await. A broken device makes no call of its disk.
 ///
 /// # Errors
 ///

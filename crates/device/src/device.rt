@@ -200,9 +200,9 @@ impl<'d, 'p, D: Disk> Device<'d, 'p, D> {
     }
 
     /// Lets an actor do its next step. In direct mode none has anything to do; in journal mode a commit writes the
-    /// opened sections, a place writes an entry to its place, and a settle frees sections; in bitmap mode a clean clears
-    /// the bit of the least region that needs none and has no block of a request in flight, and a recalculation takes the
-    /// least region that awaits. A broken device makes no call of its disk.
+    /// opened sections, a place writes an entry to its place, and a settle frees sections; in bitmap mode a clean
+    /// clears the bit of the least region that needs none and has no block of a request in flight, and a recalculation
+    /// takes the least region that awaits. A broken device makes no call of its disk.
     ///
     /// # Errors
     ///
@@ -238,8 +238,8 @@ impl<'d, 'p, D: Disk> Device<'d, 'p, D> {
     }
 
     /// Flushes all that was written, and gives the disk back; in journal mode all is committed, placed and settled, and
-    /// in bitmap mode the bit of each region is cleared that does not await. Requests that are unfinished are dropped. A
-    /// broken device makes no call of its disk.
+    /// in bitmap mode the bit of each region is cleared that does not await. Requests that are unfinished are dropped.
+    /// A broken device makes no call of its disk.
     ///
     /// # Errors
     ///

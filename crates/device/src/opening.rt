@@ -144,8 +144,8 @@ fn open_in_bitmap<'p, D: Disk>(
 
     ensures opened { IfOk result (λ parts. HasOpenedIn (OpenMode.Bitmap consent) (key_of hash) (D.identity disk.old)
         parts (D.moments disk.old) (D.moments disk.new)) }
-    ensures accepted { IfOk result (λ parts. HasNoFault (OpenMode.Bitmap consent) (key_of hash) (D.identity disk.old).sectors
-        (D.moments disk.old)) }
+    ensures accepted { IfOk result (λ parts. HasNoFault (OpenMode.Bitmap consent) (key_of hash)
+        (D.identity disk.old).sectors (D.moments disk.old)) }
     ensures refused { IfErr result (λ fault. IsRefused (OpenMode.Bitmap consent) (key_of hash) (D.identity disk.old)
         fault (D.moments disk.old) (D.moments disk.new)) }
     ensures cause { HasOpenCause (D.faults disk.old) (D.faults disk.new) result }

@@ -6,7 +6,7 @@ ghost use Rattle.device.specs.Device.{IsReady};
 use device::{Device, OpenMode};
 use device_parts::{Actor, Moved, Served};
 use hmac_tag::Hash;
-use image_formatting::{NewImage, Padding, Wipe, format};
+use image_formatting::{ImageMode, NewImage, Padding, Wipe, format};
 use request_slots::{Bytes, Reply, Request};
 use sector_disk::{Disk, MemDisk};
 use sector_pool::Region;
@@ -14,10 +14,11 @@ use std::alloc::{AllocError, Global};
 use std::test::Fail;
 
 /// What the image is to be: a journal of one section, of 8 metadata sectors and 80 entries of one sector.
-const SMALL: NewImage = NewImage {
+pub(crate) const SMALL: NewImage = NewImage {
     tag_size: 32,
     log2_spb: 0,
     log2_interleave: 3,
+    mode: ImageMode::Journal,
     sections: 1,
     log2_region: 15,
     salt: None,
@@ -33,7 +34,7 @@ fn new_disk(alloc: Global) -> Result<MemDisk, Fail> {
 }
 
 /// A write of block 5, whose bytes are all this one, that is to be flushed.
-fn write_of(alloc: Global, byte: u8) -> Result<Request, AllocError> {
+pub(crate) fn write_of(alloc: Global, byte: u8) -> Result<Request, AllocError> {
     Ok(Request::Write {
         first: 5,
         count: 1,
@@ -52,10 +53,11 @@ fn read_of(alloc: Global) -> Result<Request, AllocError> {
 }
 
 /// Opens a device on a disk.
-fn open_device<'d, 'p, D: Disk>(
+pub(crate) fn open_device<'d, 'p, D: Disk>(
     alloc: Global,
     disk: &'d mut D,
     region: &'p mut Region,
+    hash: Hash,
     mode: OpenMode,
 ) -> Option<Device<'d, 'p, D>>
     requires { IsBound (D.identity disk.old).name }
@@ -63,14 +65,14 @@ fn open_device<'d, 'p, D: Disk>(
     ensures { IfSome result (λ device. IsReady device.condition device.parts
         (D.identity device.disk.now) (D.moments device.disk.now)) }
 {
-    match Device::open(alloc, disk, region, Hash::Sha256, mode) {
+    match Device::open(alloc, disk, region, hash, mode) {
         Ok(device) => Some(device),
         Err(_) => None,
     }
 }
 
 /// The reply to a request of one block.
-fn reply_to<D: Disk>(device: &mut Device<'_, '_, D>, request: Request) -> Option<Reply>
+pub(crate) fn reply_to<D: Disk>(device: &mut Device<'_, '_, D>, request: Request) -> Option<Reply>
     requires { IsReady device.old.condition device.old.parts
         (D.identity device.old.disk.now) (D.moments device.old.disk.now) }
 
@@ -105,50 +107,52 @@ fn byte_of(reply: Option<Reply>) -> Option<u8> {
 
 /// What came of a write that was flushed.
 #[derive(Clone, Copy, Debug, PartialEq, Eq)]
-struct Written {
+pub(crate) struct Written {
     /// The byte that a read behind it gave.
-    byte: Option<u8>,
-    /// What a place did then.
-    placed: Option<Moved>,
+    pub(crate) byte: Option<u8>,
+    /// What the actor did then.
+    pub(crate) moved: Option<Moved>,
 }
 
-/// Writes a block and flushes it, reads it, lets the journal be placed and closes the device, where all went well.
-fn write_and_read<D: Disk>(
+/// Writes a block and flushes it, reads it, lets an actor do a step and closes the device, where all went well.
+pub(crate) fn write_and_read<D: Disk>(
     alloc: Global,
     disk: &mut D,
     mode: OpenMode,
+    actor: Actor,
 ) -> Result<Option<Written>, AllocError>
     requires { IsBound (D.identity disk.old).name }
 {
     let write = write_of(alloc, 0xaa)?;
     let read = read_of(alloc)?;
     let mut region = Region::new();
-    let Some(mut device) = open_device(alloc, disk, &mut region, mode) else {
+    let Some(mut device) = open_device(alloc, disk, &mut region, Hash::Sha256, mode) else {
         return Ok(None);
     };
     let written = reply_to(&mut device, write);
     let byte = byte_of(reply_to(&mut device, read));
-    let placed = device.step(Actor::Place).ok();
+    let moved = device.step(actor).ok();
     let (closed, _) = device.close();
     let is_written = matches!(written, Some(Reply::Written { .. }));
     Ok(if is_written && closed.is_ok() {
-        Some(Written { byte, placed })
+        Some(Written { byte, moved })
     } else {
         None
     })
 }
 
 /// The byte that the block has for a device of its own, which has the blocks that it should and is not closed.
-fn read_alone<D: Disk>(
+pub(crate) fn read_alone<D: Disk>(
     alloc: Global,
     disk: &mut D,
+    hash: Hash,
     mode: OpenMode,
 ) -> Result<Option<u8>, AllocError>
     requires { IsBound (D.identity disk.old).name }
 {
     let read = read_of(alloc)?;
     let mut region = Region::new();
-    let Some(mut device) = open_device(alloc, disk, &mut region, mode) else {
+    let Some(mut device) = open_device(alloc, disk, &mut region, hash, mode) else {
         return Ok(None);
     };
     let is_small = device.blocks() > 5 && device.block_size() == 512;
@@ -170,7 +174,7 @@ fn close_fails<D: Disk>(
     requires { IsBound (D.identity disk.old).name }
 {
     let write = write_of(alloc, 0xaa)?;
-    let Some(mut device) = open_device(alloc, disk, region, OpenMode::Journal) else {
+    let Some(mut device) = open_device(alloc, disk, region, Hash::Sha256, OpenMode::Journal) else {
         return Ok(false);
     };
     let written = reply_to(&mut device, write);
@@ -199,14 +203,14 @@ fn oldest_from_8(alloc: Global, disk: &MemDisk, sectors: usize) -> Result<Vec<u8
 #[test]
 fn in_journal_mode_a_write_is_placed_by_a_step(rt: HostRuntime) -> Result<(), Fail> {
     let byte = Some(0xaa);
-    let placed = Some(Moved::Did);
+    let moved = Some(Moved::Did);
     let mut disk = new_disk(rt.alloc())?;
-    let written = write_and_read(rt.alloc(), &mut disk, OpenMode::Journal)?;
-    assert_eq!(rt; written, Some(Written { byte, placed }));
-    let in_journal_mode = read_alone(rt.alloc(), &mut disk, OpenMode::Journal)?;
+    let written = write_and_read(rt.alloc(), &mut disk, OpenMode::Journal, Actor::Place)?;
+    assert_eq!(rt; written, Some(Written { byte, moved }));
+    let in_journal_mode = read_alone(rt.alloc(), &mut disk, Hash::Sha256, OpenMode::Journal)?;
     assert_eq!(rt; in_journal_mode, byte);
     // A close has brought all to its place, where direct mode looks.
-    let in_direct_mode = read_alone(rt.alloc(), &mut disk, OpenMode::Direct)?;
+    let in_direct_mode = read_alone(rt.alloc(), &mut disk, Hash::Sha256, OpenMode::Direct)?;
     assert_eq!(rt; in_direct_mode, byte);
     Ok(())
 }

@@ -8,7 +8,7 @@ ghost use Rattle.device.specs.Device.{IsReady};
 use device::{Device, OpenMode, finish, make_room, step};
 use device_parts::{Actor, Moved, Served};
 use hmac_tag::Hash;
-use image_formatting::{NewImage, Padding, Wipe, format};
+use image_formatting::{ImageMode, NewImage, Padding, Wipe, format};
 use request_slots::{Bytes, Request, Ticket};
 use sector_disk::{Disk, MemDisk};
 use sector_pool::Region;
@@ -20,6 +20,7 @@ const SMALL: NewImage = NewImage {
     tag_size: 32,
     log2_spb: 0,
     log2_interleave: 3,
+    mode: ImageMode::Journal,
     sections: 1,
     log2_region: 15,
     salt: None,

@@ -7,7 +7,7 @@ ghost use Rattle.journal_device.specs.Device.{IsReady};
 use device_opening::open_journal;
 use device_parts::{Condition, Served};
 use hmac_tag::Hash;
-use image_formatting::{NewImage, Padding, Wipe, format};
+use image_formatting::{ImageMode, NewImage, Padding, Wipe, format};
 use journal_device::{JournalParts, close, serve};
 use request_slots::{Bytes, Reply, Request, Ticket};
 use sector_disk::{Disk, MemDisk};
@@ -20,6 +20,7 @@ const SMALL: NewImage = NewImage {
     tag_size: 32,
     log2_spb: 0,
     log2_interleave: 3,
+    mode: ImageMode::Journal,
     sections: 1,
     log2_region: 15,
     salt: None,

@@ -2,6 +2,8 @@
 #![tactic(auto)]
 
 #[cfg(test)]
+mod bitmap_call_tests;
+#[cfg(test)]
 mod call_tests;
 #[cfg(test)]
 mod chain_tests;

@@ -2,7 +2,7 @@
 use Rattle.std.proofs.Common.{◌≡◌, ℕ, ◌-◌, ◌==◌, nat_lt, ◌||◌, if◌then◌else◌, refl, None, List, [], ◌∷◌, ◌++◌, replicate}
 use Rattle.std.specs.List.{repeat}
 use Rattle.disk_model.specs.Disk.{Image}
-use Rattle.image_model.specs.Bitmap.{awaits}
+use Rattle.image_model.specs.Bitmap.{awaits, is_bit_set}
 use Rattle.image_model.specs.Cells.{placed_cells_of, replayed_entries, cells_of}
 use Rattle.image_model.specs.CommitId.{commit_id, number_of, id_in}
 use Rattle.image_model.specs.Geometry.{layout_of, entry_size, entries_per_sector, section_entries, section_sectors, regions_for, bitmap_sectors_for, fitting_log2_region, tag_run_of, sector_at, data_at, tag_offset, tag_at}
@@ -18,6 +18,7 @@ use Rattle.place_model.specs.Format.{DiskFormat}
 use Rattle.image_check.specs.Bad.{bad_blocks}
 use Rattle.image_check.specs.declared.bad.Bad.{Bad}
 use Rattle.image_check.specs.declared.bad.What.TheVariants.{Cells, Placed}
+use Rattle.image_check.specs.Report.{awaiting_in}
 
 -- Blocks of one sector, tags of 32 bytes, and a journal of one section, in the sectors 8 to 95. Sector 96 has the tags,
 -- and the blocks have the sectors 104 and 105.
@@ -103,3 +104,37 @@ bad_blocks-fresh = refl
 bad_blocks-committed : bad_blocks Cells format committed ≡ []
 unfolding cells_of placed_cells_of awaits replayed_entries entry_at walk_of_grid plan_of grid_with blank_bound bitmap_sectors_for regions_for fitting_log2_region is_used number_of id_in data_at sector_at tag_at tag_offset tag_run_of entry_size entries_per_sector section_entries section_sectors first_words schedule rounds compress hash_after digest_bytes sha256 tag_message tag_of
 bad_blocks-committed = refl
+
+-- ---- with a bitmap
+
+-- The same blocks and tags, each block a region of its own, with a bitmap that begins with this byte.
+abbrev dirty_fields : Superblock
+dirty_fields = record fields { flags = 0xc; log2_region = 0 }
+
+abbrev dirty_format : DiskFormat
+dirty_format = record { key = None; sectors = 112; superblock = dirty_fields; geometry = layout_of dirty_fields }
+
+abbrev dirty_with : ℕ → Image
+dirty_with byte sector =
+    if sector == 96 then replicate 32 0x7e ++ zeros_1 ++ replicate 448 0 else
+    if sector == 8 then byte ∷ replicate 511 0 else replicate 512 0
+
+-- Block 0 is not bad where its region is dirty,
+bad_blocks-dirty : bad_blocks Cells dirty_format (dirty_with 1) ≡ []
+unfolding cells_of placed_cells_of awaits is_bit_set bitmap_sectors_for regions_for data_at sector_at tag_at tag_offset tag_run_of entry_size entries_per_sector section_entries section_sectors first_words schedule rounds compress hash_after digest_bytes sha256 tag_message tag_of
+bad_blocks-dirty = refl
+
+-- it is where another one is, or none,
+bad_blocks-clean : bad_blocks Cells dirty_format (dirty_with 2) ≡ bad_0 ∷ []
+unfolding cells_of placed_cells_of awaits is_bit_set bitmap_sectors_for regions_for data_at sector_at tag_at tag_offset tag_run_of entry_size entries_per_sector section_entries section_sectors first_words schedule rounds compress hash_after digest_bytes sha256 tag_message tag_of
+bad_blocks-clean = refl
+
+-- and what is placed of it is in any case.
+bad_blocks-dirty_placed : bad_blocks Placed dirty_format (dirty_with 1) ≡ bad_0 ∷ []
+unfolding placed_cells_of data_at sector_at tag_at tag_offset tag_run_of entry_size entries_per_sector section_entries section_sectors first_words schedule rounds compress hash_after digest_bytes sha256 tag_message tag_of
+bad_blocks-dirty_placed = refl
+
+-- The blocks of dirty regions await; bits 2 to 7 are of no region.
+awaiting_in-dirty : (awaiting_in dirty_format (dirty_with 1) ≡ 1) × (awaiting_in dirty_format (dirty_with 0xfe) ≡ 1) × (awaiting_in dirty_format (dirty_with 0xff) ≡ 2)
+unfolding awaits is_bit_set bitmap_sectors_for regions_for
+awaiting_in-dirty = (refl, refl, refl)

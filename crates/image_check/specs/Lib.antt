@@ -1,5 +1,5 @@
 pub mod Bad
 pub mod Faults
 pub mod Index
-pub mod Checked
 pub mod Report
+pub mod Checked

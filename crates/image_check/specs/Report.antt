@@ -3,15 +3,21 @@ use Rattle.std.specs.Prelude.{◌≡◌, ℕ, List, [], ◌∷◌, ◌++◌, len
 use Rattle.std.specs.List.{range_with_len}
 use Rattle.disk_model.specs.Disk.{Image}
 use Rattle.image_model.specs.Bitmap.{awaits}
+use Rattle.image_model.specs.Geometry.{Geometry}
+use Rattle.image_model.specs.Superblock.{Superblock}
 use Rattle.place_model.specs.Format.{DiskFormat, format_on}
 use Rattle.image_check.specs.Bad.{bad_blocks}
 use Rattle.image_check.specs.declared.bad.Bad.{Bad}
 use Rattle.image_check.specs.declared.bad.What.{What}
 use Rattle.image_check.specs.declared.report.Report.{Report}
 
--- How many blocks of an image await their tags.
+-- How many of the first blocks of an image await their tags, of so many,
+abbrev pub awaiting_below : Superblock → Geometry → Image → (count : ℕ) → ℕ
+awaiting_below s g image count = length (filter (awaits s g image) (range_with_len 0 count))
+
+-- and of all its blocks.
 abbrev pub awaiting_in : DiskFormat → Image → ℕ
-awaiting_in d image = length (filter (awaits d.superblock d.geometry image) (range_with_len 0 d.geometry.blocks))
+awaiting_in d image = awaiting_below d.superblock d.geometry image d.geometry.blocks
 
 -- How many blocks there are, how many of them await their tags, and the bad ones in order.
 pub record IsReportOf (what : What) (d : DiskFormat) (image : Image) (report : Report) : Type 0 where

@@ -5,17 +5,17 @@ ghost use Rattle.disk_model.specs.Disk.{last_image};
 ghost use Rattle.disk_model.specs.Identity.{IsBound};
 ghost use Rattle.disk_model.specs.Moments.{HasNow};
 ghost use Rattle.hmac_tag.specs.TagMaker.{key_of};
-ghost use Rattle.image_model.specs.Cells.{salt_of};
-ghost use Rattle.image_format.specs.Format.{IsDirectFormat, IsReadNow};
+ghost use Rattle.image_format.specs.Format.{IsFormat, IsReadNow};
 ghost use Rattle.image_judging.specs.Faults.{HasOpenCause};
-ghost use Rattle.image_check.specs.Checked.{IsCheckOf, IsSameCheck, bad_at, bad_behind, what_of};
+ghost use Rattle.image_check.specs.Checked.{IsCheckOf, IsSameCheck, awaiting_at, bad_at, bad_behind};
 ghost use Rattle.image_check.specs.Faults.{TellsFault, TellsJournalFault, fault_for, journal_fault_for};
 
-use crate::judging::judge_block;
+use crate::judging::judge_placed;
 use crate::opening::{read_journal, tag_maker};
+use crate::passing::{count_awaiting, is_passed};
 use crate::{Bad, What};
 use hmac_tag::{Hash, TagMaker};
-use image_format::{ImageFormat, read_direct_format};
+use image_format::{ImageFormat, read_format};
 use image_judging::OpeningFault;
 use journal_reading::NewestEntries;
 use sector_disk::{Disk, Failed};
@@ -33,6 +33,11 @@ const TAG_WINDOW: u64 = 129;
 /// Own: 256 KiB.
 const BLOCK_WINDOW: u64 = 512;
 
+/// How many are read for the bits of regions.
+///
+/// Own: 64 KiB.
+const BITMAP_WINDOW: u64 = 128;
+
 /// An image that is checked. It takes all its memory when it is opened.
 ///
 /// All its calls are over one disk, which nobody else writes.
@@ -40,10 +45,12 @@ const BLOCK_WINDOW: u64 = 512;
 pub struct CheckedImage {
     format: ImageFormat,
     maker: TagMaker,
+    what: What,
     /// Which blocks have an entry in the journal, where that is looked at.
     journal: Option<NewestEntries>,
     tags: SectorWindow,
     blocks: SectorWindow,
+    bits: SectorWindow,
 }
 
 impl Model for CheckedImage {
@@ -54,9 +61,11 @@ impl Model for CheckedImage {
     ghost view = { λ image. record {
       format = image.format;
       rule = image.maker;
+      what = image.what;
       journal = image.journal;
       tags = image.tags;
       blocks = image.blocks;
+      bits = image.bits;
     } };
 }
 
@@ -68,7 +77,6 @@ impl CheckedImage {
     /// The first that holds:
     ///
     /// - `Super`, `Geom`: the first sector is refused.
-    /// - `Mode`: there is a bitmap.
     /// - `Journal`: the journal is refused, where it is looked at.
     /// - `Disk`: the disk failed at a read.
     /// - `Memory`: there is none for the journal, or for what is read.
@@ -81,7 +89,7 @@ impl CheckedImage {
         requires { IsBound (D.identity disk.old).name }
 
         ensures image { IfOk result (λ image. IsCheckOf image (D.identity disk.new) (D.moments disk.new)) }
-        ensures what { IfOk result (λ image. what_of image.journal ≡ what) }
+        ensures what { IfOk result (λ image. image.what ≡ what) }
         ensures key { IfOk result (λ image. image.rule.key ≡ key_of hash) }
 
         ensures refused { TellsFault result (fault_for what (key_of hash) (D.identity disk.old).sectors)
@@ -91,7 +99,7 @@ impl CheckedImage {
         ensures identity { D.identity disk.new ≡ D.identity disk.old }
         ensures kept { D.moments disk.new ≡ D.moments disk.old }
     {
-        let format = read_direct_format(disk)?;
+        let format = read_format(disk)?;
         CheckedImage::in_format(alloc, disk, format, hash, what)
     }
 
@@ -108,30 +116,32 @@ impl CheckedImage {
         what: What,
     ) -> Result<CheckedImage, OpeningFault>
         requires bound { IsBound (D.identity disk.old).name }
-        requires format { IsDirectFormat (D.identity disk.old).sectors format }
+        requires format { IsFormat (D.identity disk.old).sectors format }
         requires reads { HasNow (IsReadNow (key_of hash) (D.identity disk.old).sectors format) (D.moments disk.old) }
 
         ensures image { IfOk result (λ image. IsCheckOf image (D.identity disk.new) (D.moments disk.new)) }
-        ensures what { IfOk result (λ image. what_of image.journal ≡ what) }
+        ensures what { IfOk result (λ image. image.what ≡ what) }
         ensures key { IfOk result (λ image. image.rule.key ≡ key_of hash) }
 
-        ensures refused { TellsJournalFault result
-            (journal_fault_for what (key_of hash) (salt_of format.fields) format.geometry) (D.moments disk.old) }
+        ensures refused { TellsJournalFault result (journal_fault_for what (key_of hash) format) (D.moments disk.old) }
         ensures cause { HasOpenCause (D.faults disk.old) (D.faults disk.new) result }
 
         ensures identity { D.identity disk.new ≡ D.identity disk.old }
         ensures kept { D.moments disk.new ≡ D.moments disk.old }
     {
         let maker = tag_maker(&format, hash);
-        let journal = read_journal(alloc, disk, &format.geometry, &maker, what)?;
+        let journal = read_journal(alloc, disk, &format, &maker, what)?;
         let tags = SectorWindow::new(alloc, TAG_WINDOW)?;
         let blocks = SectorWindow::new(alloc, BLOCK_WINDOW)?;
+        let bits = SectorWindow::new(alloc, BITMAP_WINDOW)?;
         Ok(CheckedImage {
             format,
             maker,
+            what,
             journal,
             tags,
             blocks,
+            bits,
         })
     }
 
@@ -189,14 +199,46 @@ impl CheckedImage {
         ensures identity { D.identity disk.new ≡ D.identity disk.old }
         ensures kept { D.moments disk.new ≡ D.moments disk.old }
     {
-        judge_block(
+        let passed = is_passed(
+            disk,
+            &self.format,
+            self.what,
+            &self.journal,
+            &mut self.bits,
+            block,
+        )?;
+        if passed {
+            return Ok(None);
+        }
+        judge_placed(
             disk,
             &self.format.geometry,
             &self.maker,
-            &self.journal,
             &mut self.tags,
             &mut self.blocks,
             block,
         )
+    }
+
+    /// How many blocks await their tags, whatever is judged. With a bitmap these are the blocks of dirty regions, and it is
+    /// read in runs. Without one none does.
+    ///
+    /// # Errors
+    ///
+    /// - `Failed`: the disk failed at a read. The call may be made again.
+    pub fn count_awaiting<D: Disk>(&mut self, disk: &mut D) -> Result<u64, Failed>
+        requires image { IsCheckOf self.old (D.identity disk.old) (D.moments disk.old) }
+
+        ensures awaiting { IfOk result (λ count. HasNow (λ c. count
+            ≡ awaiting_at self.old (D.identity disk.old).sectors (last_image c)) (D.moments disk.old)) }
+
+        ensures cause { HasCause (D.faults disk.old) (D.faults disk.new) result }
+
+        ensures image { IsCheckOf self.new (D.identity disk.new) (D.moments disk.new) }
+        ensures same { IsSameCheck self.old self.new }
+        ensures identity { D.identity disk.new ≡ D.identity disk.old }
+        ensures kept { D.moments disk.new ≡ D.moments disk.old }
+    {
+        count_awaiting(disk, &self.format, &mut self.bits)
     }
 }

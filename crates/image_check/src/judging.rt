@@ -8,12 +8,10 @@ ghost use Rattle.disk_model.specs.Moments.{HasNow};
 ghost use Rattle.image_model.specs.Cells.{block_tag};
 ghost use Rattle.image_model.specs.Geometry.{IsGeometry};
 ghost use Rattle.image_check.specs.Bad.{bad_by, bad_placed};
-ghost use Rattle.image_check.specs.Checked.{bad_kept, has_entry};
 ghost use Rattle.sector_window.specs.Window.{HasRoom};
 
 use crate::Bad;
 use hmac_tag::{Tag, TagMaker};
-use journal_reading::NewestEntries;
 use layout::Geometry;
 use sector_disk::{Disk, Failed};
 use sector_window::SectorWindow;
@@ -86,51 +84,4 @@ pub(crate) fn judge_placed<D: Disk>(
     let from = from as usize;
     let stored = &tags.run(tag_at, TAG_SECTORS)[from..from + shape.tag as usize];
     Ok(judge(geometry, maker, block, stored, blocks.run(at, shape.spb)))
-}
-
-/// Whether a block has an entry in the journal, where one is looked at.
-fn has_entry(journal: &Option<NewestEntries>, block: u64) -> bool
-    ensures { result ≡ has_entry journal.now block }
-{
-    match journal {
-        None => false,
-        Some(newest) => newest.newest(block).is_some(),
-    }
-}
-
-/// Judges a block: one that has an entry was judged with the journal, and any other is judged by what is placed.
-///
-/// # Errors
-///
-/// - `Failed`: the disk failed at a read.
-pub(crate) fn judge_block<D: Disk>(
-    disk: &mut D,
-    geometry: &Geometry,
-    maker: &TagMaker,
-    journal: &Option<NewestEntries>,
-    tags: &mut SectorWindow,
-    blocks: &mut SectorWindow,
-    block: u64,
-) -> Result<Option<Bad>, Failed>
-    requires bound { IsBound (D.identity disk.old).name }
-    requires geometry { IsGeometry geometry.now (D.identity disk.old).sectors }
-    requires maker { maker.now.size ≡ geometry.now.shape.tag_size }
-    requires tags { HasRoom 2 tags.old (D.moments disk.old) }
-    requires blocks { HasRoom 8 blocks.old (D.moments disk.old) }
-    requires block { block < geometry.now.blocks }
-
-    ensures bad { IfOk result (λ answer. HasNow (λ c. answer
-        ≡ bad_kept maker.now geometry.now journal.now (last_image c) block) (D.moments disk.old)) }
-
-    ensures cause { HasCause (D.faults disk.old) (D.faults disk.new) result }
-
-    ensures tags { HasRoom 2 tags.new (D.moments disk.new) }
-    ensures blocks { HasRoom 8 blocks.new (D.moments disk.new) }
-    ensures identity { D.identity disk.new ≡ D.identity disk.old }
-    ensures kept { D.moments disk.new ≡ D.moments disk.old }
-{
-    if has_entry(journal, block) {
-        return Ok(None);
-    }
-    judge_placed(disk, geometry, maker, tags, blocks, block)
 }

@@ -10,6 +10,7 @@ mod checked_image;
 mod index;
 mod judging;
 mod opening;
+mod passing;
 mod report;
 
 pub use bad::{Bad, What};

@@ -4,9 +4,10 @@ ghost use Rattle.disk_model.specs.Disk.{last_image};
 ghost use Rattle.disk_model.specs.Identity.{IsBound};
 ghost use Rattle.disk_model.specs.Moments.{HasNow};
 ghost use Rattle.image_model.specs.Cells.{salt_of};
-ghost use Rattle.image_model.specs.Geometry.{IsGeometry};
+ghost use Rattle.image_model.specs.Superblock.{has_flag};
 ghost use Rattle.hmac_tag.specs.TagMaker.{key_of};
-ghost use Rattle.image_check.specs.Checked.{IsJournalOf, what_of};
+ghost use Rattle.image_format.specs.Format.{IsFormat};
+ghost use Rattle.image_check.specs.Checked.{IsJournalOf};
 ghost use Rattle.image_judging.specs.Faults.{HasOpenCause};
 ghost use Rattle.image_check.specs.Faults.{TellsJournalFault, journal_fault_for};
 
@@ -15,9 +16,8 @@ use crate::index::read_index;
 use hmac_tag::{Hash, TagMaker};
 use image_format::ImageFormat;
 use image_judging::OpeningFault;
-use image_model::FIXED_HMAC;
+use image_model::{DIRTY_BITMAP, FIXED_HMAC};
 use journal_reading::NewestEntries;
-use layout::Geometry;
 use sector_disk::Disk;
 use std::alloc::Global;
 
@@ -39,6 +39,13 @@ pub(crate) fn tag_maker(format: &ImageFormat, hash: Hash) -> TagMaker
     TagMaker::new(hash, salt, format.geometry.shape().tag as u8)
 }
 
+/// Whether a bitmap stands in the place of the journal.
+pub(crate) fn has_bitmap(format: &ImageFormat) -> bool
+    ensures { result ≡ has_flag DIRTY_BITMAP format.now.fields.flags }
+{
+    format.fields.flags & DIRTY_BITMAP != 0
+}
+
 /// Which blocks have an entry in the journal, where that is looked at. Where what is placed is judged, nothing is read.
 ///
 /// # Errors
@@ -47,20 +54,19 @@ pub(crate) fn tag_maker(format: &ImageFormat, hash: Hash) -> TagMaker
 pub(crate) fn read_journal<D: Disk>(
     alloc: Global,
     disk: &mut D,
-    geometry: &Geometry,
+    format: &ImageFormat,
     maker: &TagMaker,
     what: What,
 ) -> Result<Option<NewestEntries>, OpeningFault>
     requires bound { IsBound (D.identity disk.old).name }
-    requires geometry { IsGeometry geometry.now (D.identity disk.old).sectors }
-    requires maker { maker.now.size ≡ geometry.now.shape.tag_size }
+    requires format { IsFormat (D.identity disk.old).sectors format.now }
+    requires salt { maker.now.salt ≡ salt_of format.now.fields }
+    requires size { maker.now.size ≡ format.now.geometry.shape.tag_size }
 
-    ensures journal { IfOk result (λ journal. HasNow (λ c. IsJournalOf maker.now geometry.now (last_image c) journal)
+    ensures journal { IfOk result (λ journal. HasNow (λ c. IsJournalOf what maker.now format.now (last_image c) journal)
         (D.moments disk.old)) }
-    ensures what { IfOk result (λ journal. what_of journal ≡ what) }
 
-    ensures refused { TellsJournalFault result
-        (journal_fault_for what maker.now.key maker.now.salt geometry.now) (D.moments disk.old) }
+    ensures refused { TellsJournalFault result (journal_fault_for what maker.now.key format.now) (D.moments disk.old) }
     ensures cause { HasOpenCause (D.faults disk.old) (D.faults disk.new) result }
 
     ensures identity { D.identity disk.new ≡ D.identity disk.old }
@@ -68,6 +74,39 @@ pub(crate) fn read_journal<D: Disk>(
 {
     match what {
         What::Placed => Ok(None),
-        What::Cells => Ok(Some(read_index(alloc, disk, geometry, maker)?)),
+        What::Cells => read_own_journal(alloc, disk, format, maker),
     }
+}
+
+/// Which blocks have an entry in the journal. With a bitmap there is none, and nothing is read.
+///
+/// # Errors
+///
+/// - `Memory`, `Disk`, `Journal`: as `read_index` tells them.
+fn read_own_journal<D: Disk>(
+    alloc: Global,
+    disk: &mut D,
+    format: &ImageFormat,
+    maker: &TagMaker,
+) -> Result<Option<NewestEntries>, OpeningFault>
+    requires bound { IsBound (D.identity disk.old).name }
+    requires format { IsFormat (D.identity disk.old).sectors format.now }
+    requires salt { maker.now.salt ≡ salt_of format.now.fields }
+    requires size { maker.now.size ≡ format.now.geometry.shape.tag_size }
+
+    ensures journal { IfOk result (λ journal. HasNow (λ c.
+        IsJournalOf What.Cells maker.now format.now (last_image c) journal) (D.moments disk.old)) }
+
+    ensures refused { TellsJournalFault result (journal_fault_for What.Cells maker.now.key format.now)
+        (D.moments disk.old) }
+    ensures cause { HasOpenCause (D.faults disk.old) (D.faults disk.new) result }
+
+    ensures identity { D.identity disk.new ≡ D.identity disk.old }
+    ensures kept { D.moments disk.new ≡ D.moments disk.old }
+{
+    if has_bitmap(format) {
+        return Ok(None);
+    }
+    let newest = read_index(alloc, disk, &format.geometry, maker)?;
+    Ok(Some(newest))
 }

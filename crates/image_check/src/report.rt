@@ -5,7 +5,7 @@ ghost use Rattle.disk_model.specs.Identity.{IsBound};
 ghost use Rattle.disk_model.specs.Moments.{HasNow};
 ghost use Rattle.hmac_tag.specs.TagMaker.{key_of};
 ghost use Rattle.image_judging.specs.Faults.{HasOpenCause, fault_in};
-ghost use Rattle.image_check.specs.Checked.{IsCheckOf, bad_in};
+ghost use Rattle.image_check.specs.Checked.{IsCheckOf, IsSameCheck, bad_in};
 ghost use Rattle.image_check.specs.Faults.{TellsFault, fault_for};
 ghost use Rattle.image_check.specs.Report.{IsReportOn, with_found};
 
@@ -20,7 +20,7 @@ use std::alloc::Global;
 pub struct Report {
     /// How many blocks the device has.
     pub blocks: u64,
-    /// How many of them await their tags. Without a bitmap none does.
+    /// How many of them await their tags: with a bitmap those of dirty regions, and without one none.
     pub awaiting: u64,
     /// The bad ones, in order.
     pub bad: Vec<Bad>,
@@ -31,8 +31,8 @@ pub struct Report {
 ///
 /// # Errors
 ///
-/// - `Super`, `Geom`, `Mode`, `Journal`, `Disk`, `Memory`: as `CheckedImage::open` tells them.
-/// - `Disk`: the disk failed at a read of tags or blocks.
+/// - `Super`, `Geom`, `Journal`, `Disk`, `Memory`: as `CheckedImage::open` tells them.
+/// - `Disk`: the disk failed at a read of tags, blocks or the bitmap.
 /// - `Memory`: there is none for the list.
 pub fn check<D: Disk>(
     alloc: Global,
@@ -54,9 +54,10 @@ pub fn check<D: Disk>(
 {
     let mut image = CheckedImage::open(alloc, disk, hash, what)?;
     let bad = list_bad(alloc, disk, &mut image)?;
+    let awaiting = image.count_awaiting(disk)?;
     Ok(Report {
         blocks: image.blocks(),
-        awaiting: 0,
+        awaiting,
         bad,
     })
 }
@@ -80,7 +81,8 @@ fn list_bad<D: Disk>(
     ensures refused { fault_in result ≡ None }
     ensures cause { HasOpenCause (D.faults disk.old) (D.faults disk.new) result }
 
-    ensures blocks { image.new.format ≡ image.old.format }
+    ensures image { IsCheckOf image.new (D.identity disk.new) (D.moments disk.new) }
+    ensures same { IsSameCheck image.old image.new }
     ensures identity { D.identity disk.new ≡ D.identity disk.old }
     ensures kept { D.moments disk.new ≡ D.moments disk.old }
 {

@@ -51,3 +51,9 @@ three_parts none t u v a b c is_none is_t is_u is_v =
 pub number_put : (t u name : List ℕ) (n m : ℕ) → u ≡ t ++ (name ++ decimal n ++ codes "\n") → n ≡ m
     → u ≡ t ++ (name ++ decimal m ++ codes "\n")
 number_put t u name n m put is = put ∙ ap (λ (k : ℕ). t ++ (name ++ decimal k ++ codes "\n")) is
+
+-- One line with a number, put behind a text.
+pub number_line : (t u name : List ℕ) (n : ℕ) → u ≡ t ++ (name ++ decimal n ++ codes "\n")
+    → u ≡ t ++ joined_lines ((name ++ decimal n) ∷ [])
+number_line t u name n put =
+    put ∙ ap (λ (xs : List ℕ). t ++ xs) (sym (append-nil (name ++ decimal n ++ codes "\n")))

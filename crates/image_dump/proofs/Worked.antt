@@ -1,9 +1,10 @@
 -- What whole images show, and their lines, by computing.
-use Rattle.std.proofs.Common.{◌≡◌, ℕ, ◌-◌, ◌==◌, nat_lt, ◌||◌, if◌then◌else◌, refl, Ok, Err, List, [], ◌∷◌, ◌++◌, replicate, codes}
+use Rattle.std.proofs.Common.{◌≡◌, ℕ, ◌-◌, ◌==◌, nat_lt, ◌||◌, if◌then◌else◌, refl, Ok, Err, List, ◌∷◌, ◌++◌, replicate, codes}
 use Rattle.std.specs.List.{repeat}
 use Rattle.std.specs.Fmt.{digits}
 use Rattle.hex.specs.Hex.{encode_with}
 use Rattle.disk_model.specs.Disk.{Image}
+use Rattle.image_model.specs.Bitmap.{is_bit_set}
 use Rattle.image_model.specs.CommitId.{commit_id, number_of, id_in}
 use Rattle.image_model.specs.Geometry.{geometry_of, layout_of, entry_size, entries_per_sector, section_entries, section_sectors, regions_for, bitmap_sectors_for, fitting_log2_region, tag_run_of, sector_at}
 use Rattle.image_model.specs.Grid.{grid_with, blank_bound}
@@ -39,11 +40,11 @@ small = record {
   salt = replicate 16 0;
 }
 
--- Its first sector with these flags, as `integritysetup format --integrity-legacy-hmac` writes it.
-abbrev first_sector : ℕ → List ℕ
-first_sector flags =
+-- Its first sector with these flags and this log2_region, as `integritysetup format --integrity-legacy-hmac` writes it.
+abbrev first_sector : ℕ → ℕ → List ℕ
+first_sector flags log2_region =
     0x69 ∷ 0x6e ∷ 0x74 ∷ 0x65 ∷ 0x67 ∷ 0x72 ∷ 0x74 ∷ 0 ∷ 0x04 ∷ 0x03 ∷ 0x20 ∷ 0 ∷ 0x01 ∷ 0 ∷ 0 ∷ 0
-    ∷ 0x50 ∷ 0 ∷ 0 ∷ 0 ∷ 0 ∷ 0 ∷ 0 ∷ 0 ∷ flags ∷ 0 ∷ 0 ∷ 0 ∷ 0 ∷ 0x0f ∷ 0 ∷ 0 ∷ replicate 480 0
+    ∷ 0x50 ∷ 0 ∷ 0 ∷ 0 ∷ 0 ∷ 0 ∷ 0 ∷ 0 ∷ flags ∷ 0 ∷ 0 ∷ 0 ∷ 0 ∷ log2_region ∷ 0 ∷ 0 ∷ replicate 480 0
 
 -- An unused entry as it is written.
 abbrev unused : List ℕ
@@ -59,13 +60,18 @@ journal_sector number k =
 -- and 0 on the others.
 abbrev image_with : ℕ → ℕ → ℕ → Image
 image_with flags number end sector =
-    if sector == 0 then first_sector flags else
+    if sector == 0 then first_sector flags 0x0f else
     if nat_lt sector 8 || nat_lt 95 sector then replicate 512 0 else
     journal_sector (if nat_lt (sector - 8) end then number else 0) (sector - 8)
 
 -- The same with zeros in the place of the journal.
 abbrev image_without : ℕ → Image
-image_without flags sector = if sector == 0 then first_sector flags else replicate 512 0
+image_without flags sector = if sector == 0 then first_sector flags 0x0f else replicate 512 0
+
+-- The same with a bitmap of this log2_region, whose first sector is this.
+abbrev image_with_bitmap : ℕ → List ℕ → Image
+image_with_bitmap log2_region bits sector =
+    if sector == 0 then first_sector 0xc log2_region else if sector == 8 then bits else replicate 512 0
 
 -- ---- what they show
 
@@ -84,15 +90,20 @@ dump_of-cut : dump_of 256 (image_with 0x8 1 40) ≡ Ok (record small_dump { jour
 unfolding superblock_of fields_in geometry_of sector_at tag_run_of walk_of_grid plan_of grid_with blank_bound bitmap_sectors_for regions_for fitting_log2_region is_used number_of id_in entry_size entries_per_sector section_entries section_sectors
 dump_of-cut = refl
 
-abbrev bitmap_dump : Dump
-bitmap_dump =
-    let fields : Superblock = record small { flags = 0xc } in
-    record { format = record { fields = fields; geometry = layout_of fields }; journal = Bitmap }
+abbrev bitmap_dump : (log2_region set : ℕ) → Dump
+bitmap_dump log2_region set =
+    let fields : Superblock = record small { flags = 0xc; log2_region = log2_region } in
+    record { format = record { fields = fields; geometry = layout_of fields }; journal = Bitmap set }
 
--- With a bitmap, whatever stands there.
-dump_of-bitmap : dump_of 256 (image_without 0xc) ≡ Ok bitmap_dump
-unfolding superblock_of fields_in geometry_of sector_at tag_run_of bitmap_sectors_for regions_for entry_size entries_per_sector section_entries section_sectors
+-- With a bitmap of which no bit is set,
+dump_of-bitmap : dump_of 256 (image_without 0xc) ≡ Ok (bitmap_dump 15 0)
+unfolding superblock_of fields_in geometry_of sector_at tag_run_of bitmap_sectors_for regions_for is_bit_set entry_size entries_per_sector section_entries section_sectors
 dump_of-bitmap = refl
+
+-- and one of 80 regions, whose bits 3, 8 and 79 are set, and all behind them too, which are of no region.
+dump_of-dirty : dump_of 256 (image_with_bitmap 0 (0x08 ∷ 0x01 ∷ replicate 7 0 ++ 0x80 ∷ replicate 502 0xff)) ≡ Ok (bitmap_dump 0 3)
+unfolding superblock_of fields_in geometry_of sector_at tag_run_of bitmap_sectors_for regions_for is_bit_set entry_size entries_per_sector section_entries section_sectors
+dump_of-dirty = refl
 
 -- ---- why they are not shown
 
@@ -120,12 +131,13 @@ joined_lines-small : joined_lines (dump_lines small_dump) ≡
 unfolding digits encode_with tag_run_of entry_size entries_per_sector section_entries section_sectors
 joined_lines-small = refl
 
--- With a bitmap there is no line for a journal.
-joined_lines-bitmap : joined_lines (dump_lines bitmap_dump) ≡
+-- With a bitmap the last line tells how many of its bits are set.
+joined_lines-bitmap : joined_lines (dump_lines (bitmap_dump 15 1)) ≡
     codes "version 4\ninterleave 8\ntag 32\nsections 1\nprovided 80\nflags 0xc\nblock 512\n"
     ++ codes "log2 blocks per bit 15\nrecalculate 0\n"
     ++ codes "salt 00000000000000000000000000000000\ninitial 96\ntag run 8\n"
     ++ codes "section entries 80\nsection sectors 88\nblocks 80\n"
+    ++ codes "journal bitmap set 1\n"
 unfolding digits encode_with tag_run_of entry_size entries_per_sector section_entries section_sectors
 joined_lines-bitmap = refl
 

@@ -1,7 +1,8 @@
--- What a dump tells of an image: its format and the state of its journal, or the first fault.
+-- What a dump tells of an image: its format, and the state of its journal or the set bits of its bitmap, or the first
+-- fault.
 -- Own: the superblock is judged before the geometry, and the geometry before the journal. Of the journal the
 -- commit numbers are judged, and no entry.
-use Rattle.std.specs.Prelude.{◌≡◌, ◌≢◌, ℕ, ◌≤◌, false, if◌then◌else◌, List, Result, Ok, Err}
+use Rattle.std.specs.Prelude.{◌≡◌, ◌≢◌, ℕ, ◌≤◌, if◌then◌else◌, List, Result, Ok, Err}
 use Rattle.disk_model.specs.Causes.{Rose}
 use Rattle.disk_model.specs.Disk.{Content, Image, last_image}
 use Rattle.disk_model.specs.Moments.{HasNow}
@@ -14,6 +15,7 @@ use Rattle.image_format.specs.declared.open_fault.OpenFault.{OpenFault}
 use Rattle.image_format.specs.declared.open_fault.OpenFault.TheVariants.{Memory as OpenMemory, Disk as OpenDisk, Super as OpenSuper, Geom as OpenGeom, Mode as OpenMode}
 use Rattle.image_format.specs.declared.reading.ImageFormat.{ImageFormat}
 use Rattle.image_format.specs.Format.{format_of}
+use Rattle.bitmap_reading.specs.Bitmap.{dirty_count}
 use Rattle.image_dump.specs.declared.dump_fault.DumpFault.{DumpFault}
 use Rattle.image_dump.specs.declared.dump_fault.DumpFault.TheVariants.{Memory, Disk, Super, Geom, Scan}
 use Rattle.image_dump.specs.declared.shown.Dump.{Dump}
@@ -32,11 +34,11 @@ abbrev pub dump_by_plan : ImageFormat → Result Plan ScanFault → Result Dump 
 dump_by_plan format (Ok plan) = Ok (record { format = format; journal = State plan.state })
 dump_by_plan format (Err fault) = Err (Scan fault)
 
--- What is shown of an image in this format. Where it has a bitmap it has no journal.
+-- What is shown of an image in this format. Where it has a bitmap it has no journal, and the bits of regions count.
 abbrev pub dump_in : ImageFormat → Image → Result Dump DumpFault
 dump_in format image =
     if has_flag DIRTY_BITMAP format.fields.flags
-    then Ok (record { format = format; journal = Bitmap })
+    then Ok (record { format = format; journal = Bitmap (dirty_count format.geometry image) })
     else dump_by_plan format (walk_of format.geometry image)
 
 -- What is shown of an image whose format was told, or why it is not.
@@ -47,12 +49,6 @@ dump_by image (Err fault) = Err (fault_of fault)
 -- What is shown of an image of a disk of so many sectors, or why it is not.
 abbrev pub dump_of : (sectors : ℕ) → Image → Result Dump DumpFault
 dump_of sectors image = dump_by image (format_of sectors image)
-
--- The image is shown by its journal: it tells a format, and has no bitmap.
-pub record IsScanned (sectors : ℕ) (image : Image) : Type 0 where
-  pub format : ImageFormat
-  pub told : format_of sectors image ≡ Ok format
-  pub no_bitmap : has_flag DIRTY_BITMAP format.fields.flags ≡ false
 
 -- Where neither memory nor the disk failed, a call tells what is shown of the image that stands, or why it is not.
 abbrev pub TellsDump : Result Dump DumpFault → (Image → Result Dump DumpFault) → List Content → Type 0

@@ -44,10 +44,10 @@ state_text (Mixed newest) = codes "mixed newest " ++ decimal newest
 state_text (Erasing newest) = codes "erasing newest " ++ decimal newest
 state_text (Blank number) = codes "blank number " ++ decimal number
 
--- A line for the journal, and none for a bitmap.
+-- A line for the journal: its state, or how many regions have their bit set in the bitmap in its place.
 abbrev pub journal_lines : journals.DumpJournal → List (List ℕ)
 journal_lines (parts.State state) = (codes "journal " ++ state_text state) ∷ []
-journal_lines parts.Bitmap = []
+journal_lines (parts.Bitmap set) = (codes "journal bitmap set " ++ decimal set) ∷ []
 
 -- The lines of a dump, in order.
 abbrev pub dump_lines : Dump → List (List ℕ)

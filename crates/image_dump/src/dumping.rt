@@ -1,30 +1,37 @@
-//! Shows an image: first its format is read and judged, then its journal.
-ghost use Rattle.std.specs.Prelude.{◌≡◌, false, Err, IfOk};
+//! Shows an image: first its format is read and judged, then its journal, or its bitmap.
+ghost use Rattle.std.specs.Prelude.{◌≡◌, true, Err, IfOk, IsOk};
 ghost use Rattle.disk_model.specs.Disk.{last_image};
 ghost use Rattle.disk_model.specs.Identity.{IsBound};
 ghost use Rattle.disk_model.specs.Moments.{HasNow};
 ghost use Rattle.image_model.specs.Superblock.{has_flag};
-ghost use Rattle.image_format.specs.Format.{IsFormat};
-ghost use Rattle.image_dump.specs.Dump.{HasDumpCause, IsScanned, TellsDump, dump_in, dump_of, fault_of};
+ghost use Rattle.image_format.specs.Format.{IsFormat, format_of};
+ghost use Rattle.image_dump.specs.Dump.{HasDumpCause, TellsDump, dump_in, dump_of, fault_of};
 
 use crate::{Dump, DumpFault, DumpJournal};
+use bitmap_reading::count_dirty;
 use commit_id::scan;
 use image_format::{ImageFormat, OpenFault, read_format};
 use image_model::DIRTY_BITMAP;
 use journal_reading::{GridRoom, read_grid};
 use sector_disk::Disk;
+use sector_window::SectorWindow;
 use std::alloc::Global;
 
+/// How many sectors of a bitmap one call of the disk reads at most.
+///
+/// Own: 64 KiB of them.
+const BITMAP_WINDOW: u64 = 128;
+
 /// Shows what is on an image. It takes no key and judges no entry, and nothing is written. Memory is taken for
-/// the scan of a journal alone.
+/// the scan of a journal, or for a run of sectors of a bitmap.
 ///
 /// # Errors
 ///
 /// The first that holds:
 ///
 /// - `Disk`, `Super`, `Geom`: as `read_format` tells them.
-/// - `Memory`: there is none for the numbers of the journal.
-/// - `Disk`: the disk failed at a read of the journal.
+/// - `Memory`: there is none for the numbers of the journal, or for what is read of the bitmap.
+/// - `Disk`: the disk failed at a read of either.
 /// - `Scan`: there is no bitmap, and the numbers of the journal make no plan.
 pub fn dump<D: Disk>(alloc: Global, disk: &mut D) -> Result<Dump, DumpFault>
     requires { IsBound (D.identity disk.old).name }
@@ -33,7 +40,7 @@ pub fn dump<D: Disk>(alloc: Global, disk: &mut D) -> Result<Dump, DumpFault>
 
     ensures told { TellsDump result (dump_of (D.identity disk.old).sectors) (D.moments disk.old) }
     ensures memory { result ≡ Err DumpFault.Memory → HasNow (λ c.
-        IsScanned (D.identity disk.old).sectors (last_image c)) (D.moments disk.old) }
+        IsOk (format_of (D.identity disk.old).sectors (last_image c))) (D.moments disk.old) }
     ensures cause { HasDumpCause (D.faults disk.old) (D.faults disk.new) result }
 
     ensures identity { D.identity disk.new ≡ D.identity disk.old }
@@ -70,15 +77,13 @@ fn show<D: Disk>(alloc: Global, disk: &mut D, format: ImageFormat) -> Result<Dum
     ensures format { IfOk result (λ dump. dump.format ≡ format) }
 
     ensures told { TellsDump result (dump_in format) (D.moments disk.old) }
-    ensures memory { result ≡ Err DumpFault.Memory → has_flag DIRTY_BITMAP format.fields.flags ≡ false }
     ensures cause { HasDumpCause (D.faults disk.old) (D.faults disk.new) result }
 
     ensures identity { D.identity disk.new ≡ D.identity disk.old }
     ensures kept { D.moments disk.new ≡ D.moments disk.old }
 {
     if format.fields.flags & DIRTY_BITMAP != 0 {
-        let journal = DumpJournal::Bitmap;
-        return Ok(Dump { format, journal });
+        return show_bitmap(alloc, disk, format);
     }
     let room = GridRoom::new(alloc, &format.geometry)?;
     let grid = read_grid(disk, &format.geometry, room)?;
@@ -89,4 +94,29 @@ fn show<D: Disk>(alloc: Global, disk: &mut D, format: ImageFormat) -> Result<Dum
         }),
         Err(fault) => Err(DumpFault::Scan(fault)),
     }
+}
+
+/// Shows an image in this format, which is its own, and has a bitmap.
+///
+/// # Errors
+///
+/// - `Memory`: there is none for what is read of the bitmap.
+/// - `Disk`: the disk failed at a read.
+fn show_bitmap<D: Disk>(alloc: Global, disk: &mut D, format: ImageFormat) -> Result<Dump, DumpFault>
+    requires bound { IsBound (D.identity disk.old).name }
+    requires format { IsFormat (D.identity disk.old).sectors format }
+    requires bitmap { has_flag DIRTY_BITMAP format.fields.flags ≡ true }
+
+    ensures format { IfOk result (λ dump. dump.format ≡ format) }
+
+    ensures told { TellsDump result (dump_in format) (D.moments disk.old) }
+    ensures cause { HasDumpCause (D.faults disk.old) (D.faults disk.new) result }
+
+    ensures identity { D.identity disk.new ≡ D.identity disk.old }
+    ensures kept { D.moments disk.new ≡ D.moments disk.old }
+{
+    let mut window = SectorWindow::new(alloc, BITMAP_WINDOW)?;
+    let set = count_dirty(disk, &format.geometry, &mut window)?;
+    let journal = DumpJournal::Bitmap { set };
+    Ok(Dump { format, journal })
 }

@@ -17,6 +17,9 @@ pub struct Dump {
 pub enum DumpJournal {
     /// A journal in this state.
     State(State),
-    /// A bitmap of regions. Of its bits nothing is told as yet.
-    Bitmap,
+    /// A bitmap of regions.
+    Bitmap {
+        /// How many regions have their bit set.
+        set: u64,
+    },
 }

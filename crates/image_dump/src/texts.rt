@@ -14,7 +14,7 @@ use superblock::Super;
 /// The room that is taken for a text, in bytes: more than its names and its largest numbers have.
 const ROOM: usize = 512;
 
-/// The text of a dump: 16 lines, each with its newline, and 15 where there is a bitmap.
+/// The text of a dump: 16 lines, each with its newline.
 ///
 /// # Errors
 ///
@@ -93,7 +93,7 @@ fn put_layout(text: &mut Vec<u8>, geometry: &Geometry) -> Result<(), Memory>
     Ok(())
 }
 
-/// Appends a line for a journal, and none for a bitmap.
+/// Appends a line for a journal, or for a bitmap.
 ///
 /// # Errors
 ///
@@ -101,11 +101,13 @@ fn put_layout(text: &mut Vec<u8>, geometry: &Geometry) -> Result<(), Memory>
 fn put_journal(text: &mut Vec<u8>, journal: DumpJournal) -> Result<(), Memory>
     ensures { OnOk result (text.new.items ≡ text.old.items ++ joined_lines (journal_lines journal)) }
 {
-    let DumpJournal::State(state) = journal else {
-        return Ok(());
-    };
-    put(text, b"journal ")?;
-    put_state(text, state)
+    match journal {
+        DumpJournal::State(state) => {
+            put(text, b"journal ")?;
+            put_state(text, state)
+        }
+        DumpJournal::Bitmap { set } => put_number(text, b"journal bitmap set ", set),
+    }
 }
 
 /// Appends what the line of a journal says behind its first word.

@@ -3,6 +3,8 @@ use Rattle.std.proofs.Common.{inl, inr, ℕ, ◌+◌, ◌≤◌, List, ◌∙◌
 use Rattle.disk_model.specs.Disk.{Content, last_image}
 use Rattle.disk_model.specs.Moments.{EachMoment, FromStart, HasNow}
 use Rattle.hmac_tag.specs.TagMaker.{TagRule}
+use Rattle.image_format.specs.declared.reading.ImageFormat.{ImageFormat}
+use Rattle.image_format.specs.Format.{IsFormat}
 use Rattle.image_model.specs.Geometry.{Geometry, IsGeometry, initial, journal_sectors}
 use Rattle.image_model.proofs.GeometryLemmas.{data_at-inside, section_at-lt}
 use Rattle.journal_section.specs.Entries.{IsWithin}
@@ -12,10 +14,10 @@ use Rattle.image_formatting.specs.declared.new_image.Wipe.TheVariants.{Wiped, Ke
 use Rattle.image_formatting.specs.Formatted.{HasBlocks, HasFilled, IsBlocksByte, IsBlocksSector, IsFillSector, IsImageByte}
 use Rattle.image_formatting.specs.Stays.{ReadsKeep}
 use Rattle.image_formatting.proofs.StaysLemmas.{keep_changes, keep_then, keep_wider}
-use Rattle.image_formatting.specs.Journal.{HasEmptyJournal}
+use Rattle.image_formatting.specs.Journal.{HasJournalPlace, has_bitmap}
 use Rattle.image_formatting.specs.Runs.{ChangesOnly, HasZeros}
-use Rattle.image_formatting.proofs.FormattedLemmas.{HasEmptySection-same}
-use Rattle.image_formatting.proofs.JournalLemmas.{sections_some}
+use Rattle.image_formatting.proofs.FormattedLemmas.{HasJournalBy-same}
+use Rattle.image_formatting.proofs.JournalLemmas.{bitmap_fits, sections_some}
 use Rattle.image_formatting.proofs.RunsLemmas.{changes_then, changes_wider, keeps_now}
 
 -- The sectors of blocks are behind the journal.
@@ -58,22 +60,25 @@ fill_all wipe g sectors is first second third =
     changes_then (IsFillSector wipe g) (fill_journal wipe g sectors is first second) (changes_wider (IsBlocksSector wipe g) (IsFillSector wipe g) (λ s of. blocks_fill wipe g sectors s is of) third)
 
 -- All parts are there at the end.
-pub filled_now : {b c d : List Content} (wipe : Wipe) (rule : TagRule) (g : Geometry) (sectors : ℕ) → IsGeometry g sectors → HasNow (λ x. HasZeros 1 7 (last_image x)) b
-    → EachMoment b c (FromStart b (ChangesOnly (IsWithin 8 (journal_sectors g)))) → HasNow (λ x. HasEmptyJournal g (last_image x)) c
-    → EachMoment c d (FromStart c (ChangesOnly (IsBlocksSector wipe g))) → HasNow (λ x. HasBlocks wipe rule g (last_image x)) d → HasNow (λ x. HasFilled wipe rule g (last_image x)) d
-filled_now {b} {c} {d} wipe rule g sectors is zeros second journal third blocks content told = record {
-  zeros = keeps_now (IsBlocksSector wipe g) (λ image. HasZeros 1 7 image)
-      (λ one other same h k low. same (1 + k) (λ of. let behind = blocks_behind wipe g sectors (1 + k) is of in omega (arith, behind, low)) ∙ h k low)
-      (keeps_now (IsWithin 8 (journal_sectors g)) (λ image. HasZeros 1 7 image) (λ one other same h k low. same (1 + k) (λ within. omega (arith, within.0, low)) ∙ h k low) zeros second)
-      third content told;
-  journal = keeps_now (IsBlocksSector wipe g) (λ image. HasEmptyJournal g image)
-      (λ one other same h section low. HasEmptySection-same g one other section (λ s from to. same s (λ of.
-      let behind = blocks_behind wipe g sectors s is of in
-      let next = section_at-lt g section g.sections low in
-      omega (arith, behind, to, next))) (h section low))
-      journal third content told;
-  blocks = blocks content told;
-}
+pub filled_now : {b c d : List Content} (wipe : Wipe) (rule : TagRule) (format : ImageFormat) (sectors : ℕ) → IsFormat sectors format → HasNow (λ x. HasZeros 1 7 (last_image x)) b
+    → EachMoment b c (FromStart b (ChangesOnly (IsWithin 8 (journal_sectors format.geometry)))) → HasNow (λ x. HasJournalPlace format (last_image x)) c
+    → EachMoment c d (FromStart c (ChangesOnly (IsBlocksSector wipe format.geometry))) → HasNow (λ x. HasBlocks wipe rule format.geometry (last_image x)) d → HasNow (λ x. HasFilled wipe rule format (last_image x)) d
+filled_now {b} {c} {d} wipe rule format sectors is zeros second journal third blocks content told =
+    let g = format.geometry in
+    let behind : (s : ℕ) → IsBlocksSector wipe g s → initial g ≤ s = λ s of. blocks_behind wipe g sectors s is.geometry of in
+    record {
+      zeros = keeps_now (IsBlocksSector wipe g) (λ image. HasZeros 1 7 image)
+          (λ one other same h k low. same (1 + k) (λ of. let from = behind (1 + k) of in omega (arith, from, low)) ∙ h k low)
+          (keeps_now (IsWithin 8 (journal_sectors g)) (λ image. HasZeros 1 7 image) (λ one other same h k low. same (1 + k) (λ within. omega (arith, within.0, low)) ∙ h k low) zeros second)
+          third content told;
+      journal = keeps_now (IsBlocksSector wipe g) (λ image. HasJournalPlace format image)
+          (λ one other same h. HasJournalBy-same (has_bitmap format) g one other
+          (λ k set low. same (8 + k) (λ of. let from = behind (8 + k) of in let fits = bitmap_fits sectors format is set in omega (arith, from, low, fits)))
+          (λ s from to. same s (λ of. let high = behind s of in omega (arith, high, to)))
+          h)
+          journal third content told;
+      blocks = blocks content told;
+    }
 
 -- The bytes of no part stay.
 pub fill_stays : (a b c d : List Content) (wipe : Wipe) (g : Geometry) (sectors : ℕ) → IsGeometry g sectors → EachMoment a b (FromStart a (ChangesOnly (IsWithin 1 7)))

@@ -1,5 +1,5 @@
 -- The first sector, all else and the superblock, joined: what a formatting leaves at each moment and at its end.
-use Rattle.std.proofs.Common.{◌≡◌, ◌≢◌, inl, inr, ⊎_elim, ℕ, ◌+◌, ◌<◌, ◌≤◌, List, [], ◌∷◌, length, slice_index, sym, ◌∙◌, ap, subst, arith, Some, Ok}
+use Rattle.std.proofs.Common.{◌≡◌, ◌≢◌, inl, inr, ⊎_elim, ℕ, ◌+◌, ◌<◌, ◌≤◌, Bool, true, false, IsTrue, List, [], ◌∷◌, length, slice_index, refl, sym, ◌∙◌, ap, subst, arith, Some, Ok}
 use Rattle.std.specs.List.{Contains}
 use Rattle.std.specs.Option.{option_map}
 use Rattle.std.proofs.lemmas.Option.{same_Some}
@@ -10,9 +10,9 @@ use Rattle.disk_model.proofs.DiskLemmas.{last_image-with_one, last_image-with_ot
 use Rattle.hmac_tag.specs.TagMaker.{TagRule}
 use Rattle.image_model.specs.Cells.{section_bytes}
 use Rattle.image_model.specs.CommitId.{commit_number}
-use Rattle.image_model.specs.Geometry.{Geometry, IsGeometry, section_at, section_sectors, data_at}
+use Rattle.image_model.specs.Geometry.{Geometry, IsGeometry, bitmap_sectors, initial, section_at, section_sectors, data_at}
 use Rattle.image_model.specs.Superblock.{Superblock, superblock_of}
-use Rattle.image_model.proofs.GeometryLemmas.{data_at-inside}
+use Rattle.image_model.proofs.GeometryLemmas.{data_at-inside, section_at-lt}
 use Rattle.image_model.proofs.SectorLemmas.{bytes_at-same}
 use Rattle.image_format.specs.declared.reading.ImageFormat.{ImageFormat}
 use Rattle.place_model.specs.Tags.{tag_byte_at}
@@ -22,7 +22,7 @@ use Rattle.image_formatting.specs.declared.new_image.Wipe.TheVariants.{Wiped, Ke
 use Rattle.image_formatting.specs.FirstSector.{zero_sector, head_of, forgotten, founded, HasZeroHead, HasHead, IsAmidFounding}
 use Rattle.image_formatting.specs.Stays.{KeepsBytes, ReadsKeep}
 use Rattle.image_formatting.specs.Formatted.{HasBlocks, HasFilled, IsImageByte, IsFillSector, IsFormatted, IsAmidWriting, IsNewContent, IsWritten, IsWrittenBehindSync, IsWrittenInOrder}
-use Rattle.image_formatting.specs.Journal.{HasEmptySection}
+use Rattle.image_formatting.specs.Journal.{HasEmptyRest, HasEmptySection, HasJournalBy, has_bitmap}
 use Rattle.image_formatting.specs.Order.{HasFirstSync, IsForgotten, IsInOrder, IsUnsettled}
 use Rattle.image_formatting.specs.Runs.{ChangesOnly}
 use Rattle.image_formatting.proofs.OrderLemmas.{first_sync_then, first_sync_weaker, in_order, order_weaker, silent, silent_order}
@@ -45,6 +45,28 @@ HasEmptySection-same g one other section same h =
       numbers = λ j low. ap (commit_number section j) (same (section_at g section + j) (omega arith) (omega (arith, low))) ∙ h.numbers j low;
     }
 
+-- So does one of which some first sectors are left out.
+pub HasEmptyRest-same : (g : Geometry) (first : ℕ) (one other : Image) (section : ℕ) → ((s : ℕ) → section_at g section ≤ s → s < section_at g section + section_sectors g.shape → other s ≡ one s)
+    → HasEmptyRest g first one section → HasEmptyRest g first other section
+HasEmptyRest-same g first one other section same h = record {
+  bytes = h.bytes;
+  is_empty = h.is_empty;
+  each = λ j low above. same (section_at g section + j) (omega arith) (omega (arith, low)) ∙ h.each j low above;
+}
+
+-- What stands in the journal's place stays where its sectors do, those of a bitmap included.
+pub HasJournalBy-same : (bitmap : Bool) (g : Geometry) (one other : Image) → ((k : ℕ) → IsTrue bitmap → k < bitmap_sectors g → other (8 + k) ≡ one (8 + k)) → ((s : ℕ) → 8 ≤ s → s < initial g → other s ≡ one s)
+    → HasJournalBy bitmap g one → HasJournalBy bitmap g other
+HasJournalBy-same false g one other bits same h = λ section low.
+    let next = section_at-lt g section g.sections low in
+    HasEmptySection-same g one other section (λ s from to. same s (omega (arith, from)) (omega (arith, to, next))) (h section low)
+HasJournalBy-same true g one other bits same h = record {
+  bits = λ k low. bits k refl low ∙ h.bits k low;
+  behind = λ section low within.
+      let next = section_at-lt g section g.sections low in
+      HasEmptyRest-same g (bitmap_sectors g) one other section (λ s from to. same s (omega (arith, from)) (omega (arith, to, next))) (h.behind section low within);
+}
+
 blocks_same : (wipe : Wipe) (rule : TagRule) (g : Geometry) (sectors : ℕ) (one other : Image) → IsGeometry g sectors → SameBehind one other → HasBlocks wipe rule g one → HasBlocks wipe rule g other
 blocks_same Wiped rule g sectors one other is same h = record {
   zeros = λ b k block low.
@@ -56,11 +78,11 @@ blocks_same Wiped rule g sectors one other is same h = record {
 }
 blocks_same Kept rule g sectors one other is same h = tt
 
-HasFilled-same : (wipe : Wipe) (rule : TagRule) (g : Geometry) (sectors : ℕ) (one other : Image) → IsGeometry g sectors → SameBehind one other → HasFilled wipe rule g one → HasFilled wipe rule g other
-HasFilled-same wipe rule g sectors one other is same h = record {
+HasFilled-same : (wipe : Wipe) (rule : TagRule) (format : ImageFormat) (sectors : ℕ) (one other : Image) → IsGeometry format.geometry sectors → SameBehind one other → HasFilled wipe rule format one → HasFilled wipe rule format other
+HasFilled-same wipe rule format sectors one other is same h = record {
   zeros = λ k low. same (1 + k) (some 1 k (omega arith)) ∙ h.zeros k low;
-  journal = λ section low. HasEmptySection-same g one other section (λ s from to. same s (λ none. omega (arith, from, none))) (h.journal section low);
-  blocks = blocks_same wipe rule g sectors one other is same h.blocks;
+  journal = HasJournalBy-same (has_bitmap format) format.geometry one other (λ k set low. same (8 + k) (some 8 k (omega arith))) (λ s from to. same s (λ none. omega (arith, from, none))) h.journal;
+  blocks = blocks_same wipe rule format.geometry sectors one other is same h.blocks;
 }
 
 -- ---- the first sector
@@ -78,7 +100,7 @@ module _ (wipe : Wipe) (rule : TagRule) (format : ImageFormat) (sectors : ℕ) (
   -- What is there before the superblock comes.
   record IsFilled (start middle : Content) : Type 0 where
     changes : ChangesOnly (IsFillSector wipe format.geometry) (forgotten start) middle
-    filled : HasFilled wipe rule format.geometry (last_image middle)
+    filled : HasFilled wipe rule format (last_image middle)
     bytes : KeepsBytes (IsImageByte wipe format.geometry) (last_image (forgotten start)) (last_image middle)
 
   fill_first : (start middle : Content) → ChangesOnly (IsFillSector wipe format.geometry) (forgotten start) middle → middle 0 ≡ zero_sector ∷ []
@@ -89,7 +111,7 @@ module _ (wipe : Wipe) (rule : TagRule) (format : ImageFormat) (sectors : ℕ) (
   formatted_by start middle image reads h head = record {
     head = head.head;
     told = ap superblock_of head.head ∙ reads;
-    filled = HasFilled-same wipe rule format.geometry sectors (last_image middle) image is (λ s other. head.others s other) h.filled;
+    filled = HasFilled-same wipe rule format sectors (last_image middle) image is (λ s other. head.others s other) h.filled;
     others = λ s out.
         let behind : s ≢ 0 = λ none. out (inl (omega (arith, none))) in
         head.others s behind
@@ -121,7 +143,7 @@ module _ (wipe : Wipe) (rule : TagRule) (format : ImageFormat) (sectors : ℕ) (
       first second
 
   middle_is : (a b c : List Content) (start middle : Content) → content_now b ≡ option_map forgotten (content_now a) → EachMoment b c (FromStart b (ChangesOnly (IsFillSector wipe format.geometry)))
-      → HasNow (λ x. HasFilled wipe rule format.geometry (last_image x)) c → ReadsKeep (IsImageByte wipe format.geometry) b c → content_now a ≡ Some start → content_now c ≡ Some middle → IsFilled start middle
+      → HasNow (λ x. HasFilled wipe rule format (last_image x)) c → ReadsKeep (IsImageByte wipe format.geometry) b c → content_now a ≡ Some start → content_now c ≡ Some middle → IsFilled start middle
   middle_is a b c start middle forgot second filled stays told told_middle =
       let end = since_end (ChangesOnly (IsFillSector wipe format.geometry)) second middle told_middle in
       let from = start_is a b start end.0 forgot told end.1 in
@@ -135,7 +157,7 @@ module _ (wipe : Wipe) (rule : TagRule) (format : ImageFormat) (sectors : ℕ) (
       }
 
   behind_found : {a b c d : List Content} → superblock_of (head_of format.fields) ≡ Ok format.fields → IsWrittenBehindSync wipe rule format a c → content_now b ≡ option_map forgotten (content_now a)
-      → EachMoment b c (FromStart b (ChangesOnly (IsFillSector wipe format.geometry))) → HasNow (λ x. HasFilled wipe rule format.geometry (last_image x)) c → ReadsKeep (IsImageByte wipe format.geometry) b c
+      → EachMoment b c (FromStart b (ChangesOnly (IsFillSector wipe format.geometry))) → HasNow (λ x. HasFilled wipe rule format (last_image x)) c → ReadsKeep (IsImageByte wipe format.geometry) b c
       → EachMoment c d (FromStart c (IsAmidFounding format.fields)) → IsWrittenBehindSync wipe rule format a d
   behind_found {a} {b} {c} reads first forgot second filled stays third = first_sync_then (IsUnsettled HasZeroHead) (IsAmidWriting wipe rule format) (IsAmidWriting wipe rule format) (IsAmidFounding format.fields)
       (λ start later e. e)
@@ -156,7 +178,7 @@ module _ (wipe : Wipe) (rule : TagRule) (format : ImageFormat) (sectors : ℕ) (
         (λ start told. behind_fill (wider start told) forgot second)
 
     module _ {c d : List Content} (reads : superblock_of (head_of format.fields) ≡ Ok format.fields) (second : EachMoment b c (FromStart b (ChangesOnly (IsFillSector wipe format.geometry))))
-        (filled : HasNow (λ x. HasFilled wipe rule format.geometry (last_image x)) c) (stays : ReadsKeep (IsImageByte wipe format.geometry) b c)
+        (filled : HasNow (λ x. HasFilled wipe rule format (last_image x)) c) (stays : ReadsKeep (IsImageByte wipe format.geometry) b c)
         (third : EachMoment c d (FromStart c (IsAmidFounding format.fields))) where
       pub synced_found : HasNow (λ start. IsWrittenBehindSync wipe rule format a d) a
       synced_found start told = behind_found reads (behind_fill (wider start told) forgot second) forgot second filled stays third
@@ -175,7 +197,7 @@ module _ (wipe : Wipe) (rule : TagRule) (format : ImageFormat) (sectors : ℕ) (
   }
 
   pub written_is : (a b c d : List Content) → superblock_of (head_of format.fields) ≡ Ok format.fields → content_now b ≡ option_map forgotten (content_now a)
-      → EachMoment b c (FromStart b (ChangesOnly (IsFillSector wipe format.geometry))) → HasNow (λ x. HasFilled wipe rule format.geometry (last_image x)) c → ReadsKeep (IsImageByte wipe format.geometry) b c
+      → EachMoment b c (FromStart b (ChangesOnly (IsFillSector wipe format.geometry))) → HasNow (λ x. HasFilled wipe rule format (last_image x)) c → ReadsKeep (IsImageByte wipe format.geometry) b c
       → content_now d ≡ option_map (founded format.fields) (content_now c) → length (head_of format.fields) ≡ 512 → IsWritten wipe rule format a d
   written_is a b c d reads forgot second filled stays found one start told content told_content =
       let was = changed_now (founded format.fields) (content_now c) (content_now d) found content told_content in

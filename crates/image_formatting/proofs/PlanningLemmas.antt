@@ -1,77 +1,160 @@
 -- The fields of a new image are accepted, and have their geometry.
-use Rattle.std.proofs.Common.{◌≡◌, ℕ, false, List, Option, Some, None, Ok, Err, refl, ◌∙◌, ap, bit_or, is_some}
-use Rattle.image_model.specs.declared.flags.TheConstants.{DIRTY_BITMAP, FIXED_HMAC}
+use Rattle.std.proofs.Common.{◌≡◌, ℕ, ◌≤◌, IsTrue, true, false, List, Option, Some, None, Ok, Err, Result, refl, ◌∙◌, ap, sym, subst, arith, bit_or, Bool}
+use Rattle.image_model.specs.declared.flags.TheConstants.{DIRTY_BITMAP, FIXED_PADDING}
 use Rattle.image_model.specs.declared.geom_fault.GeomFault.{GeomFault}
-use Rattle.image_model.specs.Geometry.{Geometry, layout_of, geometry_of, best_provided, best_provided_of, tag_run_of}
-use Rattle.image_model.specs.GeometryLaws.{FitsDisk}
-use Rattle.image_model.specs.Superblock.{Superblock, has_flag, HasLayout, IsAccepted}
+use Rattle.image_model.specs.Geometry.{Geometry, IsGeometry, layout_of, geometry_of, best_provided, best_provided_of, bitmap_sectors, fitting_log2_region, journal_sectors, tag_run_of}
+use Rattle.image_model.specs.Superblock.{Superblock, has_flag, HasLayout, IsAccepted, unknown_flags}
 use Rattle.image_model.proofs.BestProvided.{best_provided_is, best_provided-FitsDisk}
-use Rattle.image_model.proofs.GeometryOf.{geometry_given}
+use Rattle.image_model.proofs.GeometryOf.{geometry_apart, geometry_given}
+use Rattle.image_model.proofs.Regions.{fitting_log2_region_is}
+use Rattle.image_model.proofs.SuperblockLemmas.{version_for-accepted}
+use Rattle.image_formatting.specs.declared.new_image.ImageMode.{ImageMode}
+use Rattle.image_formatting.specs.declared.new_image.ImageMode.TheVariants.{Journal, Bitmap}
 use Rattle.image_formatting.specs.declared.new_image.NewImage.{NewImage}
 use Rattle.image_formatting.specs.declared.new_image.Padding.{Padding}
 use Rattle.image_formatting.specs.declared.new_image.Padding.TheVariants.{Fixed, Legacy}
-use Rattle.image_formatting.specs.NewImage.{padding_flag, salt_flag, flags_of, fields_with, provided_of}
+use Rattle.image_formatting.specs.NewImage.{IsNewImage, asked_fields, mode_flag, padding_flag, salt_flag, flags_of, fields_of, fields_with, provided_of}
 
-no_bitmap_by : (padding : Padding) (salt : Option (List ℕ)) → has_flag DIRTY_BITMAP (bit_or (padding_flag padding) (salt_flag salt)) ≡ false
-no_bitmap_by Fixed None = refl
-no_bitmap_by Fixed (Some salt) = refl
-no_bitmap_by Legacy None = refl
-no_bitmap_by Legacy (Some salt) = refl
+-- ---- the flags
 
-pub no_bitmap : (new : NewImage) → has_flag DIRTY_BITMAP (flags_of new) ≡ false
-no_bitmap new = no_bitmap_by new.padding new.salt
+-- Those of the padding, of the salt and of the mode.
+abbrev pub flags_by : Padding → Option (List ℕ) → ImageMode → ℕ
+flags_by padding salt mode = bit_or (bit_or (padding_flag padding) (salt_flag salt)) (mode_flag mode)
 
--- Whether tags have a salt is told.
-has_salt_by : (padding : Padding) (salt : Option (List ℕ)) (bytes : List ℕ) → has_flag FIXED_HMAC (bit_or (padding_flag padding) (salt_flag salt)) ≡ is_some salt
-has_salt_by Fixed None bytes = refl
-has_salt_by Fixed (Some salt) bytes = refl
-has_salt_by Legacy None bytes = refl
-has_salt_by Legacy (Some salt) bytes = refl
+-- All flags are known.
+known_flags : (padding : Padding) (salt : Option (List ℕ)) (mode : ImageMode) → unknown_flags (flags_by padding salt mode) ≡ 0
+known_flags Fixed None Journal = refl
+known_flags Fixed None Bitmap = refl
+known_flags Fixed (Some salt) Journal = refl
+known_flags Fixed (Some salt) Bitmap = refl
+known_flags Legacy None Journal = refl
+known_flags Legacy None Bitmap = refl
+known_flags Legacy (Some salt) Journal = refl
+known_flags Legacy (Some salt) Bitmap = refl
 
--- The provided sectors follow from neither the regions nor what is provided.
-same_provided : (new : NewImage) (sectors one other log2_region : ℕ) → best_provided_of (fields_with new one log2_region) sectors ≡ provided_of new sectors
+-- Whether there is a bitmap is told by the mode alone,
+abbrev is_bitmap_mode : ImageMode → Bool
+is_bitmap_mode Journal = false
+is_bitmap_mode Bitmap = true
+
+bitmap_by : (padding : Padding) (salt : Option (List ℕ)) (mode : ImageMode) → has_flag DIRTY_BITMAP (flags_by padding salt mode) ≡ is_bitmap_mode mode
+bitmap_by Fixed None Journal = refl
+bitmap_by Fixed None Bitmap = refl
+bitmap_by Fixed (Some salt) Journal = refl
+bitmap_by Fixed (Some salt) Bitmap = refl
+bitmap_by Legacy None Journal = refl
+bitmap_by Legacy None Bitmap = refl
+bitmap_by Legacy (Some salt) Journal = refl
+bitmap_by Legacy (Some salt) Bitmap = refl
+
+-- and it has no part in the padding.
+padding_by : (padding : Padding) (salt : Option (List ℕ)) (mode : ImageMode) → has_flag FIXED_PADDING (flags_by padding salt mode) ≡ has_flag FIXED_PADDING (flags_by padding salt Journal)
+padding_by Fixed None Journal = refl
+padding_by Fixed None Bitmap = refl
+padding_by Fixed (Some salt) Journal = refl
+padding_by Fixed (Some salt) Bitmap = refl
+padding_by Legacy None Journal = refl
+padding_by Legacy None Bitmap = refl
+padding_by Legacy (Some salt) Journal = refl
+padding_by Legacy (Some salt) Bitmap = refl
+
+-- An image for journal mode has no bitmap, and one for bitmap mode has one.
+pub no_bitmap : (new : NewImage) → new.mode ≡ Journal → has_flag DIRTY_BITMAP (flags_of new) ≡ false
+no_bitmap new is = bitmap_by new.padding new.salt new.mode ∙ ap is_bitmap_mode is
+
+pub with_bitmap : (new : NewImage) → new.mode ≡ Bitmap → has_flag DIRTY_BITMAP (flags_of new) ≡ true
+with_bitmap new is = bitmap_by new.padding new.salt new.mode ∙ ap is_bitmap_mode is
+
+-- ---- the fields
+
+pub new_layout : (new : NewImage) (provided log2_region : ℕ) → IsNewImage new → HasLayout (fields_with new provided log2_region)
+new_layout new provided log2_region h = record {
+  version = (version_for-accepted 1 (flags_of new) (omega arith, omega arith)).0;
+  flags = known_flags new.padding new.salt new.mode;
+  log2_interleave = h.log2_interleave;
+  log2_spb = h.log2_spb;
+  tag_size = h.tag_size;
+  sections = h.sections;
+}
+
+-- The provided sectors follow from neither the regions nor the mode.
+same_provided : (new : NewImage) (sectors one log2_region : ℕ) → best_provided_of (fields_with new one log2_region) sectors ≡ provided_of new sectors
 unfolding best_provided_of best_provided tag_run_of
-same_provided new sectors one other log2_region = refl
+same_provided new sectors one log2_region = rw (padding_by new.padding new.salt new.mode) refl
 
--- The fields are accepted, whatever their regions.
-pub accepted_with : (new : NewImage) (sectors provided log2_region : ℕ) → HasLayout (fields_with new 0 new.log2_region) → provided_of new sectors ≡ Ok provided → IsAccepted (fields_with new provided log2_region)
-accepted_with new sectors provided log2_region h told =
-    let is = (best_provided_is (fields_with new 0 new.log2_region) sectors provided h told).accepted in
-    record {
-      layout = record { version = h.version; flags = h.flags; log2_interleave = h.log2_interleave; log2_spb = h.log2_spb; tag_size = h.tag_size; sections = h.sections };
-      provided = is.provided;
-      whole_blocks = is.whole_blocks;
-    }
+-- The ranges are those of the same image with a journal.
+abbrev with_journal : NewImage → NewImage
+with_journal new = record new { mode = Journal }
 
--- They have room.
-fits_with : (new : NewImage) (sectors provided log2_region : ℕ) → HasLayout (fields_with new 0 new.log2_region) → provided_of new sectors ≡ Ok provided → FitsDisk (fields_with new provided log2_region) sectors
-fits_with new sectors provided log2_region h told =
-    best_provided-FitsDisk (fields_with new 0 log2_region) sectors provided
-    (record { version = h.version; flags = h.flags; log2_interleave = h.log2_interleave; log2_spb = h.log2_spb; tag_size = h.tag_size; sections = h.sections })
-    (same_provided new sectors 0 0 log2_region ∙ told)
-    (λ set. absurd (let none = no_bitmap new in cc))
+asked_ranges : (new : NewImage) → IsNewImage new → IsNewImage (with_journal new)
+asked_ranges new h = record { tag_size = h.tag_size; log2_spb = h.log2_spb; log2_interleave = h.log2_interleave; sections = h.sections }
 
-pub given_with : (new : NewImage) (sectors provided log2_region : ℕ) → HasLayout (fields_with new 0 new.log2_region) → provided_of new sectors ≡ Ok provided
-    → geometry_of (fields_with new provided log2_region) sectors ≡ Ok (layout_of (fields_with new provided log2_region))
-given_with new sectors provided log2_region h told =
-    (geometry_given (fields_with new provided log2_region) sectors (layout_of (fields_with new provided log2_region))).1 (refl, fits_with new sectors provided log2_region h told)
+module _ (new : NewImage) (sectors provided : ℕ) (ranges : IsNewImage new) (told : provided_of new sectors ≡ Ok provided) where
+  -- The fields are accepted, whatever their regions,
+  pub accepted_with : (log2_region : ℕ) → IsAccepted (fields_with new provided log2_region)
+  accepted_with log2_region =
+      (best_provided_is (fields_with new 0 log2_region) sectors provided (new_layout new 0 log2_region ranges) (same_provided new sectors 0 log2_region ∙ told)).accepted
 
--- ---- for callers
+  -- and they have their geometry where a bitmap fits, if there is one.
+  given_with : (log2_region : ℕ) → (IsTrue (has_flag DIRTY_BITMAP (flags_of new)) → bitmap_sectors (layout_of (fields_with new provided log2_region)) ≤ journal_sectors (layout_of (fields_with new provided log2_region)))
+      → geometry_of (fields_with new provided log2_region) sectors ≡ Ok (layout_of (fields_with new provided log2_region))
+  given_with log2_region fits =
+      let s = fields_with new provided log2_region in
+      let room = best_provided-FitsDisk (fields_with new 0 log2_region) sectors provided (new_layout new 0 log2_region ranges) (same_provided new sectors 0 log2_region ∙ told) fits in
+      (geometry_given s sectors (layout_of s)).1 (refl, room)
 
--- So no fault is told of them.
-pub never_refused : (new : NewImage) (sectors provided log2_region : ℕ) (s : Superblock) (fault : GeomFault) → HasLayout (fields_with new 0 new.log2_region) → provided_of new sectors ≡ Ok provided
-    → s ≡ fields_with new provided log2_region → geometry_of s sectors ≡ Err fault → ⊥
-never_refused new sectors provided log2_region s fault h told is refused =
-    let given = given_with new sectors provided log2_region h told in
-    let same = ap (λ (x : Superblock). geometry_of x sectors) is in
-    absurd (cc (given, same, refused))
+told_is : {n m : ℕ} → (let told : Result ℕ GeomFault = Ok n in told ≡ Ok m) → n ≡ m
+told_is e = cc
 
--- What is told is their geometry.
-pub given_geometry : (new : NewImage) (sectors provided log2_region : ℕ) (s : Superblock) (g : Geometry) → HasLayout (fields_with new 0 new.log2_region) → provided_of new sectors ≡ Ok provided
-    → s ≡ fields_with new provided log2_region → geometry_of s sectors ≡ Ok g → g ≡ layout_of (fields_with new provided log2_region)
-given_geometry new sectors provided log2_region s g h told is given =
-    ((geometry_given s sectors g).0 given).0 ∙ ap layout_of is
+module _ (new : NewImage) (sectors provided : ℕ) (ranges : IsNewImage new) (told : provided_of new sectors ≡ Ok provided) where
+  -- With a journal they have it, with regions as large as they are asked for,
+  asked_given : geometry_of (asked_fields new provided) sectors ≡ Ok (layout_of (asked_fields new provided))
+  asked_given = given_with (with_journal new) sectors provided (asked_ranges new ranges) told new.log2_region
+      (λ set. absurd (let none = no_bitmap (with_journal new) refl in cc))
 
--- What is provided is no matter of the layout.
-pub asked_layout : (new : NewImage) (provided : ℕ) → HasLayout (fields_with new provided new.log2_region) → HasLayout (fields_with new 0 new.log2_region)
-asked_layout new provided h = record { version = h.version; flags = h.flags; log2_interleave = h.log2_interleave; log2_spb = h.log2_spb; tag_size = h.tag_size; sections = h.sections }
+  asked_accepted : IsAccepted (asked_fields new provided)
+  asked_accepted = accepted_with (with_journal new) sectors provided (asked_ranges new ranges) told new.log2_region
+
+  asked_geometry : IsGeometry (layout_of (asked_fields new provided)) sectors
+  asked_geometry = (geometry_apart (asked_fields new provided) sectors (layout_of (asked_fields new provided)) asked_accepted asked_given).0
+
+  -- and with regions that are raised so far that their bitmap fits, in any mode.
+  pub given_fields : geometry_of (fields_of new provided) sectors ≡ Ok (layout_of (fields_of new provided))
+  given_fields = given_with new sectors provided ranges told (fitting_log2_region (layout_of (asked_fields new provided)))
+      (λ set. (fitting_log2_region_is (layout_of (asked_fields new provided)) sectors asked_geometry).fits)
+
+  given_accepted : IsAccepted (fields_of new provided)
+  given_accepted = accepted_with new sectors provided ranges told (fitting_log2_region (layout_of (asked_fields new provided)))
+
+  -- ---- for callers
+
+  -- The fields that are made are those of the image.
+  pub fields_are : (s : Superblock) (log2_region : ℕ) → s ≡ fields_with new provided log2_region → (let fitting : Result ℕ GeomFault = Ok log2_region in fitting ≡ Ok (fitting_log2_region (layout_of (asked_fields new provided))))
+      → s ≡ fields_of new provided
+  fields_are s log2_region is raised = is ∙ ap (λ (n : ℕ). fields_with new provided n) (told_is raised)
+
+  -- What is asked of a geometry is accepted,
+  pub accepted_asked : (s : Superblock) → s ≡ asked_fields new provided → IsAccepted s
+  accepted_asked s is = subst IsAccepted (sym is) asked_accepted
+
+  -- and no fault is told of it.
+  pub asked_never_refused : (s : Superblock) (fault : GeomFault) → s ≡ asked_fields new provided → geometry_of s sectors ≡ Err fault → ⊥
+  asked_never_refused s fault is refused =
+      let given = asked_given in
+      let same = ap (λ (x : Superblock). geometry_of x sectors) is in
+      absurd (cc (given, same, refused))
+
+  -- What is told is its geometry.
+  pub asked_told : (s : Superblock) (g : Geometry) → s ≡ asked_fields new provided → geometry_of s sectors ≡ Ok g → g ≡ layout_of (asked_fields new provided)
+  asked_told s g is given = ((geometry_given s sectors g).0 given).0 ∙ ap layout_of is
+
+  -- So it is of the fields of the image.
+  pub accepted_fields : (s : Superblock) → s ≡ fields_of new provided → IsAccepted s
+  accepted_fields s is = subst IsAccepted (sym is) given_accepted
+
+  -- Of these no fault is told either.
+  pub fields_never_refused : (s : Superblock) (fault : GeomFault) → s ≡ fields_of new provided → geometry_of s sectors ≡ Err fault → ⊥
+  fields_never_refused s fault is refused =
+      let given = given_fields in
+      let same = ap (λ (x : Superblock). geometry_of x sectors) is in
+      absurd (cc (given, same, refused))

@@ -1,13 +1,15 @@
--- Values of specs/NewImage.antt and specs/FirstSector.antt from outside: images worked by hand from the formulas of the
+-- Values of specs/NewImage.antt, specs/Journal.antt and specs/FirstSector.antt from outside: images worked by hand from the formulas of the
 -- kernel's documentation.
-use Rattle.std.proofs.Common.{◌≡◌, ◌∷◌, replicate, Some, None, Ok, Err, refl}
+use Rattle.std.proofs.Common.{◌≡◌, ◌∷◌, replicate, true, false, Some, None, Ok, Err, refl}
 use Rattle.image_model.specs.declared.geom_fault.GeomFault.TheVariants.{JournalTooLarge, TooSmall}
-use Rattle.image_model.specs.Geometry.{best_provided, best_provided_of, bitmap_sectors_for, entries_per_sector, entry_size, fitting_log2_region, regions_for, section_entries, section_sectors, tag_run_of}
+use Rattle.image_model.specs.Geometry.{best_provided, best_provided_of, bitmap_sectors_for, entries_per_sector, entry_size, fitting_log2_region, journal_sectors, layout_of, regions_for, section_entries, section_sectors, tag_run_of}
 use Rattle.image_model.specs.Superblock.{superblock_bytes}
+use Rattle.image_formatting.specs.declared.new_image.ImageMode.TheVariants.{Journal, Bitmap}
 use Rattle.image_formatting.specs.declared.new_image.NewImage.{NewImage}
 use Rattle.image_formatting.specs.declared.new_image.Padding.TheVariants.{Fixed, Legacy}
 use Rattle.image_formatting.specs.declared.new_image.Wipe.TheVariants.{Wiped}
 use Rattle.image_formatting.specs.FirstSector.{head_of}
+use Rattle.image_formatting.specs.Journal.{bitmap_taken}
 use Rattle.image_formatting.specs.NewImage.{fields_of, provided_of}
 
 -- The small image: interleave 8, one section, tags of 32 bytes.
@@ -16,6 +18,7 @@ small = record {
   tag_size = 32;
   log2_spb = 0;
   log2_interleave = 3;
+  mode = Journal;
   sections = 1;
   log2_region = 15;
   salt = None;
@@ -63,6 +66,50 @@ fields_of-version :
     × ((fields_of (record small { padding = Legacy }) 80).version ≡ 1)
 unfolding small
 fields_of-version = (refl, refl, refl, refl, refl)
+
+-- A bitmap has a flag, which raises the version alone; nothing else is another.
+fields_of-bitmap :
+    ((fields_of (record small { mode = Bitmap }) 80).version ≡ 4) × ((fields_of (record small { mode = Bitmap }) 80).flags ≡ 0xc)
+    × ((fields_of (record small { mode = Bitmap; padding = Legacy }) 80).version ≡ 3)
+    × ((fields_of (record small { mode = Bitmap; padding = Legacy }) 80).flags ≡ 0x4)
+    × ((fields_of (record small { mode = Bitmap; salt = Some (replicate 16 7) }) 80).flags ≡ 0x1c)
+unfolding small
+fields_of-bitmap = (refl, refl, refl, refl, refl)
+
+-- Its regions are raised where the bitmap does not fit the journal of 88 sectors.
+fields_of-raised :
+    ((fields_of (record small { mode = Bitmap; log2_region = 0 }) 360448).log2_region ≡ 0)
+    × ((fields_of (record small { mode = Bitmap; log2_region = 0 }) 360456).log2_region ≡ 1)
+unfolding fitting_log2_region bitmap_sectors_for regions_for section_sectors section_entries entries_per_sector entry_size small
+fields_of-raised = (refl, refl)
+
+-- It provides as much, and is refused as the image with a journal is.
+provided_of-bitmap :
+    (provided_of (record small { mode = Bitmap }) 256 ≡ Ok 80)
+    × (provided_of (record small { mode = Bitmap; padding = Legacy }) 256 ≡ Err (TooSmall 256 360))
+    × (provided_of (record small { mode = Bitmap; sections = 65537 }) 256 ≡ Err (JournalTooLarge 5767256))
+unfolding best_provided_of best_provided section_sectors section_entries entries_per_sector entry_size tag_run_of small
+provided_of-bitmap = (refl, refl, refl)
+
+-- The bitmap of 47 blocks of 4096 bytes, each a region, takes 8 sectors of the journal's 264.
+bitmap : NewImage
+bitmap = record small { mode = Bitmap; log2_spb = 3; log2_region = 0 }
+
+bitmap_taken-blocks :
+    (provided_of bitmap 1024 ≡ Ok 376)
+    × (bitmap_taken true (layout_of (fields_of bitmap 376)) ≡ 8)
+    × (bitmap_taken false (layout_of (fields_of bitmap 376)) ≡ 0)
+    × (journal_sectors (layout_of (fields_of bitmap 376)) ≡ 264)
+unfolding best_provided_of best_provided fitting_log2_region bitmap_sectors_for regions_for section_sectors section_entries entries_per_sector entry_size tag_run_of small bitmap
+bitmap_taken-blocks = (refl, refl, refl, refl)
+
+-- The first sector of that image.
+head_of-bitmap : head_of (fields_of bitmap 376) ≡
+    0x69 ∷ 0x6e ∷ 0x74 ∷ 0x65 ∷ 0x67 ∷ 0x72 ∷ 0x74 ∷ 0x00 ∷ 0x04 ∷ 0x03 ∷ 0x20 ∷ 0x00 ∷ 0x01 ∷ 0x00 ∷ 0x00 ∷ 0x00
+    ∷ 0x78 ∷ 0x01 ∷ 0x00 ∷ 0x00 ∷ 0x00 ∷ 0x00 ∷ 0x00 ∷ 0x00 ∷ 0x0c ∷ 0x00 ∷ 0x00 ∷ 0x00 ∷ 0x03 ∷ 0x00 ∷ 0x00 ∷ 0x00
+    ∷ replicate 480 0
+unfolding superblock_bytes fitting_log2_region bitmap_sectors_for regions_for section_sectors section_entries entries_per_sector entry_size small bitmap
+head_of-bitmap = refl
 
 -- The first sector of the small image, as integritysetup writes it.
 head_of-small : head_of (fields_of small 80) ≡

@@ -17,7 +17,7 @@ use Rattle.image_formatting.specs.declared.new_image.Wipe.{Wipe}
 use Rattle.image_formatting.specs.declared.new_image.Wipe.TheVariants.{Wiped, Kept}
 use Rattle.image_formatting.specs.Blocks.{HasZeroBlocks, IsSectorOf}
 use Rattle.image_formatting.specs.FirstSector.{HasZeroHead, head_of}
-use Rattle.image_formatting.specs.Journal.{HasEmptyJournal}
+use Rattle.image_formatting.specs.Journal.{HasJournalPlace}
 use Rattle.image_formatting.specs.NewImage.{fields_of, provided_of}
 use Rattle.image_formatting.specs.Order.{HasFirstSync, IsInOrder, IsUnsettled}
 use Rattle.image_formatting.specs.Runs.{HasZeros}
@@ -52,11 +52,12 @@ IsImageByte wipe g sector byte = (sector < initial g) ⊎ IsBlocksByte wipe g se
 abbrev pub IsFillSector : Wipe → Geometry → ℕ → Type 0
 IsFillSector wipe g sector = (1 ≤ sector) × IsOfImage wipe g sector
 
--- The image has all but the fields: zeros behind their sector, an empty journal, and its blocks.
-pub record HasFilled (wipe : Wipe) (rule : TagRule) (g : Geometry) (image : Image) : Type 0 where
+-- The image has all but the fields: zeros behind their sector, an empty journal or a bitmap without a bit, and its
+-- blocks.
+pub record HasFilled (wipe : Wipe) (rule : TagRule) (format : ImageFormat) (image : Image) : Type 0 where
   pub zeros : HasZeros 1 7 image
-  pub journal : HasEmptyJournal g image
-  pub blocks : HasBlocks wipe rule g image
+  pub journal : HasJournalPlace format image
+  pub blocks : HasBlocks wipe rule format.geometry image
 
 -- A new image in this format: its fields, which are what it tells, and all else. Each
 -- sector that is not of it is as it was, and so is each byte that no tag takes in a sector of tags.
@@ -64,7 +65,7 @@ pub record IsFormatted (wipe : Wipe) (rule : TagRule) (format : ImageFormat)
     (before image : Image) : Type 0 where
   pub head : image 0 ≡ head_of format.fields
   pub told : superblock_of (image 0) ≡ Ok format.fields
-  pub filled : HasFilled wipe rule format.geometry image
+  pub filled : HasFilled wipe rule format image
   pub others : (sector : ℕ) → (IsOfImage wipe format.geometry sector → ⊥) → image sector ≡ before sector
   pub bytes : KeepsBytes (IsImageByte wipe format.geometry) before image
 

@@ -1,11 +1,18 @@
--- The journal of a new image.
--- Source: Linux, drivers/md/dm-integrity.c, init_journal.
-use Rattle.std.specs.Prelude.{◌≡◌, ℕ, ◌<◌, Some, None, replicate}
-use Rattle.disk_model.specs.Disk.{Image}
+-- What stands in the place of the journal of a new image: empty sections, or a bitmap without a bit and empty sectors
+-- behind it.
+-- Source: Linux, drivers/md/dm-integrity.c, init_journal and block_bitmap_op. Own: what stands behind the bitmap.
+use Rattle.std.specs.Prelude.{◌≡◌, ℕ, ◌+◌, ◌*◌, ◌<◌, ◌≤◌, Bool, true, false, List, Some, None, replicate}
+use Rattle.disk_model.specs.Disk.{Image, sector_in}
+use Rattle.image_model.specs.declared.flags.TheConstants.{DIRTY_BITMAP}
 use Rattle.image_model.specs.Cells.{section_bytes}
-use Rattle.image_model.specs.Geometry.{Geometry, section_entries, section_sectors}
+use Rattle.image_model.specs.Geometry.{Geometry, Shape, bitmap_sectors, section_at, section_entries, section_sectors}
+use Rattle.image_model.specs.Superblock.{has_flag}
+use Rattle.image_format.specs.declared.reading.ImageFormat.{ImageFormat}
 use Rattle.place_model.specs.Journal.{numbers_on}
-use Rattle.journal_section.specs.Entries.{HoldsEntries}
+use Rattle.journal_section.specs.Entries.{BearsNumber, HoldsEntries}
+use Rattle.image_formatting.specs.Runs.{HasZeros}
+
+-- ---- a journal
 
 -- A section of the image has no used entry, each byte that nothing names is zero, and each sector
 -- bears commit number 0.
@@ -14,10 +21,54 @@ pub record HasEmptySection (g : Geometry) (image : Image) (section : ℕ) : Type
       (section_bytes g image section)
   pub numbers : (j : ℕ) → j < section_sectors g.shape → numbers_on g image section j ≡ Some 0
 
--- The first sections are such.
-abbrev pub HasEmptySections : Geometry → (count : ℕ) → Image → Type 0
-HasEmptySections g count image = (section : ℕ) → section < count → HasEmptySection g image section
-
--- All sections are.
+-- All sections are such.
 abbrev pub HasEmptyJournal : Geometry → Image → Type 0
-HasEmptyJournal g = HasEmptySections g g.sections
+HasEmptyJournal g image = (section : ℕ) → section < g.sections → HasEmptySection g image section
+
+-- ---- a bitmap
+
+-- The bytes are such a section.
+pub record IsEmptySection (shape : Shape) (section : ℕ) (bytes : List ℕ) : Type 0 where
+  pub entries : HoldsEntries shape (replicate (section_entries shape) None) bytes
+  pub numbers : BearsNumber shape section 0 bytes
+
+-- The sectors of a section of the image are those of such bytes, but for so many first sectors of the journal.
+pub record HasEmptyRest (g : Geometry) (first : ℕ) (image : Image) (section : ℕ) : Type 0 where
+  pub bytes : List ℕ
+  pub is_empty : IsEmptySection g.shape section bytes
+  pub each : (j : ℕ) → j < section_sectors g.shape → first ≤ section * section_sectors g.shape + j
+      → image (section_at g section + j) ≡ sector_in bytes j
+
+-- So it is of the first sections, but for those that end before.
+abbrev pub HasEmptyRests : Geometry → (first count : ℕ) → Image → Type 0
+HasEmptyRests g first count image = (section : ℕ) → section < count
+    → first < section * section_sectors g.shape + section_sectors g.shape → HasEmptyRest g first image section
+
+-- Behind so many sectors the journal has those of empty sections.
+abbrev pub IsEmptyBehind : Geometry → (first : ℕ) → Image → Type 0
+IsEmptyBehind g first = HasEmptyRests g first g.sections
+
+-- The bitmap has no bit set, not even one that no region has, and all behind it is empty.
+pub record HasClearBitmap (g : Geometry) (image : Image) : Type 0 where
+  pub bits : HasZeros 8 (bitmap_sectors g) image
+  pub behind : IsEmptyBehind g (bitmap_sectors g) image
+
+-- ---- either
+
+-- The image is to have a bitmap.
+abbrev pub has_bitmap : ImageFormat → Bool
+has_bitmap format = has_flag DIRTY_BITMAP format.fields.flags
+
+-- The first sectors of the journal that a bitmap takes, where there is one.
+abbrev pub bitmap_taken : (bitmap : Bool) → Geometry → ℕ
+bitmap_taken false g = 0
+bitmap_taken true g = bitmap_sectors g
+
+-- An empty journal, or a bitmap without a bit.
+abbrev pub HasJournalBy : (bitmap : Bool) → Geometry → Image → Type 0
+HasJournalBy false g image = HasEmptyJournal g image
+HasJournalBy true g image = HasClearBitmap g image
+
+-- The image has that of the two which its fields tell.
+abbrev pub HasJournalPlace : ImageFormat → Image → Type 0
+HasJournalPlace format = HasJournalBy (has_bitmap format) format.geometry

@@ -2,11 +2,13 @@
 -- Source: Linux, drivers/md/dm-integrity.c, initialize_superblock.
 use Rattle.std.specs.Prelude.{ℕ, ◌≤◌, bit_or, List, Option, Some, None, unwrap_or, Result}
 use Rattle.std.specs.Int.{IsInRange}
-use Rattle.image_model.specs.declared.flags.TheConstants.{FIXED_PADDING, FIXED_HMAC}
+use Rattle.image_model.specs.declared.flags.TheConstants.{DIRTY_BITMAP, FIXED_PADDING, FIXED_HMAC}
 use Rattle.image_model.specs.declared.geom_fault.GeomFault.{GeomFault}
 use Rattle.image_model.specs.Geometry.{layout_of, fitting_log2_region, best_provided_of}
 use Rattle.image_model.specs.Sectors.{zero_bytes}
 use Rattle.image_model.specs.Superblock.{Superblock, version_for}
+use Rattle.image_formatting.specs.declared.new_image.ImageMode.{ImageMode}
+use Rattle.image_formatting.specs.declared.new_image.ImageMode.TheVariants.{Journal, Bitmap}
 use Rattle.image_formatting.specs.declared.new_image.NewImage.{NewImage}
 use Rattle.image_formatting.specs.declared.new_image.Padding.{Padding}
 use Rattle.image_formatting.specs.declared.new_image.Padding.TheVariants.{Fixed, Legacy}
@@ -28,9 +30,14 @@ abbrev pub salt_flag : Option (List ℕ) → ℕ
 salt_flag (Some salt) = FIXED_HMAC
 salt_flag None = 0
 
+-- The flag of a bitmap.
+abbrev pub mode_flag : ImageMode → ℕ
+mode_flag Journal = 0
+mode_flag Bitmap = DIRTY_BITMAP
+
 -- The flags of the image.
 abbrev pub flags_of : NewImage → ℕ
-flags_of new = bit_or (padding_flag new.padding) (salt_flag new.salt)
+flags_of new = bit_or (bit_or (padding_flag new.padding) (salt_flag new.salt)) (mode_flag new.mode)
 
 -- The fields with so many provided sectors and so large regions. Nothing is to be recalculated.
 abbrev pub fields_with : NewImage → (provided log2_region : ℕ) → Superblock
@@ -47,16 +54,16 @@ fields_with new provided log2_region = record {
   salt = unwrap_or new.salt (zero_bytes 16);
 }
 
--- The same with regions as large as they are asked for.
+-- The same with a journal, and with regions as large as they are asked for: no bitmap has to fit.
 abbrev pub asked_fields : NewImage → (provided : ℕ) → Superblock
-asked_fields new provided = fields_with new provided new.log2_region
+asked_fields new provided = fields_with (record new { mode = Journal }) provided new.log2_region
 
--- The fields of the image: its regions are raised so far that their bitmap would fit the journal.
+-- The fields of the image: its regions are raised so far that their bitmap fits the journal, or would fit it.
 abbrev pub fields_of : NewImage → (provided : ℕ) → Superblock
 fields_of new provided =
     fields_with new provided (fitting_log2_region (layout_of (asked_fields new provided)))
 
--- The sectors that the image provides on a disk of so many, or why it does not fit. The regions are
--- not looked at.
+-- The sectors that the image provides on a disk of so many, or why it does not fit. Neither the regions nor the
+-- mode are looked at.
 abbrev pub provided_of : NewImage → (sectors : ℕ) → Result ℕ GeomFault
 provided_of new sectors = best_provided_of (asked_fields new 0) sectors

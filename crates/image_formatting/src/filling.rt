@@ -1,12 +1,15 @@
 //! All of an image but its first sector.
-ghost use Rattle.std.specs.Prelude.{◌≡◌, OnOk};
+ghost use Rattle.std.specs.Prelude.{◌≡◌, ◌*◌, length, OnOk};
 ghost use Rattle.disk_model.specs.Causes.{HasCause};
 ghost use Rattle.disk_model.specs.Disk.{last_image};
 ghost use Rattle.disk_model.specs.Identity.{IsBound};
 ghost use Rattle.disk_model.specs.Moments.{EachSince, HasNow};
 ghost use Rattle.image_format.specs.Format.{IsFormat};
+ghost use Rattle.image_model.specs.Geometry.{journal_sectors, section_sectors};
+ghost use Rattle.journal_section.specs.Entries.{IsWithin};
 ghost use Rattle.image_formatting.specs.Formatted.{HasBlocks, HasFilled, IsBlocksByte, IsBlocksSector, IsFillSector, IsImageByte};
-ghost use Rattle.image_formatting.specs.Room.{HasRoom, HasRuns};
+ghost use Rattle.image_formatting.specs.Journal.{HasJournalPlace, bitmap_taken, has_bitmap};
+ghost use Rattle.image_formatting.specs.Room.{HasRoom, HasRuns, zeros_at_once};
 ghost use Rattle.image_formatting.specs.Runs.{ChangesOnly};
 ghost use Rattle.image_formatting.specs.Stays.{ReadsKeep};
 
@@ -17,10 +20,11 @@ use crate::wiping::wipe_blocks;
 use crate::zeroing::write_zeros;
 use hmac_tag::TagMaker;
 use image_format::ImageFormat;
+use image_model::DIRTY_BITMAP;
 use sector_disk::{Disk, Failed};
 
-/// Writes zeros to the other sectors of the superblock, an empty journal, and what comes to the
-/// blocks. Nothing is synced.
+/// Writes zeros to the other sectors of the superblock, an empty journal or a bitmap without a bit, and
+/// what comes to the blocks. Nothing is synced.
 ///
 /// # Errors
 ///
@@ -37,7 +41,7 @@ pub(crate) fn fill<D: Disk>(
     requires size { maker.now.size ≡ format.now.geometry.shape.tag_size }
     requires room { HasRoom format.now.geometry.shape room.old }
 
-    ensures filled { OnOk result (HasNow (λ c. HasFilled wipe maker.now format.now.geometry (last_image c))
+    ensures filled { OnOk result (HasNow (λ c. HasFilled wipe maker.now format.now (last_image c))
         (D.moments disk.new)) }
     ensures stays { OnOk result (ReadsKeep (IsImageByte wipe format.now.geometry)
         (D.moments disk.old) (D.moments disk.new)) }
@@ -50,8 +54,47 @@ pub(crate) fn fill<D: Disk>(
         (D.moments disk.old) (D.moments disk.new) }
 {
     write_zeros(disk, &room.zeros, 1, 7)?;
-    empty(disk, &format.geometry, &mut room.section)?;
+    fill_journal(disk, format, &room.zeros, &mut room.section)?;
     fill_blocks(disk, format, wipe, maker, room)
+}
+
+/// Writes zeros to the sectors of the bitmap, where the image has one, and empty sectors to all others
+/// of the journal.
+fn fill_journal<D: Disk>(
+    disk: &mut D,
+    format: &ImageFormat,
+    zeros: &[u8],
+    section: &mut [u8],
+) -> Result<(), Failed>
+    requires bound { IsBound (D.identity disk.old).name }
+    requires format { IsFormat (D.identity disk.old).sectors format.now }
+    requires zeros { zeros.now ≡ zeros_at_once }
+    requires section { length section.old ≡ 512 * section_sectors format.now.geometry.shape }
+
+    ensures filled { OnOk result (HasNow (λ c. HasJournalPlace format.now (last_image c))
+        (D.moments disk.new)) }
+
+    ensures cause { HasCause (D.faults disk.old) (D.faults disk.new) result }
+
+    ensures section { length section.new ≡ length section.old }
+    ensures identity { D.identity disk.new ≡ D.identity disk.old }
+
+    ensures moments { EachSince (ChangesOnly (IsWithin 8 (journal_sectors format.now.geometry)))
+        (D.moments disk.old) (D.moments disk.new) }
+{
+    let bitmap = bitmap_taken(format);
+    write_zeros(disk, zeros, format.geometry.section_at(0), bitmap)?;
+    empty(disk, &format.geometry, bitmap, section)
+}
+
+/// How many of the journal's first sectors the image's bitmap takes.
+fn bitmap_taken(format: &ImageFormat) -> u64
+    ensures { result ≡ bitmap_taken (has_bitmap format.now) format.now.geometry }
+{
+    if format.fields.flags & DIRTY_BITMAP == 0 {
+        return 0;
+    }
+    format.geometry.bitmap_sectors()
 }
 
 /// Writes what comes to the blocks.

@@ -1,10 +1,11 @@
 //! What a new image is for those who open it: each law is the contract of a function that does nothing.
 
-ghost use Rattle.image_formatting.specs.FormattedLaws.{NewCellsLaw, NewOpensLaw};
+ghost use Rattle.image_formatting.specs.FormattedLaws.{NewBitmapLaw, NewCellsLaw, NewOpensLaw};
 
-/// A new image can be opened, in direct mode too, with nothing to replay. Where it was wiped, each
-/// block has zeros with their tag.
+/// A new image for journal mode can be opened, in direct mode too, with nothing to replay, and one for
+/// bitmap mode in that, with no bit set. Where it was wiped, each block has zeros with their tag.
 pub fn new_image_opens()
     ensures opens { NewOpensLaw }
+    ensures bitmap { NewBitmapLaw }
     ensures cells { NewCellsLaw }
 {}

@@ -1,5 +1,5 @@
-//! Makes a new image on a disk: an erased journal, zeros with their tags in all blocks, and a
-//! superblock that comes last.
+//! Makes a new image on a disk: an erased journal, or a bitmap without a bit; zeros with their tags in
+//! all blocks; and a superblock that comes last.
 //!
 //! A contract sees a `NewImage` and a `FormatFault` as they are. What the image has stands in
 //! `specs/Formatted.antt`, the file to read first. Zeros come to the first sector before all else,
@@ -24,4 +24,4 @@ mod zeroing;
 pub use format_fault::FormatFault;
 pub use formatting::format;
 pub use laws::new_image_opens;
-pub use new_image::{NewImage, Padding, Wipe};
+pub use new_image::{ImageMode, NewImage, Padding, Wipe};

@@ -11,6 +11,18 @@ pub enum Padding {
     Legacy,
 }
 
+/// The mode that a new image is made for.
+#[derive(Clone, Copy, Debug, PartialEq, Eq)]
+pub enum ImageMode {
+    /// Journal mode, and direct mode: the image has a journal, of empty sections.
+    Journal,
+    /// Bitmap mode, by a flag of the superblock: a bitmap with no bit set stands where the journal
+    /// would begin.
+    ///
+    /// Source: Linux, `drivers/md/dm-integrity.c`, `SB_FLAG_DIRTY_BITMAP`.
+    Bitmap,
+}
+
 /// What comes to the blocks of a new image.
 #[derive(Clone, Copy, Debug, PartialEq, Eq)]
 pub enum Wipe {
@@ -29,10 +41,12 @@ pub struct NewImage {
     pub log2_spb: u8,
     /// An area has 2^`log2_interleave` data sectors, 2^3 to 2^31.
     pub log2_interleave: u8,
-    /// How many sections the journal has, at least one.
+    /// The mode that the image is made for.
+    pub mode: ImageMode,
+    /// How many sections the journal has, or has room for, at least one.
     pub sections: u32,
     /// A region has at least 2^`log2_region` blocks. The image has the least number from there on
-    /// whose bitmap would fit the journal.
+    /// whose bitmap would fit the journal, or does.
     pub log2_region: u8,
     /// What stands before the message of each tag, if something does.
     pub salt: Option<[u8; 16]>,

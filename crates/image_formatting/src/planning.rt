@@ -5,9 +5,9 @@ ghost use Rattle.image_model.specs.Superblock.{HasLayout};
 ghost use Rattle.image_format.specs.Format.{IsFormat};
 ghost use Rattle.image_formatting.specs.NewImage.{IsNewImage, asked_fields, fields_of, fields_with, flags_of, provided_of};
 
-use crate::new_image::{NewImage, Padding};
+use crate::new_image::{ImageMode, NewImage, Padding};
 use image_format::ImageFormat;
-use image_model::{FIXED_HMAC, FIXED_PADDING, GeomFault};
+use image_model::{DIRTY_BITMAP, FIXED_HMAC, FIXED_PADDING, GeomFault};
 use layout::{Geometry, best_provided};
 use superblock::{Super, version_for};
 
@@ -25,7 +25,7 @@ pub(crate) fn plan(new: &NewImage, disk_sectors: u64) -> Result<ImageFormat, Geo
 
     ensures fault { IfErr result (λ fault. provided_of new.now disk_sectors ≡ Err fault) }
 {
-    let asked = fields_with(new, 0, new.log2_region);
+    let asked = asked_fields(new, 0);
     let provided = best_provided(&asked, disk_sectors)?;
     let log2_region = fitting(new, provided, disk_sectors)?;
     let fields = fields_with(new, provided, log2_region);
@@ -41,9 +41,24 @@ fn fitting(new: &NewImage, provided: u64, disk_sectors: u64) -> Result<u8, GeomF
     // So the error never comes.
     ensures { result ≡ Ok (fitting_log2_region (layout_of (asked_fields new.now provided))) }
 {
-    let asked = fields_with(new, provided, new.log2_region);
+    let asked = asked_fields(new, provided);
     let geometry = Geometry::new(&asked, disk_sectors)?;
     Ok(geometry.fitting_log2_region())
+}
+
+/// The fields of an image with a journal that provides so many sectors, with regions as large as they are
+/// asked for: no bitmap has to fit.
+fn asked_fields(new: &NewImage, provided: u64) -> Super
+    requires { IsNewImage new.now }
+
+    ensures fields { result ≡ asked_fields new.now provided }
+    ensures layout { HasLayout result }
+{
+    let with_journal = NewImage {
+        mode: ImageMode::Journal,
+        ..*new
+    };
+    fields_with(&with_journal, provided, new.log2_region)
 }
 
 /// The fields of the image with so many provided sectors and so large regions.
@@ -77,5 +92,9 @@ fn flags_of(new: &NewImage) -> u32
         Padding::Legacy => 0,
     };
     let salt = if new.salt.is_some() { FIXED_HMAC } else { 0 };
-    padding | salt
+    let bitmap = match new.mode {
+        ImageMode::Journal => 0,
+        ImageMode::Bitmap => DIRTY_BITMAP,
+    };
+    padding | salt | bitmap
 }

@@ -1,7 +1,7 @@
 //! A new image on a disk in memory.
 use hmac_tag::Hash;
-use image_format::read_direct_format;
-use image_formatting::{NewImage, Padding, Wipe, format};
+use image_format::{read_bitmap_format, read_direct_format};
+use image_formatting::{ImageMode, NewImage, Padding, Wipe, format};
 use sector_disk::{Disk, Failed, MemDisk};
 use sha2::{Digest, Sha256};
 use std::alloc::Global;
@@ -12,6 +12,7 @@ const SMALL: NewImage = NewImage {
     tag_size: 32,
     log2_spb: 0,
     log2_interleave: 3,
+    mode: ImageMode::Journal,
     sections: 1,
     log2_region: 15,
     salt: None,
@@ -101,5 +102,40 @@ fn the_small_image_is_made(rt: HostRuntime) -> Result<(), Fail> {
     assert!(rt; has(&mut disk, 96, 256, &[0xee; 256])?);
     assert_eq!(rt; sector_of(&mut disk, 97)?, [0xee; 512]);
     assert_eq!(rt; read_direct_format(&mut disk)?.geometry.blocks(), 80);
+    Ok(())
+}
+
+#[test]
+fn a_bitmap_takes_the_first_sectors_of_the_journal(rt: HostRuntime) -> Result<(), Fail> {
+    let mut disk = used_disk(rt.alloc(), 256)?;
+    let new = NewImage {
+        mode: ImageMode::Bitmap,
+        ..SMALL
+    };
+    assert_eq!(rt; format(rt.alloc(), &mut disk, Hash::Sha256, new), Ok(80));
+    assert!(rt; has(&mut disk, 0, 8, &[4])?);
+    assert!(rt; has(&mut disk, 0, 24, &[0x0c, 0, 0, 0])?);
+    assert_eq!(rt; sector_of(&mut disk, 8)?, [0; 512]);
+    assert_eq!(rt; sector_of(&mut disk, 15)?, [0; 512]);
+    // Behind it stand the sectors of an empty section, from its ninth one on.
+    assert!(rt; has(&mut disk, 16, 0, &[0; 504])?);
+    assert!(rt;
+        has(
+            &mut disk,
+            16,
+            504,
+            &[0x19, 0x11, 0x11, 0x11, 0x11, 0x11, 0x11, 0x11]
+        )?
+    );
+    assert!(rt;
+        has(
+            &mut disk,
+            95,
+            504,
+            &[0x46, 0x11, 0x11, 0x11, 0x11, 0x11, 0x11, 0x11]
+        )?
+    );
+    assert!(rt; has(&mut disk, 96, 0, &tag_of_zeros(0, &[0; 512]))?);
+    assert_eq!(rt; read_bitmap_format(&mut disk)?.geometry.blocks(), 80);
     Ok(())
 }

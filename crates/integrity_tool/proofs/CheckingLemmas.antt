@@ -11,7 +11,7 @@ use Rattle.device_model.specs.Ending.{Ending, Complete, DiskFailed, NoMemory, Si
 use Rattle.stream_io.specs.Stream.{with_bytes, AddsPrefix}
 use Rattle.script_session.specs.LineRun.{held_with}
 use Rattle.image_check.specs.Bad.{bad_blocks_from}
-use Rattle.image_check.specs.Checked.{Checked, IsCheckOf, IsSameCheck, bad_in, checked_format, what_of}
+use Rattle.image_check.specs.Checked.{Checked, IsCheckOf, IsSameCheck, awaiting_at, bad_in, checked_format}
 use Rattle.image_check.specs.declared.bad.Bad.{Bad}
 use Rattle.image_check.specs.declared.bad.What.{What}
 use Rattle.image_judging.specs.declared.opening_fault.OpeningFault.{OpeningFault}
@@ -19,7 +19,7 @@ use Rattle.image_judging.specs.declared.opening_fault.OpeningFault.TheVariants a
 use Rattle.image_check.specs.Faults.{fault_for}
 use Rattle.image_judging.specs.Faults.{ImageFault, fault_in}
 use Rattle.image_check.specs.Report.{with_found}
-use Rattle.image_check.proofs.CheckedLemmas.{awaiting_none, blocks_are, judged_in, judged_now, kept-next, kept-nothing, kept-skip}
+use Rattle.image_check.proofs.CheckedLemmas.{blocks_are, judged_in, judged_now, kept-next, kept-nothing, kept-skip}
 use Rattle.place_model.specs.Format.{format_on}
 use Rattle.command_ending.specs.Ended.{ending_of}
 use Rattle.command_model.specs.CommandRun.{Outset, Prints, IsEndedShort, only_prints}
@@ -61,7 +61,7 @@ pub record IsListedTo (checked : Checked) (sectors : ℕ) (moments : List Conten
   pub listed : IsListed bad count held_before held
   pub few : count ≤ block
   pub rest : HasNow (λ c. bad_in checked sectors (last_image c)
-      ≡ bad ++ bad_blocks_from (what_of checked.journal) (checked_format checked sectors (last_image c)) (last_image c) block) moments
+      ≡ bad ++ bad_blocks_from checked.what (checked_format checked sectors (last_image c)) (last_image c) block) moments
 
 pub listed_none : (checked : Checked) (sectors : ℕ) (moments : List Content) (held : Option (List ℕ))
     → IsListedTo checked sectors moments 0 0 held held
@@ -86,7 +86,7 @@ module _ (old new : Checked) (disk now : DiskIdentity) (before after : List Cont
     (same : IsSameCheck old new) (e : now ≡ disk) (m : after ≡ before) (held_before held : Option (List ℕ)) where
   -- The bad blocks from a block on.
   abbrev behind : Content → ℕ → List Bad
-  behind c b = bad_blocks_from (what_of old.journal) (checked_format old disk.sectors (last_image c)) (last_image c) b
+  behind c b = bad_blocks_from old.what (checked_format old disk.sectors (last_image c)) (last_image c) b
 
   -- It is the first of them where it is bad.
   behind_found : (b : ℕ) (found : Option Bad) → b < old.format.geometry.blocks
@@ -181,8 +181,8 @@ module _ (what : What) (key : Option (List ℕ)) (sectors : ℕ) (start : Conten
   abbrev outset : Outset
   outset = check_outset what key sectors (last_image start)
 
-  -- There was no memory, or the disk failed in the opening: nothing is printed.
-  unchecked : (ending : Ending) (held : Option (List ℕ)) → (ending ≡ NoMemory) ⊎ (ending ≡ DiskFailed) → HasRunOn outset start script ending b held held
+  -- There was no memory, or the disk failed before a line was printed: nothing is.
+  pub unchecked : (ending : Ending) (held : Option (List ℕ)) → (ending ≡ NoMemory) ⊎ (ending ≡ DiskFailed) → HasRunOn outset start script ending b held held
   unchecked ending held early = elim early [
     | inl memory ↦
         subst (λ (e : Ending). HasRunOn outset start script e b held held) (sym memory)
@@ -213,7 +213,7 @@ module _ (what : What) (key : Option (List ℕ)) (sectors : ℕ) (start : Conten
   not_checked (OpeningFaults.Journal fault) held refused = refused_as _ held (refused (λ is. absurd (cc)) (λ is. absurd (cc)))
 
   -- It is opened.
-  module _ (checked : Checked) (what_is : what_of checked.journal ≡ what) (key_is : checked.rule.key ≡ key)
+  module _ (checked : Checked) (what_is : checked.what ≡ what) (key_is : checked.rule.key ≡ key)
       (accepted : None ≡ fault_for what key sectors (last_image start)) where
     abbrev lines : List (List ℕ)
     lines = lines_in checked sectors (last_image start)
@@ -225,7 +225,7 @@ module _ (what : What) (key : Option (List ℕ)) (sectors : ℕ) (start : Conten
     prints =
         ap (outset_by_check what (format_on key sectors (last_image start)) (last_image start)) (sym accepted)
         ∙ ap (λ (w : What). outset_by_check w (format_on key sectors (last_image start)) (last_image start) None) (sym what_is)
-        ∙ ap (λ (k : Option (List ℕ)). outset_by_check (what_of checked.journal) (format_on k sectors (last_image start)) (last_image start) None) (sym key_is)
+        ∙ ap (λ (k : Option (List ℕ)). outset_by_check checked.what (format_on k sectors (last_image start)) (last_image start) None) (sym key_is)
 
     -- Something outside ended the printing.
     pub check_cut : (ending : Ending) (held_before held : Option (List ℕ)) → IsPrintedShort lines ending held_before held
@@ -235,10 +235,10 @@ module _ (what : What) (key : Option (List ℕ)) (sectors : ℕ) (start : Conten
         (part_printed (Prints lines (has_bad bad)) lines (has_bad bad) start script b held_before (λ s. refl) short.text ending held
         (short.ended (has_bad bad)) short.told (same_now start told kept))
 
-    module _ (count blocks : ℕ) (held_before mid held : Option (List ℕ)) (listed : IsListed bad count held_before mid)
-        (counts : counts_line blocks count 0 ≡ last_line (checked_format checked sectors (last_image start)) (last_image start) (length bad)) where
+    module _ (count blocks awaiting : ℕ) (held_before mid held : Option (List ℕ)) (listed : IsListed bad count held_before mid)
+        (counts : counts_line blocks count awaiting ≡ last_line (checked_format checked sectors (last_image start)) (last_image start) (length bad)) where
       -- All is printed,
-      pub check_whole : (found : Bool) → found ≡ ltb 0 count → held ≡ option_map (with_bytes (counts_line blocks count 0)) mid
+      pub check_whole : (found : Bool) → found ≡ ltb 0 count → held ≡ option_map (with_bytes (counts_line blocks count awaiting)) mid
           → HasRunOn outset start script (Complete found) b held_before held
       check_whole found found_is put =
           let has : has_bad bad ≡ found = sym (found_is ∙ ap (λ (n : ℕ). ltb 0 n) listed.counted) in
@@ -253,7 +253,7 @@ module _ (what : What) (key : Option (List ℕ)) (sectors : ℕ) (start : Conten
           (all ∙ sym (texts_whole bad_line bad (last ∷ []))) to (same_now start told kept)))
 
       -- or the sink failed in the last line.
-      pub check_untold : AddsPrefix (counts_line blocks count 0) mid held → HasRunOn outset start script SinkFailed b held_before held
+      pub check_untold : AddsPrefix (counts_line blocks count awaiting) mid held → HasRunOn outset start script SinkFailed b held_before held
       check_untold put =
           let last = last_line (checked_format checked sectors (last_image start)) (last_image start) (length bad) in
           let part : AddsPrefix last mid held = subst (λ (l : List ℕ). AddsPrefix l mid held) counts put in
@@ -266,10 +266,10 @@ module _ (what : What) (key : Option (List ℕ)) (sectors : ℕ) (start : Conten
 
 -- The last line, by what the image that was opened has.
 pub counts_told : (old : Checked) (disk : DiskIdentity) (moments : List Content) (is : IsCheckOf old disk moments) (c : Content) (told : content_now moments ≡ Some c)
-    (blocks count : ℕ) → blocks ≡ old.format.geometry.blocks → count ≡ length (bad_in old disk.sectors (last_image c))
-    → counts_line blocks count 0 ≡ last_line (checked_format old disk.sectors (last_image c)) (last_image c) (length (bad_in old disk.sectors (last_image c)))
-counts_told old disk moments is c told blocks count blocks_is count_is =
-    ap (λ (n : ℕ). counts_line n count 0) (blocks_is ∙ sym (blocks_are old disk moments is c told))
-    ∙ ap (λ (n : ℕ). counts_line (checked_format old disk.sectors (last_image c)).geometry.blocks n 0) count_is
+    (blocks count awaiting : ℕ) → blocks ≡ old.format.geometry.blocks → count ≡ length (bad_in old disk.sectors (last_image c)) → awaiting ≡ awaiting_at old disk.sectors (last_image c)
+    → counts_line blocks count awaiting ≡ last_line (checked_format old disk.sectors (last_image c)) (last_image c) (length (bad_in old disk.sectors (last_image c)))
+counts_told old disk moments is c told blocks count awaiting blocks_is count_is awaiting_is =
+    ap (λ (n : ℕ). counts_line n count awaiting) (blocks_is ∙ sym (blocks_are old disk moments is c told))
+    ∙ ap (λ (n : ℕ). counts_line (checked_format old disk.sectors (last_image c)).geometry.blocks n awaiting) count_is
     ∙ ap (λ (n : ℕ). counts_line (checked_format old disk.sectors (last_image c)).geometry.blocks (length (bad_in old disk.sectors (last_image c))) n)
-    (sym (awaiting_none old disk moments is c told))
+    awaiting_is

@@ -28,13 +28,13 @@ use Rattle.device_parts.specs.declared.answers.StepFault.TheVariants as faults
 use Rattle.script_session.specs.declared.tags_found.TagsFound.{TagsFound}
 use Rattle.script_session.specs.Told.{finds_fault}
 use Rattle.device.specs.declared.mode.DeviceParts.{DeviceParts}
-use Rattle.device.specs.Answers.{WritesInClose}
+use Rattle.device.specs.Answers.{KeepsClearTags, WritesInClose}
 use Rattle.device_parts.specs.Device.{HasEnded}
 use Rattle.device.specs.Device.{IsDevice, any_mode, kind_of}
 use Rattle.device_parts.specs.Device.{Standing}
 use Rattle.device.specs.Run.{IsLeftWithin}
-use Rattle.device.specs.Writes.{WritesOnly}
-use Rattle.device.proofs.EventWritesLemmas.{close_writes}
+use Rattle.device.specs.Tags.{Leaves}
+use Rattle.device.proofs.LeavesLemmas.{close_leaves}
 use Rattle.device.proofs.RunLemmas.{EachMoment-both, left-wider}
 use Rattle.script_session.specs.LineRun.{held_with}
 use Rattle.command_ending.specs.declared.ended.Ended.{Ended}
@@ -71,16 +71,16 @@ failed_close_in f s Model.Closed = refl
 pub failed_close : (f : DeviceFormat) (s : DeviceState) → (event_result f s FailedClose).changes ≡ []
 failed_close f s = failed_close_in f s s.condition
 
--- What a close writes the rest of a run may.
-pub closing_writes : (w : Standing) (found : TagsFound) (parts : DeviceParts) (a b : List Content)
+-- What a close leaves the rest of a run does.
+pub closing_leaves : (w : Standing) (found : TagsFound) (parts : DeviceParts) (a b : List Content)
     → IsDevice w Working parts a → WritesInClose parts.mode parts.common a b
-    → WritesOnly w.format.mode w.on.geometry (changes_in (only_close w found).steps) a b
-closing_writes w found parts a b is writes =
-    close_writes w parts.common a parts.mode is (changes_in (only_close w found).steps) writes
+    → KeepsClearTags parts.mode parts.common Close a b → Leaves w (changes_in (only_close w found).steps) a b
+closing_leaves w found parts a b is writes tags =
+    close_leaves w parts.common a parts.mode is (changes_in (only_close w found).steps) writes tags
 
 module _ (w : Standing) (found : TagsFound) (a b : List Content)
     (held_a held_b : Option (List ℕ))
-    (writes : WritesOnly w.format.mode w.on.geometry (changes_in (only_close w found).steps) a b) where
+    (others : Leaves w (changes_in (only_close w found).steps) a b) where
   abbrev closing : ScriptStep
   closing = close_step w.format w.state
 
@@ -116,7 +116,7 @@ module _ (w : Standing) (found : TagsFound) (a b : List Content)
       is = refl;
     });
     since = since_close keeps;
-    writes = writes;
+    others = others;
     now = keeps.1;
     told = told;
   }
@@ -139,7 +139,7 @@ module _ (w : Standing) (found : TagsFound) (a b : List Content)
       outside = tt;
     });
     since = since_close keeps;
-    writes = writes;
+    others = others;
     now = keeps.1;
     told = told.held;
   }
@@ -164,7 +164,7 @@ module _ (w : Standing) (found : TagsFound) (a b : List Content)
         (subst (λ (l : List Change). IsLeftWithin kind w.entry w.state.history l c)
         (failed_close w.format w.state) left))
         (since_event kind w.entry w.format w.state FailedClose a b keeps.0);
-    writes = writes;
+    others = others;
     now = subst (λ (l : List Change). IsLeftNow kind w.entry (with_changes l w.state.history) b)
         (failed_close w.format w.state) keeps.1;
     told = told ∙ told_nothing held_a;

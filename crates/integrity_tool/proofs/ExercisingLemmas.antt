@@ -40,9 +40,10 @@ use Rattle.device.specs.Device.{any_mode, kind_of}
 use Rattle.device_parts.specs.Device.{Standing}
 use Rattle.device.specs.Opening.{IsRefused, LeavesOpening}
 use Rattle.device.specs.Run.{HasRun, IsLeftWithin, standing_behind}
-use Rattle.device.specs.Writes.{IsOfRun, WritesOnly}
+use Rattle.device.specs.Tags.{Leaves}
+use Rattle.device.specs.Writes.{IsOfRun}
 use Rattle.device.proofs.RunLemmas.{EachMoment-both, left-behind, left-wider}
-use Rattle.device.proofs.WritesLemmas.{WritesOnly-left, WritesOnly-then}
+use Rattle.device.proofs.TagsLemmas.{leaves_left, leaves_then}
 use Rattle.device_exercise.specs.Exercising.{exercise_events}
 use Rattle.script_session.specs.declared.stop.Stop.{Stop}
 use Rattle.script_session.specs.declared.stop.Stop.TheVariants as Stops
@@ -118,24 +119,22 @@ module _ (w : Standing) (count seed : ℕ) where
       (left-behind (kind_of w) w.entry w.state.history first last c
       (subst (λ (h : History). IsLeftWithin (kind_of w) w.entry h last c) history left))
 
-  pub writes_first : {a b : List Content} → WritesOnly w.format.mode w.on.geometry first a b
-      → WritesOnly w.format.mode w.on.geometry all a b
-  writes_first {a} {b} writes =
-      subst (λ (l : List Change). WritesOnly w.format.mode w.on.geometry l a b) (sym all_is)
-      (WritesOnly-left w.format.mode w.on.geometry first last writes)
+  pub others_first : {a b : List Content} → Leaves w first a b → Leaves w all a b
+  others_first {a} {b} others =
+      subst (λ (l : List Change). Leaves w l a b) (sym all_is) (leaves_left w first last others)
 
   -- It was stopped somewhere.
   pub exercise_stopped : (stop : Stop) (a b : List Content) → EachMoment a b (Within all)
-      → WritesOnly w.format.mode w.on.geometry all a b → HasNow (Within all) b
+      → Leaves w all a b → HasNow (Within all) b
       → IsExercised w count seed (Err stop) a b
-  exercise_stopped stop a b since writes cut = by (content_now b) refl
+  exercise_stopped stop a b since others cut = by (content_now b) refl
     where
       by : (now : Option Content) → content_now b ≡ now → IsExercised w count seed (Err stop) a b
       by None none = record {
         changes = take 0 all;
         is_counted = (0, refl);
         since = since;
-        writes = writes;
+        others = others;
         now = record {
           opens = λ c told. absurd (none-some c (sym none ∙ told));
           left = λ c told. absurd (none-some c (sym none ∙ told));
@@ -147,16 +146,16 @@ module _ (w : Standing) (count seed : ℕ) where
             changes = take left.made all;
             is_counted = (left.made, refl);
             since = since;
-            writes = writes;
+            others = others;
             now = record { opens = now_of _ b later told left.opens; left = now_of _ b later told left.left };
           }
 
   module _ (parts : DeviceParts) (a m b : List Content) (run : HasRun w events parts a m)
-      (writes : WritesOnly w.format.mode w.on.geometry last m b) where
-    writes_all : WritesOnly w.format.mode w.on.geometry all a b
-    writes_all =
-        subst (λ (l : List Change). WritesOnly w.format.mode w.on.geometry l a b) (sym all_is)
-        (WritesOnly-then w.format.mode w.on.geometry first last run.writes writes)
+      (others : Leaves there last m b) where
+    others_all : Leaves w all a b
+    others_all =
+        subst (λ (l : List Change). Leaves w l a b) (sym all_is)
+        (leaves_then w there.state first last history run.others others)
 
     -- Its requests are done and the device is closed,
     pub exercise_closed : (tally : Tally) → tally ≡ exercise_tally w.format w.state count seed
@@ -167,7 +166,7 @@ module _ (w : Standing) (count seed : ℕ) where
       since = EachMoment-then (EachMoment-weaker within_first run.since)
           (EachMoment-weaker within_last
           (since_event (kind_of w) w.entry w.format there.state Close m b ended.through));
-      writes = writes_all;
+      others = others_all;
       now = subst (λ (h : History). IsLeftNow (kind_of w) w.entry h b)
           (ap (with_changes last) history ∙ sym (fold-append with_change w.state.history first last)
           ∙ ap (λ (l : List Change). with_changes l w.state.history) (sym all_is))
@@ -182,7 +181,7 @@ module _ (w : Standing) (count seed : ℕ) where
         (EachMoment-then (EachMoment-weaker within_first run.since)
         (EachMoment-weaker (λ c left. within_last c (none_made c left))
         (since_event (kind_of w) w.entry w.format there.state FailedClose m b ended.through)))
-        writes_all
+        others_all
         (λ c told. within_last c (record {
           made = 0;
           opens = ended.left.opens c told;
@@ -269,6 +268,7 @@ module _ (law : OpensLaw) (disk now : DiskIdentity) (count seed : ℕ) (a b : Li
           opened = c;
           opening = inr both.1;
           behind = OnlyAdds-none (IsOfRun Modes.Journal g (changes_in run.steps)) c;
+          tags = inr tt;
         };
         opens = both.0.0;
       })
@@ -329,7 +329,7 @@ module _ (law : OpensLaw) (disk now : DiskIdentity) (count seed : ℕ) (a b : Li
 
         writes_behind : (opened : Option Content) → content_now b ≡ opened
             → EachMoment b c (IsWrittenByRun Modes.Journal g run made)
-        writes_behind None none = EachMoment-weaker (λ x from. absurd (rw none at from)) exercised.writes
+        writes_behind None none = EachMoment-weaker (λ x from. absurd (rw none at from)) exercised.others.sectors
         writes_behind (Some opened) is =
             EachMoment-weaker
             (λ x adds. record {
@@ -337,8 +337,9 @@ module _ (law : OpensLaw) (disk now : DiskIdentity) (count seed : ℕ) (a b : Li
               opening = opened_to opened is;
               behind = subst (λ (l : List Change). OnlyAdds (IsOfRun Modes.Journal g l) opened x)
                   (sym (changes_run disk.sectors count seed made)) adds;
+              tags = inr tt;
             })
-            (each_from _ opened is exercised.writes)
+            (each_from _ opened is exercised.others.sectors)
 
     -- The device is open, and its exercise came so far.
     pub exercised_on : IsExercisedOn disk.sectors count seed made (ended_count counted) a c
@@ -627,7 +628,7 @@ new_can_open : NewOpensLaw → (sectors provided : ℕ) (start made : Content) �
     → CanOpenIn Modes.Journal None sectors (last_image made)
 new_can_open law sectors provided start made is_provided new whole =
     let opens = law None sectors exercise_image provided (last_image start) (last_image made)
-    (record { ranges = is_new_image; is_provided = is_provided; formatted = new.image_; whole = whole }) in
+    (record { ranges = is_new_image; is_provided = is_provided; formatted = new.image_; whole = whole }) refl in
     (opens.0.openable, opens.1.1)
 
 module _ (law : NewOpensLaw) (sectors count seed : ℕ) (start : Content) (script : List ℕ) {a m : List Content}

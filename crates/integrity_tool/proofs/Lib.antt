@@ -1,4 +1,5 @@
 pub mod ClosingLemmas
+pub mod ClosedLemmas
 pub mod KeyLemmas
 pub mod LoopLemmas
 pub mod OpeningLemmas

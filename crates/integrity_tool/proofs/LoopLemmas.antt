@@ -38,6 +38,7 @@ use Rattle.command_ending.specs.Ended.{ending_of}
 use Rattle.command_ending.specs.declared.ended.Ended.{Ended}
 use Rattle.command_ending.specs.declared.ended.Ended.TheVariants as Endings
 use Rattle.command_ending.specs.declared.line_refusal.LineRefusal.{LineRefusal}
+use Rattle.integrity_tool.specs.Closed.{ComesTo, state_behind}
 use Rattle.integrity_tool.specs.Lines.{HasAdvanced, HasRunBytes, IsStoppedByBytes}
 use Rattle.integrity_tool.specs.Running.{HasEndCause, HasReadTo, HoldsText, IsAt, IsAtClose, IsStopped, Leads, is_beyond}
 use Rattle.integrity_tool.specs.Running.{newlines_in}
@@ -111,6 +112,7 @@ at_start w parts a held script run reader left is told is_run none =
         bytes = refl;
         within = omega arith;
       };
+      comes = record { all = is_run.lines; read = is_run.read; same = refl; comes = refl };
     }))
   where
     is_split : run ≡ run_from w.format (is_beyond (record { unread = []; line = []; taken = 0 }) script) 1 w.state
@@ -122,13 +124,14 @@ at_start w parts a held script run reader left is told is_run none =
 
 module _ (there : Standing) (run : ScriptRun) (start : List Content) (held_start : Option (List ℕ)) where
   -- A run stands before some lines that are read as these.
-  record StandsBefore (here : Standing) (beyond : Bool) (number : ℕ) (found : TagsFound) (bytes : List (List ℕ))
-      (now : List Content) (held : Option (List ℕ)) (steps : List ScriptStep) : Type 0 where
+  record StandsBefore (script : List ℕ) (here : Standing) (beyond : Bool) (number : ℕ) (found : TagsFound)
+      (bytes : List (List ℕ)) (now : List Content) (held : Option (List ℕ)) (steps : List ScriptStep) : Type 0 where
     pub lines : List ReadLine
     pub read : AllZip IsReadAs bytes lines
     pub is_split : run.steps ≡ steps ++ (run_from here.format beyond number here.state (finds_fault found) lines).steps
     pub leads : Leads here (run_from here.format beyond number here.state (finds_fault found) lines) now held
         there run start held_start
+    pub comes : ComesTo there script here lines
 
   -- Behind its first line, which was run, it stands before the others.
   behind_line : (here : Standing) (beyond : Bool) (number : ℕ) (found told found_b : TagsFound) (bytes : List ℕ)
@@ -140,14 +143,15 @@ module _ (there : Standing) (run : ScriptRun) (start : List Content) (held_start
       there run start held_start
       → (steps : List ScriptStep)
       → run.steps ≡ steps ++ (run_from here.format beyond number here.state (finds_fault found) lines).steps
-      → StandsBefore (standing_behind here (events_of here ran.line)) beyond
+      → (script : List ℕ) → ComesTo there script here lines
+      → StandsBefore script (standing_behind here (events_of here ran.line)) beyond
       (suc number) found_b others
       later held_b (steps ++ line_step (line_outcome here.format here.state ran.line) ∷ [])
   behind_line here beyond number found told found_b bytes others parts now later held held_b ran either [] read
-      leads steps is_split =
+      leads steps is_split script comes =
       absurd read
   behind_line here beyond number found told found_b bytes others parts now later held held_b ran either
-      (first ∷ lines) read leads steps is_split =
+      (first ∷ lines) read leads steps is_split script comes =
       let f = here.format in
       let s = here.state in
       let outcome = line_outcome f s ran.line in
@@ -177,7 +181,21 @@ module _ (there : Standing) (run : ScriptRun) (start : List Content) (held_start
             (subst (λ (b : Bool). IsStopped next
             (run_from f beyond (suc number) outcome.after b lines) ending later last
             held_b held_last) same stopped)));
+        comes = record {
+          all = comes.all;
+          read = comes.read;
+          same = ap (λ (w : Standing). record w { state = outcome.after }) comes.same;
+          comes =
+              ap (λ (w : Standing). state_behind there.format (line_outcome w.format s ran.line).after lines) comes.same
+              ∙ ap (λ (r : ReadLine). state_behind there.format s (r ∷ lines)) (sym means) ∙ comes.comes;
+        };
       }
+
+  -- Where no line is left it has come there.
+  comes_at_end : (script : List ℕ) (here : Standing) (lines : List ReadLine) → AllZip IsReadAs [] lines
+      → ComesTo there script here lines → ComesTo there script here []
+  comes_at_end script here [] read comes = comes
+  comes_at_end script here (first ∷ lines) read comes = absurd read
 
   -- What stops it with its first line stops the whole run.
   stopped_line : (here : Standing) (beyond : Bool) (number : ℕ) (found : TagsFound) (bytes : List ℕ)
@@ -252,7 +270,7 @@ module _ (there : Standing) (run : ScriptRun) (start : List Content) (held_start
         (lines_behind new later)
         parts_b now now_b held held_b ran either at.lines
         (subst (λ (l : List (List ℕ)). AllZip IsReadAs l at.lines) finds.next at.read) at.leads
-        at.passed.steps at.passed.is_split in
+        at.passed.steps at.passed.is_split script at.comes in
         let here = standing_behind at.here (events_of at.here ran.line) in
         let before = at.passed in
         let one : ScriptStep = line_step (line_outcome at.here.format at.here.state ran.line) in
@@ -297,6 +315,7 @@ module _ (there : Standing) (run : ScriptRun) (start : List Content) (held_start
               length-append before.steps (one ∷ []),
             );
           };
+          comes = behind.comes;
         }
 
     -- The bytes that are taken when its line was looked for, the text of all lines before it being printed.
@@ -354,7 +373,7 @@ module _ (there : Standing) (run : ScriptRun) (start : List Content) (held_start
 
     -- The end is found: the close is left.
     pub end_found : FindsEnd old new (old.unread ++ left) (new.unread ++ later)
-        → IsAtClose there run start held_start found parts now held
+        → IsAtClose there run script start held_start found parts now held
     end_found finds = record {
       here = at.here;
       device = at.device;
@@ -362,6 +381,8 @@ module _ (there : Standing) (run : ScriptRun) (start : List Content) (held_start
           (at_most_is (old.taken + length (old.unread ++ left)) finds.within)
           number found held at.lines
           (subst (λ (l : List (List ℕ)). AllZip IsReadAs l at.lines) finds.none at.read) at.leads;
+      comes = comes_at_end script at.here at.lines
+          (subst (λ (l : List (List ℕ)). AllZip IsReadAs l at.lines) finds.none at.read) at.comes;
     }
       where
         at_most_is : (n : ℕ) → n ≤ most_script → ltb most_script n ≡ false
@@ -508,7 +529,7 @@ module _ (w : Standing) (run : ScriptRun) (script : List ℕ) (start : List Cont
 
   pub turn_ended : (before after : Option (List ℕ)) (more : Bool) → StandsAt before
       → Advances before after (Ok more)
-      → more ≡ false → IsAtClose w run start held_start found parts now held
+      → more ≡ false → IsAtClose w run script start held_start found parts now held
   turn_ended None after more at advanced is = absurd at
   turn_ended (Some left) None more at advanced is = absurd (advanced left refl)
   turn_ended (Some left) (Some later) true at advanced is = absurd (cc)

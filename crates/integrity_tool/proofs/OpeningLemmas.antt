@@ -9,6 +9,7 @@ use Rattle.disk_model.proofs.MomentsLemmas.{EachMoment-kept, EachMoment-then, Ea
 use Rattle.device_model.specs.Device.{DeviceKind}
 use Rattle.device_model.specs.Ending.{Ending, DiskFailed, NoMemory}
 use Rattle.device_model.specs.Mode as Modes
+use Rattle.device_model.proofs.HistoryLemmas.{Any-nil}
 use Rattle.device_model.specs.ScriptRun.{ScriptRun, IsRunOf, changes_in}
 use Rattle.image_model.specs.Geometry.{Geometry}
 use Rattle.place_model.specs.Kind.{kind_in}
@@ -22,11 +23,13 @@ use Rattle.device.specs.declared.opening.OpenMode.{OpenMode}
 use Rattle.device.specs.declared.opening.OpenMode.TheVariants.{Bitmap, Direct, Journal}
 use Rattle.device.specs.Opening.{IsRefused, LeavesOpening, WritesInOpening, asked_mode, fault_in_mode}
 use Rattle.device_parts.specs.Device.{opened_standing}
+use Rattle.device.specs.Tags.{AreOfOthers, IsLeftOut, KeepsTagsOf}
 use Rattle.device.specs.Writes.{IsOfRun}
+use Rattle.device.proofs.TagsLemmas.{tags_fewer}
 use Rattle.device.proofs.RunLemmas.{EachMoment-both}
 use Rattle.command_ending.specs.Ended.{ending_of}
 use Rattle.command_model.specs.CommandRun.{Outset, RunsOn, IsRunAt, MayBeLeftAt}
-use Rattle.integrity_tool.specs.Opening.{HasReadIn, HasRunOn, IsMomentOn, IsOfOpeningIn, IsOpenedTo, WritesOnlyBy}
+use Rattle.integrity_tool.specs.Opening.{HasReadIn, HasRunOn, IsMomentOn, IsOfOpeningIn, IsOpenedTo, KeepsClearTags, WritesOnlyBy}
 use Rattle.integrity_tool.specs.Outset.{geometry_on, outset_by, outset_on}
 use Rattle.integrity_tool.specs.Refusing.{ended_by_opening, ending_by_refusal}
 use Rattle.integrity_tool.specs.Running.{HasReadTo, IsStopped}
@@ -60,6 +63,14 @@ written_in Direct key sectors start told writes =
     EachMoment-both (each_from _ start told writes.recovers) (each_from _ start told writes.keeps)
 written_in Journal key sectors start told writes = each_from _ start told writes
 written_in (Bitmap consent) key sectors start told writes = each_from _ start told writes
+
+-- An opening in bitmap mode writes nothing, so all tags stand.
+tags_opened : (mode : Modes.Mode) (g : Geometry) (run : ScriptRun) (start opened : Content) → IsOfOpeningIn mode g start opened
+    → KeepsClearTags mode g run start opened
+tags_opened Modes.Bitmap g run start opened of = inl (inr of)
+tags_opened Modes.Journal g run start opened of = inr tt
+tags_opened Modes.Direct g run start opened of = inr tt
+tags_opened Modes.Recovery g run start opened of = inr tt
 
 -- ---- the opening
 
@@ -101,6 +112,7 @@ module _ (law : OpensLaw) (bitmap : BitmapOpensLaw) (mode : OpenMode) (key : Opt
           opened = c;
           opening = inr of;
           behind = OnlyAdds-none (IsOfRun (asked_mode mode) g (changes_in run.steps)) c;
+          tags = tags_opened (asked_mode mode) g run start c of;
         })
         (written_in mode key disk.sectors start told leaves.writes)
     writes_by run (Some refusal) is = untouched_through start told (leaves.refused start told refusal is)
@@ -179,12 +191,21 @@ module _ (law : OpensLaw) (bitmap : BitmapOpensLaw) (mode : OpenMode) (key : Opt
           (EachMoment-weaker (λ c of. inr of) (written_in mode key disk.sectors start told leaves.writes))
           (at_told (IsOpenedTo (asked_mode mode) g start) a start told (inl refl))
 
+      -- No block has a write where the device was opened, so the tags of those stand that the run does not write.
+      tags_behind : EachMoment b after (KeepsTagsOf (asked_mode mode) (AreOfOthers (changes_in run.steps)) g image)
+      tags_behind =
+          EachMoment-weaker
+          (tags_fewer (asked_mode mode) (IsLeftOut (kind.opened image).history (changes_in run.steps)) (AreOfOthers (changes_in run.steps)) g image
+          (λ block others. record { before = λ any. Any-nil (λ write. write.block ≡ block) any; since = others }))
+          stopped.others.tags
+
       writes_behind : (opened : Option Content) → content_now b ≡ opened
           → EachMoment b after (WritesOnlyBy (RunsOn kind image) g run start)
-      writes_behind None none = EachMoment-weaker (λ c from. absurd (rw none at from)) stopped.writes
+      writes_behind None none = EachMoment-weaker (λ c from. absurd (rw none at from)) stopped.others.sectors
       writes_behind (Some opened) is =
-          EachMoment-weaker (λ c adds. record { opened = opened; opening = opened_to opened is; behind = adds })
-          (each_from _ opened is stopped.writes)
+          EachMoment-weaker
+          (λ c both. record { opened = opened; opening = opened_to opened is; behind = both.0; tags = inr both.1 })
+          (EachMoment-both (each_from _ opened is stopped.others.sectors) tags_behind)
 
       ran_moments : EachMoment b after (IsMomentOn mode key disk.sectors start script)
       ran_moments =

@@ -32,9 +32,9 @@ use Rattle.device.specs.Device.{IsDevice, kind_of}
 use Rattle.device_parts.specs.Device.{Standing}
 use Rattle.device.proofs.ModeLemmas.{left_now}
 use Rattle.device.specs.Run.{IsLeftWithin, standing_behind}
-use Rattle.device.specs.Writes.{WritesOnly}
+use Rattle.device.specs.Tags.{Leaves}
 use Rattle.device.proofs.RunLemmas.{left-behind, left-wider}
-use Rattle.device.proofs.WritesLemmas.{WritesOnly-left, WritesOnly-then}
+use Rattle.device.proofs.TagsLemmas.{leaves_all, leaves_left, leaves_then}
 use Rattle.script_session.specs.declared.tags_found.TagsFound.{TagsFound}
 use Rattle.script_session.specs.declared.line_end.LineEnd.{LineEnd}
 use Rattle.script_session.specs.declared.line_end.LineEnd.TheVariants as Ends
@@ -143,9 +143,8 @@ stopped_further w line found parts a b held_a held_b ran rest ending c held_c st
       changes = step.changes ++ stopped.changes;
       ended = ended_further step rest stopped.text stopped.changes ending stopped.ended;
       since = EachMoment-then (EachMoment-weaker wider ran.run.since) (EachMoment-weaker behind stopped.since);
-      writes = subst (λ (l : List Change). WritesOnly w.format.mode w.on.geometry l a c) (sym all)
-          (WritesOnly-then w.format.mode w.on.geometry step.changes (changes_in rest.steps) ran.run.writes
-          stopped.writes);
+      others = subst (λ (l : List Change). Leaves w l a c) (sym all)
+          (leaves_then w there.state step.changes (changes_in rest.steps) history ran.run.others stopped.others);
       now = subst (λ (y : History). IsLeftNow kind w.entry y c)
           (ap (with_changes stopped.changes) history
           ∙ sym (fold-append with_change h step.changes stopped.changes))
@@ -209,7 +208,7 @@ stopped_before w condition parts a is rest ending held came prints outside = rec
   changes = [];
   ended = inr (record { came = came; whole_steps = λ other. (0, refl); short = prints; outside = outside });
   since = no_moment a _;
-  writes = no_moment a _;
+  others = leaves_all w (changes_in rest.steps) refl;
   now = left_now w condition parts.mode parts.common a is;
   told = told_nothing held;
 }
@@ -234,7 +233,7 @@ stopped_by_itself w condition parts a is rest ending held only =
       changes = [];
       ended = inl (record { whole = record { is_text = refl; is_changes = refl }; is = refl });
       since = no_moment a _;
-      writes = no_moment a _;
+      others = leaves_all w [] refl;
       now = left_now w condition parts.mode parts.common a is;
       told = told_nothing held;
     })
@@ -267,12 +266,12 @@ module _ (w : Standing) (condition : Condition) (parts : DeviceParts) (a : List 
       (sym (ap (λ (r : ScriptRun). changes_in r.steps) (split runnable) ∙ (run_is_whole step behind).1))
       (left-wider (kind_of w) w.entry w.state.history step.changes (changes_in behind.steps) x left)) since
 
-  writes_line : meaning_fault w.format w.state.progress line ≡ None
-      → WritesOnly w.format.mode w.on.geometry step.changes a b → WritesOnly w.format.mode w.on.geometry (changes_in run.steps) a b
-  writes_line runnable writes =
-      subst (λ (l : List Change). WritesOnly w.format.mode w.on.geometry l a b)
+  others_of_line : meaning_fault w.format w.state.progress line ≡ None
+      → Leaves w step.changes a b → Leaves w (changes_in run.steps) a b
+  others_of_line runnable others =
+      subst (λ (l : List Change). Leaves w l a b)
       (sym (ap (λ (r : ScriptRun). changes_in r.steps) (split runnable) ∙ (run_is_whole step behind).1))
-      (WritesOnly-left w.format.mode w.on.geometry step.changes (changes_in behind.steps) writes)
+      (leaves_left w step.changes (changes_in behind.steps) others)
 
   -- What is left of a line that is cut off is so by some of its first changes.
   record IsCutTo : Type 0 where
@@ -310,7 +309,7 @@ module _ (w : Standing) (condition : Condition) (parts : DeviceParts) (a : List 
           outside = outside;
         });
         since = since_line cut.runnable cut.cut.since;
-        writes = writes_line cut.runnable cut.cut.writes;
+        others = others_of_line cut.runnable cut.cut.others;
         now = to.left;
         told = cut.told ∙ told_nothing held_a;
       }
@@ -335,7 +334,7 @@ module _ (w : Standing) (condition : Condition) (parts : DeviceParts) (a : List 
       outside = tt;
     });
     since = since_line half.runnable half.run.since;
-    writes = writes_line half.runnable half.run.writes;
+    others = others_of_line half.runnable half.run.others;
     now = subst (λ (y : History). IsLeftNow (kind_of w) w.entry y b)
         (history-after w.format w.state (events_of w line))
         (left_now (standing_behind w (events_of w line)) Working parts_b.mode parts_b.common b half.run.device);

@@ -49,6 +49,7 @@ use Rattle.integrity_tool.specs.Top.{Given, HasMomentsIn, IsGiven, IsKeyRefusal,
 use Rattle.script_reader.specs.Reading.{most_piece}
 use Rattle.command_model.specs.CommandRun.{Exercising, Making, Outset, RefusedBy, RunsOn, Prints, Makes, Exercises, ReadsOn, Changes, Changing, IsLeftOfChanging, IsComplete, IsFromOutside, IsEndedShort, IsLeftAt, IsLeftOfExercise, IsLeftOfMaking, IsRunAt, IsUntouched, MayBeLeftAt, only_prints}
 use Rattle.integrity_tool.specs.Opening.{HasReadIn, HasRunOn, IsMomentOf}
+use Rattle.integrity_tool.specs.Closed.{IsClosedAt, IsClosedFor, IsClosedUnder}
 use Rattle.integrity_tool.specs.Order.{HasMomentsAt, IsInOrderAt, IsInOrderFor, IsInOrderUnder}
 use Rattle.integrity_tool.specs.Running.{HasReadTo, HoldsText}
 use Rattle.integrity_tool.proofs.RunningLemmas.{complete_prints, told_further, told_nothing}
@@ -645,6 +646,20 @@ module _ (given : Given) (words : List (List ℕ)) (keys : List ℕ → Option (
                 (subst (λ (m : List Content). IsInOrderAt asked.task key sectors mid m) (sym at_end) runs.1.order))));
           },
         )
+
+    -- What its close leaves is so of the command's.
+    pub closed_given : (key : Option (List ℕ)) → IsKeyed (key_file_of asked.hash) keys (HasHash key) → (sectors : ℕ)
+        (mid after : List Content) (later : NamedDisk) → image ≡ record { sectors = sectors; moments = mid } → later.moments ≡ after
+        → HasNow (IsClosedAt asked.task key sectors (last_image given.content) given.script) after
+        → HasNow (IsClosedFor (asked_of given.words) given.key_bytes given.sectors (last_image given.content) given.script) later.moments
+    closed_given key keyed sectors mid after later there at_end closed =
+        let entry : Image = last_image given.content in
+        subst (λ (o : Option Asked). HasNow (IsClosedFor o given.key_bytes given.sectors entry given.script) later.moments) (sym (ap asked_of is.words_are ∙ asks))
+        (subst (λ (told : Result (Option (List ℕ)) KeyRefusal). HasNow (IsClosedUnder asked.task told given.sectors entry given.script) later.moments)
+        (sym (keyed given.key_bytes has_key))
+        (subst (λ (n : ℕ). HasNow (IsClosedAt asked.task key n entry given.script) later.moments)
+        (sym (is.sectors ∙ ap (λ (n : NamedDisk). n.sectors) there))
+        (subst (λ (m : List Content). HasNow (IsClosedAt asked.task key sectors entry given.script) m) (sym at_end) closed)))
 
     -- What is taken of its script is so of the command's.
     pub read_given : (key : Option (List ℕ)) → IsKeyed (key_file_of asked.hash) keys (HasHash key) → (sectors : ℕ)

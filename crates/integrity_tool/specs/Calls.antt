@@ -129,7 +129,7 @@ abbrev pub RunsLines : {D S O E : Type 0} → (D → List Content) → (S → Op
 RunsLines moments left held result old new first last script sink out = IfOk result (λ found. (w : Standing)
     (bytes : List ℕ) (run : ScriptRun) → IsDevice w Working old (moments first) → left script ≡ Some bytes
     → IsRunOf w.format w.state bytes run
-    → IsAtClose w run (moments first) (held sink) found new (moments last) (held out))
+    → IsAtClose w run bytes (moments first) (held sink) found new (moments last) (held out))
 
 -- or this has stopped the run.
 abbrev pub StopsLines : {T D S O : Type 0} → (D → List Content) → (S → Option (List ℕ)) → (O → Option (List ℕ))

@@ -13,7 +13,7 @@ use Rattle.device_parts.specs.Device.{Standing, opened_standing}
 use Rattle.device.specs.declared.mode.DeviceParts.{DeviceParts}
 use Rattle.device.specs.Device.{IsDevice, kind_of}
 use Rattle.device.specs.Run.{IsLeftWithin}
-use Rattle.device.specs.Writes.{WritesOnly}
+use Rattle.device.specs.Tags.{Leaves}
 use Rattle.stream_io.specs.Stream.{AddsPrefix}
 use Rattle.script_session.specs.declared.stop.Stop.{Stop}
 use Rattle.script_session.specs.declared.stop.Stop.TheVariants as Stops
@@ -47,7 +47,7 @@ pub record IsExercised (w : Standing) (count seed : ℕ) (counted : Result Tally
   pub is_counted : HasCounted w count seed counted changes
   pub since : EachMoment before after
       (IsLeftWithin (kind_of w) w.entry w.state.history (exercise_changes w count seed))
-  pub writes : WritesOnly w.format.mode w.on.geometry (exercise_changes w count seed) before after
+  pub others : Leaves w (exercise_changes w count seed) before after
   pub now : IsLeftNow (kind_of w) w.entry (with_changes changes w.state.history) after
 
 -- What was counted, or what ends a command whose exercise is stopped.

@@ -9,6 +9,7 @@ use Rattle.device_model.specs.Mode.{Journal}
 use Rattle.image_model.specs.declared.geom_fault.GeomFault.{GeomFault}
 use Rattle.place_model.specs.Format.{format_on}
 use Rattle.place_model.specs.Kind.{CanOpenIn, kind_in}
+use Rattle.image_formatting.specs.declared.new_image.ImageMode.TheVariants as image_modes
 use Rattle.image_formatting.specs.declared.new_image.NewImage.{NewImage}
 use Rattle.image_formatting.specs.declared.new_image.Padding.TheVariants.{Fixed}
 use Rattle.image_formatting.specs.declared.new_image.Wipe.TheVariants.{Wiped}
@@ -22,6 +23,7 @@ exercise_image = record {
   tag_size = 32;
   log2_spb = 0;
   log2_interleave = 3;
+  mode = image_modes.Journal;
   sections = 4;
   log2_region = 15;
   salt = None;

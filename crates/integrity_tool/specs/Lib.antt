@@ -5,6 +5,7 @@ pub mod Lines
 pub mod Opening
 pub mod Order
 pub mod Outset
+pub mod Closed
 pub mod Running
 pub mod Top
 pub mod Calls

@@ -15,7 +15,8 @@ use Rattle.device.specs.declared.mode.DeviceParts.{DeviceParts}
 use Rattle.device.specs.Device.{IsDevice, kind_of}
 use Rattle.device_parts.specs.Device.{Standing}
 use Rattle.device.specs.Run.{IsLeftWithin}
-use Rattle.device.specs.Writes.{WritesOnly}
+use Rattle.device.specs.Tags.{Leaves}
+use Rattle.integrity_tool.specs.Closed.{ComesTo}
 use Rattle.script_reader.specs.Lines.{lines_left}
 use Rattle.script_reader.specs.Reading.{HasNoNewline, Reading, most_piece}
 use Rattle.script_session.specs.declared.tags_found.TagsFound.{TagsFound}
@@ -41,7 +42,7 @@ pub record IsStopped (w : Standing) (rest : ScriptRun) (ending : Ending) (before
   pub ended : IsEndedBy rest text changes ending
   pub since : EachMoment before after
       (IsLeftWithin (kind_of w) w.entry w.state.history (changes_in rest.steps))
-  pub writes : WritesOnly w.format.mode w.on.geometry (changes_in rest.steps) before after
+  pub others : Leaves w (changes_in rest.steps) before after
   pub now : IsLeftNow (kind_of w) w.entry (with_changes changes w.state.history) after
   pub told : held ≡ held_with text held_before
 
@@ -91,17 +92,20 @@ pub record IsAt (there : Standing) (run : ScriptRun) (script : List ℕ) (start 
   pub passed : IsPassed run
       (run_from here.format (is_beyond reader left) number here.state (finds_fault found) lines) script held_start
       reader left held
+  pub comes : ComesTo there script here lines
 
 -- What is left of a run where no line is: the close.
 abbrev pub only_close : Standing → TagsFound → ScriptRun
 only_close w found = with_step (close_step w.format w.state) (only_ends (Complete (finds_fault found)))
 
 -- All lines are run: the close is left.
-pub record IsAtClose (there : Standing) (run : ScriptRun) (start : List Content) (held_start : Option (List ℕ))
-    (found : TagsFound) (parts : DeviceParts) (now : List Content) (held : Option (List ℕ)) : Type 0 where
+pub record IsAtClose (there : Standing) (run : ScriptRun) (script : List ℕ) (start : List Content)
+    (held_start : Option (List ℕ)) (found : TagsFound) (parts : DeviceParts) (now : List Content)
+    (held : Option (List ℕ)) : Type 0 where
   pub here : Standing
   pub device : IsDevice here Conditions.Working parts now
   pub leads : Leads here (only_close here found) now held there run start held_start
+  pub comes : ComesTo there script here []
 
 -- ---- causes
 

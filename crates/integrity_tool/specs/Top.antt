@@ -4,7 +4,7 @@ use Rattle.std.specs.Option.{ForSome, IsSomeAnd}
 use Rattle.disk_model.specs.Causes.{Rose}
 use Rattle.disk_model.specs.Disk.{Content, last_image}
 use Rattle.disk_model.specs.Identity.{NamedDisk}
-use Rattle.disk_model.specs.Moments.{content_now, EachMoment}
+use Rattle.disk_model.specs.Moments.{content_now, EachMoment, HasNow}
 use Rattle.command_ending.specs.declared.ended.Ended.{Ended}
 use Rattle.command_ending.specs.declared.ended.Ended.TheVariants as Endings
 use Rattle.integrity_tool.specs.Words.{asked_of, image_name, key_file_of_asked}
@@ -12,6 +12,7 @@ use Rattle.device_model.specs.Ending.{Ending, Complete, RefusedWords, RefusedKey
 use Rattle.device_model.specs.Ending.{DiskFailed, KeyFailed, ScriptFailed, SinkFailed, NoMemory}
 use Rattle.command_model.specs.CommandRun.{Outset, RefusedBy, RunsOn, Prints, Makes, Exercises, ReadsOn, Changes, Tells}
 use Rattle.integrity_tool.specs.KeyFile.{HasFile}
+use Rattle.integrity_tool.specs.Closed.{IsClosedFor}
 use Rattle.integrity_tool.specs.Opening.{HasReadIn, HasRunOn, IsMomentOf}
 use Rattle.integrity_tool.specs.Order.{IsInOrderFor}
 use Rattle.integrity_tool.specs.Outset.{geometry_on, outset_of}
@@ -147,6 +148,14 @@ abbrev pub PassesGiven : {D K S : Type 0} → List (List ℕ) → (D → List �
 PassesGiven words named keys left first last key script = (given : Given)
     → IsGiven words (keys key) (named first (image_name words)) (left script) given
     → HasMomentsIn given (named first (image_name words)).moments (named last (image_name words)).moments
+
+-- Where it runs a script that comes to its end, the close leaves each image with the bits that it is to leave.
+abbrev pub ClosesGiven : {D K S : Type 0} → List (List ℕ) → (D → List ℕ → NamedDisk) → (K → List ℕ → Option (List ℕ))
+    → (S → Option (List ℕ)) → (first last : D) → K → S → Type 0
+ClosesGiven words named keys left first last key script = (given : Given)
+    → IsGiven words (keys key) (named first (image_name words)) (left script) given
+    → HasNow (IsClosedFor (asked_of given.words) given.key_bytes given.sectors (last_image given.content) given.script)
+    (named last (image_name words)).moments
 
 -- A key that is refused is so before the disk is called, and before the script is read.
 abbrev pub RefusesKeyFirst : {D K S : Type 0} → List (List ℕ) → (D → List ℕ → NamedDisk)

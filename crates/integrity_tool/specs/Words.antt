@@ -18,6 +18,8 @@ use Rattle.command_words.specs.declared.values.Consent as words_consent
 use Rattle.command_words.specs.declared.values.Consent.TheVariants as consents
 use Rattle.command_words.specs.declared.values.HashChoice.{HashChoice}
 use Rattle.command_words.specs.declared.values.HashChoice.TheVariants.{Sha256, HmacSha256}
+use Rattle.command_words.specs.declared.values.ImageMode as words_mode
+use Rattle.command_words.specs.declared.values.ImageMode.TheVariants as image_modes
 use Rattle.command_words.specs.declared.values.Mode.{Mode}
 use Rattle.command_words.specs.declared.values.Mode.TheVariants as modes
 use Rattle.command_words.specs.declared.values.Padding as words
@@ -26,6 +28,8 @@ use Rattle.command_words.specs.declared.values.Wipe as words_wipe
 use Rattle.command_words.specs.declared.values.Wipe.TheVariants as wipes
 use Rattle.image_check.specs.declared.bad.What.{What}
 use Rattle.image_check.specs.declared.bad.What.TheVariants.{Cells, Placed}
+use Rattle.image_formatting.specs.declared.new_image.ImageMode.{ImageMode}
+use Rattle.image_formatting.specs.declared.new_image.ImageMode.TheVariants as new_modes
 use Rattle.image_formatting.specs.declared.new_image.NewImage.{NewImage}
 use Rattle.image_formatting.specs.declared.new_image.Padding.{Padding}
 use Rattle.image_formatting.specs.declared.new_image.Padding.TheVariants.{Fixed, Legacy}
@@ -46,6 +50,10 @@ abbrev pub padding_as : words.Padding → Padding
 padding_as paddings.Fixed = Fixed
 padding_as paddings.Legacy = Legacy
 
+abbrev pub image_mode_as : words_mode.ImageMode → ImageMode
+image_mode_as image_modes.Journal = new_modes.Journal
+image_mode_as image_modes.Bitmap = new_modes.Bitmap
+
 abbrev pub wipe_as : words_wipe.Wipe → Wipe
 wipe_as wipes.Zeros = Wiped
 wipe_as wipes.Nothing = Kept
@@ -59,6 +67,7 @@ new_image_of format = record {
   log2_region = format.log2_blocks_per_bit;
   salt = format.salt;
   padding = padding_as format.padding;
+  mode = image_mode_as format.mode;
   wipe = wipe_as format.wipe;
 }
 

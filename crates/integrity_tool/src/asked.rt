@@ -2,13 +2,13 @@
 ghost use Rattle.std.specs.Prelude.{◌≡◌, ◌⊎◌, Err, IfErr, IfOk, None, Some, map};
 ghost use Rattle.std.specs.String.{string_bytes};
 ghost use Rattle.command_ending.specs.declared.ended.Ended.TheVariants as Endings;
-ghost use Rattle.integrity_tool.specs.Words.{IsTask, asked_by, asked_of, check_asked, consent_as, dump_asked, exercise_asked, format_asked, mode_as, new_image_of, padding_as, run_asked, what_as, wipe_as};
+ghost use Rattle.integrity_tool.specs.Words.{IsTask, asked_by, asked_of, check_asked, consent_as, dump_asked, exercise_asked, format_asked, image_mode_as, mode_as, new_image_of, padding_as, run_asked, what_as, wipe_as};
 ghost use Rattle.image_formatting.specs.NewImage.{IsNewImage};
 
 use command_ending::Ended;
 use command_words::{
-    Check, Checked, Command, Consent, Dump, Exercise, FileName, Format, HashChoice, Mode, Padding,
-    Run, Wipe, WordsFault, parse,
+    Check, Checked, Command, Consent, Dump, Exercise, FileName, Format, HashChoice, ImageMode,
+    Mode, Padding, Run, Wipe, WordsFault, parse,
 };
 use device::OpenMode;
 use image_check::What;
@@ -185,6 +185,7 @@ fn new_image(format: &Format) -> NewImage
         log2_region: format.log2_blocks_per_bit.number() as u8,
         salt: format.salt,
         padding: padding(format.padding),
+        mode: image_mode(format.mode),
         wipe: wipe(format.wipe),
     }
 }
@@ -196,6 +197,16 @@ fn padding(padding: Padding) -> image_formatting::Padding
     match padding {
         Padding::Fixed => image_formatting::Padding::Fixed,
         Padding::Legacy => image_formatting::Padding::Legacy,
+    }
+}
+
+/// The same mode.
+fn image_mode(mode: ImageMode) -> image_formatting::ImageMode
+    ensures { result ≡ image_mode_as mode }
+{
+    match mode {
+        ImageMode::Journal => image_formatting::ImageMode::Journal,
+        ImageMode::Bitmap => image_formatting::ImageMode::Bitmap,
     }
 }
 

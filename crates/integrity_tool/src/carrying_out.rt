@@ -3,6 +3,7 @@ ghost use Rattle.std.specs.Prelude.{◌≡◌, IfErr};
 ghost use Rattle.disk_model.specs.Identity.{IsBound};
 ghost use Rattle.hmac_tag.specs.TagMaker.{key_of};
 ghost use Rattle.integrity_tool.specs.Calls.{HasCauseOfRun, IsCountedInRun, LeavesScript, ReadsOnlyRun, RunsAsked};
+ghost use Rattle.integrity_tool.specs.Closed.{ClosesTask};
 ghost use Rattle.integrity_tool.specs.Opening.{EndsImage};
 ghost use Rattle.integrity_tool.specs.Outset.{outset_at};
 ghost use Rattle.integrity_tool.specs.Running.{HasTaken, ending_by};
@@ -44,6 +45,7 @@ pub(crate) fn carry_out<D: Disk, S: Source, O: Sink>(
 
     ensures runs { RunsAsked D.identity D.moments S.left O.held task (key_of hash) (ending_by result)
         disk.old disk.new script.old out.old out.new }
+    ensures closed { ClosesTask D.identity D.moments S.left task (key_of hash) result disk.old disk.new script.old }
 
     ensures ends { IfErr result EndsImage }
     ensures cause { HasCauseOfRun D.faults S.faults O.faults result

@@ -59,12 +59,16 @@ pub(crate) fn print_check<D: Disk, O: Sink>(
         Ok(image) => image,
         Err(fault) => return Err(ended_by_opening(fault)),
     };
+    // They are counted before a line is printed, so that a failed disk leaves no list without its last line but where a
+    // block was not read.
+    let Ok(awaiting) = image.count_awaiting(disk) else {
+        return Err(Ended::Disk);
+    };
     let bad = match print_bad(disk, &mut image, out) {
         Ok(bad) => bad,
         Err(ended) => return Err(ended),
     };
-    // No block awaits its tag, since an image with a bitmap is refused.
-    match put_counts(out, image.blocks(), bad, 0) {
+    match put_counts(out, image.blocks(), bad, awaiting) {
         Ok(()) => Ok(tags_found(bad)),
         Err(_) => Err(Ended::Sink),
     }

@@ -1,7 +1,8 @@
 //! The end of a run that has come to its last line: the device is closed, and that is printed.
 ghost use Rattle.std.specs.Prelude.{◌≡◌, Err};
 ghost use Rattle.disk_model.specs.Causes.{Rose};
-ghost use Rattle.device.specs.Calls.{Works};
+ghost use Rattle.device_parts.specs.declared.condition.Condition.TheVariants.{Working};
+ghost use Rattle.device.specs.Calls.{LeavesAtRest, Works};
 ghost use Rattle.integrity_tool.specs.Closing.{HasCloseCounts, StopsAtClose, fault_ended};
 
 use command_ending::Ended;
@@ -46,6 +47,8 @@ pub(crate) fn close<'d, 'p, D: Disk, O: Sink>(
 
     ensures stopped { StopsAtClose D.moments O.held found result.0 device.entry.parts
         device.entry.disk.now result.1.now out.old out.new }
+    ensures rests { LeavesAtRest result.0 Working device.entry.parts
+        (D.moments device.entry.disk.now) (D.moments result.1.now) }
 
     ensures disk { result.0 ≡ Err CloseFault.Disk
         → Rose (D.faults device.entry.disk.now) (D.faults result.1.now) }

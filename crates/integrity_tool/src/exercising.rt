@@ -21,7 +21,7 @@ use command_ending::Ended;
 use device::{Device, OpenMode};
 use device_exercise::exercise;
 use hmac_tag::Hash;
-use image_formatting::{NewImage, Padding, Wipe, format, new_image_opens};
+use image_formatting::{ImageMode, NewImage, Padding, Wipe, format, new_image_opens};
 use image_judging::images_that_open_have_no_fault;
 use script_session::{Stop, TagsFound};
 use sector_disk::Disk;
@@ -78,6 +78,7 @@ fn image() -> NewImage
         tag_size: 32,
         log2_spb: 0,
         log2_interleave: 3,
+        mode: ImageMode::Journal,
         sections: 4,
         log2_region: 15,
         salt: None,

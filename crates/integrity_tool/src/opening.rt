@@ -3,6 +3,8 @@ ghost use Rattle.std.specs.Prelude.{◌≡◌, [], IfErr};
 ghost use Rattle.disk_model.specs.Identity.{IsBound};
 ghost use Rattle.hmac_tag.specs.TagMaker.{key_of};
 ghost use Rattle.integrity_tool.specs.Calls.{HasCauseOfRun, IsCountedInRun, ReadsOnlyRun, RunsScript};
+ghost use Rattle.integrity_tool.specs.declared.asked.Task.TheVariants.{Run};
+ghost use Rattle.integrity_tool.specs.Closed.{ClosesTask};
 ghost use Rattle.integrity_tool.specs.Closing.{ended_close};
 ghost use Rattle.integrity_tool.specs.Opening.{EndsImage};
 ghost use Rattle.integrity_tool.specs.Outset.{outset_on};
@@ -44,6 +46,8 @@ pub(crate) fn run_image<D: Disk, S: Source, O: Sink>(
 
     ensures runs { RunsScript D.identity D.moments S.left O.held mode (key_of hash) (ending_by result)
         disk.old disk.new script.old out.old out.new }
+    ensures closed { ClosesTask D.identity D.moments S.left (Run mode) (key_of hash) result
+        disk.old disk.new script.old }
 
     ensures ends { IfErr result EndsImage }
     ensures cause { HasCauseOfRun D.faults S.faults O.faults result
@@ -101,6 +105,8 @@ fn run_device<'d, D: Disk, S: Source, O: Sink>(
 
     ensures runs { RunsScript D.identity D.moments S.left O.held mode (key_of hash) (ending_by ended.new)
         disk.old result.now script.old out.old out.new }
+    ensures closed { ClosesTask D.identity D.moments S.left (Run mode) (key_of hash) ended.new
+        disk.old result.now script.old }
 
     ensures ends { IfErr ended.new EndsImage }
     ensures cause { HasCauseOfRun D.faults S.faults O.faults ended.new

@@ -11,7 +11,7 @@ ghost use Rattle.integrity_tool.specs.Words.{HasNoScript, asked_of, image_name, 
 ghost use Rattle.integrity_tool.specs.KeyFile.{HasReadKey};
 ghost use Rattle.integrity_tool.specs.Calls.{LeavesScript};
 ghost use Rattle.integrity_tool.specs.Running.{HasTaken, IsCounted, ending_by};
-ghost use Rattle.integrity_tool.specs.Top.{EndsWithWords, HasCauseOfCommand, HasStatusBy, IsCountedInCommand};
+ghost use Rattle.integrity_tool.specs.Top.{ClosesGiven, EndsWithWords, HasCauseOfCommand, HasStatusBy, IsCountedInCommand};
 ghost use Rattle.integrity_tool.specs.Top.{KeepsSectors, PassesGiven, ReadsGiven, RefusesKeyFirst, RunsGiven, TellsGiven, TouchesNothing};
 
 use crate::asked::{Task, words_asked};
@@ -52,6 +52,9 @@ pub fn integrity<D: Disk, K: NamedSource, S: Source, O: Sink>(
         disk.old disk.new key.old key.new script.old script.new out.old out.new }
     // What is left at each moment, what is written, and in which order an image is made.
     ensures moments { PassesGiven (map string_bytes words.now) D.named K.named S.left
+        disk.old disk.new key.old script.old }
+    // Which bits of a bitmap the close of a device leaves.
+    ensures closed { result ≤ 1 → ClosesGiven (map string_bytes words.now) D.named K.named S.left
         disk.old disk.new key.old script.old }
 
     // What each status but 0 to 3 comes from, and that no fault is passed over, whether the disk and the streams tell
@@ -115,6 +118,8 @@ fn run<D: Disk, K: NamedSource, S: Source, O: Sink>(
 ) -> Result<TagsFound, Ended>
     ensures runs { RunsGiven (map string_bytes words.now) D.named K.named S.left O.held (ending_by result)
         disk.old disk.new key.old script.old out.old out.new }
+    ensures closed { OnOk result (ClosesGiven (map string_bytes words.now) D.named K.named S.left
+        disk.old disk.new key.old script.old) }
 
     ensures cause { HasCauseOfCommand D.faults K.faults S.faults O.faults result
         disk.old disk.new key.old key.new script.old script.new out.old out.new }

@@ -18,7 +18,7 @@ use Rattle.device_model.proofs.LoopLemmas.{answer-ask, answer-whole}
 use Rattle.device_model.proofs.SubmissionLemmas.{result-working}
 use Rattle.range_lock.specs.declared.ask.Ask.{Ask}
 use Rattle.request_slots.specs.Flight as flight
-use Rattle.request_slots.specs.Flight.{Flight, ask_of, count_in, first_in, is_in_flight, newly_slotted, slot_of}
+use Rattle.request_slots.specs.Flight.{Flight, ask_of, count_in, first_in, is_in_flight, slot_of}
 use Rattle.request_slots.specs.InFlight.{as_answer, as_reply, as_submission, bytes_now, request_with, returned_in, slot_for, slots_of, submit_answer}
 use Rattle.request_slots.specs.Submitting.{answer_by}
 use Rattle.request_slots.specs.Taking.{after_take, reply_by, reply_of, taken_by, without}
@@ -46,7 +46,7 @@ use Rattle.device_parts.specs.Device.{Standing}
 use Rattle.device.proofs.ModeLemmas.{condition_now, flight_now}
 use Rattle.device.specs.Run.{HasBegun, HasFailed, HasRun, standing_behind}
 use Rattle.device.proofs.RunLemmas.{failed_then, failed_wider, run_one, run_then}
-use Rattle.device.proofs.WritesLemmas.{WritesOnly-kept}
+use Rattle.device.proofs.TagsLemmas.{leaves_all}
 use Rattle.device_parts.proofs.TurnLemmas.{slot-is}
 use Rattle.script_session.specs.declared.line_answer.LineAnswer.{LineAnswer}
 use Rattle.script_session.specs.declared.line_answer.LineAnswer.TheVariants as Lines
@@ -81,7 +81,7 @@ pub answered_done : (w : Standing) (event : Event) (answer : Model.Answer) (line
     → IsReplied (reply_in line) (Some answer) → HasAnswered w (event ∷ []) line parts a b
 answered_done w event answer line condition parts a b is works same text found reply =
     answered_run w event answer line parts a b
-    (run_one w event parts a b (subst (λ (x : Condition). HasDone any_mode w event x parts a b) works is.done) (WritesOnly-kept w.format.mode w.on.geometry _ same)) is.answers text found reply
+    (run_one w event parts a b (subst (λ (x : Condition). HasDone any_mode w event x parts a b) works is.done) (leaves_all w _ same)) is.answers text found reply
 
 served_text : (served : Served) → answer_told (served_line served) ≡ answer_text (served_answer served)
 served_text (Serves.Held by) = refl
@@ -373,14 +373,14 @@ module _ (w : Standing) (parts : DeviceParts) (a : List Content) (is : IsDevice 
       ∙ ap (λ (x : Reply). script.reply_text asked.request (as_reply x)) (sym reply_is)
       ∙ ap (λ (q : Asks.Request). script.reply_text q (as_reply reply)) (sym request_is) in
       answered_run w (Take own.ticket) (Model.Replied r (as_reply reply) (returned_in reply)) (Lines.Replied own.first own.count reply) new b b
-      (run_one w (Take own.ticket) new b b (subst (λ (x : Condition). HasDone any_mode w (Take own.ticket) x new b b) works taken.done) (WritesOnly-kept w.format.mode w.on.geometry _ refl)) taken.taken.1 text (reply_found-is reply) (record { asked = r; is = refl })
+      (run_one w (Take own.ticket) new b b (subst (λ (x : Condition). HasDone any_mode w (Take own.ticket) x new b b) works taken.done) (leaves_all w _ refl)) taken.taken.1 text (reply_found-is reply) (record { asked = r; is = refl })
 
 pub untaken_told : (w : Standing) (ticket back : ℕ) (condition : Condition) (new : DeviceParts) (a : List Content)
     → condition ≡ Conditions.Working → HasTaken any_mode w ticket (Err back) condition new a
     → HasAnswered w (Take ticket ∷ []) Lines.NotDone new a a
 untaken_told w ticket back condition new a works taken =
     answered_run w (Take ticket) Model.NotDone Lines.NotDone new a a
-    (run_one w (Take ticket) new a a (subst (λ (x : Condition). HasDone any_mode w (Take ticket) x new a a) works taken.done) (WritesOnly-kept w.format.mode w.on.geometry _ refl)) taken.taken refl refl tt
+    (run_one w (Take ticket) new a a (subst (λ (x : Condition). HasDone any_mode w (Take ticket) x new a a) works taken.done) (leaves_all w _ refl)) taken.taken refl refl tt
 
 -- ---- what stays
 

@@ -8,7 +8,7 @@ ghost use Rattle.device.specs.Device.{IsReady};
 use device::{Device, OpenMode};
 use device_exercise::exercise;
 use hmac_tag::Hash;
-use image_formatting::{NewImage, Padding, Wipe, format};
+use image_formatting::{ImageMode, NewImage, Padding, Wipe, format};
 use script_session::Stop;
 use sector_disk::{Disk, MemDisk};
 use sector_pool::Region;
@@ -21,6 +21,7 @@ const NEW: NewImage = NewImage {
     tag_size: 32,
     log2_spb: 0,
     log2_interleave: 3,
+    mode: ImageMode::Journal,
     sections: 1,
     log2_region: 15,
     salt: None,

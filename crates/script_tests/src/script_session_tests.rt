@@ -3,7 +3,7 @@ ghost use Rattle.disk_model.specs.Identity.{IsBound};
 
 use device::{Device, OpenMode};
 use hmac_tag::Hash;
-use image_formatting::{NewImage, Padding, Wipe, format};
+use image_formatting::{ImageMode, NewImage, Padding, Wipe, format};
 use script_session::{LineEnd, TagsFound, Tickets, run_line};
 use script_text::{Actor, Ask, Line};
 use sector_disk::{Disk, MemDisk};
@@ -17,6 +17,7 @@ const NEW: NewImage = NewImage {
     tag_size: 32,
     log2_spb: 0,
     log2_interleave: 3,
+    mode: ImageMode::Journal,
     sections: 1,
     log2_region: 15,
     salt: None,

@@ -4,7 +4,7 @@ use Rattle.device.proofs.finishing.serve.Goals as goal
 
 pub returns-in-Ok-clause-runs : goal.returns-in-Ok-clause-runs
 returns-in-Ok-clause-runs g c = record {
-  done = λ w is. served_run w c.args.ticket.now _ _ _ _ is c.requires.there (c.serve.ensures.writes c.requires.works.is) c.in-Ok.served
+  done = λ w is. served_run w c.args.ticket.now _ _ _ _ is c.requires.there (c.serve.ensures.writes c.requires.works.is) c.serve.ensures.tags c.in-Ok.served
       (c.in-Ok.ensures.served w (device_works w _ _ _ c.requires.works.is is));
   err = tt;
   keeps = c.in-Ok.ensures.keeps;
@@ -21,7 +21,7 @@ returns-in-Err-clause-runs g c =
     let disk = fault_is_disk c.args.device.now.condition c.in-Err.field-0 c.requires.works.is c.in-Err.ensures.condition.broken in
     record {
       done = tt;
-      err = λ w is. served_failed w c.args.ticket.now _ _ _ _ is c.requires.there (c.serve.ensures.writes c.requires.works.is) c.in-Err.field-0
+      err = λ w is. served_failed w c.args.ticket.now _ _ _ _ is c.requires.there (c.serve.ensures.writes c.requires.works.is) c.serve.ensures.tags c.in-Err.field-0
           (c.in-Err.ensures.served w (device_works w _ _ _ c.requires.works.is is)) disk;
       keeps = c.in-Err.ensures.keeps;
     }

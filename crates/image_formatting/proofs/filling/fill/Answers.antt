@@ -15,19 +15,19 @@ write_zeros-requires-clause-run g c =
 pub returns-in_err-write_zeros-clause-moments : goal.returns-in_err-write_zeros-clause-moments
 returns-in_err-write_zeros-clause-moments g c = fill_head c.args.wipe c.args.format.now.geometry _ c.requires.format.geometry c.write_zeros.ensures.moments
 
-pub returns-in_err-empty-clause-moments : goal.returns-in_err-empty-clause-moments
-returns-in_err-empty-clause-moments g c = fill_journal c.args.wipe c.args.format.now.geometry _ c.requires.format.geometry c.write_zeros.ensures.moments c.empty.ensures.moments
+pub returns-in_err-fill_journal-clause-moments : goal.returns-in_err-fill_journal-clause-moments
+returns-in_err-fill_journal-clause-moments g c = fill_journal c.args.wipe c.args.format.now.geometry _ c.requires.format.geometry c.write_zeros.ensures.moments c.fill_journal.ensures.moments
 
 pub fill_blocks-requires-clause-room : goal.fill_blocks-requires-clause-room
 fill_blocks-requires-clause-room g c = record { zeros = c.requires.room.runs.zeros; tags = c.requires.room.runs.tags }
 
 pub returns-clause-moments : goal.returns-clause-moments
-returns-clause-moments g c = fill_all c.args.wipe c.args.format.now.geometry _ c.requires.format.geometry c.write_zeros.ensures.moments c.empty.ensures.moments c.fill_blocks.ensures.moments
+returns-clause-moments g c = fill_all c.args.wipe c.args.format.now.geometry _ c.requires.format.geometry c.write_zeros.ensures.moments c.fill_journal.ensures.moments c.fill_blocks.ensures.moments
 
 pub returns-clause-filled : goal.returns-clause-filled
 returns-clause-filled g c = on_ok_weaker c.fill_blocks.result (λ blocks.
-    filled_now c.args.wipe c.args.maker.now c.args.format.now.geometry _ c.requires.format.geometry c.in_ok-write_zeros.ensures.written c.empty.ensures.moments c.in_ok-empty.ensures.emptied c.fill_blocks.ensures.moments blocks) c.fill_blocks.ensures.filled
+    filled_now c.args.wipe c.args.maker.now c.args.format.now _ c.requires.format c.in_ok-write_zeros.ensures.written c.fill_journal.ensures.moments c.in_ok-fill_journal.ensures.filled c.fill_blocks.ensures.moments blocks) c.fill_blocks.ensures.filled
 
 pub returns-clause-stays : goal.returns-clause-stays
 returns-clause-stays g c = on_ok_weaker c.fill_blocks.result (λ stays.
-    fill_stays _ _ _ _ c.args.wipe c.args.format.now.geometry _ c.requires.format.geometry c.write_zeros.ensures.moments c.empty.ensures.moments c.fill_blocks.ensures.moments stays) c.fill_blocks.ensures.stays
+    fill_stays _ _ _ _ c.args.wipe c.args.format.now.geometry _ c.requires.format.geometry c.write_zeros.ensures.moments c.fill_journal.ensures.moments c.fill_blocks.ensures.moments stays) c.fill_blocks.ensures.stays

@@ -1,8 +1,11 @@
-use Rattle.image_formatting.proofs.FormattedLawsLemmas.{new_cells_law, new_opens_law}
+use Rattle.image_formatting.proofs.FormattedLawsLemmas.{new_bitmap_law, new_cells_law, new_opens_law}
 use Rattle.image_formatting.proofs.laws.new_image_opens.Goals as goal
 
 pub returns-clause-opens : goal.returns-clause-opens
 returns-clause-opens c = new_opens_law
+
+pub returns-clause-bitmap : goal.returns-clause-bitmap
+returns-clause-bitmap c = new_bitmap_law
 
 pub returns-clause-cells : goal.returns-clause-cells
 returns-clause-cells c = new_cells_law

@@ -15,6 +15,7 @@ use Rattle.integrity_tool.specs.Outset.{outset_at}
 use Rattle.integrity_tool.specs.Running.{HasEndCause, IsCounted, ending_by}
 use Rattle.integrity_tool.specs.Top.{IsBeforeScript}
 use Rattle.integrity_tool.specs.Words.{IsScriptless}
+use Rattle.integrity_tool.proofs.ClosedLemmas.{ok_holds}
 use Rattle.integrity_tool.proofs.TakenLemmas.{none_taken}
 use Rattle.integrity_tool.proofs.TaskLemmas.{cause_found, causes_wider, counted_found, ending_found, ends_found, ends_wider, read_no_script, uncounted, whatever_ended}
 use Rattle.integrity_tool.proofs.carrying_out.carry_out.Goals as goal
@@ -28,6 +29,9 @@ returns-in-Run-clause-runs g c left told start told_start =
     let runs = c.run_image.ensures.runs left told start told_start in
     subst (λ (t : Task). HasRunOn (outset_at t key sectors (last_image start)) start left (ending_by c.run_image.result) after (g.O.Sink.held c.args.out.now) (g.O.Sink.held c.run_image.new.out)
     × HasMomentsAt t key sectors start left before after) (sym c.in-Run.is) (runs.0, record { each = runs.1; order = tt })
+
+pub returns-in-Run-clause-closed : goal.returns-in-Run-clause-closed
+returns-in-Run-clause-closed g c = rw c.in-Run.is c.run_image.ensures.closed
 
 pub returns-in-Run-clause-unread : goal.returns-in-Run-clause-unread
 returns-in-Run-clause-unread g c = (c.run_image.ensures.unread, λ none. absurd (subst IsScriptless c.in-Run.is none))
@@ -47,6 +51,9 @@ returns-in-Dump-clause-runs g c left told start told_start =
           (sym (ap ending_by c.done.ensures ∙ ending_found c.print_image.result)) (c.print_image.ensures.runs left start told_start),
       record { each = EachMoment-kept (IsMomentAt Tasks.Dump key sectors start left) c.print_image.ensures.kept; order = tt },
     )
+
+pub returns-in-Dump-clause-closed : goal.returns-in-Dump-clause-closed
+returns-in-Dump-clause-closed g c = rw c.in-Dump.is (ok_holds _ (λ bytes told start told_start later told_later. tt) c.done.result)
 
 pub returns-in-Dump-clause-ends : goal.returns-in-Dump-clause-ends
 returns-in-Dump-clause-ends g c =
@@ -96,6 +103,9 @@ returns-in-Check-clause-runs g c left told start told_start =
       record { each = EachMoment-kept (IsMomentAt (Tasks.Check what) key sectors start left) c.print_check.ensures.kept; order = tt },
     )
 
+pub returns-in-Check-clause-closed : goal.returns-in-Check-clause-closed
+returns-in-Check-clause-closed g c = rw c.in-Check.is (ok_holds _ (λ bytes told start told_start later told_later. tt) c.print_check.result)
+
 pub returns-in-Check-clause-ends : goal.returns-in-Check-clause-ends
 returns-in-Check-clause-ends g c = ends_wider c.print_check.result c.print_check.ensures.ends
 
@@ -134,6 +144,9 @@ returns-in-Format-clause-runs g c left told start told_start =
           (sym (ap ending_by c.done-in-Format.ensures ∙ ending_found c.make_image.result)) (c.make_image.ensures.runs left start told_start),
       c.make_image.ensures.moments left start told_start,
     )
+
+pub returns-in-Format-clause-closed : goal.returns-in-Format-clause-closed
+returns-in-Format-clause-closed g c = rw c.in-Format.is (ok_holds _ (λ bytes told start told_start later told_later. tt) c.done-in-Format.result)
 
 pub returns-in-Format-clause-ends : goal.returns-in-Format-clause-ends
 returns-in-Format-clause-ends g c =
@@ -182,6 +195,9 @@ returns-in-Exercise-clause-runs g c left told start told_start =
       c.exercise_image.ensures.runs left start told_start,
       record { each = moments.each; order = moments.order },
     )
+
+pub returns-in-Exercise-clause-closed : goal.returns-in-Exercise-clause-closed
+returns-in-Exercise-clause-closed g c = rw c.in-Exercise.is (ok_holds _ (λ bytes told start told_start later told_later. tt) c.exercise_image.result)
 
 pub returns-in-Exercise-clause-ends : goal.returns-in-Exercise-clause-ends
 returns-in-Exercise-clause-ends g c = ends_wider c.exercise_image.result c.exercise_image.ensures.ends

@@ -1,10 +1,10 @@
 use Rattle.std.proofs.Common.{List, Err, sym, ap, subst, is_err}
 use Rattle.disk_model.specs.Disk.{Content}
 use Rattle.disk_model.proofs.MomentsLemmas.{EachMoment-weaker}
-use Rattle.device.proofs.EventWritesLemmas.{close_writes}
+use Rattle.device.proofs.LeavesLemmas.{close_leaves}
 use Rattle.integrity_tool.specs.Exercised.{IsExercised}
 use Rattle.integrity_tool.proofs.ClosingLemmas.{closed_device, failed_device, in_condition}
-use Rattle.integrity_tool.proofs.ExercisingLemmas.{exercise_closed, exercise_stopped, exercise_unclosed, last, there, within_first, writes_first}
+use Rattle.integrity_tool.proofs.ExercisingLemmas.{exercise_closed, exercise_stopped, exercise_unclosed, last, there, within_first, others_first}
 use Rattle.script_session.specs.declared.stop.Stop.TheVariants as Stops
 use Rattle.integrity_tool.proofs.exercising.exercise_device.Goals as goal
 
@@ -16,10 +16,10 @@ returns-in-Ok-default-clause-exercised g c w is =
     let ran = c.in-Ok.ensures.ran w is in
     let works = c.in-Ok.ensures.turn.0 (λ disk. absurd (cc)) in
     let at = there w count seed in
-    let writes = close_writes at device.parts.common _ device.parts.mode ran.run.device (last w count seed) (c.close.ensures.writes works) in
+    let others = close_leaves at device.parts.common _ device.parts.mode ran.run.device (last w count seed) (c.close.ensures.writes works) c.close.ensures.tags in
     let ended = closed_device at _ _ c.close.result.0 (ap is_err c.in-Ok-default.is-0)
     (c.close.ensures.closed at (in_condition at _ _ device.parts _ works ran.run.device)) in
-    exercise_closed w count seed device.parts _ _ _ ran.run writes c.in-Ok.tally ran.tally_ ended
+    exercise_closed w count seed device.parts _ _ _ ran.run others c.in-Ok.tally ran.tally_ ended
 
 pub returns-in-Err-default-clause-exercised : goal.returns-in-Err-default-clause-exercised
 returns-in-Err-default-clause-exercised g c w is =
@@ -29,11 +29,11 @@ returns-in-Err-default-clause-exercised g c w is =
     let ran = c.in-Ok.ensures.ran w is in
     let works = c.in-Ok.ensures.turn.0 (λ disk. absurd (cc)) in
     let at = there w count seed in
-    let writes = close_writes at device.parts.common _ device.parts.mode ran.run.device (last w count seed) (c.close.ensures.writes works) in
+    let others = close_leaves at device.parts.common _ device.parts.mode ran.run.device (last w count seed) (c.close.ensures.writes works) c.close.ensures.tags in
     let ended = failed_device at _ _ c.close.result.0 (ap is_err c.in-Err-default.is-0)
     (λ broken. let is_broken = c.close.ensures.broken.1 broken in absurd (cc))
     (c.close.ensures.closed at (in_condition at _ _ device.parts _ works ran.run.device)) in
-    exercise_unclosed w count seed device.parts _ _ _ ran.run writes Stops.Disk ended
+    exercise_unclosed w count seed device.parts _ _ _ ran.run others Stops.Disk ended
 
 pub returns-in-Err-clause-exercised : goal.returns-in-Err-clause-exercised
 returns-in-Err-clause-exercised g c w is =
@@ -43,4 +43,4 @@ returns-in-Err-clause-exercised g c w is =
     subst (λ (m : List Content). IsExercised w count seed (Err c.in-Err.stop) (g.D.Disk.moments c.args.device.disk.now) m)
     (sym (ap g.D.Disk.moments c.give_back.ensures.disk))
     (exercise_stopped w count seed c.in-Err.stop _ _ (EachMoment-weaker (within_first w count seed) cut.since)
-    (writes_first w count seed cut.writes) (λ x told. within_first w count seed x (cut.now x told)))
+    (others_first w count seed cut.others) (λ x told. within_first w count seed x (cut.now x told)))

@@ -3,17 +3,19 @@ use Rattle.disk_model.specs.Disk.{last_image}
 use Rattle.device_model.specs.Ending.{Ending}
 use Rattle.hmac_tag.specs.TagMaker.{key_of}
 use Rattle.device.specs.Opening.{asked_mode}
+use Rattle.place_model.specs.Kind.{kind_in}
 use Rattle.device_parts.specs.Device.{opened_standing}
 use Rattle.script_text.proofs.TotalLemmas.{has_run}
 use Rattle.command_ending.specs.Ended.{ending_of}
 use Rattle.integrity_tool.specs.Closing.{close_ending}
 use Rattle.integrity_tool.specs.Opening.{EndsImage, HasRunOn}
-use Rattle.integrity_tool.specs.Outset.{outset_on}
+use Rattle.integrity_tool.specs.Outset.{geometry_on, outset_on}
 use Rattle.integrity_tool.specs.Refusing.{ended_by_opening}
 use Rattle.integrity_tool.specs.Running.{ending_by}
 use Rattle.integrity_tool.proofs.OpeningLemmas.{given_back, opening_moments, ran_on, read_on_image, refused_by_opening}
 use Rattle.integrity_tool.proofs.StartLemmas.{read_further, read_none}
 use Rattle.integrity_tool.proofs.TakenLemmas.{none_taken}
+use Rattle.integrity_tool.proofs.ClosedLemmas.{closed_as, closed_behind}
 use Rattle.integrity_tool.proofs.ClosingLemmas.{counted_by_close, ending_at_close, ends_at_close}
 use Rattle.integrity_tool.proofs.LoopLemmas.{not_ended}
 use Rattle.script_session.specs.declared.tags_found.TagsFound.{TagsFound}
@@ -131,3 +133,20 @@ returns-in-Ok-run_lines-clause-counted g c =
     (counted.0.passed (not_ended _ _ told) ∙ c.in-Ok.ensures.passed)
     (counted.1.passed (not_ended _ _ told)) (counted.2.passed (not_ended _ _ told)) c.close-closed.result.0
     c.ended_by_close.result c.ended_by_close.ensures c.close-closed.ensures.counts
+
+pub returns-in-Err-clause-closed : goal.returns-in-Err-clause-closed
+returns-in-Err-clause-closed g c = tt
+
+pub returns-in-Ok-run_lines-clause-closed : goal.returns-in-Ok-run_lines-clause-closed
+returns-in-Ok-run_lines-clause-closed g c =
+    let mode = c.args.mode in
+    let key = key_of c.args.hash in
+    let disk = g.D.Disk.identity c.args.disk.now in
+    let kind = kind_in (asked_mode mode) key disk.sectors in
+    let opened = c.in-Ok.ensures.opened in
+    closed_as c.close-closed.result.0 c.ended_by_close.result c.ended_by_close.ensures _ (λ rests left told start told_start.
+    let w = opened_standing (asked_mode mode) key disk.sectors (last_image start) in
+    let run = has_run w.format w.state left in
+    let at = c.in-Ok-run_lines.ensures.lines w left run.0 (opened.device start told_start) told run.1 in
+    closed_behind kind (last_image start) (geometry_on disk.sectors (last_image start)) left w at.here _ _ _ refl refl refl
+    at.device (rests at.here at.device) at.comes) c.close-closed.ensures.rests

@@ -3,9 +3,11 @@ use Rattle.disk_model.specs.Disk.{last_image}
 use Rattle.disk_model.proofs.MomentsLemmas.{no_moment}
 use Rattle.device_model.specs.Ending.{NoMemory}
 use Rattle.hmac_tag.specs.TagMaker.{key_of}
+use Rattle.integrity_tool.specs.declared.asked.Task.TheVariants as Tasks
 use Rattle.integrity_tool.specs.Opening.{IsMomentOn}
 use Rattle.integrity_tool.specs.Outset.{outset_on}
 use Rattle.integrity_tool.specs.Running.{ending_by}
+use Rattle.integrity_tool.proofs.ClosedLemmas.{closes_kept}
 use Rattle.integrity_tool.proofs.OpeningLemmas.{given_back}
 use Rattle.integrity_tool.proofs.StartLemmas.{before_kept, fine_on, nothing_run, read_none}
 use Rattle.integrity_tool.proofs.TakenLemmas.{none_taken}
@@ -40,3 +42,11 @@ returns-clause-taken g c = c.run_device.ensures.taken
 
 pub returns-clause-ahead : goal.returns-clause-ahead
 returns-clause-ahead g c = c.run_device.ensures.ahead
+
+pub returns-in_default-clause-closed : goal.returns-in_default-clause-closed
+returns-in_default-clause-closed g c = tt
+
+pub returns-clause-closed : goal.returns-clause-closed
+returns-clause-closed g c =
+    closes_kept g.D.Disk.identity g.D.Disk.moments g.S.Source.left (Tasks.Run c.args.mode) (key_of c.args.hash) c.run_device.new.ended
+    c.args.disk.now _ _ c.args.script.now c.run_device.ensures.closed (search rules)

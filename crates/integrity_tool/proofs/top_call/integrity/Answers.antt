@@ -109,3 +109,9 @@ pub returns-in-Err-clause-key : goal.returns-in-Err-clause-key
 returns-in-Err-clause-key g c =
     read_as _ (key_file_of_asked (asked_of (map string_bytes c.args.words.now))) _ _ _ _ _ refl
     (λ low. absurd (omega (arith, low, c.status.ensures, ended_is_high c.in-Err.ended))) c.run.ensures.key
+
+pub returns-in-Ok-clause-closed : goal.returns-in-Ok-clause-closed
+returns-in-Ok-clause-closed g c low = c.in-Ok.ensures.closed
+
+pub returns-in-Err-clause-closed : goal.returns-in-Err-clause-closed
+returns-in-Err-clause-closed g c low = absurd (omega (arith, low, c.status.ensures, ended_is_high c.in-Err.ended))

@@ -2,14 +2,14 @@ use Rattle.std.proofs.Common.{refl}
 use Rattle.std.proofs.Common.{◌≡◌, ℕ, List, Err, sym, ap, ◌∙◌, subst, map}
 use Rattle.std.specs.Option.{ForSome}
 use Rattle.std.specs.String.{string_bytes}
-use Rattle.std.proofs.lemmas.Result.{err_from_is_err_and}
+use Rattle.std.proofs.lemmas.Result.{err_from_is_err_and, on_ok_weaker}
 use Rattle.disk_model.specs.Identity.{DiskIdentity, IsBoundTo, IsThere, NamedDisk}
 use Rattle.disk_model.specs.Moments.{content_now}
 use Rattle.device_model.specs.Ending.{DiskFailed}
 use Rattle.hmac_tag.specs.TagMaker.{key_of}
 use Rattle.integrity_tool.specs.Words.{HasNoScript, image_name, image_of}
 use Rattle.integrity_tool.specs.Running.{ending_by}
-use Rattle.integrity_tool.proofs.StartLemmas.{not_refused_by_key, outside_first, ran_given, read_given, read_none, stopped_at_key, stopped_at_words}
+use Rattle.integrity_tool.proofs.StartLemmas.{closed_given, not_refused_by_key, outside_first, ran_given, read_given, read_none, stopped_at_key, stopped_at_words}
 use Rattle.integrity_tool.proofs.TopLemmas.{told_there}
 use Rattle.integrity_tool.proofs.TakenLemmas.{none_taken}
 use Rattle.integrity_tool.proofs.top_call.run.Goals as goal
@@ -135,3 +135,21 @@ returns-clause-key_first g c given is refused =
     let words = map string_bytes c.args.words.now in
     absurd (not_refused_by_key given words (g.K.NamedSource.named c.args.key.now) (g.D.Disk.named c.args.disk.now (image_name words)) (g.S.Source.left c.args.script.now) is (g.O.Sink.held c.args.out.now)
     c.in_ok-asked.asked c.in_ok-asked.ensures.asked (key_of c.in_ok-hash.hash) c.in_ok-hash.ensures.hash refused)
+
+pub returns-clause-closed : goal.returns-clause-closed
+returns-clause-closed g c =
+    on_ok_weaker c.carry_out.result (λ closes given is.
+    let words = map string_bytes c.args.words.now in
+    let old = g.D.Disk.named c.args.disk.now in
+    let mid = c.bind_image.new.disk in
+    let asked = c.in_ok-asked.asked in
+    let asks = c.in_ok-asked.ensures.asked in
+    let name : image_name words ≡ c.as_str.result.now = ap image_of asks ∙ sym c.as_str.ensures in
+    let found = subst (λ (n : List ℕ). IsThere (old n) (g.D.Disk.identity mid).sectors (g.D.Disk.moments mid)) (sym name) c.in_ok-bind_image.ensures.found in
+    let bound = subst (λ (n : List ℕ). IsBoundTo n (g.D.Disk.identity mid).name) (sym name) c.in_ok-bind_image.ensures.bound in
+    let there = found.is given.content is.content in
+    let ends = g.met.D.Disk.named_if_bound c.carry_out.new.disk (image_name words) (subst (λ (d : DiskIdentity). IsBoundTo (image_name words) d.name) (sym c.carry_out.ensures.identity) bound) in
+    closed_given given words (g.K.NamedSource.named c.args.key.now) (old (image_name words)) (g.S.Source.left c.args.script.now) is (g.O.Sink.held c.args.out.now) asked asks
+    (key_of c.in_ok-hash.hash) c.in_ok-hash.ensures.hash (g.D.Disk.identity mid).sectors (g.D.Disk.moments mid) (g.D.Disk.moments c.carry_out.new.disk)
+    (g.D.Disk.named c.carry_out.new.disk (image_name words)) there (ap (λ (n : NamedDisk). n.moments) ends)
+    (closes given.script is.script_is given.content (told_there there is.content))) c.carry_out.ensures.closed

@@ -20,14 +20,14 @@ returns-in_err-journal-clause-refused g c some well x told =
     ap (λ r. fault_in r) e
     ∙ fault_in-err Checked (Option (List (ℕ × ℕ))) fault
     ∙ c.in_err-journal.ensures.refused (λ h. some (e ∙ ap (λ (f : OpeningFault). Err f) (let same : fault ≡ Memory = cc in same))) (λ h. well (e ∙ ap (λ (f : OpeningFault). Err f) (let same : fault ≡ Disk = cc in same))) x told
-    ∙ ap (λ (m : TagRule). option_map ByJournal (journal_fault_for c.args.what m.key m.salt c.args.format.geometry (last_image x))) c.tag_maker-maker.ensures
+    ∙ ap (λ (m : TagRule). option_map ByJournal (journal_fault_for c.args.what m.key c.args.format (last_image x))) c.tag_maker-maker.ensures
 
 pub returns-clause-image : goal.returns-clause-image
 returns-clause-image g c =
     opened_check _ (key_of c.args.hash) (g.D.Disk.identity c.args.disk.now) (g.D.Disk.identity c.read_journal.new.disk) (g.D.Disk.moments c.args.disk.now) (g.D.Disk.moments c.read_journal.new.disk)
-    c.read_journal.ensures.identity c.read_journal.ensures.kept c.requires.bound c.requires.format c.requires.reads c.tag_maker-maker.ensures c.in_ok-journal.ensures.journal c.in_ok-tags.ensures c.in_ok-blocks.ensures
+    c.read_journal.ensures.identity c.read_journal.ensures.kept c.requires.bound c.requires.format c.requires.reads c.tag_maker-maker.ensures c.in_ok-journal.ensures.journal c.in_ok-tags.ensures c.in_ok-blocks.ensures c.in_ok-bits.ensures
 
 pub returns-clause-refused : goal.returns-clause-refused
 returns-clause-refused g c some well x told =
     c.in_ok-journal.ensures.refused (λ h. cc) (λ h. cc) x told
-    ∙ ap (λ (m : TagRule). option_map ByJournal (journal_fault_for c.args.what m.key m.salt c.args.format.geometry (last_image x))) c.tag_maker-maker.ensures
+    ∙ ap (λ (m : TagRule). option_map ByJournal (journal_fault_for c.args.what m.key c.args.format (last_image x))) c.tag_maker-maker.ensures

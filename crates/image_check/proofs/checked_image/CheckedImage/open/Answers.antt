@@ -7,5 +7,5 @@ use Rattle.image_check.proofs.checked_image.CheckedImage.open.Goals as goal
 
 pub in_format-requires-clause-reads : goal.in_format-requires-clause-reads
 in_format-requires-clause-reads g c x told =
-    subst (λ (n : ℕ). IsReadNow (key_of c.args.hash) n c.in_ok-format.format x) (ap (λ (d : DiskIdentity). d.sectors) (sym c.read_direct_format.ensures.identity))
-    (c.in_ok-format.ensures.opens (key_of c.args.hash) x (ap content_now (sym c.read_direct_format.ensures.kept) ∙ told)).read
+    subst (λ (n : ℕ). IsReadNow (key_of c.args.hash) n c.in_ok-format.format x) (ap (λ (d : DiskIdentity). d.sectors) (sym c.read_format.ensures.identity))
+    (c.in_ok-format.ensures.reads (key_of c.args.hash) x (ap content_now (sym c.read_format.ensures.kept) ∙ told))

@@ -1,0 +1,150 @@
+//! A device in bitmap mode on images in memory: which bits its calls leave, and when consent is asked for.
+ghost use Rattle.std.specs.Prelude.{◌≡◌};
+ghost use Rattle.disk_model.specs.Identity.{IsBound};
+
+use crate::call_tests::{
+    SMALL, Written, open_device, read_alone, reply_to, write_and_read, write_of,
+};
+use device::{Consent, OpenMode};
+use device_opening::open_bitmap;
+use device_parts::{Actor, Moved};
+use hmac_tag::{Hash, Key};
+use image_formatting::{NewImage, format};
+use image_judging::OpeningFault;
+use image_model::{DIRTY_BITMAP, FIXED_PADDING};
+use request_slots::Reply;
+use sector_disk::{Disk, Failed, MemDisk};
+use sector_pool::Region;
+use std::alloc::{AllocError, Global};
+use std::test::Fail;
+use superblock::{Super, judge, write};
+
+/// The first sector of the bitmap.
+const BITMAP_AT: u64 = 8;
+
+/// The sector of block 5: by the formulas of the layout its area has sectors 96 to 103 for tags.
+const BLOCK_AT: u64 = 109;
+
+/// The hash under a key.
+fn under_key(alloc: Global) -> Result<Hash, Fail> {
+    Ok(Hash::Hmac(Key::from_bytes(alloc, b"Jefe")?))
+}
+
+/// Writes a sector whose bytes are all this one.
+fn fill_sector<D: Disk>(disk: &mut D, at: u64, byte: u8) -> Result<(), Failed>
+    requires { IsBound (D.identity disk.old).name }
+
+    ensures { D.identity disk.new ≡ D.identity disk.old }
+{
+    if at >= disk.sectors() {
+        return Err(Failed);
+    }
+    disk.write_run(at, &[byte; 512])
+}
+
+/// The first byte of a sector, as the disk itself reads it.
+fn byte_at<D: Disk>(disk: &mut D, at: u64) -> Result<u8, Failed>
+    requires { IsBound (D.identity disk.old).name }
+{
+    let mut sector = [0; 512];
+    if at >= disk.sectors() {
+        return Err(Failed);
+    }
+    disk.read_run(at, &mut sector)?;
+    Ok(sector[0])
+}
+
+/// Writes the superblock of an image with a bitmap, in regions of one block.
+fn put_fields<D: Disk>(disk: &mut D, provided: u64) -> Result<(), Fail>
+    requires { IsBound (D.identity disk.old).name }
+
+    ensures { D.identity disk.new ≡ D.identity disk.old }
+{
+    let fields = Super {
+        version: 4,
+        log2_interleave: 3,
+        tag_size: 32,
+        sections: 1,
+        provided,
+        flags: FIXED_PADDING | DIRTY_BITMAP,
+        log2_spb: 0,
+        log2_region: 0,
+        recalc_sector: 0,
+        salt: [0; 16],
+    };
+    judge(&fields)?;
+    let mut head = [0; 512];
+    write(&fields, &mut head);
+    if disk.sectors() == 0 {
+        return Err(Failed.into());
+    }
+    Ok(disk.write_run(0, &head)?)
+}
+
+/// A disk with a new image with a bitmap, of which no bit is set. Its regions have their bits in one sector.
+fn new_disk(alloc: Global, hash: Hash) -> Result<MemDisk, Fail> {
+    let mut disk = MemDisk::new(alloc, 512, 2000)?;
+    let new = NewImage {
+        log2_region: 0,
+        ..SMALL
+    };
+    let provided = format(alloc, &mut disk, hash, new)?;
+    put_fields(&mut disk, provided)?;
+    fill_sector(&mut disk, BITMAP_AT, 0)?;
+    Ok(disk)
+}
+
+/// Writes block 5 and flushes it, by a device that is not closed. Whether that was done.
+fn write_alone<D: Disk>(
+    alloc: Global,
+    disk: &mut D,
+    hash: Hash,
+    mode: OpenMode,
+) -> Result<bool, AllocError>
+    requires { IsBound (D.identity disk.old).name }
+{
+    let write = write_of(alloc, 0xaa)?;
+    let mut region = Region::new();
+    let Some(mut device) = open_device(alloc, disk, &mut region, hash, mode) else {
+        return Ok(false);
+    };
+    let written = reply_to(&mut device, write);
+    let _ = device.give_back();
+    Ok(matches!(written, Some(Reply::Written { .. })))
+}
+
+#[test]
+fn a_write_sets_the_bit_of_its_region_and_a_clean_clears_it(rt: HostRuntime) -> Result<(), Fail> {
+    let alloc = rt.alloc();
+    let byte = Some(0xaa);
+    let moved = Some(Moved::Did);
+    let mode = OpenMode::Bitmap(Consent::Withheld);
+    let mut disk = new_disk(alloc, Hash::Sha256)?;
+    let written = write_and_read(alloc, &mut disk, mode, Actor::Clean)?;
+    assert_eq!(rt; written, Some(Written { byte, moved }));
+    assert_eq!(rt; byte_at(&mut disk, BITMAP_AT)?, 0);
+    assert!(rt; write_alone(alloc, &mut disk, Hash::Sha256, mode)?);
+    assert_eq!(rt; byte_at(&mut disk, BITMAP_AT)?, 0x20);
+    let read = read_alone(alloc, &mut disk, Hash::Sha256, mode)?;
+    assert_eq!(rt; read, byte);
+    Ok(())
+}
+
+#[test]
+fn a_set_bit_under_a_key_wants_consent(rt: HostRuntime) -> Result<(), Fail> {
+    let alloc = rt.alloc();
+    let withheld = OpenMode::Bitmap(Consent::Withheld);
+    let mut disk = new_disk(alloc, under_key(alloc)?)?;
+    assert!(rt; write_alone(alloc, &mut disk, under_key(alloc)?, withheld)?);
+    // Bytes that no tag vouches for.
+    fill_sector(&mut disk, BLOCK_AT, 0xbb)?;
+    let key = under_key(alloc)?;
+    let fault = open_bitmap(alloc, &mut disk, key, Consent::Withheld).err();
+    assert!(rt; matches!(fault, Some(OpeningFault::Consent { flags: 0xc })));
+    assert_eq!(rt; byte_at(&mut disk, BITMAP_AT)?, 0x20);
+    assert_eq!(rt; byte_at(&mut disk, BLOCK_AT)?, 0xbb);
+    let given = OpenMode::Bitmap(Consent::Given);
+    let read = read_alone(alloc, &mut disk, under_key(alloc)?, given)?;
+    assert_eq!(rt; read, Some(0xbb));
+    Ok(())
+}

@@ -1,0 +1,4 @@
+pub mod ReadingLemmas
+pub mod SalvagedLemmas
+pub mod RefusingLemmas
+mod Worked

@@ -1,0 +1,3 @@
+pub mod Salvaged
+pub mod Telling
+pub mod Refusing

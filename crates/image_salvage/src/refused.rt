@@ -1,0 +1,11 @@
+//! A disk whose image is not salvaged.
+
+use image_format::OpenFault;
+use sector_disk::Disk;
+
+/// Why an image is not salvaged, with the disk that was lent.
+#[derive(Drop)]
+pub struct Refused<'d, D: Disk> {
+    pub fault: OpenFault,
+    pub disk: &'d mut D,
+}

@@ -1,0 +1,88 @@
+-- Which bits the close of a run leaves.
+use Rattle.std.proofs.Common.{Option, Result, Ok, Err, OnOk, is_err, ◌≡◌, ℕ, false, List, [], sym, ◌∙◌, ap, subst}
+use Rattle.std.proofs.lemmas.Result.{on_ok_weaker}
+use Rattle.disk_model.specs.Disk.{Content, Image, last_image}
+use Rattle.disk_model.specs.Identity.{DiskIdentity}
+use Rattle.disk_model.specs.Moments.{HasNow}
+use Rattle.image_model.specs.Geometry.{Geometry}
+use Rattle.device_model.specs.Device.{DeviceKind}
+use Rattle.device_model.specs.Mode.{DeviceFormat}
+use Rattle.device_model.specs.Mode as Modes
+use Rattle.device_model.specs.Progress.{DeviceState}
+use Rattle.device_parts.specs.declared.answers.StepFault.{StepFault}
+use Rattle.device_parts.specs.declared.condition.Condition.{Condition}
+use Rattle.device_parts.specs.declared.condition.Condition.TheVariants.{Working}
+use Rattle.device_parts.specs.declared.parts.Parts.{Parts}
+use Rattle.device_parts.specs.Device.{Standing}
+use Rattle.device.specs.declared.mode.DeviceParts.{DeviceParts}
+use Rattle.device.specs.declared.mode.Mode.{Mode}
+use Rattle.device.specs.declared.mode.Mode.TheVariants.{Bitmap, Direct, Journal}
+use Rattle.device.specs.Answers.{IsAtRest}
+use Rattle.device.specs.Calls.{LeavesAtRest}
+use Rattle.device.specs.Device.{IsDevice, IsDeviceIn}
+use Rattle.device.proofs.ModeLemmas.{own_direct, plain_bitmap, plain_journal}
+use Rattle.script_session.specs.declared.tags_found.TagsFound.{TagsFound}
+use Rattle.command_ending.specs.declared.ended.Ended.{Ended}
+use Rattle.integrity_tool.specs.declared.closing.CloseFault.{CloseFault}
+use Rattle.integrity_tool.specs.Closing.{ended_close}
+use Rattle.integrity_tool.specs.declared.asked.Task.{Task}
+use Rattle.integrity_tool.specs.Closed.{ClosesTask, ComesTo, HasBitsOf, IsClosedAt, IsClosedBehind, state_behind}
+
+-- A close that answers well leaves each image as the mode has it.
+pub rests_closed : {T : Type 0} (result : Result T StepFault) → is_err result ≡ false → (condition : Condition) (parts : DeviceParts)
+    (a b : List Content) → LeavesAtRest result condition parts a b
+    → (w : Standing) → IsDevice w condition parts a → IsAtRest parts.mode w b
+rests_closed (Ok done) not condition parts a b rests = rests
+rests_closed (Err fault) not condition parts a b rests = absurd (cc)
+
+-- The bits that a close leaves are those that were set before it, of the regions that awaited, behind all lines of a script.
+bits_left : (mode : Mode) (there here : Standing) (common : Parts) (a b : List Content) → IsDeviceIn mode here Working common a
+    → IsAtRest mode here b → (script : List ℕ) (comes : ComesTo there script here [])
+    → HasNow (HasBitsOf there.format.mode there.on.geometry (state_behind there.format there.state comes.all)) b
+bits_left Direct there here common a b is rests script comes =
+    subst (λ (m : Modes.Mode). HasNow (HasBitsOf m there.on.geometry (state_behind there.format there.state comes.all)) b)
+    (own_direct here Working common a is ∙ ap (λ (w : Standing). w.format.mode) comes.same) (λ c told. tt)
+bits_left (Journal journal) there here common a b is rests script comes =
+    subst (λ (m : Modes.Mode). HasNow (HasBitsOf m there.on.geometry (state_behind there.format there.state comes.all)) b)
+    (plain_journal.own here Working _ a is ∙ ap (λ (w : Standing). w.format.mode) comes.same) (λ c told. tt)
+bits_left (Bitmap regions) there here common a b is rests script comes =
+    subst (λ (m : Modes.Mode). HasNow (HasBitsOf m there.on.geometry (state_behind there.format there.state comes.all)) b)
+    (plain_bitmap.own here Working _ a is ∙ ap (λ (w : Standing). w.format.mode) comes.same)
+    (subst (λ (s : DeviceState). HasNow (HasBitsOf Modes.Bitmap there.on.geometry s) b) comes.comes
+    (subst (λ (w : Standing). HasNow (HasBitsOf Modes.Bitmap w.on.geometry here.state) b) comes.same rests))
+
+-- So is the device of a run that came to its close, where it was opened on an image.
+pub closed_behind : (kind : DeviceKind) (image : Image) (g : Geometry) (script : List ℕ) (w here : Standing) (parts : DeviceParts)
+    (a b : List Content) → w.format ≡ kind.format image → w.state ≡ kind.opened image → w.on.geometry ≡ g
+    → IsDevice here Working parts a → IsAtRest parts.mode here b → ComesTo w script here []
+    → HasNow (IsClosedBehind kind image g script) b
+closed_behind kind image g script w here parts a b format state geometry is rests comes c told = record {
+  lines = comes.all;
+  read = comes.read;
+  bits = subst (λ (f : DeviceFormat). HasBitsOf f.mode g (state_behind f (kind.opened image) comes.all) c) format
+      (subst (λ (s : DeviceState). HasBitsOf w.format.mode g (state_behind w.format s comes.all) c) state
+      (subst (λ (y : Geometry). HasBitsOf w.format.mode y (state_behind w.format w.state comes.all) c) geometry
+      (bits_left parts.mode w here parts.common a b is rests script comes c told)));
+}
+
+-- What holds behind a close that answers well holds behind a run that it ends.
+pub closed_as : {R : Type 0} (closed : Result TagsFound CloseFault) (ended : Result TagsFound Ended) → ended ≡ ended_close closed
+    → (P : Type 0) → (R → P) → OnOk closed R → OnOk ended P
+closed_as (Ok found) ended is P from rests = subst (λ (r : Result TagsFound Ended). OnOk r P) (sym is) (from rests)
+closed_as (Err fault) ended is P from rests = subst (λ (r : Result TagsFound Ended). OnOk r P) (sym is) tt
+
+-- What holds anyhow holds where all went well.
+pub ok_holds : {T E : Type 0} (P : Type 0) → P → (result : Result T E) → OnOk result P
+ok_holds P holds (Ok done) = holds
+ok_holds P holds (Err ended) = tt
+
+-- What a task leaves closed stays so where nothing is done behind it.
+pub closes_kept : {T E D S : Type 0} (identity : D → DiskIdentity) (moments : D → List Content) (left : S → Option (List ℕ))
+    (task : Task) (key : Option (List ℕ)) (result : Result T E) (first mid last : D) (script : S)
+    → ClosesTask identity moments left task key result first mid script → moments last ≡ moments mid
+    → ClosesTask identity moments left task key result first last script
+closes_kept identity moments left task key result first mid last script closes same =
+    on_ok_weaker result
+    (λ closed bytes told c now. subst (λ (m : List Content). HasNow (IsClosedAt task key (identity first).sectors (last_image c) bytes) m)
+    (sym same) (closed bytes told c now))
+    closes

@@ -1,0 +1,81 @@
+-- The device behind the lines of a script, and which bits its close leaves.
+use Rattle.std.specs.Prelude.{◌≡◌, ℕ, ◌<◌, ◌&&◌, List, [], ◌∷◌, Option, Some, None, Result, Ok, Err, OnOk}
+use Rattle.std.specs.List.{AllZip}
+use Rattle.disk_model.specs.Disk.{Content, EachImage, Image, last_image}
+use Rattle.disk_model.specs.Identity.{DiskIdentity}
+use Rattle.disk_model.specs.Moments.{HasNow}
+use Rattle.image_model.specs.Bitmap.{is_dirty}
+use Rattle.image_model.specs.Geometry.{Geometry, regions}
+use Rattle.device_model.specs.Device.{DeviceKind}
+use Rattle.device_model.specs.Ending.{KeyRefusal}
+use Rattle.device_model.specs.Grammar.{ReadLine, IsReadAs, Means, Refused}
+use Rattle.device_model.specs.Mode.{DeviceFormat, Mode, Bitmap}
+use Rattle.device_model.specs.Progress.{DeviceState}
+use Rattle.device_model.specs.Script.{line_outcome}
+use Rattle.device_model.specs.ScriptBytes.{lines_of}
+use Rattle.place_model.specs.Kind.{kind_in}
+use Rattle.device_parts.specs.Device.{Standing}
+use Rattle.device.specs.Opening.{asked_mode}
+use Rattle.integrity_tool.specs.declared.asked.Asked.{Asked}
+use Rattle.integrity_tool.specs.declared.asked.Task.{Task}
+use Rattle.integrity_tool.specs.declared.asked.Task.TheVariants as Tasks
+use Rattle.integrity_tool.specs.Outset.{geometry_on, key_by}
+use Rattle.integrity_tool.specs.Words.{key_file_of}
+
+-- ---- behind some lines
+
+-- The state of a device behind some lines of a script, where none of them is refused.
+abbrev pub state_behind : DeviceFormat → DeviceState → List ReadLine → DeviceState
+state_behind f s [] = s
+state_behind f s (Refused fault ∷ lines) = s
+state_behind f s (Means line ∷ lines) = state_behind f (line_outcome f s line).after lines
+
+-- The same device, before these lines of a script, comes to where all of them lead.
+pub record ComesTo (there : Standing) (script : List ℕ) (here : Standing) (lines : List ReadLine) : Type 0 where
+  pub all : List ReadLine
+  pub read : AllZip IsReadAs (lines_of script) all
+  pub same : here ≡ record there { state = here.state }
+  pub comes : state_behind there.format here.state lines ≡ state_behind there.format there.state all
+
+-- ---- behind the close
+
+-- In bitmap mode each image has those bits set that are set in this state, and whose regions await in it.
+abbrev pub HasBitsOf : Mode → Geometry → DeviceState → Content → Type 0
+HasBitsOf Bitmap g s c = let counts = s.progress.regions in
+    EachImage (λ image. (region : ℕ) → region < regions g
+    → is_dirty g image region ≡ (counts.set_bits region && counts.awaiting region)) c
+HasBitsOf mode g s c = Unit {0}
+
+-- Each image has those bits set that were set before the close of a device, and whose regions awaited then: the device
+-- of this kind that opened an image, behind the lines of a script.
+pub record IsClosedBehind (kind : DeviceKind) (image : Image) (g : Geometry) (script : List ℕ) (c : Content)
+    : Type 0 where
+  pub lines : List ReadLine
+  pub read : AllZip IsReadAs (lines_of script) lines
+  pub bits : HasBitsOf (kind.format image).mode g
+      (state_behind (kind.format image) (kind.opened image) lines) c
+
+-- So it is behind what is done on a disk of so many sectors with this image, under a key, where that is the run of a script.
+abbrev pub IsClosedAt : Task → (key : Option (List ℕ)) → (sectors : ℕ) → Image → (script : List ℕ) → Content → Type 0
+IsClosedAt (Tasks.Run mode) key sectors image script c =
+    IsClosedBehind (kind_in (asked_mode mode) key sectors) image (geometry_on sectors image) script c
+IsClosedAt Tasks.Dump key sectors image script c = Unit {0}
+IsClosedAt (Tasks.Check what) key sectors image script c = Unit {0}
+IsClosedAt (Tasks.Format new) key sectors image script c = Unit {0}
+IsClosedAt (Tasks.Exercise seed count) key sectors image script c = Unit {0}
+
+abbrev pub IsClosedUnder : Task → Result (Option (List ℕ)) KeyRefusal → ℕ → Image → List ℕ → Content → Type 0
+IsClosedUnder task (Ok key) sectors image script c = IsClosedAt task key sectors image script c
+IsClosedUnder task (Err refusal) sectors image script c = Unit {0}
+
+abbrev pub IsClosedFor : Option Asked → (key_bytes : List ℕ) → (sectors : ℕ) → Image → (script : List ℕ) → Content → Type 0
+IsClosedFor None key_bytes sectors image script c = Unit {0}
+IsClosedFor (Some asked) key_bytes sectors image script c =
+    IsClosedUnder asked.task (key_by (key_file_of asked.hash) key_bytes) sectors image script c
+
+-- A task that came to its end leaves the disk closed so, whatever script its source tells.
+abbrev pub ClosesTask : {T E D S : Type 0} → (D → DiskIdentity) → (D → List Content) → (S → Option (List ℕ)) → Task
+    → (key : Option (List ℕ)) → Result T E → (first last : D) → S → Type 0
+ClosesTask identity moments left task key result first last script = OnOk result ((bytes : List ℕ)
+    → left script ≡ Some bytes → HasNow (λ c.
+    HasNow (IsClosedAt task key (identity first).sectors (last_image c) bytes) (moments last)) (moments first))

@@ -1,0 +1,7 @@
+pub mod NoWriteLemmas
+pub mod ReadyLemmas
+pub mod DoneLemmas
+pub mod ServeLemmas
+pub mod EventLemmas
+pub mod OpeningLemmas
+mod Worked
