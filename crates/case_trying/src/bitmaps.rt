@@ -95,8 +95,8 @@ pub fn judge_bitmap_left<C: Command>(
     Ok(())
 }
 
-/// Looks at a run without consent on what is left, which a bit that is set wants under a key: it is refused, and changes
-/// nothing.
+/// Looks at a run without consent on what is left, which a bit that is set wants under a key: it is refused, and
+/// changes nothing.
 fn judge_refused<C: Command>(
     alloc: Global,
     command: &C,

@@ -7,7 +7,7 @@ use std::test::Fail;
 /// Words that are a command, parted by `|`, and a part of what is shown of it.
 ///
 /// Source: what clap 4 makes of such words without settings of its own, and the ends of the values.
-static TAKEN: [(&str, &str); 35] = [
+static TAKEN: [(&str, &str); 37] = [
     (
         "run|I|--mode|D",
         "Run(Run { image: FileName { name: \"I\" }, mode: Direct, hash: Sha256, consent: Withheld })",
@@ -51,6 +51,14 @@ static TAKEN: [(&str, &str); 35] = [
         "Check(Check { image: FileName { name: \"I\" }, hash: Sha256, checked: Cells })",
     ),
     ("check|--placed|I", "checked: Placed"),
+    (
+        "salvage|I",
+        "Salvage(Salvage { image: FileName { name: \"I\" }, hash: Sha256 })",
+    ),
+    (
+        "salvage|--integrity=hmac-sha256|I|--integrity-key-file|K",
+        "hash: HmacSha256 { key_file: FileName { name: \"K\" } } })",
+    ),
     (
         "exercise|I|0|0",
         "Exercise(Exercise { image: FileName { name: \"I\" }, seed: 0, count: Within { number: 0 } })",
@@ -109,7 +117,7 @@ static TAKEN: [(&str, &str); 35] = [
 ];
 
 /// Words that are no command: one beyond each end, and what clap 4 refuses.
-static REFUSED: [&str; 67] = [
+static REFUSED: [&str; 68] = [
     "run|I|--mode|X",
     "run|I|--mode|",
     "run|I|--mode",
@@ -173,7 +181,8 @@ static REFUSED: [&str; 67] = [
     "format|I|--mode|b",
     "format|I|--mode|B|--mode|B",
     "format|I|--recalculate",
-    "salvage|I",
+    "salvage|I|--placed",
+    "salvage",
     "frob",
     "",
     "-",

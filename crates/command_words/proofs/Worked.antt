@@ -130,6 +130,18 @@ command_of-keyless : command_of (codes "integrity" ∷ codes "run" ∷ codes "I"
 unfolding clap_on_literals
 command_of-keyless = refl
 
+-- A salvage wants the hash alone, and looks at every block in its place.
+command_of-salvage : command_of (codes "integrity" ∷ codes "salvage" ∷ codes "I" ∷ codes "--integrity"
+    ∷ codes "hmac-sha256" ∷ codes "--integrity-key-file" ∷ codes "K" ∷ [])
+    ≡ Some (command.Salvage (record { image = codes "I"; hash = HmacSha256 (codes "K") }))
+unfolding clap_on_literals
+command_of-salvage = refl
+
+command_of-placed_salvage : command_of (codes "integrity" ∷ codes "salvage" ∷ codes "I" ∷ codes "--placed" ∷ [])
+    ≡ None
+unfolding clap_on_literals
+command_of-placed_salvage = refl
+
 -- Behind `--` a word may begin with `-`; one that asks for help makes all of them no command.
 command_of-dashes : command_of (codes "integrity" ∷ codes "dump" ∷ codes "--" ∷ codes "-I" ∷ [])
     ≡ Some (command.Dump (record { image = codes "-I" }))

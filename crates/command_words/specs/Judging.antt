@@ -152,6 +152,12 @@ check_of given = do
   hash ← hash_of given
   Some (command.Check (record { image = image; hash = hash; checked = checked_of given }))
 
+abbrev pub salvage_of : Given → Option Command
+salvage_of given = do
+  image ← given (codes "IMAGE")
+  hash ← hash_of given
+  Some (command.Salvage (record { image = image; hash = hash }))
+
 abbrev pub exercise_of : Given → Option Command
 exercise_of given = do
   image ← given (codes "IMAGE")
@@ -166,5 +172,6 @@ command_named name given =
     else if bytes_eq name (codes "run") then run_of given
     else if bytes_eq name (codes "dump") then dump_of given
     else if bytes_eq name (codes "check") then check_of given
+    else if bytes_eq name (codes "salvage") then salvage_of given
     else if bytes_eq name (codes "exercise") then exercise_of given
     else None

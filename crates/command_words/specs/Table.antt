@@ -53,6 +53,13 @@ check_entry = record {
   options = valued (codes "integrity") ∷ valued (codes "integrity-key-file") ∷ flag (codes "placed") ∷ [];
 }
 
+abbrev pub salvage_entry : Entry
+salvage_entry = record {
+  name = codes "salvage";
+  places = codes "IMAGE" ∷ [];
+  options = valued (codes "integrity") ∷ valued (codes "integrity-key-file") ∷ [];
+}
+
 abbrev pub exercise_entry : Entry
 exercise_entry = record {
   name = codes "exercise";
@@ -62,4 +69,4 @@ exercise_entry = record {
 
 -- The commands.
 abbrev pub table : List Entry
-table = format_entry ∷ run_entry ∷ dump_entry ∷ check_entry ∷ exercise_entry ∷ []
+table = format_entry ∷ run_entry ∷ dump_entry ∷ check_entry ∷ salvage_entry ∷ exercise_entry ∷ []

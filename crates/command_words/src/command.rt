@@ -16,6 +16,8 @@ pub enum Command {
     Dump(Dump),
     /// Compares the tags of an image.
     Check(Check),
+    /// Prints what can still be read of an image.
+    Salvage(Salvage),
     /// Runs requests on an image that a number decides.
     Exercise(Exercise),
 }
@@ -76,6 +78,15 @@ pub struct Check {
     pub hash: HashChoice,
     /// What is checked.
     pub checked: Checked,
+}
+
+/// `salvage IMAGE`.
+#[derive(Debug, Drop)]
+pub struct Salvage {
+    /// The image.
+    pub image: FileName,
+    /// The hash of its tags.
+    pub hash: HashChoice,
 }
 
 /// `exercise IMAGE SEED COUNT`.

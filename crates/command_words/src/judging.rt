@@ -4,7 +4,7 @@ ghost use Rattle.command_words.specs.Answers.{Answers};
 ghost use Rattle.command_words.specs.Found.{given_in};
 ghost use Rattle.command_words.specs.Judging;
 
-use crate::command::{Check, Command, Dump, Exercise, Format, Run};
+use crate::command::{Check, Command, Dump, Exercise, Format, Run, Salvage};
 use crate::given::Given;
 use crate::numbers::{number, number_or, number_within};
 use crate::table::{
@@ -31,6 +31,7 @@ pub(crate) fn command_named(
         "run" => run(alloc, given),
         "dump" => dump(alloc, given),
         "check" => check(alloc, given),
+        "salvage" => salvage(alloc, given),
         "exercise" => exercise(alloc, given),
         _ => Err(WordsFault::Refused),
     }
@@ -101,6 +102,15 @@ fn check(alloc: Global, given: &Given<'_>) -> Result<Command, WordsFault>
         hash,
         checked,
     }))
+}
+
+/// `salvage IMAGE`.
+fn salvage(alloc: Global, given: &Given<'_>) -> Result<Command, WordsFault>
+    ensures { Answers (Judging.salvage_of (given_in given.now)) result }
+{
+    let image = image(alloc, given)?;
+    let hash = hash(alloc, given)?;
+    Ok(Command::Salvage(Salvage { image, hash }))
 }
 
 /// `exercise IMAGE SEED COUNT`.

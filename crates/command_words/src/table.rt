@@ -95,7 +95,7 @@ pub(crate) const LEGACY_PADDING: &str = "integrity-legacy-padding";
 pub(crate) const NO_WIPE: &str = "no-wipe";
 
 /// The table. Whatever comes to it is one row here, or one option in a row.
-static COMMANDS: [CommandRow; 5] = [
+static COMMANDS: [CommandRow; 6] = [
     CommandRow {
         name: "format",
         places: &[IMAGE],
@@ -188,6 +188,20 @@ static COMMANDS: [CommandRow; 5] = [
             OptionRow {
                 name: PLACED,
                 takes: Takes::Nothing,
+            },
+        ],
+    },
+    CommandRow {
+        name: "salvage",
+        places: &[IMAGE],
+        options: &[
+            OptionRow {
+                name: INTEGRITY,
+                takes: Takes::Value,
+            },
+            OptionRow {
+                name: KEY_FILE,
+                takes: Takes::Value,
             },
         ],
     },

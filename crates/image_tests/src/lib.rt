@@ -1,4 +1,4 @@
-//! Tests of whole images: formatting, opening, dump and check.
+//! Tests of whole images: formatting, opening, dump, check and salvage.
 #![tactic(auto)]
 
 #[cfg(test)]
@@ -11,5 +11,7 @@ mod image_format_tests;
 mod image_formatting_tests;
 #[cfg(test)]
 mod image_judging_tests;
+#[cfg(test)]
+mod image_salvage_tests;
 #[cfg(test)]
 mod journal_reading_tests;

@@ -10,6 +10,7 @@ pub mod TakenLemmas
 pub mod TopLemmas
 pub mod TextsLemmas
 pub mod CheckingLemmas
+pub mod SalvagingLemmas
 pub mod ExercisingLemmas
 pub mod MakingLemmas
 pub mod PrintingLemmas

@@ -1,6 +1,8 @@
 -- A command that runs no line: what it starts on, what it leaves, and what its run is.
 use Rattle.std.proofs.Common.{◌≡◌, ◌⊎◌, inl, inr, ℕ, ◌+◌, ◌<◌, ◌≤◌, Bool, false, List, [], ◌∷◌, ◌++◌, length, map, take, drop, append_assoc, length-append, codes, arith, refl, sym, ◌∙◌, ap, subst, Option, Some, None, unwrap_or, Result, Ok, Err}
+use Rattle.std.specs.List.{range_with_len}
 use Rattle.std.specs.Option.{IsSomeAnd}
+use Rattle.std.proofs.lemmas.Bool.{cases_Bool}
 use Rattle.std.specs.Fmt.{decimal}
 use Rattle.std.proofs.lemmas.List.Concat.{flat_map-cons}
 use Rattle.disk_model.specs.Disk.{Content, Image, last_image, newest_only}
@@ -29,6 +31,10 @@ use Rattle.image_check.specs.Faults.{fault_for}
 use Rattle.image_judging.specs.Faults.{ImageFault}
 use Rattle.device.specs.Opening.{fault_in_mode}
 use Rattle.place_model.specs.Format.{DiskFormat, format_on}
+use Rattle.device_model.specs.Ending as Refusals
+use Rattle.recovery_laws.specs.Refusals.{read_fault_of}
+use Rattle.salvage_model.specs.Salvaging.{block_text, counts_text, outset_by_salvage, salvage_outset, verdict_text}
+use Rattle.salvage_model.specs.Verdicts.{Verdict, is_good, salvaged_bytes, verdict_on}
 use Rattle.image_dump.specs.declared.dump_fault.DumpFault.{DumpFault}
 use Rattle.image_dump.specs.declared.dump_fault.DumpFault.TheVariants as DumpFaults
 use Rattle.image_dump.specs.declared.shown.Dump.{Dump}
@@ -140,6 +146,30 @@ fine_checked what d image (Some refusal) = fine_refused refusal
 pub fine_check : (what : What) (key : Option (List ℕ)) (sectors : ℕ) (image : Image) → IsFine (check_outset what key sectors image)
 fine_check what key sectors image = fine_checked what (format_on key sectors image) image (fault_for what key sectors image)
 
+-- The last line of a salvage says something, and so does the line of each block.
+pub salvage_counts_begin : (blocks bad : ℕ) → 0 < length (counts_text blocks bad)
+salvage_counts_begin blocks bad =
+    omega (arith, length-append (codes "blocks ") (drop 7 (counts_text blocks bad)))
+
+pub verdict_begins : (verdict : Verdict) (bytes : List ℕ) → 0 < length (verdict_text verdict bytes)
+verdict_begins verdict bytes = elim (cases_Bool (is_good verdict)) [
+  | inl good ↦ rw good (omega (arith, length-append (codes "good ") (drop 5 (verdict_text verdict bytes))))
+  | inr bad ↦ rw bad (omega (arith, length-append (codes "bad ") (drop 4 (verdict_text verdict bytes))))
+]
+
+-- So its lines begin with one that says something, from each block on.
+pub blocks_begin : (d : DiskFormat) (image : Image) (blocks : List ℕ) (last : List ℕ) → 0 < length last
+    → BeginsText (map (block_text d image) blocks ++ last ∷ [])
+blocks_begin d image [] last some = some
+blocks_begin d image (b ∷ blocks) last some = verdict_begins (verdict_on d image b) (salvaged_bytes d image b)
+
+fine_salvaged : (d : DiskFormat) (image : Image) (refusal : Option Refusals.ImageFault) → IsFine (outset_by_salvage d image refusal)
+fine_salvaged d image None = blocks_begin d image (range_with_len 0 d.geometry.blocks) _ (salvage_counts_begin _ _)
+fine_salvaged d image (Some refusal) = no_complete _ (λ (x : ⊥). x)
+
+pub fine_salvage : (key : Option (List ℕ)) (sectors : ℕ) (image : Image) → IsFine (salvage_outset key sectors image)
+fine_salvage key sectors image = fine_salvaged (format_on key sectors image) image (read_fault_of sectors image)
+
 fine_made : (key : Option (List ℕ)) (sectors : ℕ) (new : NewImage) (told : Result ℕ GeomFault) → IsFine (outset_by_format key sectors new told)
 fine_made key sectors new (Ok provided) = (made_prints provided, λ start image is. inl is)
 fine_made key sectors new (Err fault) = no_complete _ (λ (x : ⊥). x)
@@ -158,6 +188,7 @@ fine_at : (task : Task) (key : Option (List ℕ)) (sectors : ℕ) (image : Image
 fine_at (Tasks.Run mode) key sectors image = fine_on mode key sectors image
 fine_at Tasks.Dump key sectors image = fine_dump sectors image
 fine_at (Tasks.Check what) key sectors image = fine_check what key sectors image
+fine_at Tasks.Salvage key sectors image = fine_salvage key sectors image
 fine_at (Tasks.Format new) key sectors image = fine_format key sectors new
 fine_at (Tasks.Exercise seed count) key sectors image = fine_exercise sectors count seed
 
@@ -514,10 +545,15 @@ no_key_checked : (what : What) (d : DiskFormat) (image : Image) (refusal : Optio
 no_key_checked what d image None is = is
 no_key_checked what d image (Some refusal) is = no_key_refused refusal is
 
+no_key_salvaged : (d : DiskFormat) (image : Image) (refusal : Option Refusals.ImageFault) → IsRefusedByKey (outset_by_salvage d image refusal) → ⊥
+no_key_salvaged d image None is = is
+no_key_salvaged d image (Some refusal) is = is
+
 no_key_at : (task : Task) (key : Option (List ℕ)) (sectors : ℕ) (image : Image) → IsRefusedByKey (outset_at task key sectors image) → ⊥
 no_key_at (Tasks.Run mode) key sectors image is = no_key_by mode key sectors image (fault_in_mode mode key sectors image) is
 no_key_at Tasks.Dump key sectors image is = no_key_shown (dump_of sectors image) is
 no_key_at (Tasks.Check what) key sectors image is = no_key_checked what (format_on key sectors image) image (fault_for what key sectors image) is
+no_key_at Tasks.Salvage key sectors image is = no_key_salvaged (format_on key sectors image) image (read_fault_of sectors image) is
 no_key_at (Tasks.Format new) key sectors image is = no_key_made key sectors new (provided_of new sectors) is
 no_key_at (Tasks.Exercise seed count) key sectors image is = no_key_exercised sectors count seed (provided_of exercise_image sectors) is
 
@@ -526,8 +562,9 @@ no_key_at (Tasks.Exercise seed count) key sectors image is = no_key_exercised se
 -- A disk that is not written keeps to every order.
 kept_at : (task : Task) (key : Option (List ℕ)) (sectors : ℕ) {a b : List Content} → b ≡ a → IsInOrderAt task key sectors a b
 kept_at (Tasks.Run mode) key sectors same = tt
-kept_at Tasks.Dump key sectors same = tt
-kept_at (Tasks.Check what) key sectors same = tt
+kept_at Tasks.Dump key sectors same = same
+kept_at (Tasks.Check what) key sectors same = same
+kept_at Tasks.Salvage key sectors same = same
 kept_at (Tasks.Format new) key sectors same = inl (EachMoment-kept _ same)
 kept_at (Tasks.Exercise seed count) key sectors {b = b} same =
     record { made = b; making = inl (EachMoment-kept _ same); behind = no_moment b _ }

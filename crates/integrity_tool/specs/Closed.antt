@@ -61,6 +61,7 @@ IsClosedAt (Tasks.Run mode) key sectors image script c =
     IsClosedBehind (kind_in (asked_mode mode) key sectors) image (geometry_on sectors image) script c
 IsClosedAt Tasks.Dump key sectors image script c = Unit {0}
 IsClosedAt (Tasks.Check what) key sectors image script c = Unit {0}
+IsClosedAt Tasks.Salvage key sectors image script c = Unit {0}
 IsClosedAt (Tasks.Format new) key sectors image script c = Unit {0}
 IsClosedAt (Tasks.Exercise seed count) key sectors image script c = Unit {0}
 

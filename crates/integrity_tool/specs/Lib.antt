@@ -13,6 +13,7 @@ pub mod Refusing
 pub mod Reopening
 pub mod Checking
 pub mod Dumping
+pub mod Salvaging
 pub mod Exercising
 pub mod Exercised
 pub mod Making

@@ -4,6 +4,7 @@ use Rattle.disk_model.specs.Disk.{Content}
 use Rattle.disk_model.specs.Moments.{EachMoment}
 use Rattle.device_model.specs.Ending.{KeyRefusal}
 use Rattle.image_formatting.specs.Formatted.{IsLeftInOrder}
+use Rattle.recovery_laws.specs.MomentLaws.{KeepsMoments}
 use Rattle.integrity_tool.specs.declared.asked.Asked.{Asked}
 use Rattle.integrity_tool.specs.declared.asked.Task.{Task}
 use Rattle.integrity_tool.specs.declared.asked.Task.TheVariants as Tasks
@@ -12,11 +13,13 @@ use Rattle.integrity_tool.specs.Opening.{IsMomentAt}
 use Rattle.integrity_tool.specs.Outset.{key_by}
 use Rattle.integrity_tool.specs.Words.{key_file_of}
 
--- A new image is made in its order, one to be exercised too, and nothing else has one.
+-- A new image is made in its order, one to be exercised too. What only reads an image, whatever that is, neither writes to its
+-- disk nor syncs it.
 abbrev pub IsInOrderAt : Task → (key : Option (List ℕ)) → (sectors : ℕ) → (before after : List Content) → Type 0
 IsInOrderAt (Tasks.Run mode) key sectors before after = Unit {0}
-IsInOrderAt Tasks.Dump key sectors before after = Unit {0}
-IsInOrderAt (Tasks.Check what) key sectors before after = Unit {0}
+IsInOrderAt Tasks.Dump key sectors before after = KeepsMoments before after
+IsInOrderAt (Tasks.Check what) key sectors before after = KeepsMoments before after
+IsInOrderAt Tasks.Salvage key sectors before after = KeepsMoments before after
 IsInOrderAt (Tasks.Format new) key sectors before after = IsLeftInOrder key sectors new before after
 IsInOrderAt (Tasks.Exercise seed count) key sectors before after = IsExercisedInOrder sectors before after
 

@@ -7,6 +7,7 @@ use Rattle.image_model.specs.Geometry.{Geometry}
 use Rattle.place_model.specs.Format.{format_on}
 use Rattle.place_model.specs.Kind.{kind_in}
 use Rattle.image_judging.specs.Faults.{ImageFault}
+use Rattle.salvage_model.specs.Salvaging.{salvage_outset}
 use Rattle.device.specs.declared.opening.OpenMode.{OpenMode}
 use Rattle.device.specs.Opening.{asked_mode, fault_in_mode}
 use Rattle.integrity_tool.specs.declared.asked.Asked.{Asked}
@@ -51,6 +52,7 @@ abbrev pub outset_at : Task → (key : Option (List ℕ)) → (sectors : ℕ) �
 outset_at (Tasks.Run mode) key sectors image = outset_on mode key sectors image
 outset_at Tasks.Dump key sectors image = dump_outset sectors image
 outset_at (Tasks.Check what) key sectors image = check_outset what key sectors image
+outset_at Tasks.Salvage key sectors image = salvage_outset key sectors image
 outset_at (Tasks.Format new) key sectors image = format_outset key sectors new
 outset_at (Tasks.Exercise seed count) key sectors image = exercise_outset sectors count seed
 

@@ -2,13 +2,13 @@
 ghost use Rattle.std.specs.Prelude.{◌≡◌, ◌⊎◌, Err, IfErr, IfOk, None, Some, map};
 ghost use Rattle.std.specs.String.{string_bytes};
 ghost use Rattle.command_ending.specs.declared.ended.Ended.TheVariants as Endings;
-ghost use Rattle.integrity_tool.specs.Words.{IsTask, asked_by, asked_of, check_asked, consent_as, dump_asked, exercise_asked, format_asked, image_mode_as, mode_as, new_image_of, padding_as, run_asked, what_as, wipe_as};
+ghost use Rattle.integrity_tool.specs.Words.{IsTask, asked_by, asked_of, check_asked, consent_as, dump_asked, exercise_asked, format_asked, image_mode_as, mode_as, new_image_of, padding_as, run_asked, salvage_asked, what_as, wipe_as};
 ghost use Rattle.image_formatting.specs.NewImage.{IsNewImage};
 
 use command_ending::Ended;
 use command_words::{
     Check, Checked, Command, Consent, Dump, Exercise, FileName, Format, HashChoice, ImageMode,
-    Mode, Padding, Run, Wipe, WordsFault, parse,
+    Mode, Padding, Run, Salvage, Wipe, WordsFault, parse,
 };
 use device::OpenMode;
 use image_check::What;
@@ -35,6 +35,8 @@ pub(crate) enum Task {
     Dump,
     /// Its bad blocks are printed.
     Check(What),
+    /// What stands in the place of each block is printed.
+    Salvage,
     /// A new image is made.
     Format(NewImage),
     /// A new image is made and exercised.
@@ -76,6 +78,7 @@ fn asked_by(command: Command) -> Asked
         Command::Run(run) => run_asked(run),
         Command::Dump(dump) => dump_asked(dump),
         Command::Check(check) => check_asked(check),
+        Command::Salvage(salvage) => salvage_asked(salvage),
         Command::Exercise(exercise) => exercise_asked(exercise),
     }
 }
@@ -144,6 +147,17 @@ fn check_asked(check: Check) -> Asked
         image: check.image,
         hash: check.hash,
         task: Task::Check(what(check.checked)),
+    }
+}
+
+/// What `salvage` asks for.
+fn salvage_asked(salvage: Salvage) -> Asked
+    ensures { result ≡ salvage_asked salvage }
+{
+    Asked {
+        image: salvage.image,
+        hash: salvage.hash,
+        task: Task::Salvage,
     }
 }
 

@@ -16,6 +16,7 @@ use crate::dumping::print_image;
 use crate::exercising::exercise_image;
 use crate::making::make_image;
 use crate::opening::run_image;
+use crate::salvaging::print_salvage;
 use command_ending::Ended;
 use hmac_tag::Hash;
 use script_session::TagsFound;
@@ -63,6 +64,7 @@ pub(crate) fn carry_out<D: Disk, S: Source, O: Sink>(
         Task::Run(mode) => run_image(alloc, disk, hash, mode, script, out),
         Task::Dump => done(print_image(alloc, disk, out)),
         Task::Check(what) => print_check(alloc, disk, hash, what, out),
+        Task::Salvage => print_salvage(alloc, disk, hash, out),
         Task::Format(new) => done(make_image(alloc, disk, hash, new, out)),
         Task::Exercise { seed, count } => exercise_image(alloc, disk, seed, count, out),
     }

@@ -192,7 +192,7 @@ fn put_counts<O: Sink>(out: &mut O, blocks: u64, bad: u64, awaiting: u64) -> Res
 }
 
 /// Whether there is a bad block, where there are so many.
-fn tags_found(bad: u64) -> TagsFound
+pub(crate) fn tags_found(bad: u64) -> TagsFound
     ensures { finds_fault result ≡ ltb 0 bad }
 {
     if bad > 0 {

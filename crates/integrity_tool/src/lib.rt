@@ -17,7 +17,9 @@ mod opening;
 mod refusing;
 mod reopening;
 mod running;
+mod salvaging;
 mod top_call;
+mod verdict_lines;
 
 pub use command_ending::end_without_memory;
 pub use reopening::reopened_images_begin_with_what_a_cut_left;

@@ -25,7 +25,7 @@ use stream_io::{NamedSource, Sink, Source};
 
 /// Does what the words say, and answers the status. The words are the program's name and then those of a command.
 ///
-/// The commands are `format IMAGE`, `dump IMAGE`, `check IMAGE`, `run IMAGE --mode D` and `--mode J`, and
+/// The commands are `format IMAGE`, `dump IMAGE`, `check IMAGE`, `salvage IMAGE`, `run IMAGE` in a mode, and
 /// `exercise IMAGE SEED COUNT`. The key is bound and read, at most 4097 bytes of it, before the image is bound, and the
 /// script of a run only once the device is open.
 ///
@@ -33,7 +33,8 @@ use stream_io::{NamedSource, Sink, Source};
 ///
 /// - 0: the command came to its end: the image is made, its lines are printed, or the script or the exercise was run
 ///   to its end and the device closed.
-/// - 1: it came to its end, and a reply that was taken, or a line of a check, names a block whose stored tag differs.
+/// - 1: it came to its end, and a reply that was taken, or a line of a check or a salvage, names a block whose stored tag
+///   differs.
 /// - 2: the words are no command, the bytes of the key file no key, or the script is refused.
 /// - 3: the image is refused.
 /// - 4, 5, 6: the disk, the source of the key or of the script, or the sink failed.
@@ -183,7 +184,7 @@ fn bind_for<D: Disk>(disk: &mut D, name: &str, task: &Task) -> Result<(), Failed
     ensures same { D.tells_same name.now disk.old disk.new }
 {
     match task {
-        Task::Dump | Task::Check(_) => disk.bind_to_read(name),
+        Task::Dump | Task::Check(_) | Task::Salvage => disk.bind_to_read(name),
         Task::Run(_) | Task::Format(_) | Task::Exercise { .. } => disk.bind(name),
     }
 }

@@ -3,6 +3,7 @@ pub mod WordsLemmas
 pub mod FaultLemmas
 pub mod RunLemmas
 pub mod RunsLemmas
+pub mod SinglesLemmas
 pub mod ReadLemmas
 pub mod TextLemmas
 pub mod DecideLemmas

@@ -6,16 +6,13 @@ ghost use Rattle.device_model.specs.Transcript.{read_text, write_text};
 ghost use Rattle.script_text.specs.Told.{told_text};
 
 use crate::pieces::{put_bytes, put_hex, put_number};
-use crate::stretches::put_stretches;
+use crate::stretches::{MOST_FOR_A_BYTE, put_stretches};
 use crate::told::Told;
 use sector_disk::Memory;
 use std::alloc::Global;
 
 /// The most bytes of a text beside the runs of a read and the digits of tags: two numbers of 20 digits, and words.
 const MOST_BESIDE: usize = 72;
-
-/// The most bytes of text for a byte that was read, as in `00*1,`.
-const MOST_FOR_A_BYTE: usize = 5;
 
 /// The line that is printed of this, with its newline. The runs of a read are the longest ones.
 ///

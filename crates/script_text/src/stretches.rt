@@ -1,9 +1,14 @@
 //! The text of some bytes: runs of one byte, joined by commas.
-ghost use Rattle.std.specs.Prelude.{◌≡◌, ◌+◌, ◌<◌, ◌≤◌, ◌==◌, ◌++◌, codes, length, replicate, slice_index, take, vec_len, vec_capacity, IsTrue};
+ghost use Rattle.std.specs.Prelude.{◌≡◌, ◌+◌, ◌<◌, ◌≤◌, ◌==◌, ◌++◌, length, replicate, slice_index, take, vec_len, vec_capacity, IsTrue, OnErr, OnOk};
 ghost use Rattle.std.specs.List.{prefix_len};
 ghost use Rattle.device_model.specs.Stretches.{stretch_text, stretches_text};
 
-use crate::pieces::{digits_of, put_byte, put_bytes, put_number};
+use crate::pieces::{put_byte, put_bytes, put_number};
+use crate::singles::{begins_with_singles, put_single, put_singles};
+use sector_disk::Memory;
+
+/// The most bytes of text for a byte, as in `00*1,`.
+pub(crate) const MOST_FOR_A_BYTE: usize = 5;
 
 /// How many bytes from the front on are this byte. They are compared eight at a time.
 fn count_at_front(bytes: &[u8], byte: u8) -> usize
@@ -58,18 +63,6 @@ fn begins_single(bytes: &[u8]) -> bool
     bytes.len() > 1 && bytes[0] != bytes[1]
 }
 
-/// Appends a run of one byte and a comma, all at once, since bytes that differ one from the next make many.
-fn put_single(text: &mut Vec<u8>, byte: u8)
-    requires room { vec_len text.old + 5 ≤ vec_capacity text.old }
-
-    ensures written { text.new.items
-        ≡ text.old.items ++ (stretch_text (record { byte = byte; count = 1 }) ++ codes ",") }
-    ensures capacity { vec_capacity text.old ≤ vec_capacity text.new }
-{
-    let [high, low] = digits_of(byte);
-    put_bytes(text, &[high, low, b'*', b'1', b',']);
-}
-
 /// Appends the first run of some bytes, with a comma where more follow, and gives back those.
 fn put_first_stretch<'b>(text: &mut Vec<u8>, bytes: &'b [u8]) -> &'b [u8]
     requires bytes { 0 < length bytes.now }
@@ -93,6 +86,25 @@ fn put_first_stretch<'b>(text: &mut Vec<u8>, bytes: &'b [u8]) -> &'b [u8]
     &bytes[count..]
 }
 
+/// Appends the first runs of some bytes, with a comma behind each where more follow, and gives back the bytes that do.
+fn put_front<'b>(text: &mut Vec<u8>, bytes: &'b [u8]) -> &'b [u8]
+    requires bytes { 0 < length bytes.now }
+    requires room { vec_len text.old + length (stretches_text bytes.now) ≤ vec_capacity text.old }
+
+    ensures rest { length result.now < length bytes.now }
+    ensures written { text.new.items ++ stretches_text result.now
+        ≡ text.old.items ++ stretches_text bytes.now }
+    ensures capacity { vec_capacity text.old ≤ vec_capacity text.new }
+{
+    match bytes.split_first_chunk() {
+        Some((eight, behind)) if begins_with_singles(bytes) => {
+            put_singles(text, eight);
+            behind
+        }
+        _ => put_first_stretch(text, bytes),
+    }
+}
+
 /// Appends the text of some bytes. Each byte is compared once.
 pub fn put_stretches(text: &mut Vec<u8>, bytes: &[u8])
     requires room { vec_len text.old + length (stretches_text bytes.now) ≤ vec_capacity text.old }
@@ -103,6 +115,27 @@ pub fn put_stretches(text: &mut Vec<u8>, bytes: &[u8])
 {
     let mut rest = bytes;
     while !rest.is_empty() {
-        rest = put_first_stretch(text, rest);
+        rest = put_front(text, rest);
     }
+}
+
+/// Appends the text of some bytes: runs of one byte, joined by commas, as a read is told. Room is taken where the text
+/// has too little.
+///
+/// # Errors
+///
+/// - `Memory`: there is none for it. The text is as it was.
+pub fn add_stretches(text: &mut Vec<u8>, bytes: &[u8]) -> Result<(), Memory>
+    ensures written { OnOk result (text.new.items ≡ text.old.items ++ stretches_text bytes.now) }
+
+    ensures err { OnErr result (text.new.items ≡ text.old.items) }
+{
+    let Some(room) = bytes.len().checked_mul(MOST_FOR_A_BYTE) else {
+        return Err(Memory);
+    };
+    let Ok(()) = text.reserve(room) else {
+        return Err(Memory);
+    };
+    put_stretches(text, bytes);
+    Ok(())
 }

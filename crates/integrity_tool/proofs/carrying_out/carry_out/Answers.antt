@@ -49,7 +49,7 @@ returns-in-Dump-clause-runs g c left told start told_start =
     × HasMomentsAt t key sectors start left before after) (sym c.in-Dump.is) (
       subst (λ (e : Ending). HasRunOn (outset_at Tasks.Dump key sectors (last_image start)) start left e after (g.O.Sink.held c.args.out.now) (g.O.Sink.held c.print_image.new.out))
           (sym (ap ending_by c.done.ensures ∙ ending_found c.print_image.result)) (c.print_image.ensures.runs left start told_start),
-      record { each = EachMoment-kept (IsMomentAt Tasks.Dump key sectors start left) c.print_image.ensures.kept; order = tt },
+      record { each = EachMoment-kept (IsMomentAt Tasks.Dump key sectors start left) c.print_image.ensures.kept; order = c.print_image.ensures.kept },
     )
 
 pub returns-in-Dump-clause-closed : goal.returns-in-Dump-clause-closed
@@ -100,7 +100,7 @@ returns-in-Check-clause-runs g c left told start told_start =
     subst (λ (t : Task). HasRunOn (outset_at t key sectors (last_image start)) start left (ending_by c.print_check.result) after (g.O.Sink.held c.args.out.now) (g.O.Sink.held c.print_check.new.out)
     × HasMomentsAt t key sectors start left before after) (sym c.in-Check.is) (
       c.print_check.ensures.runs left start told_start,
-      record { each = EachMoment-kept (IsMomentAt (Tasks.Check what) key sectors start left) c.print_check.ensures.kept; order = tt },
+      record { each = EachMoment-kept (IsMomentAt (Tasks.Check what) key sectors start left) c.print_check.ensures.kept; order = c.print_check.ensures.kept },
     )
 
 pub returns-in-Check-clause-closed : goal.returns-in-Check-clause-closed
@@ -130,6 +130,46 @@ returns-in-Check-clause-ahead g c left told start told_start =
     subst (λ (t : Task). HasReadIn (outset_at t key sectors (last_image start)) left (g.S.Source.left c.args.script.now) (g.O.Sink.held c.args.out.now) (g.O.Sink.held c.print_check.new.out))
     (sym c.in-Check.is)
     (read_no_script (outset_at (Tasks.Check c.in-Check.what) key sectors (last_image start)) start left _ _ _ _ _ told (c.print_check.ensures.runs left start told_start))
+
+pub returns-in-Salvage-clause-runs : goal.returns-in-Salvage-clause-runs
+returns-in-Salvage-clause-runs g c left told start told_start =
+    let key = key_of c.args.hash in
+    let sectors = (g.D.Disk.identity c.args.disk.now).sectors in
+    let before = g.D.Disk.moments c.args.disk.now in
+    let after = g.D.Disk.moments c.print_salvage.new.disk in
+    subst (λ (t : Task). HasRunOn (outset_at t key sectors (last_image start)) start left (ending_by c.print_salvage.result) after (g.O.Sink.held c.args.out.now) (g.O.Sink.held c.print_salvage.new.out)
+    × HasMomentsAt t key sectors start left before after) (sym c.in-Salvage.is) (
+      c.print_salvage.ensures.runs left start told_start,
+      record { each = EachMoment-kept (IsMomentAt Tasks.Salvage key sectors start left) c.print_salvage.ensures.kept; order = c.print_salvage.ensures.kept },
+    )
+
+pub returns-in-Salvage-clause-closed : goal.returns-in-Salvage-clause-closed
+returns-in-Salvage-clause-closed g c = rw c.in-Salvage.is (ok_holds _ (λ bytes told start told_start later told_later. tt) c.print_salvage.result)
+
+pub returns-in-Salvage-clause-ends : goal.returns-in-Salvage-clause-ends
+returns-in-Salvage-clause-ends g c = ends_wider c.print_salvage.result c.print_salvage.ensures.ends
+
+pub returns-in-Salvage-clause-cause : goal.returns-in-Salvage-clause-cause
+returns-in-Salvage-clause-cause g c = causes_wider _ _ _ c.print_salvage.result c.print_salvage.ensures.cause
+
+pub returns-in-Salvage-clause-counted : goal.returns-in-Salvage-clause-counted
+returns-in-Salvage-clause-counted g c =
+    (c.print_salvage.ensures.counted.0, uncounted Endings.Script _ c.print_salvage.result, c.print_salvage.ensures.counted.1)
+
+pub returns-in-Salvage-clause-unread : goal.returns-in-Salvage-clause-unread
+returns-in-Salvage-clause-unread g c =
+    (whatever_ended (λ ended. IsBeforeScript ended → c.args.script.now ≡ c.args.script.now) (λ ended before. refl) c.print_salvage.result, λ none. refl)
+
+pub returns-in-Salvage-clause-taken : goal.returns-in-Salvage-clause-taken
+returns-in-Salvage-clause-taken g c = none_taken _ _ refl
+
+pub returns-in-Salvage-clause-ahead : goal.returns-in-Salvage-clause-ahead
+returns-in-Salvage-clause-ahead g c left told start told_start =
+    let key = key_of c.args.hash in
+    let sectors = (g.D.Disk.identity c.args.disk.now).sectors in
+    subst (λ (t : Task). HasReadIn (outset_at t key sectors (last_image start)) left (g.S.Source.left c.args.script.now) (g.O.Sink.held c.args.out.now) (g.O.Sink.held c.print_salvage.new.out))
+    (sym c.in-Salvage.is)
+    (read_no_script (outset_at Tasks.Salvage key sectors (last_image start)) start left _ _ _ _ _ told (c.print_salvage.ensures.runs left start told_start))
 
 pub returns-in-Format-clause-runs : goal.returns-in-Format-clause-runs
 returns-in-Format-clause-runs g c left told start told_start =

@@ -1,13 +1,15 @@
 use Rattle.std.proofs.Common.{refl}
 use Rattle.std.proofs.Common.{◌≡◌, ℕ, List, Err, sym, ap, ◌∙◌, subst, map}
 use Rattle.std.specs.Option.{ForSome}
+use Rattle.std.proofs.lemmas.Bool.{true≢false}
+use Rattle.integrity_tool.proofs.KeyLemmas.{not_read}
 use Rattle.std.specs.String.{string_bytes}
 use Rattle.std.proofs.lemmas.Result.{err_from_is_err_and, on_ok_weaker}
 use Rattle.disk_model.specs.Identity.{DiskIdentity, IsBoundTo, IsThere, NamedDisk}
 use Rattle.disk_model.specs.Moments.{content_now}
 use Rattle.device_model.specs.Ending.{DiskFailed}
 use Rattle.hmac_tag.specs.TagMaker.{key_of}
-use Rattle.integrity_tool.specs.Words.{HasNoScript, image_name, image_of}
+use Rattle.integrity_tool.specs.Words.{HasNoScript, asked_of, image_name, image_of, key_file_of_asked}
 use Rattle.integrity_tool.specs.Running.{ending_by}
 use Rattle.integrity_tool.proofs.StartLemmas.{closed_given, not_refused_by_key, outside_first, ran_given, read_given, read_none, stopped_at_key, stopped_at_words}
 use Rattle.integrity_tool.proofs.TopLemmas.{told_there}
@@ -81,6 +83,12 @@ returns-clause-sectors g c content told =
     let there = found.is content told in
     let ends = g.met.D.Disk.named_if_bound c.carry_out.new.disk (image_name words) (subst (λ (d : DiskIdentity). IsBoundTo (image_name words) d.name) (sym c.carry_out.ensures.identity) bound) in
     ap (λ (n : NamedDisk). n.sectors) ends ∙ ap (λ (d : DiskIdentity). d.sectors) c.carry_out.ensures.identity ∙ sym (ap (λ (n : NamedDisk). n.sectors) there)
+
+pub returns-in_err-asked-clause-key : goal.returns-in_err-asked-clause-key
+returns-in_err-asked-clause-key g c =
+    let p = err_from_is_err_and c.from_residual.result c.from_residual.ensures.1 in
+    not_read (key_file_of_asked (asked_of (map string_bytes c.args.words.now))) _ _ _ _ refl
+    (λ ok. true≢false (sym (rw p.1 at ok)))
 
 pub returns-in_err-asked-clause-taken : goal.returns-in_err-asked-clause-taken
 returns-in_err-asked-clause-taken g c = none_taken _ _ refl

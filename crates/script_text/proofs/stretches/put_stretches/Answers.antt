@@ -14,11 +14,11 @@ all_put put rest before bytes same none =
 
 pub loop-rest-preserved : goal.loop-rest-preserved
 loop-rest-preserved c =
-    let text = c.put_first_stretch-rest.new.text.items in
-    let kept = same_length text (stretches_text c.put_first_stretch-rest.result.now) c.loop-rest.text.items (stretches_text c.loop-rest.rest.now) c.put_first_stretch-rest.ensures.written in
+    let text = c.put_front-rest.new.text.items in
+    let kept = same_length text (stretches_text c.put_front-rest.result.now) c.loop-rest.text.items (stretches_text c.loop-rest.rest.now) c.put_front-rest.ensures.written in
     record {
       room = omega (arith, kept);
-      written = c.put_first_stretch-rest.ensures.written ∙ c.loop-rest.invariant.written;
+      written = c.put_front-rest.ensures.written ∙ c.loop-rest.invariant.written;
       capacity = omega arith;
     }
 
