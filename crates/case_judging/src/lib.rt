@@ -6,6 +6,7 @@
 mod bitmap;
 mod bitmapped;
 mod form;
+mod growth;
 mod images;
 mod journal;
 mod journaled;
@@ -19,6 +20,7 @@ mod wrong;
 pub use bitmap::{Bitmap, bitmap_of};
 pub use bitmapped::judge_bitmapped;
 pub use form::{Form, form_of, put_at};
+pub use growth::{Growth, Provides};
 pub use images::{Images, judge_left};
 pub use journal::{
     behind_journal, count_used, has_empty_journal, is_same_outside_journal, numbers_of, put_empty,

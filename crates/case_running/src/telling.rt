@@ -121,6 +121,11 @@ pub fn is_bitmapped(case: &Case) -> bool {
     is_run(case) && case.words.iter().any(|word| word.as_str() == "B")
 }
 
+/// Whether the words of a case are those of a run in recovery mode.
+pub fn is_recovering(case: &Case) -> bool {
+    is_run(case) && case.words.iter().any(|word| word.as_str() == "R")
+}
+
 /// Whether the words of a case are those of a run.
 fn is_run(case: &Case) -> bool {
     matches!(case.words.get(1), Some(word) if word.as_str() == "run")

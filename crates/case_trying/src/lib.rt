@@ -7,6 +7,7 @@ mod bitmaps;
 mod input;
 mod reads;
 mod recovering;
+mod resizing;
 mod session;
 mod starting;
 mod trying;

@@ -2,10 +2,11 @@
 use crate::bitmaps::{Bitmapped, bitmapped_by, judge_bitmap_left};
 use crate::reads::Reads;
 use crate::recovering::{Recovered, judge_recovered, recovered_by};
+use crate::resizing::{Resized, judge_resized, resized_by};
 use anyhow::{Result, bail};
 use case_disks::choice_from;
 use case_judging::{Images, Known, Met, Told, form_of, judge_left, judge_made, judge_text};
-use case_running::{Command, Ended, is_keyed, outcome_of, run};
+use case_running::{Command, Ended, is_keyed, is_recovering, outcome_of, run};
 use case_text::{CHOICES, Case, Fails, Kind, name_of, with_failure};
 use cut_disk::CutDisk;
 use std::alloc::Global;
@@ -34,8 +35,12 @@ pub struct Trial {
     images: Images,
     reads: Reads,
     is_keyed: bool,
+    /// Whether they are in recovery mode.
+    is_recovering: bool,
     /// The bytes of the image that the case makes, if it makes one.
     made: Option<Vec<u8>>,
+    /// What its runs are judged by, if they resize an image.
+    resized: Option<Resized>,
     /// What its runs recover, if the journal plays a part.
     recovered: Option<Recovered>,
     /// What its runs are judged by, if they are in bitmap mode.
@@ -55,7 +60,13 @@ impl Trial {
             bail!("a script that is tried is text");
         };
         let text = undisturbed.text.as_str();
-        let recovered = recovered_by(alloc, command, case, &base, script, text)?;
+        let resized = resized_by(alloc, command, case, &base, undisturbed)?;
+        let is_recovering = is_recovering(case);
+        let recovered = if is_recovering || resized.is_some() {
+            None
+        } else {
+            recovered_by(alloc, command, case, &base, script, text)?
+        };
         let bitmapped = bitmapped_by(alloc, case, &base, script)?;
         // What is recovered, or has a bitmap, is judged by images of its own.
         let has_own = recovered.is_some() || bitmapped.is_some();
@@ -67,16 +78,19 @@ impl Trial {
             reads: Reads::in_mode(alloc, &base.form, "D")?,
             base,
             is_keyed: is_keyed(case),
+            is_recovering,
             made: made_by(alloc, case, undisturbed)?,
+            resized,
             recovered,
             bitmapped,
         })
     }
 
     /// Whether what is left is judged. The tags of a keyed image without a bitmap are judged by the texts of its cases
-    /// alone, unless it is made anew.
+    /// alone, unless it is made anew, resized or kept.
     fn judges_images(&self) -> bool {
-        !self.is_keyed || self.made.is_some() || self.bitmapped.is_some()
+        let is_whole = self.is_recovering || self.made.is_some() || self.resized.is_some();
+        !self.is_keyed || is_whole || self.bitmapped.is_some()
     }
 }
 
@@ -214,6 +228,15 @@ fn judge_choice<C: Command>(
     let base = trial.base.bytes();
     if let Some(made) = &trial.made {
         return Ok(judge_made(base, made, &left, ended.disk.seen.syncs > 0)?);
+    }
+    if trial.is_recovering {
+        if left.as_slice() != base {
+            bail!("a run in recovery mode has changed the disk");
+        }
+        return Ok(());
+    }
+    if let Some(resized) = &trial.resized {
+        return judge_resized(alloc, command, counts, resized, base, &left);
     }
     let text = ended.text.as_str();
     if let Some(recovered) = &trial.recovered {

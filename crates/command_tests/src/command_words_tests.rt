@@ -132,7 +132,7 @@ static REFUSED: [&str; 68] = [
     "run|I|-m|D",
     "run|I|--mode|-D",
     "run|I|--mode|b",
-    "run|I|--mode|R",
+    "run|I|--mode|S",
     "run|I|--integrity-legacy-recalculate",
     "run|I|--mode|B|--integrity-legacy-recalculate=yes",
     "run|I|--mode|B|--integrity-legacy-recalculate|--integrity-legacy-recalculate",

@@ -12,7 +12,7 @@ use Rattle.command_words.specs.declared.values.BlockSize.TheVariants.{Bytes512}
 use Rattle.command_words.specs.declared.values.ImageMode.TheVariants as images
 use Rattle.command_words.specs.declared.values.Padding.TheVariants.{Fixed}
 use Rattle.command_words.specs.declared.values.Wipe.TheVariants.{Zeros}
-use Rattle.command_words.specs.declared.values.Mode.TheVariants.{Bitmap, Direct, Journal}
+use Rattle.command_words.specs.declared.values.Mode.TheVariants.{Bitmap, Direct, Journal, Recovery}
 
 -- The largest number of 64 bits, and one more: 2^64 - 1 and 2^64.
 number_of-largest : number_of (codes "18446744073709551615") ≡ Some 18446744073709551615
@@ -61,7 +61,7 @@ command_of-equals : command_of (codes "integrity" ∷ codes "run" ∷ codes "--m
 unfolding clap_on_literals
 command_of-equals = refl
 
--- An option may be given once, and a mode is `J`, `D` or `B`.
+-- An option may be given once, and a mode is `J`, `D`, `B` or `R`.
 command_of-twice : command_of (codes "integrity" ∷ codes "run" ∷ codes "I" ∷ codes "--mode" ∷ codes "D"
     ∷ codes "--mode" ∷ codes "D" ∷ []) ≡ None
 unfolding clap_on_literals
@@ -71,6 +71,11 @@ command_of-other_mode : command_of (codes "integrity" ∷ codes "run" ∷ codes 
     ≡ None
 unfolding clap_on_literals
 command_of-other_mode = refl
+
+command_of-recovery : command_of (codes "integrity" ∷ codes "run" ∷ codes "I" ∷ codes "--mode" ∷ codes "R" ∷ [])
+    ≡ Some (command.Run (record { image = codes "I"; mode = Recovery; hash = Sha256; consent = Withheld }))
+unfolding clap_on_literals
+command_of-recovery = refl
 
 -- Consent may be given in every mode, with a key or without.
 command_of-bitmap : command_of (codes "integrity" ∷ codes "run" ∷ codes "I" ∷ codes "--mode" ∷ codes "B" ∷ [])

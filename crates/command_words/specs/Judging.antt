@@ -21,7 +21,7 @@ use Rattle.command_words.specs.declared.values.HashChoice.TheVariants.{Sha256, H
 use Rattle.command_words.specs.declared.values.ImageMode.{ImageMode}
 use Rattle.command_words.specs.declared.values.ImageMode.TheVariants as images
 use Rattle.command_words.specs.declared.values.Mode.{Mode}
-use Rattle.command_words.specs.declared.values.Mode.TheVariants.{Journal, Direct, Bitmap}
+use Rattle.command_words.specs.declared.values.Mode.TheVariants.{Journal, Direct, Bitmap, Recovery}
 use Rattle.command_words.specs.declared.values.Padding.{Padding}
 use Rattle.command_words.specs.declared.values.Padding.TheVariants.{Fixed, Legacy}
 use Rattle.command_words.specs.declared.values.Wipe.{Wipe}
@@ -49,6 +49,7 @@ mode_named text =
     if bytes_eq text (codes "J") then Some Journal
     else if bytes_eq text (codes "D") then Some Direct
     else if bytes_eq text (codes "B") then Some Bitmap
+    else if bytes_eq text (codes "R") then Some Recovery
     else None
 
 -- The mode of a new image.

@@ -160,6 +160,7 @@ fn mode(given: &Given<'_>) -> Option<Mode>
         "J" => Some(Mode::Journal),
         "D" => Some(Mode::Direct),
         "B" => Some(Mode::Bitmap),
+        "R" => Some(Mode::Recovery),
         _ => None,
     }
 }

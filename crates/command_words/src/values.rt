@@ -175,7 +175,7 @@ pub enum HashChoice {
     HmacSha256 { key_file: FileName },
 }
 
-/// Where a write goes first.
+/// Where a write goes first, where there are writes.
 #[derive(Clone, Copy, Debug, PartialEq, Eq)]
 pub enum Mode {
     /// To the journal.
@@ -184,6 +184,8 @@ pub enum Mode {
     Direct,
     /// To its place, once the bit of its region is set.
     Bitmap,
+    /// There are none: blocks are read whatever their tags are.
+    Recovery,
 }
 
 /// The mode that a new image is made for.

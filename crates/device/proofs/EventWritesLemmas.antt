@@ -50,7 +50,7 @@ use Rattle.journal_device.specs.Standing.{StandsAs}
 use Rattle.device.specs.declared.mode.Mode.{Mode}
 use Rattle.bitmap_laws.proofs.EventLemmas.{served_law as bitmap_served_law}
 use Rattle.bitmap_device.specs.Device.{kept as bitmap_kept}
-use Rattle.device.specs.declared.mode.Mode.TheVariants.{Bitmap, Direct, Journal}
+use Rattle.device.specs.declared.mode.Mode.TheVariants.{Bitmap, Direct, Journal, Recovery}
 use Rattle.device.specs.Answers.{WritesInClose, WritesInServe, WritesInStep}
 use Rattle.device.specs.Device.{IsDeviceIn}
 use Rattle.device_parts.specs.Device.{Standing}
@@ -307,6 +307,8 @@ module _ (w : Standing) (common : Parts) (a : List Content) where
       (λ block is_flushed turn. next_is_written w.format w.state common.slots is.over.flight is.over.condition_
       (λ k asked served. bitmap_served_law w.format w.state d k asked is.over.device served) ticket there block is_flushed turn)
       (turn_of common.slots ticket) refl writes.1))
+  serve_writes Recovery is ticket there new kept =
+      alone (Serve ticket) (WritesOnly-kept w.format.mode w.on.geometry (event_result w.format w.state (Serve ticket)).changes kept)
 
   -- so does a step,
   pub step_writes : (mode : Mode) → IsDeviceIn mode w Conditions.Working common a → (actor : Actor) {b : List Content}
@@ -320,6 +322,8 @@ module _ (w : Standing) (common : Parts) (a : List Content) where
       let stands = is.over.stands refl in
       alone (Step (actor_of actor)) (at_mode Model.Bitmap d.format changes (plain_bitmap.own w Conditions.Working (bitmap_kept common states) a is) is.format
       (bitmap_step_only d.format.geometry changes common states (writes.0 ∙ sym stands.geometry) (sym stands.geometry) actor writes.1))
+  step_writes Recovery is actor kept =
+      alone (Step (actor_of actor)) (WritesOnly-kept w.format.mode w.on.geometry (event_result w.format w.state (Step (actor_of actor))).changes kept)
 
   -- and a close writes what may be written whatever changes.
   pub close_writes : (mode : Mode) → IsDeviceIn mode w Conditions.Working common a → (changes : List Change) {b : List Content}
@@ -336,3 +340,4 @@ module _ (w : Standing) (common : Parts) (a : List Content) where
       let stands = is.over.stands refl in
       at_mode Model.Bitmap d.format changes (plain_bitmap.own w Conditions.Working (bitmap_kept common states) a is) is.format
       (bitmap_close_only d.format.geometry changes common states (writes.0 ∙ sym stands.geometry) (sym stands.geometry) writes.1)
+  close_writes Recovery is changes kept = WritesOnly-kept w.format.mode w.on.geometry changes kept

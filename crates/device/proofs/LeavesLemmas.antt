@@ -19,13 +19,13 @@ use Rattle.device_parts.specs.Device.{Standing}
 use Rattle.journal_device.specs.Device.{kept}
 use Rattle.bitmap_device.specs.Device.{IsUnwritten, kept as bitmap_kept}
 use Rattle.device.specs.declared.mode.Mode.{Mode}
-use Rattle.device.specs.declared.mode.Mode.TheVariants.{Bitmap, Direct, Journal}
+use Rattle.device.specs.declared.mode.Mode.TheVariants.{Bitmap, Direct, Journal, Recovery}
 use Rattle.device.specs.Answers.{KeepsClearTags, WritesInClose, WritesInServe, WritesInStep}
 use Rattle.device.specs.Device.{IsDeviceIn}
-use Rattle.device.specs.Tags.{IsLeftOut, IsOfBlock, KeepsTagsOf, Leaves, LeavesIn}
+use Rattle.device.specs.Tags.{IsLeftOut, IsOfBlock, KeepsStill, KeepsTagsOf, Leaves, LeavesIn}
 use Rattle.device.specs.Writes.{WritesOnly}
 use Rattle.device.proofs.EventWritesLemmas.{close_writes, serve_writes, step_writes}
-use Rattle.device.proofs.ModeLemmas.{condition_now, own_direct, plain_bitmap, plain_journal}
+use Rattle.device.proofs.ModeLemmas.{condition_now, own_direct, plain_bitmap, plain_journal, plain_recovery}
 use Rattle.device.proofs.RunLemmas.{first_of}
 use Rattle.device.proofs.TagsLemmas.{among_first, unwritten_behind}
 
@@ -47,6 +47,20 @@ module _ (w : Standing) (common : Parts) (a : List Content) where
       (EachMoment-weaker (λ c keeps image of. record {
         each = λ block below clear out. (keeps image of).each block below clear (unwritten block out);
       }) (tags w is))
+  tags_left Recovery is changes told_of {b} unwritten writes tags =
+      subst (λ (m : Model.Mode). EachMoment a b (KeepsTagsOf m (IsLeftOut w.state.history changes) w.on.geometry w.entry))
+      (plain_recovery.own w Conditions.Working common a is) (EachMoment-weaker (λ c any. tt) writes)
+
+  -- In recovery mode the disk is as it was, where a call tells that.
+  still_left : (mode : Mode) → IsDeviceIn mode w Conditions.Working common a → {b : List Content} → (mode ≡ Recovery → b ≡ a)
+      → KeepsStill w.format.mode a b
+  still_left Direct is {b} same = subst (λ (m : Model.Mode). KeepsStill m a b) (own_direct w Conditions.Working common a is) tt
+  still_left (Journal journal) is {b} same =
+      subst (λ (m : Model.Mode). KeepsStill m a b) (plain_journal.own w Conditions.Working (kept common journal) a is) tt
+  still_left (Bitmap states) is {b} same =
+      subst (λ (m : Model.Mode). KeepsStill m a b) (plain_bitmap.own w Conditions.Working (bitmap_kept common states) a is) tt
+  still_left Recovery is {b} same =
+      subst (λ (m : Model.Mode). KeepsStill m a b) (plain_recovery.own w Conditions.Working common a is) (same refl)
 
   module _ (works : w.state.condition ≡ Working) where
     abbrev changes_by : Event → List Change
@@ -93,32 +107,35 @@ module _ (w : Standing) (common : Parts) (a : List Content) where
   pub serve_leaves : (mode : Mode) → IsDeviceIn mode w Conditions.Working common a → (ticket : ℕ) → is_in_flight ticket common.slots ≡ true
       → (new : Parts) {b : List Content} → WritesInServe mode ticket common new a b
       → KeepsClearTags mode common (FailedServe ticket) a b → LeavesIn w (Serve ticket ∷ []) a b
-  serve_leaves mode is ticket there new writes tags =
+  serve_leaves mode is ticket there new {b} writes tags =
       let sectors = serve_writes w common a mode is ticket there new writes in
       record {
         sectors = sectors;
         tags = tags_left mode is (changes_of w.format w.state (Serve ticket ∷ [])) (FailedServe ticket)
             (unwritten_served (condition_now w Conditions.Working mode common a is) ticket) sectors tags;
+        still = still_left mode is {b = b} (λ e. subst (λ (m : Mode). WritesInServe m ticket common new a b) e writes);
       }
 
   -- so does a step,
   pub step_leaves : (mode : Mode) → IsDeviceIn mode w Conditions.Working common a → (actor : Actor) {b : List Content}
       → WritesInStep mode actor common a b → KeepsClearTags mode common (Step (actor_of actor)) a b
       → LeavesIn w (Step (actor_of actor) ∷ []) a b
-  step_leaves mode is actor writes tags =
+  step_leaves mode is actor {b} writes tags =
       let sectors = step_writes w common a mode is actor writes in
       record {
         sectors = sectors;
         tags = tags_left mode is (changes_of w.format w.state (Step (actor_of actor) ∷ [])) (Step (actor_of actor))
             (unwritten_by (condition_now w Conditions.Working mode common a is) (Step (actor_of actor))) sectors tags;
+        still = still_left mode is {b = b} (λ e. subst (λ (m : Mode). WritesInStep m actor common a b) e writes);
       }
 
   -- and a close leaves what may be left whatever changes.
   pub close_leaves : (mode : Mode) → IsDeviceIn mode w Conditions.Working common a → (changes : List Change) {b : List Content}
       → WritesInClose mode common a b → KeepsClearTags mode common Close a b → Leaves w changes a b
-  close_leaves mode is changes writes tags =
+  close_leaves mode is changes {b} writes tags =
       let sectors = close_writes w common a mode is changes writes in
       record {
         sectors = sectors;
         tags = tags_left mode is changes Close (unwritten_closed (condition_now w Conditions.Working mode common a is) changes) sectors tags;
+        still = still_left mode is {b = b} (λ e. subst (λ (m : Mode). WritesInClose m common a b) e writes);
       }

@@ -1,5 +1,5 @@
 -- What is told of a device in one mode is told of it as a device of any.
-use Rattle.std.proofs.Common.{◌≡◌, ℕ, ◌<◌, false, List, [], IfOk, OnOk, Result, Ok, Err, refl, sym, ◌∙◌, ap, subst}
+use Rattle.std.proofs.Common.{◌≡◌, ℕ, ◌<◌, List, [], IfOk, OnOk, Result, Ok, Err, refl, sym, ◌∙◌, ap, subst}
 use Rattle.disk_model.specs.Disk.{Content, EachImage, OnlyAdds}
 use Rattle.disk_model.specs.Moments.{EachSince, HasNow}
 use Rattle.image_model.specs.Geometry.{IsGeometry}
@@ -10,7 +10,6 @@ use Rattle.device_model.specs.RequestLaws.{IsReached}
 use Rattle.direct_laws.specs.CallLaws.{ReadsImage}
 use Rattle.direct_laws.specs.MomentLaws.{IsLeftNow, IsLeftThrough}
 use Rattle.place_model.specs.Format.{DiskFormat}
-use Rattle.place_model.specs.Kind.{kind_in}
 use Rattle.place_model.proofs.FormatLemmas.{reads_tells}
 use Rattle.request_slots.specs.Flight.{Flight}
 use Rattle.request_slots.specs.InFlight.{IsFlightOf}
@@ -30,10 +29,12 @@ use Rattle.journal_device.specs.declared.parts.JournalParts.{JournalParts}
 use Rattle.bitmap_device.specs.declared.parts.BitmapParts.{BitmapParts}
 use Rattle.bitmap_device.specs.Device.{in_bitmap, kept as bitmap_kept, kind_on as bitmap_kind}
 use Rattle.bitmap_device.proofs.EventLemmas.{quiet_kept_law as bitmap_quiet_law}
+use Rattle.recovery_device.specs.Device.{in_recovery}
+use Rattle.recovery_device.proofs.EventLemmas.{quiet_law as recovery_quiet_law}
 use Rattle.device.specs.declared.mode.DeviceParts.{DeviceParts}
 use Rattle.device.specs.declared.mode.Mode.{Mode}
-use Rattle.device.specs.declared.mode.Mode.TheVariants.{Bitmap, Direct, Journal}
-use Rattle.device.specs.Device.{IsDevice, IsDeviceIn, IsEmptied, any_mode, kind_of, with_slots}
+use Rattle.device.specs.declared.mode.Mode.TheVariants.{Bitmap, Direct, Journal, Recovery}
+use Rattle.device.specs.Device.{IsDevice, IsDeviceIn, IsEmptied, any_mode, kind_by, kind_of, with_slots}
 use Rattle.device.proofs.EmptiedLemmas.{StaysEmpty, left_now_empty, left_through_empty, stays_still, stays_written}
 
 -- ---- direct mode
@@ -47,13 +48,13 @@ module _ (w : Standing) (condition : Condition) (common : Parts) (moments : List
       → IsLeftThrough (placed_on w) w.entry w.format w.state event a b
       → IsLeftThrough (kind_of w) w.entry w.format w.state event a b
   through_direct event a b stays left =
-      subst (λ (m : Model.Mode). IsLeftThrough (kind_in m w.on.key w.on.sectors) w.entry w.format w.state event a b) own_direct
+      subst (λ (m : Model.Mode). IsLeftThrough (kind_by m w.on.key w.on.sectors) w.entry w.format w.state event a b) own_direct
       (left_through_empty w.on w.entry w.format w.state event stays left)
 
   now_direct : (h : History) (a : List Content) → HasNow (EachImage (HasEmptyJournal w.on)) a
       → IsLeftNow (placed_on w) w.entry h a → IsLeftNow (kind_of w) w.entry h a
   now_direct h a empty left =
-      subst (λ (m : Model.Mode). IsLeftNow (kind_in m w.on.key w.on.sectors) w.entry h a) own_direct
+      subst (λ (m : Model.Mode). IsLeftNow (kind_by m w.on.key w.on.sectors) w.entry h a) own_direct
       (left_now_empty w.on w.entry h a empty left)
 
   -- The image may be left by placed cells, and so by direct mode.
@@ -113,17 +114,21 @@ pub record IsPlain {Kept : Type 0} (mode : DeviceMode Kept) (named : Model.Mode)
   pub own : (w : Standing) (c : Condition) (k : Kept) (a : List Content) → mode.IsDevice w c k a → named ≡ w.format.mode
   pub through : (w : Standing) (event : Progress.Event) (a b : List Content)
       → IsLeftThrough (mode.kind w) w.entry w.format w.state event a b
-      → IsLeftThrough (kind_in named w.on.key w.on.sectors) w.entry w.format w.state event a b
+      → IsLeftThrough (kind_by named w.on.key w.on.sectors) w.entry w.format w.state event a b
   pub now : (w : Standing) (h : History) (a : List Content) → IsLeftNow (mode.kind w) w.entry h a
-      → IsLeftNow (kind_in named w.on.key w.on.sectors) w.entry h a
+      → IsLeftNow (kind_by named w.on.key w.on.sectors) w.entry h a
 
 -- What a device in journal mode keeps, as one of any mode,
 abbrev pub in_journal_mode : JournalParts → DeviceParts
 in_journal_mode device = record { common = device.parts; mode = Journal device.journal }
 
--- and one in bitmap mode.
+-- one in bitmap mode,
 abbrev pub in_bitmap_mode : BitmapParts → DeviceParts
 in_bitmap_mode device = record { common = device.parts; mode = Bitmap device.regions }
+
+-- and one in recovery mode.
+abbrev pub in_recovery_mode : Parts → DeviceParts
+in_recovery_mode common = record { common = common; mode = Recovery }
 
 -- What is kept in a mode is kept so.
 pub parts_in : (parts : DeviceParts) {m : Mode} → parts.mode ≡ m → parts ≡ record { common = parts.common; mode = m }
@@ -149,17 +154,27 @@ plain_bitmap = record {
   now = λ w h a left. left;
 }
 
+pub plain_recovery : IsPlain in_recovery Model.Recovery in_recovery_mode
+plain_recovery = record {
+  common = λ k. refl;
+  inside = λ w c k a is. is;
+  outside = λ w c k a is. is;
+  own = λ w c k a is. sym (ap (λ (f : Model.DeviceFormat). f.mode) is.device.format);
+  through = λ w event a b left. left;
+  now = λ w h a left. left;
+}
+
 module _ {Kept : Type 0} (mode : DeviceMode Kept) (named : Model.Mode) (into : Kept → DeviceParts) (plain : IsPlain mode named into) where
   module _ (w : Standing) (condition : Condition) (k : Kept) (moments : List Content) (is : mode.IsDevice w condition k moments) where
     through_plain : (event : Progress.Event) (a b : List Content) → IsLeftThrough (mode.kind w) w.entry w.format w.state event a b
         → IsLeftThrough (kind_of w) w.entry w.format w.state event a b
     through_plain event a b left =
-        subst (λ (m : Model.Mode). IsLeftThrough (kind_in m w.on.key w.on.sectors) w.entry w.format w.state event a b)
+        subst (λ (m : Model.Mode). IsLeftThrough (kind_by m w.on.key w.on.sectors) w.entry w.format w.state event a b)
         (plain.own w condition k moments is) (plain.through w event a b left)
 
     pub now_plain : (h : History) (a : List Content) → IsLeftNow (mode.kind w) w.entry h a → IsLeftNow (kind_of w) w.entry h a
     now_plain h a left =
-        subst (λ (m : Model.Mode). IsLeftNow (kind_in m w.on.key w.on.sectors) w.entry h a)
+        subst (λ (m : Model.Mode). IsLeftNow (kind_by m w.on.key w.on.sectors) w.entry h a)
         (plain.own w condition k moments is) (plain.now w h a left)
 
     pub done_plain : (event : Progress.Event) (after : Condition) (later : Kept) (a b : List Content)
@@ -249,6 +264,9 @@ left_now w condition (Journal journal) common a is =
 left_now w condition (Bitmap regions) common a is =
     now_plain in_bitmap Model.Bitmap in_bitmap_mode plain_bitmap w condition (bitmap_kept common regions) a is w.state.history a
     (subst (λ (f : DiskFormat). IsLeftNow (bitmap_kind f) w.entry w.state.history a) is.format is.over.left)
+left_now w condition Recovery common a is =
+    now_plain in_recovery Model.Recovery in_recovery_mode plain_recovery w condition common a is w.state.history a
+    (record { opens = λ c told image of. tt; left = λ c told image of. tt })
 
 -- It was reached by events,
 pub reached_now : (w : Standing) (condition : Condition) (mode : Mode) (common : Parts) (a : List Content)
@@ -256,6 +274,7 @@ pub reached_now : (w : Standing) (condition : Condition) (mode : Mode) (common :
 reached_now w condition Direct common a is = is.direct.device.device.reached
 reached_now w condition (Journal journal) common a is = is.over.reached
 reached_now w condition (Bitmap regions) common a is = is.over.device.reached
+reached_now w condition Recovery common a is = is.device.reached
 
 -- is in this condition,
 pub condition_now : (w : Standing) (condition : Condition) (mode : Mode) (common : Parts) (a : List Content)
@@ -263,20 +282,15 @@ pub condition_now : (w : Standing) (condition : Condition) (mode : Mode) (common
 condition_now w condition Direct common a is = is.direct.device.condition_
 condition_now w condition (Journal journal) common a is = is.over.condition_
 condition_now w condition (Bitmap regions) common a is = is.over.condition_
+condition_now w condition Recovery common a is = is.condition_
 
--- its requests are those in flight,
+-- and its requests are those in flight.
 pub flight_now : (w : Standing) (condition : Condition) (mode : Mode) (common : Parts) (a : List Content)
     → IsDeviceIn mode w condition common a → IsFlightOf w.format common.slots w.state.progress.requests
 flight_now w condition Direct common a is = is.direct.device.flight
 flight_now w condition (Journal journal) common a is = is.over.flight
 flight_now w condition (Bitmap regions) common a is = is.over.flight
-
--- and it takes writes.
-pub takes_writes : (w : Standing) (condition : Condition) (mode : Mode) (common : Parts) (a : List Content)
-    → IsDeviceIn mode w condition common a → Model.is_recovery w.format.mode ≡ false
-takes_writes w condition Direct common a is = ap (λ (f : Model.DeviceFormat). Model.is_recovery f.mode) is.direct.device.device.format
-takes_writes w condition (Journal journal) common a is = ap (λ (f : Model.DeviceFormat). Model.is_recovery f.mode) is.over.format
-takes_writes w condition (Bitmap regions) common a is = ap (λ (f : Model.DeviceFormat). Model.is_recovery f.mode) is.over.device.format
+flight_now w condition Recovery common a is = is.flight
 
 -- An event keeps it that calls no disk, and changes nothing but its requests.
 quiet_in : (w : Standing) (condition : Condition) (mode : Mode) (common : Parts) (flight : Flight) (a : List Content)
@@ -297,6 +311,10 @@ quiet_in w condition (Bitmap states) common flight a event is none counts region
     done_plain in_bitmap Model.Bitmap in_bitmap_mode plain_bitmap w condition (bitmap_kept common states) a is event condition
     (bitmap_kept (record common { slots = flight }) states) a a
     (bitmap_quiet_law w condition (bitmap_kept common states) flight a event is none regions own same)
+quiet_in w condition Recovery common flight a event is none counts regions own same =
+    done_plain in_recovery Model.Recovery in_recovery_mode plain_recovery w condition common a is event condition
+    (record common { slots = flight }) a a
+    (recovery_quiet_law w condition condition common flight a event is own (same ∙ is.condition_))
 
 pub quiet_done : (w : Standing) (condition : Condition) (parts : DeviceParts) (flight : Flight) (a : List Content)
     (event : Progress.Event) → IsDevice w condition parts a → (Progress.event_result w.format w.state event).changes ≡ []

@@ -15,6 +15,7 @@ use Rattle.device_opening.proofs.RefusedLemmas.{same_told}
 use Rattle.journal_device.specs.Device.{in_journal}
 use Rattle.bitmap_device.specs.declared.parts.BitmapParts.{BitmapParts}
 use Rattle.bitmap_device.specs.Device.{in_bitmap}
+use Rattle.recovery_device.specs.Device.{in_recovery}
 use Rattle.device.specs.Device.{any_mode}
 use Rattle.device.specs.declared.mode.DeviceParts.{DeviceParts}
 use Rattle.device.specs.declared.mode.Mode.TheVariants as Modes
@@ -48,6 +49,16 @@ module _ (key : Option (List ℕ)) (disk : DiskIdentity) (a b : List Content) wh
   pub opened_bitmap : (opened : BitmapParts) → HasOpened in_bitmap Model.Bitmap key disk opened a b
       → HasOpened any_mode Model.Bitmap key disk (record { common = opened.parts; mode = Modes.Bitmap opened.regions }) a b
   opened_bitmap opened has = record {
+    device = has.device;
+    ready = has.ready;
+    asked_ = refl;
+    requests = has.requests;
+    can = has.can;
+  }
+
+  pub opened_recovery : (common : Parts) → HasOpened in_recovery Model.Recovery key disk common a b
+      → HasOpened any_mode Model.Recovery key disk (record { common = common; mode = Modes.Recovery }) a b
+  opened_recovery common has = record {
     device = has.device;
     ready = has.ready;
     asked_ = refl;

@@ -6,6 +6,7 @@ use Rattle.std.proofs.lemmas.Bool.{false≢true}
 use Rattle.disk_model.specs.Disk.{Content}
 use Rattle.disk_model.proofs.MomentsLemmas.{no_moment}
 use Rattle.device_model.specs.History.{with_changes}
+use Rattle.device_model.specs.Mode as Modes
 use Rattle.device_model.specs.Mode.{DeviceFormat}
 use Rattle.device_model.specs.Progress as Model
 use Rattle.device_model.specs.Reply as ModelReply
@@ -15,23 +16,36 @@ use Rattle.device_model.proofs.EventLemmas.{taken_reached}
 use Rattle.device_model.proofs.SubmissionLemmas.{result-working}
 use Rattle.direct_laws.specs.MomentLaws.{IsLeftNow}
 use Rattle.request_slots.specs.Flight.{Flight, is_in_flight, is_of, is_unfinished, slot_of}
-use Rattle.request_slots.specs.InFlight.{IsFlightOf, as_reply, as_submission, returned_in, slot_for}
+use Rattle.request_slots.specs.InFlight.{IsFlightOf, as_reply, as_submission, returned_in, slot_for, submit_answer}
 use Rattle.request_slots.specs.Submitting.{after_submit, fault_of}
 use Rattle.request_slots.specs.Taking.{after_take, reply_of, taken_by, without}
 use Rattle.request_slots.specs.declared.reply.Reply.{Reply}
 use Rattle.request_slots.specs.declared.request.Request.{Request}
 use Rattle.request_slots.specs.declared.slot.Slot.{Slot}
+use Rattle.request_slots.specs.declared.submit_fault.SubmitFault.{SubmitFault}
+use Rattle.request_slots.specs.declared.submit_fault.SubmitFault.TheVariants as SubmitFaults
 use Rattle.request_slots.proofs.InFlightLemmas.{is_open-outcome_in}
 use Rattle.request_slots.proofs.ServeEventLemmas.{flight_taken, reply_is_told}
 use Rattle.request_slots.proofs.SubmitEventLemmas.{submit_is_told}
 use Rattle.device_parts.specs.declared.condition.Condition.{Condition}
 use Rattle.device_parts.specs.declared.condition.Condition.TheVariants as Conditions
-use Rattle.device_parts.specs.Answers.{HasSubmitted, HasTaken, IsSerial, submit_fault}
+use Rattle.device_parts.specs.Answers.{HasTaken, IsSerial, submit_fault}
 use Rattle.device_parts.specs.Device.{HasEnded, IsDone, Standing, condition_of}
+use Rattle.device_parts.specs.declared.parts.Parts.{Parts}
 use Rattle.device_parts.proofs.TurnLemmas.{placed, slot-is}
+use Rattle.bitmap_device.specs.Device.{kept as bitmap_kept}
+use Rattle.journal_device.specs.Device.{kept}
+use Rattle.recovery_device.specs.Device.{HasNoWrite, in_recovery}
+use Rattle.recovery_device.proofs.EventLemmas.{is_submitted as recovery_submitted, submitted_to, taken_writes}
+use Rattle.recovery_device.proofs.NoWriteLemmas.{no_write_submit, no_write_take}
+use Rattle.device_parts.proofs.ReadyLemmas.{HasSameBlocks, ready-same, submit-same, take-same}
+use Rattle.disk_model.specs.Identity.{DiskIdentity}
 use Rattle.device.specs.declared.mode.DeviceParts.{DeviceParts}
-use Rattle.device.specs.Device.{IsDevice, any_mode, kind_of, with_slots}
-use Rattle.device.proofs.ModeLemmas.{condition_now, flight_now, left_now, only_done, quiet_done, reached_now, takes_writes}
+use Rattle.device.specs.declared.mode.Mode.{Mode}
+use Rattle.device.specs.declared.mode.Mode.TheVariants.{Bitmap, Direct, Journal, Recovery}
+use Rattle.device.specs.Answers.{refusal_in}
+use Rattle.device.specs.Device.{IsDevice, IsDeviceIn, IsReady, IsReadyIn, any_mode, kind_of, mode_of, with_slots}
+use Rattle.device.proofs.ModeLemmas.{condition_now, done_plain, flight_now, in_recovery_mode, left_now, only_done, own_direct, plain_bitmap, plain_journal, plain_recovery, quiet_done, reached_now}
 
 -- ---- a device that is broken
 
@@ -66,27 +80,88 @@ submit-none : (f : DeviceFormat) (p : Model.Progress) (submission : Submissions.
 submit-none f p submission None = (refl, refl, refl)
 submit-none f p submission (Some answer) = (refl, refl, refl)
 
-module _ (w : Standing) (parts : DeviceParts) (a : List Content) (request : Request) where
-  abbrev submitted : Condition → DeviceParts
-  submitted condition = with_slots parts (after_submit (submit_fault condition parts.common.slots request) request parts.common.slots)
+module _ (w : Standing) (a : List Content) (request : Request) where
+  -- What is kept in a mode, once the request is submitted, or refused for this.
+  abbrev submitted : Mode → Parts → Option SubmitFault → DeviceParts
+  submitted mode common fault = record {
+    common = record common { slots = after_submit fault request common.slots };
+    mode = mode;
+  }
 
-  pub is_submitted : (condition : Condition) → IsDevice w condition parts a
-      → HasSubmitted any_mode w request condition parts (submitted condition) a
-  is_submitted Conditions.Broken is = broken_submit w parts a is request
-  is_submitted Conditions.Working is =
+  -- The request is submitted, or refused for this.
+  abbrev pub IsSubmitted : Mode → Condition → Parts → Option SubmitFault → Type 0
+  IsSubmitted mode condition common fault =
+      IsDone any_mode w (Model.Submit (as_submission request)) (submit_answer fault (suc common.slots.submitted)) condition
+      (submitted mode common fault) a a
+
+  abbrev refusal_for : Mode → Condition → Parts → Option SubmitFault
+  refusal_for mode condition common = refusal_in (mode_of mode) condition common.slots request
+
+  -- A device that takes writes takes each request that fits.
+  taken : (mode : Mode) (common : Parts) → IsDeviceIn mode w Conditions.Working common a → Modes.is_recovery w.format.mode ≡ false
+      → IsSubmitted mode Conditions.Working common (fault_of common.slots request)
+  taken mode common is takes_writes =
+      let parts : DeviceParts = record { common = common; mode = mode } in
       let event = Model.Submit (as_submission request) in
-      let working = result-working w.format w.state event (condition_now w Conditions.Working parts.mode parts.common a is) in
-      let told = submit_is_told w.format w.state.progress parts.common.slots request (flight_now w Conditions.Working parts.mode parts.common a is)
-      (takes_writes w Conditions.Working parts.mode parts.common a is) in
+      let working = result-working w.format w.state event (condition_now w Conditions.Working mode common a is) in
+      let told = submit_is_told w.format w.state.progress common.slots request (flight_now w Conditions.Working mode common a is) takes_writes in
       let none = submit-none w.format w.state.progress (as_submission request)
       (option_or (Model.form_refusal w.format (as_submission request)) (Model.slots_refusal w.format w.state.progress.requests)) in
       record {
         answers = ap (λ (x : Model.EventResult). x.answer) working ∙ told.0;
-        done = quiet_done w Conditions.Working parts (after_submit (fault_of parts.common.slots request) request parts.common.slots) a event is
+        done = quiet_done w Conditions.Working parts (after_submit (fault_of common.slots request) request common.slots) a event is
             (ap (λ (x : Model.EventResult). x.changes) working ∙ none.0)
             (ap (λ (x : Model.EventResult). x.progress.journal) working ∙ none.1) (ap (λ (x : Model.EventResult). x.progress.regions) working ∙ none.2)
-            (subst (λ (x : Model.EventResult). IsFlightOf w.format (after_submit (fault_of parts.common.slots request) request parts.common.slots) x.progress.requests) (sym working) told.1) refl;
+            (subst (λ (x : Model.EventResult). IsFlightOf w.format (after_submit (fault_of common.slots request) request common.slots) x.progress.requests) (sym working) told.1) refl;
       }
+
+  takes : (m : Modes.Mode) → m ≡ w.format.mode → Modes.is_recovery m ≡ false → Modes.is_recovery w.format.mode ≡ false
+  takes m own other = ap Modes.is_recovery (sym own) ∙ other
+
+  broken : (mode : Mode) (common : Parts) → IsDeviceIn mode w Conditions.Broken common a
+      → IsSubmitted mode Conditions.Broken common (Some SubmitFaults.Broken)
+  broken mode common is = broken_submit w (record { common = common; mode = mode }) a is request
+
+  submitted_in : (mode : Mode) (condition : Condition) (common : Parts) → IsDeviceIn mode w condition common a
+      → IsSubmitted mode condition common (refusal_for mode condition common)
+  submitted_in Direct Conditions.Broken common is = broken Direct common is
+  submitted_in Direct Conditions.Working common is =
+      taken Direct common is (takes Modes.Direct (own_direct w Conditions.Working common a is) refl)
+  submitted_in (Journal journal) Conditions.Broken common is = broken (Journal journal) common is
+  submitted_in (Journal journal) Conditions.Working common is =
+      taken (Journal journal) common is (takes Modes.Journal (plain_journal.own w Conditions.Working (kept common journal) a is) refl)
+  submitted_in (Bitmap regions) Conditions.Broken common is = broken (Bitmap regions) common is
+  submitted_in (Bitmap regions) Conditions.Working common is =
+      taken (Bitmap regions) common is (takes Modes.Bitmap (plain_bitmap.own w Conditions.Working (bitmap_kept common regions) a is) refl)
+  submitted_in Recovery condition common is =
+      let done = recovery_submitted w condition common a request is in
+      record {
+        answers = done.answers;
+        done = done_plain in_recovery Modes.Recovery in_recovery_mode plain_recovery w condition common a is
+            (Model.Submit (as_submission request)) condition (submitted_to condition request common) a a done.done;
+      }
+
+  pub is_submitted : (condition : Condition) (parts : DeviceParts) → IsDevice w condition parts a
+      → IsSubmitted parts.mode condition parts.common (refusal_for parts.mode condition parts.common)
+  is_submitted condition parts is = submitted_in parts.mode condition parts.common is
+
+-- In a mode that takes writes a request is refused as its slots refuse it.
+pub refusal_other : (mode : Mode) → (mode ≡ Recovery → ⊥) → (condition : Condition) (flight : Flight) (request : Request)
+    → refusal_in (mode_of mode) condition flight request ≡ submit_fault condition flight request
+refusal_other Direct other condition flight request = refl
+refusal_other (Journal journal) other condition flight request = refl
+refusal_other (Bitmap regions) other condition flight request = refl
+refusal_other Recovery other condition flight request = absurd (other refl)
+
+pub submitted_as : (w : Standing) (parts new : DeviceParts) (condition : Condition) (request : Request) (a : List Content)
+    → new ≡ with_slots parts (after_submit (refusal_in (mode_of parts.mode) condition parts.common.slots request) request parts.common.slots)
+    → IsDevice w condition parts a
+    → IsDone any_mode w (Model.Submit (as_submission request))
+    (submit_answer (refusal_in (mode_of parts.mode) condition parts.common.slots request) (suc parts.common.slots.submitted)) condition new a a
+submitted_as w parts new condition request a same is =
+    subst (λ (p : DeviceParts). IsDone any_mode w (Model.Submit (as_submission request))
+    (submit_answer (refusal_in (mode_of parts.mode) condition parts.common.slots request) (suc parts.common.slots.submitted)) condition p a a) (sym same)
+    (is_submitted w a request condition parts is)
 
 -- ---- a reply
 
@@ -178,6 +253,46 @@ module _ (w : Standing) (condition : Condition) (parts : DeviceParts) (a : List 
       subst (λ (t : ℕ). Both t (slot_of t slots)) (sym ticket_is)
       (subst (Both (suc place.place)) (sym own)
       (has, serial_by place.place place.asked place.there (taken_by (suc place.place) (Some (slot_for (1 + place.place) place.asked))) has))
+
+-- ---- what is ready
+
+-- It stays so with other requests on the same blocks, of which in recovery mode none is a write.
+ready_in : (mode : Mode) (condition : Condition) (common : Parts) (flight : Flight) (disk : DiskIdentity) (a : List Content)
+    → HasSameBlocks common.slots flight → (mode ≡ Recovery → HasNoWrite common.slots → HasNoWrite flight)
+    → IsReadyIn mode condition common disk a → IsReadyIn mode condition (record common { slots = flight }) disk a
+ready_in Direct condition common flight disk a same none ready = ready-same common flight disk a same ready
+ready_in (Journal journal) condition common flight disk a same none ready = record {
+  parts_ = λ works. ready-same common flight disk a same (ready.parts_ works);
+  geometry = ready.geometry;
+}
+ready_in (Bitmap regions) condition common flight disk a same none ready = record {
+  parts_ = ready-same common flight disk a same ready.parts_;
+  geometry = ready.geometry;
+}
+ready_in Recovery condition common flight disk a same none ready = record {
+  kept = ready-same common flight disk a same ready.kept;
+  no_write = none refl ready.no_write;
+}
+
+pub ready_submitted : (condition now : Condition) (parts : DeviceParts) (request : Request) (disk : DiskIdentity) (a : List Content)
+    → IsReady now parts disk a
+    → IsReady now (with_slots parts (after_submit (refusal_in (mode_of parts.mode) condition parts.common.slots request) request parts.common.slots)) disk a
+ready_submitted condition now parts request disk a ready =
+    let slots = parts.common.slots in
+    let fault = refusal_in (mode_of parts.mode) condition slots request in
+    ready_in parts.mode now parts.common (after_submit fault request slots) disk a (submit-same fault request slots)
+    (λ e. no_write_submit fault request slots
+    (λ none. taken_writes condition slots request (subst (λ (m : Mode). refusal_in (mode_of m) condition slots request ≡ None) e none)))
+    ready
+
+pub ready_taken : (now : Condition) (parts : DeviceParts) (ticket : ℕ) (disk : DiskIdentity) (a : List Content)
+    → IsReady now parts disk a
+    → IsReady now (with_slots parts (after_take ticket (slot_of ticket parts.common.slots) parts.common.slots)) disk a
+ready_taken now parts ticket disk a ready =
+    let slots = parts.common.slots in
+    let slot = slot_of ticket slots in
+    ready_in parts.mode now parts.common (after_take ticket slot slots) disk a (take-same ticket slot slots)
+    (λ e. no_write_take ticket slot slots) ready
 
 -- ---- for callers
 

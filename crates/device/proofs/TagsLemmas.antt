@@ -1,5 +1,5 @@
 -- The tags that are left as they were, and the sectors that are written, of one run of events behind another.
-use Rattle.std.proofs.Common.{◌≡◌, ◌⊎◌, inl, inr, ℕ, zero, suc, List, [], ◌∷◌, ◌++◌, take, subst}
+use Rattle.std.proofs.Common.{◌≡◌, ◌⊎◌, inl, inr, ℕ, zero, suc, List, [], ◌∷◌, ◌++◌, take, subst, ◌∙◌}
 use Rattle.std.specs.List.{Any}
 use Rattle.std.specs.Option.{option_to_list}
 use Rattle.disk_model.specs.Disk.{Content, Image}
@@ -12,7 +12,7 @@ use Rattle.device_model.specs.Mode as Model
 use Rattle.device_model.specs.Progress.{DeviceState}
 use Rattle.device_model.proofs.HistoryLemmas.{Any-append, Any-append_left, Any-append_right, Any-cons, Any-cons_first, Any-cons_later, Any-nil}
 use Rattle.device_parts.specs.Device.{Standing}
-use Rattle.device.specs.Tags.{IsLeftOut, IsOfBlock, KeepsTagsOf, Leaves}
+use Rattle.device.specs.Tags.{IsLeftOut, IsOfBlock, KeepsStill, KeepsTagsOf, Leaves}
 use Rattle.device.proofs.WritesLemmas.{WritesOnly-kept, WritesOnly-left, WritesOnly-then}
 
 -- ---- which blocks are left out
@@ -98,6 +98,22 @@ tags_fewer Model.Journal More Fewer g entry fewer c keeps = tt
 tags_fewer Model.Direct More Fewer g entry fewer c keeps = tt
 tags_fewer Model.Recovery More Fewer g entry fewer c keeps = tt
 
+-- ---- a disk as it was
+
+pub still_kept : (mode : Model.Mode) {a b : List Content} → b ≡ a → KeepsStill mode a b
+still_kept Model.Bitmap same = tt
+still_kept Model.Journal same = tt
+still_kept Model.Direct same = tt
+still_kept Model.Recovery same = same
+
+pub still_then : (mode : Model.Mode) (a b c : List Content) → KeepsStill mode a b → KeepsStill mode b c → KeepsStill mode a c
+still_then Model.Bitmap a b c first second = tt
+still_then Model.Journal a b c first second = tt
+still_then Model.Direct a b c first second = tt
+still_then Model.Recovery a b c first second = second ∙ first
+
+-- ---- all of it
+
 module _ (w : Standing) where
   abbrev TagsOf : History → List Change → Content → Type 0
   TagsOf h changes c = KeepsTagsOf w.format.mode (IsLeftOut h changes) w.on.geometry w.entry c
@@ -107,6 +123,7 @@ module _ (w : Standing) where
   leaves_all changes same = record {
     sectors = WritesOnly-kept w.format.mode w.on.geometry changes same;
     tags = EachMoment-kept _ same;
+    still = still_kept w.format.mode same;
   }
 
   -- What some changes leave is left by them and more,
@@ -116,6 +133,7 @@ module _ (w : Standing) where
     tags = EachMoment-weaker
         (tags_fewer w.format.mode (IsLeftOut w.state.history xs) (IsLeftOut w.state.history (xs ++ ys)) w.on.geometry w.entry
         (λ block. out_left block w.state.history xs ys)) leaves.tags;
+    still = leaves.still;
   }
 
   -- and by those behind them, too.
@@ -131,4 +149,5 @@ module _ (w : Standing) where
             (tags_fewer w.format.mode (IsLeftOut (with_changes xs w.state.history) ys) all w.on.geometry w.entry
             (λ block. out_right block w.state.history xs ys))
             (subst (λ (h : History). EachMoment b c (TagsOf h ys)) history second.tags));
+        still = still_then w.format.mode a b c first.still second.still;
       }

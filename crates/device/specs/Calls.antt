@@ -1,22 +1,23 @@
 -- What the calls of a device tell of each device that it is, and what a call leaves that is to do some events.
-use Rattle.std.specs.Prelude.{◌≡◌, ◌<◌, ℕ, List, Some, Result, IfOk, OnErr, OnOk}
+use Rattle.std.specs.Prelude.{◌≡◌, ◌<◌, ℕ, suc, List, Some, Result, IfOk, OnErr, OnOk}
 use Rattle.disk_model.specs.Disk.{Content}
 use Rattle.disk_model.specs.Identity.{DiskIdentity}
-use Rattle.device_model.specs.Progress.{Answer, Close, Event, FailedClose, IsClosed, answers}
+use Rattle.device_model.specs.Progress.{Answer, Close, Event, FailedClose, IsClosed, Submit, answers}
 use Rattle.device_model.specs.Script.{last_answer}
 use Rattle.request_slots.specs.declared.reply.Reply.{Reply}
 use Rattle.request_slots.specs.declared.request.Request.{Request}
+use Rattle.request_slots.specs.InFlight.{as_submission, submit_answer}
 use Rattle.device_parts.specs.declared.answers.Actor.{Actor}
 use Rattle.device_parts.specs.declared.answers.Moved.{Moved}
 use Rattle.device_parts.specs.declared.answers.Served.{Served}
 use Rattle.device_parts.specs.declared.answers.StepFault.{StepFault}
 use Rattle.device_parts.specs.declared.condition.Condition.{Condition}
 use Rattle.device_parts.specs.declared.condition.Condition.TheVariants.{Working}
-use Rattle.device_parts.specs.Answers.{HasServed, HasStepped, HasSubmitted, HasTaken, IsSerial, actor_of, answer_by, condition_by, event_by, turns_left}
-use Rattle.device_parts.specs.Device.{Answers, HasEnded, KeepsParts, Standing}
+use Rattle.device_parts.specs.Answers.{HasServed, HasStepped, HasTaken, IsSerial, actor_of, answer_by, condition_by, event_by, turns_left}
+use Rattle.device_parts.specs.Device.{Answers, HasEnded, IsDone, KeepsParts, Standing}
 use Rattle.device.specs.declared.mode.DeviceParts.{DeviceParts}
-use Rattle.device.specs.Answers.{IsAtRest, WritesInClose, WritesInServe, WritesInStep}
-use Rattle.device.specs.Device.{IsDevice, IsReady, any_mode}
+use Rattle.device.specs.Answers.{IsAtRest, WritesInClose, WritesInServe, WritesInStep, refusal_in}
+use Rattle.device.specs.Device.{IsDevice, IsReady, any_mode, mode_of}
 use Rattle.device.specs.Run.{HasFailed, HasRun}
 
 -- ---- one call
@@ -36,7 +37,9 @@ Steps actor result condition old new before after = (w : Standing) → IsDevice 
 -- a submission,
 abbrev pub Submits : Request → Condition → (old new : DeviceParts) → (before after : List Content) → Type 0
 Submits request condition old new before after = (w : Standing) → IsDevice w condition old before
-    → HasSubmitted any_mode w request condition old new after
+    → IsDone any_mode w (Submit (as_submission request))
+    (submit_answer (refusal_in (mode_of old.mode) condition old.common.slots request) (suc old.common.slots.submitted))
+    condition new after after
 
 -- the taking of a reply,
 abbrev pub Takes : ℕ → Result Reply ℕ → Condition → (old new : DeviceParts) → (before after : List Content) → Type 0

@@ -11,22 +11,25 @@ use Rattle.image_judging.specs.Faults.{ImageFault, bitmap_fault_of, fault_in, fa
 use Rattle.device_parts.specs.Device.{HasOpened}
 use Rattle.device_opening.specs.DirectOpening.{WritesEmptying}
 use Rattle.device_opening.specs.Opening.{KeepsRefused, LeavesOpenable, OnlySyncs, WritesOpening}
+use Rattle.device_opening.specs.RecoveryOpening.{format_fault_of}
 use Rattle.device.specs.declared.mode.DeviceParts.{DeviceParts}
 use Rattle.device.specs.Device.{any_mode}
 use Rattle.device.specs.declared.opening.OpenMode.{OpenMode}
-use Rattle.device.specs.declared.opening.OpenMode.TheVariants.{Bitmap, Direct, Journal}
+use Rattle.device.specs.declared.opening.OpenMode.TheVariants.{Bitmap, Direct, Journal, Recovery}
 
 -- The mode that is asked for.
 abbrev pub asked_mode : OpenMode → Model.Mode
 asked_mode Direct = Model.Direct
 asked_mode Journal = Model.Journal
 asked_mode (Bitmap consent) = Model.Bitmap
+asked_mode Recovery = Model.Recovery
 
 -- The fault of an image on a disk of so many sectors, where it is to be opened so under a key.
 abbrev pub fault_in_mode : OpenMode → Option (List ℕ) → (sectors : ℕ) → Image → Option ImageFault
 fault_in_mode Direct key sectors image = fault_of key sectors image
 fault_in_mode Journal key sectors image = fault_of key sectors image
 fault_in_mode (Bitmap consent) key sectors image = bitmap_fault_of key consent sectors image
+fault_in_mode Recovery key sectors image = format_fault_of sectors image
 
 -- The device is open in that mode on the image that reads gave, which is one that can be opened. No request is in
 -- flight.
@@ -43,6 +46,7 @@ abbrev pub IsSettledIn : OpenMode → List Content → Type 0
 IsSettledIn Direct moments = HasNow HasNothingPending moments
 IsSettledIn Journal moments = Unit {0}
 IsSettledIn (Bitmap consent) moments = Unit {0}
+IsSettledIn Recovery moments = Unit {0}
 
 -- The disk is not opened in this mode. The image tells why, where the disk did not fail and there was memory; and unless
 -- the disk failed it is as it was, not even synced.
@@ -53,11 +57,13 @@ pub record IsRefused (mode : OpenMode) (key : Option (List ℕ)) (disk : DiskIde
   pub untouched : fault ≢ Faults.Disk → after ≡ before
 
 -- What an opening may write: what a recovery does. In direct mode the empty sections are those of the emptying, too,
--- and where the journal was empty nothing of it is written. In bitmap mode nothing is.
+-- and where the journal was empty nothing of it is written. In bitmap mode nothing is; in recovery mode the disk is not
+-- synced either.
 abbrev pub WritesInOpening : OpenMode → (key : Option (List ℕ)) → (sectors : ℕ) → (before after : List Content) → Type 0
 WritesInOpening Direct key sectors before after = WritesEmptying key sectors before after
 WritesInOpening Journal key sectors before after = WritesOpening key sectors before after
 WritesInOpening (Bitmap consent) key sectors before after = OnlySyncs before after
+WritesInOpening Recovery key sectors before after = after ≡ before
 
 -- The disk is the one that it was. Where the image could be opened it still can at each moment, and nothing of it is
 -- lost. One that is refused is synced at most.

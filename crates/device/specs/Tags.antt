@@ -41,12 +41,18 @@ pub record IsLeftOut (h : History) (changes : List Change) (block : ℕ) : Type 
   pub before : IsUnwritten h block
   pub since : AreOfOthers changes block
 
--- Between two moments a device writes no sector but those that its changes may; and at each of them the tags stand of
--- blocks that it leaves out.
+-- In recovery mode the disk is as it was: nothing is written, and it is not synced.
+abbrev pub KeepsStill : Model.Mode → (before after : List Content) → Type 0
+KeepsStill Model.Recovery before after = after ≡ before
+KeepsStill mode before after = Unit {0}
+
+-- Between two moments a device writes no sector but those that its changes may, and at each of them the tags stand of
+-- blocks that it leaves out; in recovery mode there are none between them.
 pub record Leaves (w : Standing) (changes : List Change) (before after : List Content) : Type 0 where
   pub sectors : WritesOnly w.format.mode w.on.geometry changes before after
   pub tags : EachMoment before after
       (KeepsTagsOf w.format.mode (IsLeftOut w.state.history changes) w.on.geometry w.entry)
+  pub still : KeepsStill w.format.mode before after
 
 -- So it is for these events of a device.
 abbrev pub LeavesIn : Standing → List Event → (before after : List Content) → Type 0

@@ -14,7 +14,8 @@ use device_parts::{Condition, StepFault};
 use sector_disk::{Disk, Failed};
 
 /// Flushes all that was written; in journal mode all is committed, placed and settled, and in bitmap mode the bit of
-/// each region is cleared that does not await. A broken device makes no call of its disk.
+/// each region is cleared that does not await. In recovery mode, and where it is broken, a device makes no call of its
+/// disk.
 ///
 /// # Errors
 ///
@@ -77,5 +78,6 @@ fn close_in_mode<D: Disk>(disk: &mut D, parts: DeviceParts<'_>) -> Result<(), Fa
         Mode::Direct => direct_device::close(disk, &mut common),
         Mode::Journal(mut journal) => journal_device::close(disk, &mut common, &mut journal),
         Mode::Bitmap(mut regions) => bitmap_device::close(disk, &mut common, &mut regions),
+        Mode::Recovery => Ok(()),
     }
 }

@@ -1,13 +1,14 @@
 //! The device.
-ghost use Rattle.std.specs.Prelude.{◌≡◌, ◌↔◌, ◌+◌, ◌<◌, ◌^◌, Err, IfErr, IfOk, IsTrue, Ok, true};
+ghost use Rattle.std.specs.Prelude.{◌≡◌, ◌↔◌, ◌+◌, ◌<◌, ◌^◌, suc, Err, IfErr, IfOk, IsTrue, Ok, true};
 ghost use Rattle.disk_model.specs.Identity.{IsBound};
 ghost use Rattle.hmac_tag.specs.TagMaker.{key_of};
 ghost use Rattle.request_slots.specs.Flight.{is_in_flight, slot_of};
 ghost use Rattle.request_slots.specs.Taking.{after_take, taken_by};
-ghost use Rattle.device_parts.specs.Answers.{HasStepCause, TurnsBroken, actor_of, after_submission, submit_result};
+ghost use Rattle.request_slots.specs.Submitting.{after_submit, answer_by};
+ghost use Rattle.device_parts.specs.Answers.{HasStepCause, TurnsBroken, actor_of};
 ghost use Rattle.device_parts.specs.declared.answers.Served.TheVariants.{Did, NoRoom};
 ghost use Rattle.device_model.specs.Progress.{Close, FailedServe, Step};
-ghost use Rattle.device.specs.Answers.{HasNoWork, KeepsClearTags, steps_left};
+ghost use Rattle.device.specs.Answers.{HasNoWork, KeepsClearTags, refusal_in, steps_left};
 ghost use Rattle.device.specs.Calls.{Closes, GivesSerial, HasFewerTurns, Keeps, LeavesAtRest, Serves, StaysReady, Steps};
 ghost use Rattle.device.specs.Calls.{Submits, Takes, WritesClosing, WritesServing, WritesStepping};
 ghost use Rattle.device.specs.Device.{IsReady, mode_of, with_slots};
@@ -21,7 +22,7 @@ use sector_disk::Disk;
 use sector_pool::Region;
 use std::alloc::Global;
 
-/// A device in direct, journal or bitmap mode, over a disk that it is lent until it is closed or gives that back.
+/// A device in any mode, over a disk that it is lent until it is closed or gives that back.
 #[derive(Drop)]
 pub struct Device<'d, 'p, D: Disk> {
     pub(crate) disk: &'d mut D,
@@ -31,10 +32,11 @@ pub struct Device<'d, 'p, D: Disk> {
 
 impl<'d, 'p, D: Disk> Device<'d, 'p, D> {
     /// Opens a device on a disk in the mode that is asked for, whose tags are made by this hash. All memory that it
-    /// ever takes is taken before the first write, and the region gets the journal's sectors. In each mode the disk is
-    /// synced. In direct and journal mode all that its journal holds comes to its place. In direct mode the journal is
-    /// then emptied, unless every entry of it is unused and it has one commit number: no image of the disk has an entry
-    /// that counts then. In bitmap mode each region awaits whose bit is set, and nothing is written.
+    /// ever takes is taken before the first write, and the region gets the journal's sectors. In each mode but
+    /// recovery mode the disk is synced. In direct and journal mode all that its journal holds comes to its place. In
+    /// direct mode the journal is then emptied, unless every entry of it is unused and it has one commit number: no
+    /// image of the disk has an entry that counts then. In bitmap mode each region awaits whose bit is set, and
+    /// nothing is written. In recovery mode the disk is called for one read.
     ///
     /// # Errors
     ///
@@ -44,9 +46,9 @@ impl<'d, 'p, D: Disk> Device<'d, 'p, D> {
     /// - `Disk`: the disk failed.
     /// - `Super`: the superblock is refused. A disk without a sector has no magic. Nothing was done.
     /// - `Geom`: the disk has no room for what the superblock tells. Nothing was done.
-    /// - `Mode`: there is a bitmap; in bitmap mode, there is none. Nothing was done.
+    /// - `Mode`: there is a bitmap; in bitmap mode, there is none; in recovery mode, it never comes. Nothing was done.
     /// - `Consent`: in bitmap mode, a bit is set, there is a key, and consent is withheld. Nothing was done.
-    /// - `Journal`: the journal is refused. Nothing was done.
+    /// - `Journal`: the journal is refused, which recovery mode does not read. Nothing was done.
     pub fn open(
         alloc: Global,
         disk: &'d mut D,
@@ -120,15 +122,19 @@ impl<'d, 'p, D: Disk> Device<'d, 'p, D> {
     /// The request comes back with the first of these, and nothing is changed.
     ///
     /// - `Broken`: a disk has failed the device.
+    /// - `ReadOnly`: it is a write, in recovery mode.
     /// - `Range`: it has no block, or one that is not there.
     /// - `Length`: it did not come with as many bytes as its blocks have.
     /// - `SlotsFull`: sixteen are submitted and not taken.
     pub fn submit(&mut self, request: Request) -> Result<Ticket, (Request, SubmitFault)>
         requires { self.old.parts.common.slots.submitted + 1 < 2 ^ 64 }
 
-        ensures answer { result ≡ submit_result self.old.condition self.old.parts.common.slots request }
-        ensures submitted { self.new.parts
-            ≡ with_slots self.old.parts (after_submission self.old.condition request self.old.parts.common.slots) }
+        ensures answer { result ≡ answer_by
+            (refusal_in (mode_of self.old.parts.mode) self.old.condition self.old.parts.common.slots request)
+            (suc self.old.parts.common.slots.submitted) request }
+        ensures submitted { self.new.parts ≡ with_slots self.old.parts (after_submit
+            (refusal_in (mode_of self.old.parts.mode) self.old.condition self.old.parts.common.slots request)
+            request self.old.parts.common.slots) }
         ensures done { Submits request self.old.condition self.old.parts self.new.parts
             (D.moments self.old.disk.now) (D.moments self.new.disk.now) }
 
@@ -199,10 +205,10 @@ impl<'d, 'p, D: Disk> Device<'d, 'p, D> {
         submitting::take(&mut self.parts, ticket)
     }
 
-    /// Lets an actor do its next step. In direct mode none has anything to do; in journal mode a commit writes the
-    /// opened sections, a place writes an entry to its place, and a settle frees sections; in bitmap mode a clean
-    /// clears the bit of the least region that needs none and has no block of a request in flight, and a recalculation
-    /// takes the least region that awaits. A broken device makes no call of its disk.
+    /// Lets an actor do its next step. In direct and in recovery mode none has anything to do; in journal mode a commit
+    /// writes the opened sections, a place writes an entry to its place, and a settle frees sections; in bitmap mode a
+    /// clean clears the bit of the least region that needs none and has no block of a request in flight, and a
+    /// recalculation takes the least region that awaits. A broken device makes no call of its disk.
     ///
     /// # Errors
     ///
@@ -239,7 +245,7 @@ impl<'d, 'p, D: Disk> Device<'d, 'p, D> {
 
     /// Flushes all that was written, and gives the disk back; in journal mode all is committed, placed and settled, and
     /// in bitmap mode the bit of each region is cleared that does not await. Requests that are unfinished are dropped.
-    /// A broken device makes no call of its disk.
+    /// In recovery mode, and where it is broken, a device makes no call of its disk.
     ///
     /// # Errors
     ///

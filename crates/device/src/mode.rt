@@ -13,6 +13,8 @@ pub enum Mode<'p> {
     Journal(Journal<'p>),
     /// In bitmap mode a write sets the bit of its region first, and goes to its place then.
     Bitmap(RegionStates),
+    /// In recovery mode there are no writes, and no tag is compared: nothing is kept for it.
+    Recovery,
 }
 
 /// What a device keeps beside its disk.

@@ -6,7 +6,7 @@ ghost use Rattle.image_judging.specs.Faults.{HasOpenCause};
 ghost use Rattle.device.specs.Opening.{HasNoFault, HasOpenedIn, IsRefused, IsSettledIn, LeavesOpening};
 
 use crate::{DeviceParts, Mode};
-use device_opening::{open_bitmap, open_direct, open_journal};
+use device_opening::{open_bitmap, open_direct, open_journal, open_recovery};
 use hmac_tag::Hash;
 use image_judging::{Consent, OpeningFault};
 use sector_disk::Disk;
@@ -23,12 +23,14 @@ pub enum OpenMode {
     /// Writes set the bit of their region first, and go to their places then. Whether tags may be made anew that a key
     /// protects.
     Bitmap(Consent),
+    /// There are no writes, and reads give what stands in the places of their blocks, whatever their tags are.
+    Recovery,
 }
 
 /// Opens a device on a disk. All memory that it ever takes is taken before the first write, and the region gets the
-/// journal's sectors. In each mode the disk is synced. In direct and journal mode its image is recovered, so that all
-/// that the journal holds comes to its place; in direct mode the journal is then emptied, unless every entry of it is
-/// unused and it has one commit number. In bitmap mode nothing is written.
+/// journal's sectors. In each mode but recovery mode the disk is synced. In direct and journal mode its image is
+/// recovered, so that all that the journal holds comes to its place; in direct mode the journal is then emptied, unless
+/// every entry of it is unused and it has one commit number. In bitmap and recovery mode nothing is written.
 ///
 /// # Errors
 ///
@@ -38,9 +40,9 @@ pub enum OpenMode {
 /// - `Disk`: the disk failed.
 /// - `Super`: the superblock is refused. A disk without a sector has no magic. Nothing was done.
 /// - `Geom`: the disk has no room for what the superblock tells. Nothing was done.
-/// - `Mode`: there is a bitmap; in bitmap mode, there is none. Nothing was done.
+/// - `Mode`: there is a bitmap; in bitmap mode, there is none; in recovery mode, it never comes. Nothing was done.
 /// - `Consent`: in bitmap mode, a bit is set, there is a key, and consent is withheld. Nothing was done.
-/// - `Journal`: the journal is refused. Nothing was done.
+/// - `Journal`: the journal is refused, which recovery mode does not read. Nothing was done.
 pub(crate) fn open<'p, D: Disk>(
     alloc: Global,
     disk: &mut D,
@@ -65,6 +67,7 @@ pub(crate) fn open<'p, D: Disk>(
         OpenMode::Direct => open_in_direct(alloc, disk, pool, hash),
         OpenMode::Journal => open_in_journal(alloc, disk, pool, hash),
         OpenMode::Bitmap(consent) => open_in_bitmap(alloc, disk, hash, consent),
+        OpenMode::Recovery => open_in_recovery(alloc, disk, hash),
     }
 }
 
@@ -156,5 +159,34 @@ fn open_in_bitmap<'p, D: Disk>(
     Ok(DeviceParts {
         common: opened.parts,
         mode: Mode::Bitmap(opened.regions),
+    })
+}
+
+/// Opens a device in recovery mode.
+///
+/// # Errors
+///
+/// As `open` in that mode.
+fn open_in_recovery<'p, D: Disk>(
+    alloc: Global,
+    disk: &mut D,
+    hash: Hash,
+) -> Result<DeviceParts<'p>, OpeningFault>
+    requires { IsBound (D.identity disk.old).name }
+
+    ensures opened { IfOk result (λ parts. HasOpenedIn OpenMode.Recovery (key_of hash) (D.identity disk.old) parts
+        (D.moments disk.old) (D.moments disk.new)) }
+    ensures accepted { IfOk result (λ parts. HasNoFault OpenMode.Recovery (key_of hash) (D.identity disk.old).sectors
+        (D.moments disk.old)) }
+    ensures refused { IfErr result (λ fault. IsRefused OpenMode.Recovery (key_of hash) (D.identity disk.old) fault
+        (D.moments disk.old) (D.moments disk.new)) }
+    ensures cause { HasOpenCause (D.faults disk.old) (D.faults disk.new) result }
+    ensures leaves { LeavesOpening OpenMode.Recovery (key_of hash) (D.identity disk.old) (D.identity disk.new)
+        (D.moments disk.old) (D.moments disk.new) }
+{
+    let common = open_recovery(alloc, disk, hash)?;
+    Ok(DeviceParts {
+        common,
+        mode: Mode::Recovery,
     })
 }

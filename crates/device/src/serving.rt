@@ -87,5 +87,6 @@ fn serve_next<D: Disk>(
         Mode::Direct => direct_device::serve(disk, &mut parts.common, ticket),
         Mode::Journal(journal) => journal_device::serve(disk, &mut parts.common, journal, ticket),
         Mode::Bitmap(regions) => bitmap_device::serve(disk, &mut parts.common, regions, ticket),
+        Mode::Recovery => recovery_device::serve(disk, &mut parts.common, ticket),
     }
 }

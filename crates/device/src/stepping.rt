@@ -53,7 +53,8 @@ pub(crate) fn step<D: Disk>(
     }
 }
 
-/// Lets an actor of a device that works do its next step, as its mode has it. In direct mode none has anything to do.
+/// Lets an actor of a device that works do its next step, as its mode has it. In direct and in recovery mode none has
+/// anything to do.
 ///
 /// # Errors
 ///
@@ -85,5 +86,6 @@ fn step_next<D: Disk>(
         Mode::Direct => Ok(direct_device::step(actor)),
         Mode::Journal(journal) => journal_device::step(disk, &mut parts.common, journal, actor),
         Mode::Bitmap(regions) => bitmap_device::step(disk, &mut parts.common, regions, actor),
+        Mode::Recovery => Ok(recovery_device::step(actor)),
     }
 }

@@ -1,14 +1,16 @@
-//! Taking requests in, and giving replies out. No disk is called for it, and no mode matters.
-ghost use Rattle.std.specs.Prelude.{◌≡◌, ◌+◌, ◌<◌, ◌^◌, List, true};
+//! Taking requests in, which recovery mode does of those that are no write, and giving replies out. No disk is called
+//! for it.
+ghost use Rattle.std.specs.Prelude.{◌≡◌, ◌+◌, ◌<◌, ◌^◌, suc, List, true};
 ghost use Rattle.disk_model.specs.Disk.{Content};
 ghost use Rattle.request_slots.specs.Flight.{is_in_flight, slot_of};
 ghost use Rattle.request_slots.specs.Taking.{after_take, taken_by};
-ghost use Rattle.device_parts.specs.Answers.{after_submission, submit_result};
+ghost use Rattle.request_slots.specs.Submitting.{after_submit, answer_by};
 ghost use Rattle.device_parts.specs.declared.condition.Condition.{Condition};
 ghost use Rattle.device.specs.Calls.{GivesSerial, Submits, Takes};
-ghost use Rattle.device.specs.Device.{with_slots};
+ghost use Rattle.device.specs.Answers.{refusal_in};
+ghost use Rattle.device.specs.Device.{mode_of, with_slots};
 
-use crate::DeviceParts;
+use crate::{DeviceParts, Mode};
 use device_parts::Condition;
 use request_slots::{Reply, Request, SubmitFault, Ticket};
 
@@ -16,7 +18,8 @@ use request_slots::{Reply, Request, SubmitFault, Ticket};
 ///
 /// # Errors
 ///
-/// The request comes back with `Broken` where the device is, and else as `Slots::submit` tells.
+/// The request comes back with `Broken` where the device is, with `ReadOnly` where it is a write in recovery mode, and
+/// else as `Slots::submit` tells.
 pub(crate) fn submit(
     parts: &mut DeviceParts<'_>,
     condition: Condition,
@@ -24,12 +27,18 @@ pub(crate) fn submit(
 ) -> Result<Ticket, (Request, SubmitFault)>
     requires { parts.old.common.slots.submitted + 1 < 2 ^ 64 }
 
-    ensures answer { result ≡ submit_result condition parts.old.common.slots request }
-    ensures submitted { parts.new
-        ≡ with_slots parts.old (after_submission condition request parts.old.common.slots) }
+    ensures answer { result ≡ answer_by
+        (refusal_in (mode_of parts.old.mode) condition parts.old.common.slots request)
+        (suc parts.old.common.slots.submitted) request }
+    ensures submitted { parts.new ≡ with_slots parts.old (after_submit
+        (refusal_in (mode_of parts.old.mode) condition parts.old.common.slots request)
+        request parts.old.common.slots) }
     ensures done { (moments : List Content) → Submits request condition parts.old parts.new moments moments }
 {
-    device_parts::submit(&mut parts.common, condition, request)
+    match parts.mode {
+        Mode::Recovery => recovery_device::submit(&mut parts.common, condition, request),
+        _ => device_parts::submit(&mut parts.common, condition, request),
+    }
 }
 
 /// Takes the reply to the request of this ticket.

@@ -238,6 +238,9 @@ some_in (Modes.Journal journal) common disk moments ready =
 some_in (Modes.Bitmap regions) common disk moments ready =
     let direct = ready.parts_ in
     let some = direct.store.geometry.blocks in let is = direct.blocks in omega (arith, some, is)
+some_in Modes.Recovery common disk moments ready =
+    let direct = ready.kept in
+    let some = direct.store.geometry.blocks in let is = direct.blocks in omega (arith, some, is)
 
 pub some_blocks : (condition : Condition) (parts : DeviceParts) (disk : DiskIdentity) (moments : List Content)
     → condition ≡ Conditions.Working → IsReady condition parts disk moments → 1 ≤ parts.common.slots.blocks

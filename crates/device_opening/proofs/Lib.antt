@@ -9,3 +9,4 @@ pub mod EmptyingLemmas
 pub mod JournalLemmas
 pub mod DirectLemmas
 pub mod BitmapLemmas
+pub mod RecoveryLemmas

@@ -8,3 +8,4 @@ pub mod Opening
 pub mod JournalOpening
 pub mod DirectOpening
 pub mod BitmapOpening
+pub mod RecoveryOpening

@@ -1,10 +1,10 @@
 //! The opening of a device: the first sector and the journal are read and judged, all memory is taken, and the disk is
-//! synced; then the image is recovered, and what its mode asks for is done.
+//! synced; then the image is recovered, and what its mode asks for is done. In recovery mode the first sector is all.
 //!
-//! Each mode has a file, `journal.rt`, `direct.rt` and `bitmap.rt`, over what they share: `judging.rt`, `room.rt`,
-//! `syncing.rt` and `recovering.rt`. A contract sees what these give as its fields. Why a disk is refused, and what an
-//! opening leaves at each moment, stands in `specs/Opening.antt`, the file to read first; what is known of an image
-//! that was judged in `specs/Judged.antt`, and what a mode adds in a file of its own.
+//! Each mode has a file, `journal.rt`, `direct.rt`, `bitmap.rt` and `recovery.rt`, over what they share: `judging.rt`,
+//! `room.rt`, `syncing.rt` and `recovering.rt`. A contract sees what these give as its fields. Why a disk is refused,
+//! and what an opening leaves at each moment, stands in `specs/Opening.antt`, the file to read first; what is known of
+//! an image that was judged in `specs/Judged.antt`, and what a mode adds in a file of its own.
 #![tactic(auto)]
 
 mod bitmap;
@@ -14,9 +14,11 @@ mod emptying;
 mod journal;
 mod judging;
 mod recovering;
+mod recovery;
 mod room;
 mod syncing;
 
 pub use bitmap::open_bitmap;
 pub use direct::open_direct;
 pub use journal::open_journal;
+pub use recovery::open_recovery;

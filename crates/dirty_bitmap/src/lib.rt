@@ -13,3 +13,4 @@ mod writing;
 pub use bits::Bits;
 pub use faults::BitsFault;
 pub use region_set::RegionSet;
+pub use words::clear_from;

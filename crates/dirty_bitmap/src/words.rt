@@ -72,7 +72,7 @@ pub(crate) fn count_bits(bytes: &[u8]) -> u64
 }
 
 /// Clears each bit from `from` on.
-pub(crate) fn clear_from(bytes: &mut [u8], from: usize)
+pub fn clear_from(bytes: &mut [u8], from: usize)
     ensures { (r : ℕ) → is_bit_set bytes.new r
         ≡ (if nat_lt r from then is_bit_set bytes.old r else false) }
 {

@@ -16,11 +16,11 @@ use Rattle.device_parts.specs.declared.parts.Parts.{Parts}
 use Rattle.device_parts.specs.Device.{Standing}
 use Rattle.device.specs.declared.mode.DeviceParts.{DeviceParts}
 use Rattle.device.specs.declared.mode.Mode.{Mode}
-use Rattle.device.specs.declared.mode.Mode.TheVariants.{Bitmap, Direct, Journal}
+use Rattle.device.specs.declared.mode.Mode.TheVariants.{Bitmap, Direct, Journal, Recovery}
 use Rattle.device.specs.Answers.{IsAtRest}
 use Rattle.device.specs.Calls.{LeavesAtRest}
 use Rattle.device.specs.Device.{IsDevice, IsDeviceIn}
-use Rattle.device.proofs.ModeLemmas.{own_direct, plain_bitmap, plain_journal}
+use Rattle.device.proofs.ModeLemmas.{own_direct, plain_bitmap, plain_journal, plain_recovery}
 use Rattle.script_session.specs.declared.tags_found.TagsFound.{TagsFound}
 use Rattle.command_ending.specs.declared.ended.Ended.{Ended}
 use Rattle.integrity_tool.specs.declared.closing.CloseFault.{CloseFault}
@@ -50,6 +50,9 @@ bits_left (Bitmap regions) there here common a b is rests script comes =
     (plain_bitmap.own here Working _ a is ∙ ap (λ (w : Standing). w.format.mode) comes.same)
     (subst (λ (s : DeviceState). HasNow (HasBitsOf Modes.Bitmap there.on.geometry s) b) comes.comes
     (subst (λ (w : Standing). HasNow (HasBitsOf Modes.Bitmap w.on.geometry here.state) b) comes.same rests))
+bits_left Recovery there here common a b is rests script comes =
+    subst (λ (m : Modes.Mode). HasNow (HasBitsOf m there.on.geometry (state_behind there.format there.state comes.all)) b)
+    (plain_recovery.own here Working common a is ∙ ap (λ (w : Standing). w.format.mode) comes.same) (λ c told. tt)
 
 -- So is the device of a run that came to its close, where it was opened on an image.
 pub closed_behind : (kind : DeviceKind) (image : Image) (g : Geometry) (script : List ℕ) (w here : Standing) (parts : DeviceParts)

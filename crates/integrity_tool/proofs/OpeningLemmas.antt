@@ -10,7 +10,9 @@ use Rattle.device_model.specs.Device.{DeviceKind}
 use Rattle.device_model.specs.Ending.{Ending, DiskFailed, NoMemory}
 use Rattle.device_model.specs.Mode as Modes
 use Rattle.device_model.proofs.HistoryLemmas.{Any-nil}
+use Rattle.device_model.specs.History.{with_changes}
 use Rattle.device_model.specs.ScriptRun.{ScriptRun, IsRunOf, changes_in}
+use Rattle.direct_laws.specs.MomentLaws.{IsLeftNow}
 use Rattle.image_model.specs.Geometry.{Geometry}
 use Rattle.place_model.specs.Kind.{kind_in}
 use Rattle.image_judging.specs.declared.opening_fault.OpeningFault.{OpeningFault}
@@ -20,35 +22,69 @@ use Rattle.image_judging.specs.Faults.{ImageFault, fault_in}
 use Rattle.device_opening.proofs.MomentsLemmas.{each_from}
 use Rattle.device.specs.declared.mode.DeviceParts.{DeviceParts}
 use Rattle.device.specs.declared.opening.OpenMode.{OpenMode}
-use Rattle.device.specs.declared.opening.OpenMode.TheVariants.{Bitmap, Direct, Journal}
+use Rattle.device.specs.declared.opening.OpenMode.TheVariants.{Bitmap, Direct, Journal, Recovery}
+use Rattle.device.specs.Device.{kind_by}
+use Rattle.device.specs.Run.{IsLeftWithin}
 use Rattle.device.specs.Opening.{IsRefused, LeavesOpening, WritesInOpening, asked_mode, fault_in_mode}
 use Rattle.device_parts.specs.Device.{opened_standing}
-use Rattle.device.specs.Tags.{AreOfOthers, IsLeftOut, KeepsTagsOf}
+use Rattle.device.specs.Tags.{AreOfOthers, IsLeftOut, KeepsStill, KeepsTagsOf}
 use Rattle.device.specs.Writes.{IsOfRun}
-use Rattle.device.proofs.TagsLemmas.{tags_fewer}
+use Rattle.device.proofs.TagsLemmas.{still_then, tags_fewer}
 use Rattle.device.proofs.RunLemmas.{EachMoment-both}
 use Rattle.command_ending.specs.Ended.{ending_of}
-use Rattle.command_model.specs.CommandRun.{Outset, RunsOn, IsRunAt, MayBeLeftAt}
+use Rattle.command_model.specs.CommandRun.{Outset, RunsOn, IsLeftAfter, IsRunAt, MayBeLeftAt}
 use Rattle.integrity_tool.specs.Opening.{HasReadIn, HasRunOn, IsMomentOn, IsOfOpeningIn, IsOpenedTo, KeepsClearTags, WritesOnlyBy}
-use Rattle.integrity_tool.specs.Outset.{geometry_on, outset_by, outset_on}
+use Rattle.integrity_tool.specs.Outset.{begun_on, geometry_on, outset_by, outset_on}
 use Rattle.integrity_tool.specs.Refusing.{ended_by_opening, ending_by_refusal}
 use Rattle.integrity_tool.specs.Running.{HasReadTo, IsStopped}
 use Rattle.integrity_tool.proofs.StartLemmas.{IsAsBefore, as_same, before_may_be_left, fine_on, nothing_run, of_run, refused_run, some_run, untouched_now, untouched_through}
 
--- ---- an image that the mode opens
+-- ---- modes that take writes, and recovery mode
 
-module _ (law : OpensLaw) (bitmap : BitmapOpensLaw) (key : Option (List ℕ)) (sectors : ℕ) (image : Image) where
-  -- An image without a fault is one that the mode opens.
-  can_open : (mode : OpenMode) → fault_in_mode mode key sectors image ≡ None → (kind_in (asked_mode mode) key sectors).CanOpen image
-  can_open Direct none = (law key sectors image).0 none
-  can_open Journal none = (law key sectors image).0 none
-  can_open (Bitmap consent) none = ((bitmap key consent sectors image).0 none).0
+-- A script runs on a device that takes writes, where the image has no fault, and that is of the mode's kind.
+pub record TakesWrites (mode : OpenMode) : Type 1 where
+  pub begun : (kind : DeviceKind) (image : Image) → begun_on mode kind image ≡ RunsOn kind image
+  pub kind_ : (key : Option (List ℕ)) (sectors : ℕ) → kind_by (asked_mode mode) key sectors ≡ kind_in (asked_mode mode) key sectors
+  pub opens : OpensLaw → BitmapOpensLaw → (key : Option (List ℕ)) (sectors : ℕ) (image : Image)
+      → fault_in_mode mode key sectors image ≡ None → (kind_in (asked_mode mode) key sectors).CanOpen image
 
-module _ (mode : OpenMode) (key : Option (List ℕ)) (sectors : ℕ) (image : Image) where
-  -- A script runs on one that has none.
-  pub runs_on : fault_in_mode mode key sectors image ≡ None
-      → outset_on mode key sectors image ≡ RunsOn (kind_in (asked_mode mode) key sectors) image
-  runs_on none = ap (outset_by mode key sectors image) none
+data Sort (mode : OpenMode) : Type 1 where
+  Writing : TakesWrites mode → Sort mode
+  Reading : mode ≡ Recovery → Sort mode
+
+sort_of : (mode : OpenMode) → Sort mode
+sort_of Direct = Writing (record {
+  begun = λ kind image. refl;
+  kind_ = λ key sectors. refl;
+  opens = λ law bitmap key sectors image none. (law key sectors image).0 none;
+})
+sort_of Journal = Writing (record {
+  begun = λ kind image. refl;
+  kind_ = λ key sectors. refl;
+  opens = λ law bitmap key sectors image none. (law key sectors image).0 none;
+})
+sort_of (Bitmap consent) = Writing (record {
+  begun = λ kind image. refl;
+  kind_ = λ key sectors. refl;
+  opens = λ law bitmap key sectors image none. ((bitmap key consent sectors image).0 none).0;
+})
+sort_of Recovery = Reading refl
+
+-- A run of the device is one of the command, in every mode.
+run_at : (mode : OpenMode) (kind : DeviceKind) (image : Image) (script : List ℕ) (run : ScriptRun)
+    → IsRunOf (kind.format image) (kind.opened image) script run → IsRunAt (begun_on mode kind image) script run
+run_at Direct kind image script run is = is
+run_at Journal kind image script run is = is
+run_at (Bitmap consent) kind image script run is = is
+run_at Recovery kind image script run is = is
+
+-- An opening in recovery mode leaves the disk as it was.
+pub still_opened : (mode : OpenMode) (key : Option (List ℕ)) (sectors : ℕ) (a b : List Content) → WritesInOpening mode key sectors a b
+    → KeepsStill (asked_mode mode) a b
+still_opened Direct key sectors a b writes = tt
+still_opened Journal key sectors a b writes = tt
+still_opened (Bitmap consent) key sectors a b writes = tt
+still_opened Recovery key sectors a b kept = kept
 
 -- What holds of the content that is told at the start holds of each.
 pub at_told : (P : Content → Type 0) (moments : List Content) (start : Content) → content_now moments ≡ Some start → P start
@@ -63,6 +99,7 @@ written_in Direct key sectors start told writes =
     EachMoment-both (each_from _ start told writes.recovers) (each_from _ start told writes.keeps)
 written_in Journal key sectors start told writes = each_from _ start told writes
 written_in (Bitmap consent) key sectors start told writes = each_from _ start told writes
+written_in Recovery key sectors start told kept = EachMoment-kept _ kept
 
 -- An opening in bitmap mode writes nothing, so all tags stand.
 tags_opened : (mode : Modes.Mode) (g : Geometry) (run : ScriptRun) (start opened : Content) → IsOfOpeningIn mode g start opened
@@ -89,12 +126,19 @@ module _ (law : OpensLaw) (bitmap : BitmapOpensLaw) (mode : OpenMode) (key : Opt
   g = geometry_on disk.sectors image
 
   module _ (leaves : LeavesOpening mode key disk now a b) where
+    opening_still : mode ≡ Recovery → b ≡ a
+    opening_still is = subst (λ (m : OpenMode). WritesInOpening m key disk.sectors a b) is leaves.writes
+
     left_by : (refusal : Option ImageFault) → fault_in_mode mode key disk.sectors image ≡ refusal
         → EachMoment a b (IsAsBefore (outset_by mode key disk.sectors image refusal) start)
-    left_by None none =
-        let left = leaves.left (at_told _ a start told (can_open law bitmap key disk.sectors image mode none)) in
-        EachMoment-weaker (λ c both. inr (record { opens = both.0; left = both.1 }))
-        (EachMoment-both (each_from _ start told left.opens) (each_from _ start told left.left))
+    left_by None none = elim (sort_of mode) [
+      | Writing writing ↦
+          let left = leaves.left (at_told _ a start told (writing.opens law bitmap key disk.sectors image none)) in
+          subst (λ (o : Outset). EachMoment a b (IsAsBefore o start)) (sym (writing.begun kind image))
+          (EachMoment-weaker (λ c both. inr (record { opens = both.0; left = both.1 }))
+          (EachMoment-both (each_from _ start told left.opens) (each_from _ start told left.left)))
+      | Reading is ↦ EachMoment-kept _ (opening_still is)
+    ]
     left_by (Some refusal) is = untouched_through start told (leaves.refused start told refusal is)
 
     -- Each moment is as before,
@@ -107,14 +151,18 @@ module _ (law : OpensLaw) (bitmap : BitmapOpensLaw) (mode : OpenMode) (key : Opt
 
     writes_by : (run : ScriptRun) (refusal : Option ImageFault) → fault_in_mode mode key disk.sectors image ≡ refusal
         → EachMoment a b (WritesOnlyBy (outset_by mode key disk.sectors image refusal) g run start)
-    writes_by run None none =
-        EachMoment-weaker (λ c of. record {
-          opened = c;
-          opening = inr of;
-          behind = OnlyAdds-none (IsOfRun (asked_mode mode) g (changes_in run.steps)) c;
-          tags = tags_opened (asked_mode mode) g run start c of;
-        })
-        (written_in mode key disk.sectors start told leaves.writes)
+    writes_by run None none = elim (sort_of mode) [
+      | Writing writing ↦
+          subst (λ (o : Outset). EachMoment a b (WritesOnlyBy o g run start)) (sym (writing.begun kind image))
+          (EachMoment-weaker (λ c of. record {
+            opened = c;
+            opening = inr of;
+            behind = OnlyAdds-none (IsOfRun (asked_mode mode) g (changes_in run.steps)) c;
+            tags = tags_opened (asked_mode mode) g run start c of;
+          })
+          (written_in mode key disk.sectors start told leaves.writes))
+      | Reading is ↦ EachMoment-kept _ (opening_still is)
+    ]
     writes_by run (Some refusal) is = untouched_through start told (leaves.refused start told refusal is)
 
     -- Each is one of the command.
@@ -162,68 +210,113 @@ module _ (law : OpensLaw) (bitmap : BitmapOpensLaw) (mode : OpenMode) (key : Opt
         (held_before held : Option (List ℕ))
         (is_run : IsRunOf (kind.format image) (kind.opened image) script run)
         (stopped : IsStopped (opened_standing (asked_mode mode) key disk.sectors image) run ending b after held_before held) where
-      is_outset : outset ≡ RunsOn kind image
-      is_outset = runs_on mode key disk.sectors image none
+      begins : outset ≡ begun_on mode kind image
+      begins = ap (outset_by mode key disk.sectors image) none
 
-      ran : HasRunOn outset start script ending after held_before held
-      ran =
-          subst (λ (o : Outset). HasRunOn o start script ending after held_before held) (sym is_outset) (record {
-            run = run;
-            is_run = is_run;
-            text = stopped.text;
-            changes = stopped.changes;
-            ended = stopped.ended;
-            told = stopped.told;
-            left = λ c at. inr (record { opens = stopped.now.opens c at; left = stopped.now.left c at });
-          })
+      is_run_of : IsRunAt outset script run
+      is_run_of = subst (λ (o : Outset). IsRunAt o script run) (sym begins) (run_at mode kind image script run is_run)
 
-      ran_through : EachMoment b after (MayBeLeftAt outset start script)
-      ran_through =
-          EachMoment-weaker
-          (λ c within. subst (λ (o : Outset). MayBeLeftAt o start script c) (sym is_outset)
-          (record { run = run; is_run = is_run; made = within.made; left = inr (record { opens = within.opens; left = within.left }) }))
-          stopped.since
+      -- ---- in recovery mode
 
-      -- What stands once the device is open is what its opening left.
-      opened_to : HasNow (IsOpenedTo (asked_mode mode) g start) b
-      opened_to =
-          content_at_end
-          (EachMoment-weaker (λ c of. inr of) (written_in mode key disk.sectors start told leaves.writes))
-          (at_told (IsOpenedTo (asked_mode mode) g start) a start told (inl refl))
+      module _ (reading : mode ≡ Recovery) where
+        as_it_was : after ≡ b
+        as_it_was = subst (λ (m : OpenMode). KeepsStill (asked_mode m) b after) reading stopped.others.still
 
-      -- No block has a write where the device was opened, so the tags of those stand that the run does not write.
-      tags_behind : EachMoment b after (KeepsTagsOf (asked_mode mode) (AreOfOthers (changes_in run.steps)) g image)
-      tags_behind =
-          EachMoment-weaker
-          (tags_fewer (asked_mode mode) (IsLeftOut (kind.opened image).history (changes_in run.steps)) (AreOfOthers (changes_in run.steps)) g image
-          (λ block others. record { before = λ any. Any-nil (λ write. write.block ≡ block) any; since = others }))
-          stopped.others.tags
+        read_only : HasRunOn outset start script ending after held_before held
+        read_only = record {
+          run = run;
+          is_run = is_run_of;
+          text = stopped.text;
+          changes = stopped.changes;
+          ended = stopped.ended;
+          told = stopped.told;
+          left =
+              subst (λ (o : Outset). HasNow (IsLeftAfter o start stopped.changes ending) after)
+              (sym (begins ∙ ap (λ (m : OpenMode). begun_on m kind image) reading))
+              (λ c at. same_Some c start (sym at ∙ ap content_now (as_it_was ∙ opening_still reading) ∙ told));
+        }
 
-      writes_behind : (opened : Option Content) → content_now b ≡ opened
-          → EachMoment b after (WritesOnlyBy (RunsOn kind image) g run start)
-      writes_behind None none = EachMoment-weaker (λ c from. absurd (rw none at from)) stopped.others.sectors
-      writes_behind (Some opened) is =
-          EachMoment-weaker
-          (λ c both. record { opened = opened; opening = opened_to opened is; behind = both.0; tags = inr both.1 })
-          (EachMoment-both (each_from _ opened is stopped.others.sectors) tags_behind)
+      -- ---- in the other modes
 
-      ran_moments : EachMoment b after (IsMomentOn mode key disk.sectors start script)
-      ran_moments =
-          EachMoment-weaker
-          (λ c both. record {
-            left = both.0;
-            only = record {
+      module _ (writing : TakesWrites mode) where
+        is_outset : outset ≡ RunsOn kind image
+        is_outset = begins ∙ writing.begun kind image
+
+        left_then : IsLeftNow kind image (with_changes stopped.changes (kind.opened image).history) after
+        left_then =
+            subst (λ (k : DeviceKind). IsLeftNow k image (with_changes stopped.changes (kind.opened image).history) after)
+            (writing.kind_ key disk.sectors) stopped.now
+
+        left_since : EachMoment b after (IsLeftWithin kind image (kind.opened image).history (changes_in run.steps))
+        left_since =
+            subst (λ (k : DeviceKind). EachMoment b after (IsLeftWithin k image (kind.opened image).history (changes_in run.steps)))
+            (writing.kind_ key disk.sectors) stopped.since
+
+        ran : HasRunOn outset start script ending after held_before held
+        ran =
+            subst (λ (o : Outset). HasRunOn o start script ending after held_before held) (sym is_outset) (record {
               run = run;
-              is_run = subst (λ (o : Outset). IsRunAt o script run) (sym is_outset) is_run;
-              only = subst (λ (o : Outset). WritesOnlyBy o g run start c) (sym is_outset) both.1;
-            };
-          })
-          (EachMoment-both ran_through (writes_behind (content_now b) refl))
+              is_run = is_run;
+              text = stopped.text;
+              changes = stopped.changes;
+              ended = stopped.ended;
+              told = stopped.told;
+              left = λ c at. inr (record { opens = left_then.opens c at; left = left_then.left c at });
+            })
+
+        ran_through : EachMoment b after (MayBeLeftAt outset start script)
+        ran_through =
+            EachMoment-weaker
+            (λ c within. subst (λ (o : Outset). MayBeLeftAt o start script c) (sym is_outset)
+            (record { run = run; is_run = is_run; made = within.made; left = inr (record { opens = within.opens; left = within.left }) }))
+            left_since
+
+        -- What stands once the device is open is what its opening left.
+        opened_to : HasNow (IsOpenedTo (asked_mode mode) g start) b
+        opened_to =
+            content_at_end
+            (EachMoment-weaker (λ c of. inr of) (written_in mode key disk.sectors start told leaves.writes))
+            (at_told (IsOpenedTo (asked_mode mode) g start) a start told (inl refl))
+
+        -- No block has a write where the device was opened, so the tags of those stand that the run does not write.
+        tags_behind : EachMoment b after (KeepsTagsOf (asked_mode mode) (AreOfOthers (changes_in run.steps)) g image)
+        tags_behind =
+            EachMoment-weaker
+            (tags_fewer (asked_mode mode) (IsLeftOut (kind.opened image).history (changes_in run.steps)) (AreOfOthers (changes_in run.steps)) g image
+            (λ block others. record { before = λ any. Any-nil (λ write. write.block ≡ block) any; since = others }))
+            stopped.others.tags
+
+        writes_behind : (opened : Option Content) → content_now b ≡ opened
+            → EachMoment b after (WritesOnlyBy (RunsOn kind image) g run start)
+        writes_behind None none = EachMoment-weaker (λ c from. absurd (rw none at from)) stopped.others.sectors
+        writes_behind (Some opened) is =
+            EachMoment-weaker
+            (λ c both. record { opened = opened; opening = opened_to opened is; behind = both.0; tags = inr both.1 })
+            (EachMoment-both (each_from _ opened is stopped.others.sectors) tags_behind)
+
+        ran_moments : EachMoment b after (IsMomentOn mode key disk.sectors start script)
+        ran_moments =
+            EachMoment-weaker
+            (λ c both. record {
+              left = both.0;
+              only = record {
+                run = run;
+                is_run = is_run_of;
+                only = subst (λ (o : Outset). WritesOnlyBy o g run start c) (sym is_outset) both.1;
+              };
+            })
+            (EachMoment-both ran_through (writes_behind (content_now b) refl))
 
       -- All of it is one of the command's runs.
       pub ran_on : HasRunOn outset start script ending after held_before held
-          × EachMoment a after (IsMomentOn mode key disk.sectors start script)
-      ran_on = (ran, EachMoment-then opening_moments ran_moments)
+          × EachMoment a after (IsMomentOn mode key disk.sectors start script) × KeepsStill (asked_mode mode) a after
+      ran_on =
+          let still = still_then (asked_mode mode) a b after (still_opened mode key disk.sectors a b leaves.writes) stopped.others.still in
+          elim (sort_of mode) [
+            | Writing writing ↦ (ran writing, EachMoment-then opening_moments (ran_moments writing), still)
+            | Reading reading ↦
+                (read_only reading, EachMoment-then opening_moments (EachMoment-kept _ (as_it_was reading)), still)
+          ]
 
 -- What is taken of the script is so of the command's.
 pub read_on_image : (mode : OpenMode) (key : Option (List ℕ)) (sectors : ℕ) (image : Image) (script : List ℕ)
@@ -233,7 +326,8 @@ pub read_on_image : (mode : OpenMode) (key : Option (List ℕ)) (sectors : ℕ) 
     → HasReadIn (outset_on mode key sectors image) script left held_before held
 read_on_image mode key sectors image script none run left held_before held is_run read = record {
   run = run;
-  is_run = subst (λ (o : Outset). IsRunAt o script run) (sym (runs_on mode key sectors image none)) is_run;
+  is_run = subst (λ (o : Outset). IsRunAt o script run) (sym (ap (outset_by mode key sectors image) none))
+      (run_at mode (kind_in (asked_mode mode) key sectors) image script run is_run);
   read = read;
 }
 
@@ -242,9 +336,9 @@ pub given_back : (mode : OpenMode) (key : Option (List ℕ)) (sectors : ℕ) (st
     (first : List Content) (held_before held : Option (List ℕ)) {a b : List Content}
     → let outset = outset_on mode key sectors (last_image start) in
     HasRunOn outset start script ending a held_before held
-    × EachMoment first a (IsMomentOn mode key sectors start script) → b ≡ a
+    × EachMoment first a (IsMomentOn mode key sectors start script) × KeepsStill (asked_mode mode) first a → b ≡ a
     → HasRunOn outset start script ending b held_before held
-    × EachMoment first b (IsMomentOn mode key sectors start script)
+    × EachMoment first b (IsMomentOn mode key sectors start script) × KeepsStill (asked_mode mode) first b
 given_back mode key sectors start script ending first held_before held all same =
     subst (λ (m : List Content). HasRunOn (outset_on mode key sectors (last_image start)) start script ending m held_before
-    held × EachMoment first m (IsMomentOn mode key sectors start script)) (sym same) all
+    held × EachMoment first m (IsMomentOn mode key sectors start script) × KeepsStill (asked_mode mode) first m) (sym same) all

@@ -16,7 +16,7 @@ use Rattle.image_judging.specs.FaultLaws.{OpensLaw}
 use Rattle.device.specs.declared.opening.OpenMode.TheVariants as Modes
 use Rattle.command_model.specs.CommandRun.{Outset, IsRunAt}
 use Rattle.integrity_tool.specs.Reopening.{HoldsFlushed, IsLeftBehind, ReopeningLaw, history_on}
-use Rattle.integrity_tool.proofs.OpeningLemmas.{runs_on}
+use Rattle.integrity_tool.specs.Outset.{outset_by}
 
 module _ (key : Option (List ℕ)) (sectors : ℕ) where
   abbrev kind : DeviceKind
@@ -79,7 +79,7 @@ reopening_law law key sectors entry changes later left by image =
     let own = first key sectors entry left h is in
     record {
       starts = λ script run is_run.
-          subst (λ (o : Outset). IsRunAt o script run) (sym (runs_on Modes.Journal key sectors left ((law key sectors left).1 (by.opens left image)))) is_run;
+          subst (λ (o : Outset). IsRunAt o script run) (sym (ap (outset_by Modes.Journal key sectors left) ((law key sectors left).1 (by.opens left image)))) is_run;
       blocks = is.blocks;
       kept = own.kept;
       flushed = own.flushed;

@@ -62,8 +62,12 @@ use Rattle.integrity_tool.proofs.RunningLemmas.{complete_prints, told_further, t
 use Rattle.integrity_tool.proofs.TextsLemmas.{BeginsText, none_short}
 use Rattle.script_session.specs.LineRun.{held_with}
 use Rattle.device.specs.declared.opening.OpenMode.{OpenMode}
+use Rattle.device.specs.declared.opening.OpenMode.TheVariants.{Bitmap, Direct, Journal, Recovery}
+use Rattle.device.specs.Opening.{asked_mode}
+use Rattle.device.proofs.TagsLemmas.{still_kept}
+use Rattle.place_model.specs.Kind.{kind_in}
 use Rattle.integrity_tool.specs.Refusing.{ending_by_format, ending_by_refusal}
-use Rattle.integrity_tool.specs.Outset.{geometry_on, key_by, outset_at, outset_by, outset_on, outset_under, outset_for}
+use Rattle.integrity_tool.specs.Outset.{begun_on, geometry_on, key_by, outset_at, outset_by, outset_on, outset_under, outset_for}
 
 -- ---- what a command starts on
 
@@ -96,8 +100,14 @@ fine_refused (faults.ByFormat fault) = fine_format_fault fault
 fine_refused (faults.ByConsent flags) = no_complete _ (λ (x : ⊥). x)
 fine_refused (faults.ByJournal fault) = no_complete _ (λ (x : ⊥). x)
 
+fine_begun : (mode : OpenMode) (kind : DeviceKind) (image : Image) → IsFine (begun_on mode kind image)
+fine_begun Direct kind image = tt
+fine_begun Journal kind image = tt
+fine_begun (Bitmap consent) kind image = tt
+fine_begun Recovery kind image = tt
+
 fine_by : (mode : OpenMode) (key : Option (List ℕ)) (sectors : ℕ) (image : Image) (refusal : Option ImageFault) → IsFine (outset_by mode key sectors image refusal)
-fine_by mode key sectors image None = tt
+fine_by mode key sectors image None = fine_begun mode (kind_in (asked_mode mode) key sectors) image
 fine_by mode key sectors image (Some refusal) = fine_refused refusal
 
 pub fine_on : (mode : OpenMode) (key : Option (List ℕ)) (sectors : ℕ) (image : Image) → IsFine (outset_on mode key sectors image)
@@ -210,8 +220,14 @@ IsOfRun (Exercises exercising) = ⊥
 IsOfRun (ReadsOn kind image) = Unit {0}
 IsOfRun (Changes changing) = ⊥
 
+of_run_begun : (mode : OpenMode) (kind : DeviceKind) (image : Image) → IsOfRun (begun_on mode kind image)
+of_run_begun Direct kind image = tt
+of_run_begun Journal kind image = tt
+of_run_begun (Bitmap consent) kind image = tt
+of_run_begun Recovery kind image = tt
+
 of_run_by : (mode : OpenMode) (key : Option (List ℕ)) (sectors : ℕ) (image : Image) (refusal : Option ImageFault) → IsOfRun (outset_by mode key sectors image refusal)
-of_run_by mode key sectors image None = tt
+of_run_by mode key sectors image None = of_run_begun mode (kind_in (asked_mode mode) key sectors) image
 of_run_by mode key sectors image (Some refusal) = tt
 
 pub of_run : (mode : OpenMode) (key : Option (List ℕ)) (sectors : ℕ) (image : Image) → IsOfRun (outset_on mode key sectors image)
@@ -521,8 +537,14 @@ no_key_refused (faults.ByFormat (OpenFaults.Mode flags)) is = is
 no_key_refused (faults.ByConsent flags) is = is
 no_key_refused (faults.ByJournal fault) is = is
 
+no_key_begun : (mode : OpenMode) (kind : DeviceKind) (image : Image) → IsRefusedByKey (begun_on mode kind image) → ⊥
+no_key_begun Direct kind image is = is
+no_key_begun Journal kind image is = is
+no_key_begun (Bitmap consent) kind image is = is
+no_key_begun Recovery kind image is = is
+
 no_key_by : (mode : OpenMode) (key : Option (List ℕ)) (sectors : ℕ) (image : Image) (refusal : Option ImageFault) → IsRefusedByKey (outset_by mode key sectors image refusal) → ⊥
-no_key_by mode key sectors image None is = is
+no_key_by mode key sectors image None is = no_key_begun mode (kind_in (asked_mode mode) key sectors) image is
 no_key_by mode key sectors image (Some refusal) is = no_key_refused refusal is
 
 no_key_shown : (told : Result Dump DumpFault) → IsRefusedByKey (outset_by_dump told) → ⊥
@@ -561,7 +583,7 @@ no_key_at (Tasks.Exercise seed count) key sectors image is = no_key_exercised se
 
 -- A disk that is not written keeps to every order.
 kept_at : (task : Task) (key : Option (List ℕ)) (sectors : ℕ) {a b : List Content} → b ≡ a → IsInOrderAt task key sectors a b
-kept_at (Tasks.Run mode) key sectors same = tt
+kept_at (Tasks.Run mode) key sectors same = still_kept (asked_mode mode) same
 kept_at Tasks.Dump key sectors same = same
 kept_at (Tasks.Check what) key sectors same = same
 kept_at Tasks.Salvage key sectors same = same

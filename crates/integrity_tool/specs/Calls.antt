@@ -11,6 +11,8 @@ use Rattle.request_slots.specs.Flight.{Flight}
 use Rattle.device_parts.specs.declared.condition.Condition.TheVariants.{Working}
 use Rattle.device_parts.specs.Device.{Standing}
 use Rattle.device.specs.declared.mode.DeviceParts.{DeviceParts}
+use Rattle.device.specs.Opening.{asked_mode}
+use Rattle.device.specs.Tags.{KeepsStill}
 use Rattle.device.specs.declared.opening.OpenMode.{OpenMode}
 use Rattle.device.specs.Device.{IsDevice}
 use Rattle.script_reader.specs.Reading.{Reading, TakesLine}
@@ -75,7 +77,7 @@ RunsAsked identity moments left held task key ending first last script sink out 
     (held out)
     × HasMomentsAt task key (identity first).sectors c bytes (moments first) (moments last)) (moments first)
 
--- The same, of the run of a script on a device in this mode.
+-- The same, of the run of a script on a device in this mode, which in recovery mode leaves the disk as it was.
 abbrev pub RunsScript : {D S O : Type 0} → (D → DiskIdentity) → (D → List Content) → (S → Option (List ℕ))
     → (O → Option (List ℕ)) → OpenMode → (key : Option (List ℕ)) → Ending → (first last : D) → S → (sink out : O)
     → Type 0
@@ -83,7 +85,8 @@ RunsScript identity moments left held mode key ending first last script sink out
     → left script ≡ Some bytes → HasNow (λ c.
     HasRunOn (outset_on mode key (identity first).sectors (last_image c)) c bytes ending (moments last) (held sink)
     (held out)
-    × EachMoment (moments first) (moments last) (IsMomentOn mode key (identity first).sectors c bytes)) (moments first)
+    × EachMoment (moments first) (moments last) (IsMomentOn mode key (identity first).sectors c bytes)
+    × KeepsStill (asked_mode mode) (moments first) (moments last)) (moments first)
 
 -- No more of the script is taken than the run of this has come to.
 abbrev pub ReadsOnlyRun : {D S O : Type 0} → (D → DiskIdentity) → (D → List Content) → (S → Option (List ℕ))

@@ -5,7 +5,7 @@ use Rattle.disk_model.specs.Moments.{HasNow}
 use Rattle.command_model.specs.CommandRun.{Exercising, Outset, RefusedBy, RunsOn, Prints, Makes, Exercises, ReadsOn, Changes, IsEndedBy, IsLeftAfter, IsRunAt, IsUntouched, MayBeLeftAt}
 use Rattle.device_model.specs.Ending.{Ending}
 use Rattle.device_model.specs.History.{Change}
-use Rattle.device_model.specs.Mode.{Mode, Bitmap, Direct, Journal}
+use Rattle.device_model.specs.Mode.{Mode, Bitmap, Direct, Journal, Recovery}
 use Rattle.device_model.specs.ScriptRun.{ScriptRun, changes_in}
 use Rattle.image_model.specs.Geometry.{Geometry}
 use Rattle.device_opening.specs.DirectOpening.{KeepsEmpty}
@@ -33,10 +33,11 @@ pub record HasRunOn (outset : Outset) (start : Content) (script : List ℕ) (end
 
 -- The content comes by an opening in this mode: what was pending is settled, and behind that nothing is written but
 -- entries of the image's journal in their places, sectors of tags, and empty sections of the journal; in direct mode
--- sectors of tags alone where the journal was empty, and in bitmap mode nothing.
+-- sectors of tags alone where the journal was empty, and in bitmap mode nothing. In recovery mode it is as it was.
 abbrev pub IsOfOpeningIn : Mode → Geometry → (start opened : Content) → Type 0
 IsOfOpeningIn Direct g start opened = IsOfOpening g start opened × KeepsEmpty g start opened
 IsOfOpeningIn Bitmap g start opened = opened ≡ newest_only start
+IsOfOpeningIn Recovery g start opened = opened ≡ start
 IsOfOpeningIn mode g start opened = IsOfOpening g start opened
 
 -- It does, or all is as it was.

@@ -4,6 +4,8 @@ use Rattle.disk_model.specs.Disk.{Content}
 use Rattle.disk_model.specs.Moments.{EachMoment}
 use Rattle.device_model.specs.Ending.{KeyRefusal}
 use Rattle.image_formatting.specs.Formatted.{IsLeftInOrder}
+use Rattle.device.specs.Opening.{asked_mode}
+use Rattle.device.specs.Tags.{KeepsStill}
 use Rattle.recovery_laws.specs.MomentLaws.{KeepsMoments}
 use Rattle.integrity_tool.specs.declared.asked.Asked.{Asked}
 use Rattle.integrity_tool.specs.declared.asked.Task.{Task}
@@ -13,10 +15,10 @@ use Rattle.integrity_tool.specs.Opening.{IsMomentAt}
 use Rattle.integrity_tool.specs.Outset.{key_by}
 use Rattle.integrity_tool.specs.Words.{key_file_of}
 
--- A new image is made in its order, one to be exercised too. What only reads an image, whatever that is, neither writes to its
--- disk nor syncs it.
+-- A new image is made in its order, one to be exercised too. What only reads an image, whatever that is, as a run in recovery
+-- mode does, neither writes to its disk nor syncs it.
 abbrev pub IsInOrderAt : Task → (key : Option (List ℕ)) → (sectors : ℕ) → (before after : List Content) → Type 0
-IsInOrderAt (Tasks.Run mode) key sectors before after = Unit {0}
+IsInOrderAt (Tasks.Run mode) key sectors before after = KeepsStill (asked_mode mode) before after
 IsInOrderAt Tasks.Dump key sectors before after = KeepsMoments before after
 IsInOrderAt (Tasks.Check what) key sectors before after = KeepsMoments before after
 IsInOrderAt Tasks.Salvage key sectors before after = KeepsMoments before after

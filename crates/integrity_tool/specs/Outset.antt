@@ -2,6 +2,7 @@
 -- Own: the words are judged first, then the key, then the image.
 use Rattle.std.specs.Prelude.{ℕ, ◌==◌, ltb, if◌then◌else◌, List, length, Option, Some, None, Result, Ok, Err}
 use Rattle.disk_model.specs.Disk.{Image}
+use Rattle.device_model.specs.Device.{DeviceKind}
 use Rattle.device_model.specs.Ending.{RefusedWords, RefusedKey, KeyRefusal, EmptyKey, LongKey}
 use Rattle.image_model.specs.Geometry.{Geometry}
 use Rattle.place_model.specs.Format.{format_on}
@@ -9,6 +10,7 @@ use Rattle.place_model.specs.Kind.{kind_in}
 use Rattle.image_judging.specs.Faults.{ImageFault}
 use Rattle.salvage_model.specs.Salvaging.{salvage_outset}
 use Rattle.device.specs.declared.opening.OpenMode.{OpenMode}
+use Rattle.device.specs.declared.opening.OpenMode.TheVariants.{Bitmap, Direct, Journal, Recovery}
 use Rattle.device.specs.Opening.{asked_mode, fault_in_mode}
 use Rattle.integrity_tool.specs.declared.asked.Asked.{Asked}
 use Rattle.integrity_tool.specs.declared.asked.Task.{Task}
@@ -19,7 +21,7 @@ use Rattle.integrity_tool.specs.Exercising.{exercise_outset}
 use Rattle.integrity_tool.specs.Making.{format_outset}
 use Rattle.integrity_tool.specs.Refusing.{ending_by_refusal}
 use Rattle.integrity_tool.specs.Words.{asked_of, key_file_of}
-use Rattle.command_model.specs.CommandRun.{Outset, RefusedBy, RunsOn}
+use Rattle.command_model.specs.CommandRun.{Outset, ReadsOn, RefusedBy, RunsOn}
 
 -- A key has at most so many bytes.
 abbrev pub most_key : ℕ
@@ -38,9 +40,16 @@ abbrev pub key_by : Option (List ℕ) → (bytes : List ℕ) → Result (Option 
 key_by None bytes = Ok None
 key_by (Some file) bytes = keyed (key_in bytes)
 
+-- A device in this mode is open on the image. In recovery mode it writes nothing.
+abbrev pub begun_on : OpenMode → DeviceKind → Image → Outset
+begun_on Direct kind image = RunsOn kind image
+begun_on Journal kind image = RunsOn kind image
+begun_on (Bitmap consent) kind image = RunsOn kind image
+begun_on Recovery kind image = ReadsOn kind image
+
 -- By why the image is refused, if it is: a device in this mode opens it, or it is refused.
 abbrev pub outset_by : OpenMode → (key : Option (List ℕ)) → (sectors : ℕ) → Image → Option ImageFault → Outset
-outset_by mode key sectors image None = RunsOn (kind_in (asked_mode mode) key sectors) image
+outset_by mode key sectors image None = begun_on mode (kind_in (asked_mode mode) key sectors) image
 outset_by mode key sectors image (Some refusal) = RefusedBy (ending_by_refusal refusal)
 
 -- What a run in this mode starts on, on a disk of so many sectors with this image, under a key.

@@ -40,7 +40,7 @@ use Rattle.image_formatting.specs.NewImage.{IsNewImage}
 use Rattle.image_judging.specs.declared.consent.Consent.{Consent}
 use Rattle.image_judging.specs.declared.consent.Consent.TheVariants.{Given, Withheld}
 use Rattle.device.specs.declared.opening.OpenMode.{OpenMode}
-use Rattle.device.specs.declared.opening.OpenMode.TheVariants.{Bitmap, Direct, Journal}
+use Rattle.device.specs.declared.opening.OpenMode.TheVariants.{Bitmap, Direct, Journal, Recovery}
 use Rattle.integrity_tool.specs.declared.asked.Asked.{Asked}
 use Rattle.integrity_tool.specs.declared.asked.Task.{Task}
 use Rattle.integrity_tool.specs.declared.asked.Task.TheVariants as Tasks
@@ -98,6 +98,7 @@ abbrev pub mode_as : Mode → words_consent.Consent → OpenMode
 mode_as modes.Journal consent = Journal
 mode_as modes.Direct consent = Direct
 mode_as modes.Bitmap consent = Bitmap (consent_as consent)
+mode_as modes.Recovery consent = Recovery
 
 abbrev pub run_asked : Run → Asked
 run_asked run = record { image = run.image; hash = run.hash; task = Tasks.Run (mode_as run.mode run.consent) }

@@ -115,6 +115,7 @@ fn mode(mode: Mode, by: Consent) -> OpenMode
         Mode::Journal => OpenMode::Journal,
         Mode::Direct => OpenMode::Direct,
         Mode::Bitmap => OpenMode::Bitmap(consent(by)),
+        Mode::Recovery => OpenMode::Recovery,
     }
 }
 

@@ -18,6 +18,7 @@ use crate::asked::{Task, words_asked};
 use crate::carrying_out::carry_out;
 use crate::keyed::hash_of;
 use command_ending::Ended;
+use device::OpenMode;
 use script_session::TagsFound;
 use sector_disk::{Disk, Failed};
 use std::alloc::Global;
@@ -184,7 +185,9 @@ fn bind_for<D: Disk>(disk: &mut D, name: &str, task: &Task) -> Result<(), Failed
     ensures same { D.tells_same name.now disk.old disk.new }
 {
     match task {
-        Task::Dump | Task::Check(_) | Task::Salvage => disk.bind_to_read(name),
+        Task::Dump | Task::Check(_) | Task::Salvage | Task::Run(OpenMode::Recovery) => {
+            disk.bind_to_read(name)
+        }
         Task::Run(_) | Task::Format(_) | Task::Exercise { .. } => disk.bind(name),
     }
 }

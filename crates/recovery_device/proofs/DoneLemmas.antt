@@ -27,14 +27,14 @@ use Rattle.device_parts.specs.Answers.{served_answer, served_by}
 use Rattle.device_parts.specs.Device.{HasDone, IsDone, Standing, condition_of}
 use Rattle.device_parts.proofs.NextLemmas.{finished-is, held-is, open_then, requests_then, result_is, served_asked, there_then}
 use Rattle.device_parts.proofs.TurnLemmas.{answer_is}
-use Rattle.recovery_device.specs.declared.parts.RecoveryParts.{RecoveryParts}
+use Rattle.device_parts.specs.declared.parts.Parts.{Parts}
 use Rattle.recovery_device.specs.Device.{IsRecovering, in_recovery}
 
 -- ---- an event that is done
 
 -- An event keeps the device where the disk's moments stay.
-pub done : (w : Standing) (condition : Condition) (parts : RecoveryParts) (a : List Content) → IsRecovering w condition parts a
-    → (event : Model.Event) (now : Condition) (new : RecoveryParts) (b : List Content) → b ≡ a → new.geometry ≡ parts.geometry
+pub done : (w : Standing) (condition : Condition) (parts : Parts) (a : List Content) → IsRecovering w condition parts a
+    → (event : Model.Event) (now : Condition) (new : Parts) (b : List Content) → b ≡ a → new.tags.geometry ≡ parts.tags.geometry
     → IsFlightOf w.format new.slots (Model.after_event w.format w.state event).progress.requests
     → (Model.after_event w.format w.state event).condition ≡ condition_of now
     → HasDone in_recovery w event now new a b
@@ -52,7 +52,7 @@ done w condition parts a is event now new b same geometry flight condition_is = 
 }
 
 -- So does one that answers only.
-pub only_done : (w : Standing) (condition : Condition) (parts : RecoveryParts) (a : List Content) → IsRecovering w condition parts a
+pub only_done : (w : Standing) (condition : Condition) (parts : Parts) (a : List Content) → IsRecovering w condition parts a
     → (event : Model.Event) (answer : Model.Answer) → Model.event_result w.format w.state event ≡ Model.only_answers w.state.progress answer
     → (Model.after_event w.format w.state event).condition ≡ condition_of condition
     → IsDone in_recovery w event answer condition parts a a
@@ -64,7 +64,7 @@ only_done w condition parts a is event answer e condition_is = record {
 
 -- ---- a device that works
 
-module _ (w : Standing) (parts : RecoveryParts) (a : List Content) (is : IsRecovering w Conditions.Working parts a) where
+module _ (w : Standing) (parts : Parts) (a : List Content) (is : IsRecovering w Conditions.Working parts a) where
   abbrev f : DeviceFormat
   f = w.format
 
@@ -75,12 +75,12 @@ module _ (w : Standing) (parts : RecoveryParts) (a : List Content) (is : IsRecov
   works = is.condition_
 
   -- The request is served, and answers so.
-  abbrev pub IsServedAs : (ticket : ℕ) → Served → RecoveryParts → List Content → Type 0
+  abbrev pub IsServedAs : (ticket : ℕ) → Served → Parts → List Content → Type 0
   IsServedAs ticket served new b =
       IsDone in_recovery w (Model.Serve ticket) (served_answer served) Conditions.Working new a b
 
   -- The disk failed: no request goes on.
-  pub failed : (ticket : ℕ) (new : RecoveryParts) (b : List Content) → b ≡ a → new.geometry ≡ parts.geometry → new.slots ≡ parts.slots
+  pub failed : (ticket : ℕ) (new : Parts) (b : List Content) → b ≡ a → new.tags.geometry ≡ parts.tags.geometry → new.slots ≡ parts.slots
       → HasDone in_recovery w (Model.FailedServe ticket) Conditions.Broken new a b
   failed ticket new b same geometry slots =
       let event = Model.FailedServe ticket in
@@ -91,7 +91,7 @@ module _ (w : Standing) (parts : RecoveryParts) (a : List Content) (is : IsRecov
       (ap Model.after_failure works)
 
   -- A block gives the bytes that were read in its place.
-  block_told : (block : ℕ) (bytes : List ℕ) → length bytes ≡ parts.slots.block_size → HasNow (Reads (data_at parts.geometry block) bytes) a
+  block_told : (block : ℕ) (bytes : List ℕ) → length bytes ≡ parts.slots.block_size → HasNow (Reads (data_at parts.tags.geometry block) bytes) a
       → ModelReply.block_reply f.blocks.tag block (readable_cells f (cells_now f.blocks.tag s.history) block) ≡ ModelReply.Bytes bytes
   block_told block bytes size reads =
       let whole : length bytes ≡ 512 * w.on.geometry.shape.spb =
@@ -123,7 +123,7 @@ module _ (w : Standing) (parts : RecoveryParts) (a : List Content) (is : IsRecov
 
       -- With its next block it answers so.
       goes_on : (j : JournalCounts) → Model.event_result f s (Model.Serve (suc k)) ≡ Model.serve_with f s k r (Some j)
-          → (served : Served) (new : RecoveryParts) (b : List Content) → b ≡ a → new.geometry ≡ parts.geometry → IsFlightOf f new.slots then_
+          → (served : Served) (new : Parts) (b : List Content) → b ≡ a → new.tags.geometry ≡ parts.tags.geometry → IsFlightOf f new.slots then_
           → Model.answer_by (served_asked f s r).state ≡ served_answer served → IsServedAs (suc k) served new b
       goes_on j e served new b same geometry flight answer = record {
         answers = ap (λ (x : Model.EventResult). x.answer) e ∙ answer;
@@ -131,7 +131,7 @@ module _ (w : Standing) (parts : RecoveryParts) (a : List Content) (is : IsRecov
             (subst (λ (x : Model.EventResult). IsFlightOf f new.slots x.progress.requests) (sym e) flight) works;
       }
 
-      pub served_flush : (new : RecoveryParts) (b : List Content) → r.request ≡ Asks.Flush → b ≡ a → new.geometry ≡ parts.geometry
+      pub served_flush : (new : Parts) (b : List Content) → r.request ≡ Asks.Flush → b ≡ a → new.tags.geometry ≡ parts.tags.geometry
           → new.slots ≡ with_change (suc k) with_finish parts.slots → IsServedAs (suc k) Serves.Done new b
       served_flush new b e same geometry slots =
           let j = commit_all s.progress.journal in
@@ -141,9 +141,9 @@ module _ (w : Standing) (parts : RecoveryParts) (a : List Content) (is : IsRecov
           (flight_flushed f cells parts.slots s.progress.requests k r is.flight there unfinished e))
           (ap (λ (q : Asks.Request). Model.answer_by (Model.with_block_of f cells r q).state) e)
 
-      pub served_read : (first count block : ℕ) (bytes : List ℕ) (new : RecoveryParts) (b : List Content) → r.request ≡ Asks.Read first count
-          → block ≡ first + r.served → length bytes ≡ parts.slots.block_size → HasNow (Reads (data_at parts.geometry block) bytes) a
-          → b ≡ a → new.geometry ≡ parts.geometry → new.slots ≡ with_change (suc k) (with_block_read parts.slots.block_size bytes) parts.slots
+      pub served_read : (first count block : ℕ) (bytes : List ℕ) (new : Parts) (b : List Content) → r.request ≡ Asks.Read first count
+          → block ≡ first + r.served → length bytes ≡ parts.slots.block_size → HasNow (Reads (data_at parts.tags.geometry block) bytes) a
+          → b ≡ a → new.tags.geometry ≡ parts.tags.geometry → new.slots ≡ with_change (suc k) (with_block_read parts.slots.block_size bytes) parts.slots
           → IsServedAs (suc k) (served_by (turn_of new.slots (suc k))) new b
       served_read first count block bytes new b e block_ size reads same geometry slots =
           let cells : ℕ → Cell = cells_now f.blocks.tag s.history in

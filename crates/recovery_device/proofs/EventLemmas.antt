@@ -22,18 +22,17 @@ use Rattle.request_slots.proofs.SubmitEventLemmas.{submit_is_told}
 use Rattle.device_parts.specs.declared.condition.Condition.{Condition}
 use Rattle.device_parts.specs.declared.condition.Condition.TheVariants as Conditions
 use Rattle.device_parts.specs.Device.{IsDone, Standing}
-use Rattle.device_parts.proofs.ReadyLemmas.{submit-same}
-use Rattle.recovery_device.specs.declared.parts.RecoveryParts.{RecoveryParts}
+use Rattle.device_parts.proofs.ReadyLemmas.{ready-same, submit-same}
+use Rattle.device_parts.specs.declared.parts.Parts.{Parts}
 use Rattle.recovery_device.specs.Answers.{EndLaw, RestLaw, own_refusal, refusal_of}
 use Rattle.recovery_device.specs.Device.{IsReady, IsRecovering, QuietLaw, WritesNothing, in_recovery}
 use Rattle.recovery_device.proofs.DoneLemmas.{done, only_done}
 use Rattle.recovery_device.proofs.NoWriteLemmas.{no_write_submit}
-use Rattle.recovery_device.proofs.ReadyLemmas.{ready_then}
 
 -- ---- a submission
 
 -- A request in a flight is judged by the same blocks in direct mode.
-module _ (w : Standing) (parts : RecoveryParts) (a : List Content) (is : IsRecovering w Conditions.Working parts a) where
+module _ (w : Standing) (parts : Parts) (a : List Content) (is : IsRecovering w Conditions.Working parts a) where
   abbrev f : DeviceFormat
   f = w.format
 
@@ -109,7 +108,7 @@ module _ (w : Standing) (parts : RecoveryParts) (a : List Content) (is : IsRecov
       (write_law f s w.on w.entry first count bytes fua is.device is.condition_) is.condition_
 
 -- Where nothing is against a request, it is no write.
-taken_writes : (condition : Condition) (flight : Flight) (request : Request) → refusal_of condition flight request ≡ None → WritesNothing request
+pub taken_writes : (condition : Condition) (flight : Flight) (request : Request) → refusal_of condition flight request ≡ None → WritesNothing request
 taken_writes Conditions.Working flight (Read first count buffer) none = tt
 taken_writes Conditions.Working flight (Write first count bytes fua) none = absurd (none-some _ (sym none))
 taken_writes Conditions.Working flight Flush none = tt
@@ -118,11 +117,11 @@ taken_writes Conditions.Broken flight request none = absurd (none-some _ (sym no
 -- ---- for callers
 
 -- What is kept once a request was submitted.
-abbrev pub submitted_to : Condition → Request → RecoveryParts → RecoveryParts
+abbrev pub submitted_to : Condition → Request → Parts → Parts
 submitted_to condition request parts =
     record parts { slots = after_submit (refusal_of condition parts.slots request) request parts.slots }
 
-pub is_submitted : (w : Standing) (condition : Condition) (parts : RecoveryParts) (a : List Content) (request : Request) → IsRecovering w condition parts a
+pub is_submitted : (w : Standing) (condition : Condition) (parts : Parts) (a : List Content) (request : Request) → IsRecovering w condition parts a
     → IsDone in_recovery w (Model.Submit (as_submission request)) (submit_answer (refusal_of condition parts.slots request) (suc parts.slots.submitted))
     condition (submitted_to condition request parts) a a
 is_submitted w Conditions.Working parts a (Read first count buffer) is = quiet_submitted w parts a is (Read first count buffer) tt
@@ -134,24 +133,25 @@ is_submitted w Conditions.Broken parts a request is =
     (ap (λ (c : Model.Condition). Model.result_in w.format w.state c event) is.condition_) is.condition_
 
 -- A request that is refused whatever its blocks are leaves all as it is,
-pub refused_is : (condition : Condition) (request : Request) (parts : RecoveryParts) (fault : SubmitFault)
+pub refused_is : (condition : Condition) (request : Request) (parts : Parts) (fault : SubmitFault)
     → own_refusal condition request ≡ Some fault → submitted_to condition request parts ≡ parts
 refused_is condition request parts fault own =
-    ap (λ (o : Option SubmitFault). let p : RecoveryParts = record parts { slots = after_submit (option_or o (fault_of parts.slots request)) request parts.slots } in p) own
+    ap (λ (o : Option SubmitFault). let p : Parts = record parts { slots = after_submit (option_or o (fault_of parts.slots request)) request parts.slots } in p) own
 
 -- and any other is taken or refused by the slots.
-pub passed_is : (condition : Condition) (request : Request) (parts : RecoveryParts) → own_refusal condition request ≡ None
+pub passed_is : (condition : Condition) (request : Request) (parts : Parts) → own_refusal condition request ≡ None
     → submitted_to condition request parts ≡ record parts { slots = after_submit (fault_of parts.slots request) request parts.slots }
 passed_is condition request parts own =
-    ap (λ (o : Option SubmitFault). let p : RecoveryParts = record parts { slots = after_submit (option_or o (fault_of parts.slots request)) request parts.slots } in p) own
+    ap (λ (o : Option SubmitFault). let p : Parts = record parts { slots = after_submit (option_or o (fault_of parts.slots request)) request parts.slots } in p) own
 
-pub ready_submitted : (condition : Condition) (request : Request) (parts : RecoveryParts) (disk : DiskIdentity) → IsReady parts disk
-    → IsReady (submitted_to condition request parts) disk
-ready_submitted condition request parts disk ready =
+pub ready_submitted : (condition : Condition) (request : Request) (parts : Parts) (disk : DiskIdentity) (moments : List Content)
+    → IsReady parts disk moments → IsReady (submitted_to condition request parts) disk moments
+ready_submitted condition request parts disk moments ready =
     let fault = refusal_of condition parts.slots request in
-    let same = submit-same fault request parts.slots in
-    ready_then parts (submitted_to condition request parts) disk disk ready refl refl same.blocks same.block_size ready.buffer
-    (no_write_submit fault request parts.slots (taken_writes condition parts.slots request) ready.no_write)
+    record {
+      kept = ready-same parts (after_submit fault request parts.slots) disk moments (submit-same fault request parts.slots) ready.kept;
+      no_write = no_write_submit fault request parts.slots (taken_writes condition parts.slots request) ready.no_write;
+    }
 
 pub quiet_law : QuietLaw
 quiet_law w condition now parts flight moments event is own condition_is =

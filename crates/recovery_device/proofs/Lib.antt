@@ -3,5 +3,4 @@ pub mod ReadyLemmas
 pub mod DoneLemmas
 pub mod ServeLemmas
 pub mod EventLemmas
-pub mod OpeningLemmas
 mod Worked

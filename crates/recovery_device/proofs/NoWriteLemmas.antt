@@ -11,6 +11,7 @@ use Rattle.request_slots.specs.declared.turn.Turn.TheVariants as Turns
 use Rattle.request_slots.specs.Flight.{Flight, IsWrite, asks_in, is_of, is_unfinished, newly_slotted, next_of, slot_of, turn_behind, turn_in, turn_of}
 use Rattle.request_slots.specs.Serving.{changed, with_block_read, with_change, with_read_piece}
 use Rattle.request_slots.specs.Submitting.{after_submit}
+use Rattle.request_slots.specs.Taking.{after_take, without}
 use Rattle.recovery_device.specs.Answers.{KeepsOthers}
 use Rattle.recovery_device.specs.Device.{HasNoWrite, WritesNothing}
 
@@ -74,6 +75,13 @@ pushed_quiet : (slots : List Slot) (x : Slot) → Quiet slots → WritesNothing 
 pushed_quiet [] x all nothing = (nothing, tt)
 pushed_quiet (y ∷ slots) x all nothing = (all.0, pushed_quiet slots x all.1 nothing)
 
+-- ---- a request that is taken
+
+without_quiet : (ticket : ℕ) (slots : List Slot) → Quiet slots → Quiet (without ticket slots)
+without_quiet ticket [] all = tt
+without_quiet ticket (x ∷ slots) all =
+    either_quiet slots (x ∷ without ticket slots) (is_of ticket x) all.1 (all.0, without_quiet ticket slots all.1)
+
 -- ---- the other requests
 
 -- The slot of this ticket is not that of another one.
@@ -122,6 +130,14 @@ pub no_write_submit : (fault : Option SubmitFault) (request : Request) (flight :
 no_write_submit None request flight nothing all =
     pushed_quiet flight.slots (newly_slotted (suc flight.submitted) request) all (nothing refl)
 no_write_submit (Some fault) request flight nothing all = all
+
+pub no_write_take : (ticket : ℕ) (slot : Option Slot) (flight : Flight) → HasNoWrite flight → HasNoWrite (after_take ticket slot flight)
+no_write_take ticket None flight all = all
+no_write_take ticket (Some slot) flight all = by (is_unfinished slot)
+  where
+    by : (b : Bool) → HasNoWrite (if b then flight else record flight { slots = without ticket flight.slots })
+    by true = all
+    by false = without_quiet ticket flight.slots all
 
 pub others_kept : (ticket : ℕ) (change : Slot → Slot) → ((x : Slot) → (change x).ticket ≡ x.ticket) → (flight : Flight)
     → KeepsOthers ticket flight (with_change ticket change flight)

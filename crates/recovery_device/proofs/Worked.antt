@@ -1,24 +1,19 @@
 -- Why requests are refused on a device in recovery mode, and the device over a disk whose journal has no walk.
-use Rattle.std.proofs.Common.{◌≡◌, ℕ, ◌*◌, [], ◌∷◌, None, Some, Err, Result, false, true, replicate, refl, ap}
+use Rattle.std.proofs.Common.{◌≡◌, ◌*◌, [], ◌∷◌, None, Some, false, true, replicate, refl, ap}
 use Rattle.std.proofs.lemmas.Option.{none-some}
 use Rattle.disk_model.specs.Disk.{Content}
-use Rattle.image_format.specs.declared.open_fault.OpenFault.{OpenFault}
-use Rattle.image_format.specs.declared.open_fault.OpenFault.TheVariants as OpenFaults
-use Rattle.device_model.specs.Ending.{BySuperblock}
 use Rattle.device_model.specs.Mode.{Recovery}
 use Rattle.place_model.specs.Opened.{device_format, opened_on}
 use Rattle.place_model.proofs.WorkedDisk.{journal_format, zeros_journal}
 use Rattle.recovery_laws.proofs.EventLemmas.{opening_law}
-use Rattle.image_model.specs.declared.super_fields.SuperFault.TheVariants.{Magic}
 use Rattle.request_slots.specs.declared.request.Request.TheVariants.{Read, Write, Flush}
 use Rattle.request_slots.specs.declared.submit_fault.SubmitFault.TheVariants as Faults
 use Rattle.request_slots.specs.Flight.{Flight, newly_slotted, no_requests}
 use Rattle.device_parts.specs.declared.condition.Condition.TheVariants.{Broken, Working}
 use Rattle.recovery_device.specs.Answers.{refusal_of}
-use Rattle.recovery_device.specs.declared.parts.RecoveryParts.{RecoveryParts}
+use Rattle.device_parts.specs.declared.parts.Parts.{Parts}
 use Rattle.device_parts.specs.Device.{Standing}
 use Rattle.recovery_device.specs.Device.{HasNoWrite, IsRecovering}
-use Rattle.recovery_device.specs.Opening.{fault_told}
 
 -- ---- submissions
 
@@ -47,20 +42,6 @@ refusal_of-broken = refl
 HasNoWrite-two : HasNoWrite (record flight { slots = newly_slotted 1 (Read 5 1 (replicate 512 0)) ∷ newly_slotted 2 Flush ∷ [] })
 HasNoWrite-two = (tt, (tt, tt))
 
--- ---- what an answer tells of the image
-
-abbrev refused : Result ℕ OpenFault
-refused = Err (OpenFaults.Super Magic)
-
-fault_told-magic : fault_told refused ≡ Some (BySuperblock Magic)
-fault_told-magic = refl
-
-abbrev no_memory : Result ℕ OpenFault
-no_memory = Err OpenFaults.Memory
-
-fault_told-memory : fault_told no_memory ≡ None
-fault_told-memory = refl
-
 -- ---- the device over a disk whose journal has no walk
 
 abbrev on_zeros : Standing
@@ -75,7 +56,7 @@ abbrev content : Content
 content sector = zeros_journal sector ∷ []
 
 -- What has just been opened is a device: no law speaks of nothing.
-IsRecovering-zeros : (parts : RecoveryParts) → parts.geometry ≡ journal_format.geometry
+IsRecovering-zeros : (parts : Parts) → parts.tags.geometry ≡ journal_format.geometry
     → parts.slots ≡ no_requests journal_format.geometry.blocks (512 * journal_format.geometry.shape.spb)
     → IsRecovering on_zeros Working parts (content ∷ [])
 IsRecovering-zeros parts geometry slots = record {

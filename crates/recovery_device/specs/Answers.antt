@@ -14,7 +14,7 @@ use Rattle.request_slots.specs.Submitting.{fault_of}
 use Rattle.device_parts.specs.declared.condition.Condition.{Condition}
 use Rattle.device_parts.specs.declared.condition.Condition.TheVariants as Conditions
 use Rattle.device_parts.specs.Device.{IsDone, Standing}
-use Rattle.recovery_device.specs.declared.parts.RecoveryParts.{RecoveryParts}
+use Rattle.device_parts.specs.declared.parts.Parts.{Parts}
 use Rattle.recovery_device.specs.Device.{IsRecovering, in_recovery}
 
 -- ---- a serve
@@ -41,7 +41,7 @@ abbrev pub refusal_of : Condition → Flight → Request → Option SubmitFault
 refusal_of condition flight request = option_or (own_refusal condition request) (fault_of flight request)
 
 -- A submission is answered so, and no disk is called.
-abbrev pub Submits : Request → Condition → (old new : RecoveryParts) → List Content → Type 0
+abbrev pub Submits : Request → Condition → (old new : Parts) → List Content → Type 0
 Submits request condition old new moments = (w : Standing) → IsRecovering w condition old moments
     → IsDone in_recovery w (Model.Submit (as_submission request))
     (submit_answer (refusal_of condition old.slots request) (suc old.slots.submitted))
@@ -51,7 +51,7 @@ Submits request condition old new moments = (w : Standing) → IsRecovering w co
 
 -- A step of an actor is idle.
 abbrev pub RestLaw : Type 0
-RestLaw = (w : Standing) (parts : RecoveryParts) (moments : List Content) (actor : Model.Actor)
+RestLaw = (w : Standing) (parts : Parts) (moments : List Content) (actor : Model.Actor)
     → IsRecovering w Conditions.Working parts moments
     → Model.event_result w.format w.state (Model.Step actor) ≡ Model.only_answers w.state.progress Model.Idle
 
@@ -63,5 +63,5 @@ pub record IsEnded (w : Standing) (moments : List Content) : Type 0 where
   pub through : IsLeftThrough (in_recovery.kind w) w.entry w.format w.state Model.Close moments moments
 
 abbrev pub EndLaw : Type 0
-EndLaw = (w : Standing) (parts : RecoveryParts) (moments : List Content)
+EndLaw = (w : Standing) (parts : Parts) (moments : List Content)
     → IsRecovering w Conditions.Working parts moments → IsEnded w moments

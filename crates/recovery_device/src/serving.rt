@@ -3,13 +3,12 @@ ghost use Rattle.std.specs.Prelude.{◌≡◌, ◌<◌, true};
 ghost use Rattle.disk_model.specs.Causes.{HasCause};
 ghost use Rattle.request_slots.specs.Flight.{FitsFlight, IsRead, is_in_flight, turn_of};
 ghost use Rattle.request_slots.specs.declared.turn.Turn.TheVariants as Turns;
-ghost use Rattle.device_parts.specs.Answers.{ServesNext, served_by};
+ghost use Rattle.device_parts.specs.Answers.{ServesNext};
 ghost use Rattle.recovery_device.specs.Answers.{KeepsOthers};
 ghost use Rattle.recovery_device.specs.Device.{IsReady, in_recovery};
 
-use crate::RecoveryParts;
-use device_parts::Served;
-use request_slots::{Slots, Ticket, Turn};
+use device_parts::{Parts, Served};
+use request_slots::{Ticket, Turn};
 use sector_disk::{Disk, Failed};
 
 /// Does what is next for a request: reads one block, whatever its tag is, or finishes a flush, for which the disk is not
@@ -18,12 +17,8 @@ use sector_disk::{Disk, Failed};
 /// # Errors
 ///
 /// - `Failed`: the disk failed at the read. The request is as far as it was.
-pub fn serve<D: Disk>(
-    disk: &mut D,
-    parts: &mut RecoveryParts,
-    ticket: &Ticket,
-) -> Result<Served, Failed>
-    requires ready { IsReady parts.old (D.identity disk.old) }
+pub fn serve<D: Disk>(disk: &mut D, parts: &mut Parts, ticket: &Ticket) -> Result<Served, Failed>
+    requires ready { IsReady parts.old (D.identity disk.old) (D.moments disk.old) }
     requires there { is_in_flight ticket.now parts.old.slots ≡ true }
 
     ensures next { ServesNext in_recovery ticket.now parts.old parts.new
@@ -31,7 +26,7 @@ pub fn serve<D: Disk>(
 
     ensures cause { HasCause (D.faults disk.old) (D.faults disk.new) result }
 
-    ensures ready { IsReady parts.new (D.identity disk.new) }
+    ensures ready { IsReady parts.new (D.identity disk.new) (D.moments disk.new) }
     ensures others { KeepsOthers ticket.now parts.old.slots parts.new.slots }
     ensures uncalled { (IsRead (turn_of parts.old.slots ticket.now) → ⊥) → disk.new ≡ disk.old }
     ensures identity { D.identity disk.new ≡ D.identity disk.old }
@@ -52,11 +47,11 @@ pub fn serve<D: Disk>(
 /// Reads the next block of a read, whatever its tag is.
 fn serve_read<D: Disk>(
     disk: &mut D,
-    parts: &mut RecoveryParts,
+    parts: &mut Parts,
     ticket: &Ticket,
     block: u64,
 ) -> Result<Served, Failed>
-    requires ready { IsReady parts.old (D.identity disk.old) }
+    requires ready { IsReady parts.old (D.identity disk.old) (D.moments disk.old) }
     requires there { is_in_flight ticket.now parts.old.slots ≡ true }
     requires turn { turn_of parts.old.slots ticket.now ≡ Turns.Read block }
     requires within { block < parts.old.slots.blocks }
@@ -67,24 +62,12 @@ fn serve_read<D: Disk>(
 
     ensures cause { HasCause (D.faults disk.old) (D.faults disk.new) result }
 
-    ensures ready { IsReady parts.new (D.identity disk.new) }
+    ensures ready { IsReady parts.new (D.identity disk.new) (D.moments disk.new) }
     ensures others { KeepsOthers ticket.now parts.old.slots parts.new.slots }
     ensures identity { D.identity disk.new ≡ D.identity disk.old }
     ensures kept { D.moments disk.new ≡ D.moments disk.old }
 {
-    disk.read_run(parts.geometry.data_at(block), &mut parts.buffer)?;
+    parts.tags.read_block(disk, block, &mut parts.buffer)?;
     parts.slots.put_block(ticket, &parts.buffer);
-    Ok(served(&parts.slots, ticket))
-}
-
-/// What a request answers that was served.
-fn served(slots: &Slots, ticket: &Ticket) -> Served
-    requires { is_in_flight ticket.now slots.now ≡ true }
-
-    ensures { result ≡ served_by (turn_of slots.now ticket.now) }
-{
-    match slots.turn(ticket) {
-        Turn::Finished => Served::Done,
-        _ => Served::Did,
-    }
+    Ok(parts.served(ticket))
 }

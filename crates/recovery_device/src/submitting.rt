@@ -6,8 +6,7 @@ ghost use Rattle.request_slots.specs.Submitting.{after_submit, answer_by};
 ghost use Rattle.recovery_device.specs.Answers.{Submits, own_refusal, refusal_of};
 ghost use Rattle.recovery_device.specs.Device.{IsReady};
 
-use crate::RecoveryParts;
-use device_parts::Condition;
+use device_parts::{Condition, Parts};
 use request_slots::{Request, SubmitFault, Ticket};
 
 /// Takes a request, which comes last in order.
@@ -20,7 +19,7 @@ use request_slots::{Request, SubmitFault, Ticket};
 /// - `ReadOnly`: it is a write, whatever else is against it.
 /// - `Range`, `Length`, `SlotsFull`: as `Slots::submit` tells.
 pub fn submit(
-    parts: &mut RecoveryParts,
+    parts: &mut Parts,
     condition: Condition,
     request: Request,
 ) -> Result<Ticket, (Request, SubmitFault)>
@@ -34,7 +33,8 @@ pub fn submit(
     } }
     ensures done { (moments : List Content) → Submits request condition parts.old parts.new moments }
 
-    ensures ready { (disk : DiskIdentity) → IsReady parts.old disk → IsReady parts.new disk }
+    ensures ready { (disk : DiskIdentity) (moments : List Content)
+        → IsReady parts.old disk moments → IsReady parts.new disk moments }
 {
     if let Some(fault) = own_refusal(condition, &request) {
         return Err((request, fault));

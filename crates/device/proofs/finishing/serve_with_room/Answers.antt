@@ -7,8 +7,8 @@ use Rattle.device_parts.specs.Device.{Answers}
 use Rattle.device.specs.Run.{one_serve, one_turn}
 use Rattle.device.proofs.CallLemmas.{kept_then, runs_behind, runs_failed, turn_broken}
 use Rattle.device.proofs.ModeLemmas.{if_ok_each}
-use Rattle.device.proofs.FinishLemmas.{answer-with_room}
-use Rattle.device.proofs.TurnRunLemmas.{roomy, turn_failed, turn_failed_again, turn_failed_in_room, turn_with_room}
+use Rattle.device.proofs.FinishLemmas.{answer-alone, answer-with_room}
+use Rattle.device.proofs.TurnRunLemmas.{roomy, turn_alone, turn_failed, turn_failed_again, turn_failed_in_room, turn_with_room}
 use Rattle.device.proofs.finishing.serve_with_room.Goals as goal
 
 pub returns-in_err-served-clause-runs : goal.returns-in_err-served-clause-runs
@@ -65,3 +65,21 @@ pub returns-in_err-make_room-in-NoRoom-clause-turn : goal.returns-in_err-make_ro
 returns-in_err-make_room-in-NoRoom-clause-turn g c =
     let p = err_from_is_err_and c.from_residual-in_err-make_room-in-NoRoom.result c.from_residual-in_err-make_room-in-NoRoom.ensures.1 in
     turn_broken _ c.from_residual-in_err-make_room-in-NoRoom.result p.0 p.1 c.in_err-make_room-in-NoRoom.ensures.turn
+
+pub returns-in_default : goal.returns-in_default
+returns-in_default g c =
+    let t = c.args.ticket.now in
+    let served = c.in_ok-served.served in
+    let first = c.in_ok-served.ensures in
+    record {
+      runs = record {
+        done = λ w is. turn_alone w t served c.in_default.not-NoRoom (first.answers w is) _ _ _ (first.runs.done w is);
+        err = tt;
+        keeps = first.runs.keeps;
+      };
+      turn = first.turn;
+      answers = λ w is. answer-alone w.format w.state t served c.in_default.not-NoRoom (first.answers w is);
+      goes_on = first.goes_on;
+      cause = first.cause;
+      same_disk = c.serve.ensures.same_disk;
+    }

@@ -18,3 +18,8 @@ pub returns-in-Bitmap-clause-accepted : goal.returns-in-Bitmap-clause-accepted
 returns-in-Bitmap-clause-accepted g c =
     subst (λ (m : OpenMode). IfOk c.open_in_bitmap.result (λ parts. HasNoFault m (key_of c.args.hash) (g.D.Disk.identity c.args.disk.now).sectors
     (g.D.Disk.moments c.args.disk.now))) (sym c.in-Bitmap.is) c.open_in_bitmap.ensures.accepted
+
+pub returns-in-Recovery-clause-accepted : goal.returns-in-Recovery-clause-accepted
+returns-in-Recovery-clause-accepted g c =
+    subst (λ (m : OpenMode). IfOk c.open_in_recovery.result (λ parts. HasNoFault m (key_of c.args.hash) (g.D.Disk.identity c.args.disk.now).sectors
+    (g.D.Disk.moments c.args.disk.now))) (sym c.in-Recovery.is) c.open_in_recovery.ensures.accepted

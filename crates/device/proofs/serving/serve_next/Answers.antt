@@ -4,12 +4,14 @@ use Rattle.std.proofs.Common.{sym, subst}
 use Rattle.device_parts.specs.declared.condition.Condition.TheVariants.{Working}
 use Rattle.device.specs.declared.mode.Mode.{Mode}
 use Rattle.device.specs.Answers.{WritesInServe}
-use Rattle.device.specs.Device.{IsReadyIn}
+use Rattle.device.specs.Device.{IsReadyIn, any_mode}
+use Rattle.device_parts.specs.Answers.{ServesNext}
 use Rattle.direct_device.specs.Answers.{IsWrittenNext}
 use Rattle.device_model.specs.Mode as Model
 use Rattle.journal_device.specs.Device.{in_journal, kept}
 use Rattle.bitmap_device.specs.Device.{in_bitmap, kept as bitmap_kept}
-use Rattle.device.proofs.ModeLemmas.{in_bitmap_mode, in_journal_mode, parts_in, plain_bitmap, plain_journal, serves_direct, serves_plain, stays_direct}
+use Rattle.recovery_device.specs.Device.{in_recovery}
+use Rattle.device.proofs.ModeLemmas.{in_bitmap_mode, in_journal_mode, in_recovery_mode, parts_in, plain_bitmap, plain_journal, plain_recovery, serves_direct, serves_plain, stays_direct}
 use Rattle.device.proofs.serving.serve_next.Goals as goal
 
 pub returns-in-Direct-clause-next : goal.returns-in-Direct-clause-next
@@ -45,6 +47,20 @@ returns-in-Bitmap-clause-writes g c =
     subst (λ (m : Mode). WritesInServe m c.args.ticket.now parts.common c.serve-in-Bitmap.new.parts
     (g.D.Disk.moments c.args.disk.now) (g.D.Disk.moments c.serve-in-Bitmap.new.disk)) (sym c.in-Bitmap.is)
     (ready.geometry, c.serve-in-Bitmap.ensures.writes)
+
+pub returns-in-Recovery-clause-next : goal.returns-in-Recovery-clause-next
+returns-in-Recovery-clause-next g c =
+    let parts = c.args.parts.now in
+    let before = g.D.Disk.moments c.args.disk.now in
+    let after = g.D.Disk.moments c.serve-in-Recovery.new.disk in
+    subst (λ (m : Mode). ServesNext any_mode c.args.ticket.now parts (record { common = c.serve-in-Recovery.new.parts; mode = m }) before after
+    c.serve-in-Recovery.result) (sym c.in-Recovery.is)
+    (serves_plain in_recovery Model.Recovery in_recovery_mode plain_recovery parts.common c.serve-in-Recovery.new.parts before after
+    c.args.ticket.now parts (parts_in parts c.in-Recovery.is) c.serve-in-Recovery.result c.serve-in-Recovery.ensures.next)
+
+pub returns-in-Recovery-clause-tags : goal.returns-in-Recovery-clause-tags
+returns-in-Recovery-clause-tags g c =
+    subst (λ (m : Mode). KeepsClearTags m c.args.parts.now.common (FailedServe c.args.ticket.now) (g.D.Disk.moments c.args.disk.now) (g.D.Disk.moments c.serve-in-Recovery.new.disk)) (sym c.in-Recovery.is) tt
 
 pub returns-in-Direct-clause-tags : goal.returns-in-Direct-clause-tags
 returns-in-Direct-clause-tags g c =

@@ -12,15 +12,26 @@ use Rattle.device_model.specs.Mode as Model
 use Rattle.journal_device.specs.Device.{in_journal, kept}
 use Rattle.bitmap_device.specs.Device.{in_bitmap, kept as bitmap_kept}
 use Rattle.device.proofs.ModeLemmas.{does_plain, idle_plain, in_bitmap_mode, in_journal_mode, parts_in, plain_bitmap, plain_journal}
-use Rattle.device.proofs.StepLemmas.{not_did, rests_direct}
+use Rattle.device.proofs.StepLemmas.{not_did, rests_direct, rests_recovery}
 use Rattle.device.proofs.stepping.step_next.Goals as goal
 
 pub returns-in-Direct-clause-next : goal.returns-in-Direct-clause-next
 returns-in-Direct-clause-next g c =
-    rests_direct c.args.parts.now (g.D.Disk.moments c.args.disk.now) c.in-Direct.is c.args.actor c.step.result c.step.ensures
+    rests_direct c.args.parts.now (g.D.Disk.moments c.args.disk.now) c.args.actor c.in-Direct.is c.step.result c.step.ensures
 
 pub returns-in-Direct-clause-goes_on : goal.returns-in-Direct-clause-goes_on
 returns-in-Direct-clause-goes_on g c did = absurd (not_did (sym c.step.ensures ∙ did))
+
+pub returns-in-Recovery-clause-next : goal.returns-in-Recovery-clause-next
+returns-in-Recovery-clause-next g c =
+    rests_recovery c.args.parts.now (g.D.Disk.moments c.args.disk.now) c.args.actor c.in-Recovery.is c.step-in-Recovery.result c.step-in-Recovery.ensures
+
+pub returns-in-Recovery-clause-goes_on : goal.returns-in-Recovery-clause-goes_on
+returns-in-Recovery-clause-goes_on g c did = absurd (not_did (sym c.step-in-Recovery.ensures ∙ did))
+
+pub returns-in-Recovery-clause-tags : goal.returns-in-Recovery-clause-tags
+returns-in-Recovery-clause-tags g c =
+    subst (λ (m : Mode). KeepsClearTags m c.args.parts.now.common (Step (actor_of c.args.actor)) (g.D.Disk.moments c.args.disk.now) (g.D.Disk.moments c.args.disk.now)) (sym c.in-Recovery.is) tt
 
 pub returns-in-Journal-clause-next : goal.returns-in-Journal-clause-next
 returns-in-Journal-clause-next g c =

@@ -28,7 +28,7 @@ returns-in-Run-clause-runs g c left told start told_start =
     let after = g.D.Disk.moments c.run_image.new.disk in
     let runs = c.run_image.ensures.runs left told start told_start in
     subst (λ (t : Task). HasRunOn (outset_at t key sectors (last_image start)) start left (ending_by c.run_image.result) after (g.O.Sink.held c.args.out.now) (g.O.Sink.held c.run_image.new.out)
-    × HasMomentsAt t key sectors start left before after) (sym c.in-Run.is) (runs.0, record { each = runs.1; order = tt })
+    × HasMomentsAt t key sectors start left before after) (sym c.in-Run.is) (runs.0, record { each = runs.1; order = runs.2 })
 
 pub returns-in-Run-clause-closed : goal.returns-in-Run-clause-closed
 returns-in-Run-clause-closed g c = rw c.in-Run.is c.run_image.ensures.closed

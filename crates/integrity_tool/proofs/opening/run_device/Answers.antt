@@ -12,7 +12,7 @@ use Rattle.integrity_tool.specs.Opening.{EndsImage, HasRunOn}
 use Rattle.integrity_tool.specs.Outset.{geometry_on, outset_on}
 use Rattle.integrity_tool.specs.Refusing.{ended_by_opening}
 use Rattle.integrity_tool.specs.Running.{ending_by}
-use Rattle.integrity_tool.proofs.OpeningLemmas.{given_back, opening_moments, ran_on, read_on_image, refused_by_opening}
+use Rattle.integrity_tool.proofs.OpeningLemmas.{given_back, opening_moments, ran_on, read_on_image, refused_by_opening, still_opened}
 use Rattle.integrity_tool.proofs.StartLemmas.{read_further, read_none}
 use Rattle.integrity_tool.proofs.TakenLemmas.{none_taken}
 use Rattle.integrity_tool.proofs.ClosedLemmas.{closed_as, closed_behind}
@@ -41,6 +41,7 @@ returns-in-Err-clause-runs g c left told start told_start =
           (refused_by_opening law bitmap mode key disk _ before refused start told_start left leaves held c.in-Err.refused.fault
           c.in-Err.ensures.refused),
       opening_moments law bitmap mode key disk _ before refused start told_start left leaves,
+      still_opened mode key disk.sectors before refused leaves.writes,
     ) (ap g.D.Disk.moments c.handed_back-fault.ensures.disk)
 
 pub returns-in-Ok-run_lines-clause-runs : goal.returns-in-Ok-run_lines-clause-runs
@@ -60,6 +61,7 @@ returns-in-Ok-run_lines-clause-runs g c left told start told_start =
           (g.O.Sink.held c.args.out.now) (g.O.Sink.held c.close-closed.new.out))
           (sym (ap ending_by c.ended_by_close.ensures ∙ ending_at_close c.close-closed.result.0)) all.0,
       all.1,
+      all.2,
     )
 
 pub returns-in-Err-run_lines-clause-runs : goal.returns-in-Err-run_lines-clause-runs

@@ -3,6 +3,8 @@ use Rattle.disk_model.specs.Disk.{last_image}
 use Rattle.disk_model.proofs.MomentsLemmas.{no_moment}
 use Rattle.device_model.specs.Ending.{NoMemory}
 use Rattle.hmac_tag.specs.TagMaker.{key_of}
+use Rattle.device.specs.Opening.{asked_mode}
+use Rattle.device.proofs.TagsLemmas.{still_kept}
 use Rattle.integrity_tool.specs.declared.asked.Task.TheVariants as Tasks
 use Rattle.integrity_tool.specs.Opening.{IsMomentOn}
 use Rattle.integrity_tool.specs.Outset.{outset_on}
@@ -23,6 +25,7 @@ returns-in_default-clause-runs g c left told start told_start =
       nothing_run outset (fine_on mode key disk.sectors (last_image start)) start left NoMemory tt before
           (before_kept outset start told_start refl) _ _ refl,
       no_moment before (IsMomentOn mode key disk.sectors start left),
+      still_kept (asked_mode mode) refl,
     )
 
 pub returns-in_default-clause-taken : goal.returns-in_default-clause-taken

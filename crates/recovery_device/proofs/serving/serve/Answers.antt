@@ -1,6 +1,7 @@
-use Rattle.std.proofs.Common.{refl, sym, ap, ◌∙◌, subst}
-use Rattle.request_slots.specs.Flight.{Flight, IsRead, IsWrite}
+use Rattle.std.proofs.Common.{refl, sym, ◌∙◌, subst}
+use Rattle.request_slots.specs.Flight.{IsRead, IsWrite}
 use Rattle.request_slots.specs.Serving.{with_finish}
+use Rattle.device_parts.specs.Device.{KeepsFlight}
 use Rattle.device_parts.proofs.ReadyLemmas.{keeps_flight, same_flight}
 use Rattle.recovery_device.specs.Device.{HasNoWrite}
 use Rattle.recovery_device.proofs.NoWriteLemmas.{no_write_next, no_write_same, others_kept, others_same}
@@ -68,10 +69,11 @@ returns-in-Flush-clause-next g c =
 pub returns-in-Flush-clause-ready : goal.returns-in-Flush-clause-ready
 returns-in-Flush-clause-ready g c =
     let parts = c.args.parts.now in
-    let slots = c.finish.ensures in
-    ready_then parts (record parts { slots = c.finish.new.self }) _ _ c.requires.ready refl refl
-    (ap (λ (x : Flight). x.blocks) slots) (ap (λ (x : Flight). x.block_size) slots) c.requires.ready.buffer
-    (subst HasNoWrite (sym slots) (no_write_same c.args.ticket.now with_finish (λ x. refl) parts.slots c.requires.ready.no_write))
+    let ticket = c.args.ticket.now in
+    let flight : KeepsFlight parts.slots c.finish.new.self = rw c.finish.ensures (keeps_flight ticket with_finish (λ x. refl) parts.slots) in
+    ready_then parts (record parts { slots = c.finish.new.self }) _ _ _ _ c.requires.ready c.requires.ready.kept.store refl flight refl refl
+    c.requires.ready.kept.buffer
+    (subst HasNoWrite (sym c.finish.ensures) (no_write_same ticket with_finish (λ x. refl) parts.slots c.requires.ready.no_write))
 
 pub returns-in-Flush-clause-others : goal.returns-in-Flush-clause-others
 returns-in-Flush-clause-others g c =
