@@ -1,4 +1,5 @@
 pub mod States
+pub mod Staying
 pub mod Standing
 pub mod Writing
 pub mod Reading

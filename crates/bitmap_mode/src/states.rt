@@ -70,6 +70,7 @@ impl RegionStates {
     ghost use Rattle.bitmap_mode.specs.Standing.{AreOpened, Leaves, StandsIn};
     ghost use Rattle.bitmap_mode.specs.States.{HasCounts, MayHaveCounts, counts_cleaned, counts_of, counts_taken};
     ghost use Rattle.bitmap_mode.specs.States.{counts_written, least_awaiting, may_be_clean};
+    ghost use Rattle.bitmap_mode.specs.Staying.{FitsDisk, StaysButBits, StaysOnDisk};
     ghost use Rattle.bitmap_mode.specs.Writing.{IsOfMarkedBlock, MayWriteBlock, WritesBlock};
 
     /// The regions of an image that is opened, behind the first sync: each whose bit is set awaits. It makes one call
@@ -150,9 +151,8 @@ impl RegionStates {
         ensures cause { HasCause (D.faults disk.old) (D.faults disk.new) result }
         ensures err { OnErr result (MayHaveCounts self.new self.old (counts_written false block self.old)) }
 
-        ensures store { IsStore tags.new (D.identity disk.new) (D.moments disk.new) }
-        ensures geometry { (tags.new.geometry ≡ tags.old.geometry) × (self.new.geometry ≡ self.old.geometry) }
-        ensures identity { D.identity disk.new ≡ D.identity disk.old }
+        ensures stays { StaysOnDisk self.old self.new tags.old tags.new
+            (D.identity disk.old) (D.identity disk.new) (D.moments disk.new) }
 
         ensures through { MayWriteBlock block bytes.now tag.now self.old tags.old
             (D.moments disk.old) (D.moments disk.new) }
@@ -181,10 +181,8 @@ impl RegionStates {
         block: u64,
         out: &mut [u8],
     ) -> Result<Tag, Failed>
-        requires same { tags.old.geometry ≡ self.old.geometry }
-        requires size { maker.now.size ≡ self.old.geometry.shape.tag_size }
+        requires fits { FitsDisk maker.now self.old tags.old (D.identity disk.old) (D.moments disk.old) }
         requires block { IsBlock self.old.geometry block out.old }
-        requires store { IsStore tags.old (D.identity disk.old) (D.moments disk.old) }
 
         ensures read { OnOk result (HasNow (Reads (data_at self.old.geometry block) out.new) (D.moments disk.old)) }
         ensures tag { IfOk result (λ tag. IsTagToRead maker.now self.old block tags.old tag (D.moments disk.old)) }
@@ -197,10 +195,9 @@ impl RegionStates {
         ensures err { OnErr result (MayHaveCounts self.new self.old
             (counts_taken (region_of self.old.geometry block) self.old)) }
 
-        ensures store { IsStore tags.new (D.identity disk.new) (D.moments disk.new) }
-        ensures geometry { (tags.new.geometry ≡ tags.old.geometry) × (self.new.geometry ≡ self.old.geometry) }
+        ensures stays { StaysOnDisk self.old self.new tags.old tags.new
+            (D.identity disk.old) (D.identity disk.new) (D.moments disk.new) }
         ensures rest { KeepsRest tags.old tags.new (D.moments disk.old) (D.moments disk.new) }
-        ensures identity { D.identity disk.new ≡ D.identity disk.old }
 
         ensures through { MayReadBlock maker.now block self.old tags.old (D.moments disk.old) (D.moments disk.new) }
         ensures moments { AddsToRead maker.now self.old (region_of self.old.geometry block) tags.old
@@ -230,9 +227,8 @@ impl RegionStates {
         ensures cause { HasCause (D.faults disk.old) (D.faults disk.new) result }
         ensures err { OnErr result (self.new ≡ self.old) }
 
-        ensures store { IsStore tags.new (D.identity disk.new) (D.moments disk.new) }
-        ensures geometry { (tags.new.geometry ≡ tags.old.geometry) × (self.new.geometry ≡ self.old.geometry) }
-        ensures identity { D.identity disk.new ≡ D.identity disk.old }
+        ensures stays { StaysOnDisk self.old self.new tags.old tags.new
+            (D.identity disk.old) (D.identity disk.new) (D.moments disk.new) }
 
         ensures through { StandsIn (λ d. d) self.old tags.old (D.moments disk.old) (D.moments disk.new) }
         ensures moments { EachSince (OnlyAdds (IsMarkedTags tags.old)) (D.moments disk.old) (D.moments disk.new) }
@@ -301,10 +297,8 @@ impl RegionStates {
         ensures cause { HasCause (D.faults disk.old) (D.faults disk.new) result }
         ensures err { OnErr result (HasCounts self.new self.old.geometry (counts_of self.old)) }
 
-        ensures rest { (self.new.geometry ≡ self.old.geometry) × (self.new.awaiting ≡ self.old.awaiting)
-            × (self.new.fresh ≡ self.old.fresh) }
-        ensures store { IsStore tags.now (D.identity disk.new) (D.moments disk.new) }
-        ensures identity { D.identity disk.new ≡ D.identity disk.old }
+        ensures stays { StaysButBits self.old self.new tags.now
+            (D.identity disk.old) (D.identity disk.new) (D.moments disk.new) }
 
         ensures through { StandsIn (λ d. with_clear d region) self.old tags.now
             (D.moments disk.old) (D.moments disk.new) }
@@ -327,9 +321,7 @@ impl RegionStates {
         tags: &mut Tags,
         maker: &TagMaker,
     ) -> Result<Option<u64>, Failed>
-        requires same { tags.old.geometry ≡ self.old.geometry }
-        requires size { maker.now.size ≡ self.old.geometry.shape.tag_size }
-        requires store { IsStore tags.old (D.identity disk.old) (D.moments disk.old) }
+        requires fits { FitsDisk maker.now self.old tags.old (D.identity disk.old) (D.moments disk.old) }
 
         ensures least { IfOk result (λ r. r ≡ least_awaiting self.old) }
         ensures taken { IfOk result (λ r. IfSome r (λ region. IsTaken maker.now region self.old self.new
@@ -342,10 +334,9 @@ impl RegionStates {
         ensures cause { HasCause (D.faults disk.old) (D.faults disk.new) result }
         ensures err { OnErr result (self.new ≡ self.old) }
 
-        ensures store { IsStore tags.new (D.identity disk.new) (D.moments disk.new) }
-        ensures geometry { (tags.new.geometry ≡ tags.old.geometry) × (self.new.geometry ≡ self.old.geometry) }
+        ensures stays { StaysOnDisk self.old self.new tags.old tags.new
+            (D.identity disk.old) (D.identity disk.new) (D.moments disk.new) }
         ensures rest { KeepsRest tags.old tags.new (D.moments disk.old) (D.moments disk.new) }
-        ensures identity { D.identity disk.new ≡ D.identity disk.old }
 
         ensures through { StandsInTaking maker.now self.old tags.old (D.moments disk.old) (D.moments disk.new) }
         ensures moments { IfSome (least_awaiting self.old) (λ region. AddsToRead maker.now self.old region tags.old
@@ -378,9 +369,8 @@ impl RegionStates {
         ensures err { OnErr result ((self.new ≡ self.old)
             ⊎ IsClosedInPart self.old.geometry (written_back (counts_of self.old)) (counts_of self.new)) }
 
-        ensures store { IsStore tags.new (D.identity disk.new) (D.moments disk.new) }
-        ensures geometry { (tags.new.geometry ≡ tags.old.geometry) × (self.new.geometry ≡ self.old.geometry) }
-        ensures identity { D.identity disk.new ≡ D.identity disk.old }
+        ensures stays { StaysOnDisk self.old self.new tags.old tags.new
+            (D.identity disk.old) (D.identity disk.new) (D.moments disk.new) }
 
         ensures through { MayClose self.old tags.old (D.moments disk.old) (D.moments disk.new) }
         ensures moments { EachSince (OnlyAdds (IsOfClose self.old tags.old)) (D.moments disk.old) (D.moments disk.new) }
@@ -414,9 +404,8 @@ impl RegionStates {
         ensures cause { HasCause (D.faults disk.old) (D.faults disk.new) result }
         ensures err { OnErr result (MayHaveCounts self.new self.old (counts_written false block self.old)) }
 
-        ensures store { IsStore tags.new (D.identity disk.new) (D.moments disk.new) }
-        ensures geometry { (tags.new.geometry ≡ tags.old.geometry) × (self.new.geometry ≡ self.old.geometry) }
-        ensures identity { D.identity disk.new ≡ D.identity disk.old }
+        ensures stays { StaysOnDisk self.old self.new tags.old tags.new
+            (D.identity disk.old) (D.identity disk.new) (D.moments disk.new) }
 
         ensures through { MayWriteBlock block bytes.now tag.now self.old tags.old
             (D.moments disk.old) (D.moments disk.new) }
@@ -442,11 +431,9 @@ impl RegionStates {
         maker: &TagMaker,
         region: u64,
     ) -> Result<(), Failed>
-        requires same { tags.old.geometry ≡ self.old.geometry }
-        requires size { maker.now.size ≡ self.old.geometry.shape.tag_size }
+        requires fits { FitsDisk maker.now self.old tags.old (D.identity disk.old) (D.moments disk.old) }
         requires region { region < regions self.old.geometry }
         requires awaits { (counts_of self.old).awaiting region ≡ true }
-        requires store { IsStore tags.old (D.identity disk.old) (D.moments disk.old) }
 
         ensures taken { OnOk result (TakesRegion maker.now self.old region tags.old tags.new
             (D.moments disk.old) (D.moments disk.new)) }
@@ -456,10 +443,9 @@ impl RegionStates {
         ensures cause { HasCause (D.faults disk.old) (D.faults disk.new) result }
         ensures err { OnErr result (self.new ≡ self.old) }
 
-        ensures store { IsStore tags.new (D.identity disk.new) (D.moments disk.new) }
-        ensures geometry { (tags.new.geometry ≡ tags.old.geometry) × (self.new.geometry ≡ self.old.geometry) }
+        ensures stays { StaysOnDisk self.old self.new tags.old tags.new
+            (D.identity disk.old) (D.identity disk.new) (D.moments disk.new) }
         ensures rest { KeepsRest tags.old tags.new (D.moments disk.old) (D.moments disk.new) }
-        ensures identity { D.identity disk.new ≡ D.identity disk.old }
 
         ensures moments { AddsTags self.old.geometry (given_tags tags.old)
             (tags_taken maker.now self.old region tags.old) (D.moments disk.old) (D.moments disk.new) }
@@ -481,10 +467,8 @@ impl RegionStates {
         maker: &TagMaker,
         region: u64,
     ) -> Result<(), Failed>
-        requires same { tags.old.geometry ≡ self.old.geometry }
-        requires size { maker.now.size ≡ self.old.geometry.shape.tag_size }
+        requires fits { FitsDisk maker.now self.old tags.old (D.identity disk.old) (D.moments disk.old) }
         requires region { region < regions self.old.geometry }
-        requires store { IsStore tags.old (D.identity disk.old) (D.moments disk.old) }
 
         ensures taken { OnOk result (TakesToRead maker.now self.old region tags.old tags.new
             (D.moments disk.old) (D.moments disk.new)) }
@@ -495,10 +479,9 @@ impl RegionStates {
         ensures cause { HasCause (D.faults disk.old) (D.faults disk.new) result }
         ensures err { OnErr result (self.new ≡ self.old) }
 
-        ensures store { IsStore tags.new (D.identity disk.new) (D.moments disk.new) }
-        ensures geometry { (tags.new.geometry ≡ tags.old.geometry) × (self.new.geometry ≡ self.old.geometry) }
+        ensures stays { StaysOnDisk self.old self.new tags.old tags.new
+            (D.identity disk.old) (D.identity disk.new) (D.moments disk.new) }
         ensures rest { KeepsRest tags.old tags.new (D.moments disk.old) (D.moments disk.new) }
-        ensures identity { D.identity disk.new ≡ D.identity disk.old }
 
         ensures through { StandsInTaking maker.now self.old tags.old (D.moments disk.old) (D.moments disk.new) }
         ensures moments { AddsToRead maker.now self.old region tags.old (D.moments disk.old) (D.moments disk.new) }
@@ -535,9 +518,8 @@ impl RegionStates {
         ensures cause { HasCause (D.faults disk.old) (D.faults disk.new) result }
         ensures err { OnErr result (IsClosedInPart self.old.geometry (counts_of self.old) (counts_of self.new)) }
 
-        ensures geometry { self.new.geometry ≡ self.old.geometry }
-        ensures store { IsStore tags.now (D.identity disk.new) (D.moments disk.new) }
-        ensures identity { D.identity disk.new ≡ D.identity disk.old }
+        ensures stays { StaysButBits self.old self.new tags.now
+            (D.identity disk.old) (D.identity disk.new) (D.moments disk.new) }
 
         ensures through { StandsInClearing self.old tags.now (D.moments disk.old) (D.moments disk.new) }
         ensures moments { EachSince (OnlyAdds (IsOfCleared self.old.geometry (counts_of self.old)))

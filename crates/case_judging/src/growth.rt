@@ -2,7 +2,7 @@
 use crate::Wrong;
 use crate::bitmap::{Bitmap, bitmap_of};
 use crate::form::{Form, form_of, run_at};
-use crate::journal::{has_empty_journal, is_same_outside_journal, with_journal_placed};
+use crate::journal::{is_same_outside_journal, with_journal_placed};
 use std::alloc::{AllocError, Global};
 
 /// Where things lie on an image with a journal, or with a bitmap in its place.
@@ -107,12 +107,14 @@ impl Growth {
         Ok(())
     }
 
-    /// Looks at an image that is resized again: it is the resized one, and its journal is empty.
+    /// Looks at an image that is resized again: it is the resized one, but for a journal that is at rest, and all
+    /// entries of that are in their places.
     pub fn judge_again(&self, alloc: Global, again: &[u8]) -> Result<(), Wrong> {
         let is_same = match &self.after {
             Layout::Journal(form) => {
+                let placed = with_journal_placed(alloc, form, again)?;
                 is_same_outside_journal(form, again, &self.resized)
-                    && has_empty_journal(alloc, form, again)?
+                    && is_same_outside_journal(form, again, &placed)
             }
             Layout::Bitmap(_) => again == self.resized.as_slice(),
         };

@@ -1,5 +1,5 @@
-//! Looks at what the resize of an image has left: by its bytes, by what a check tells of it, and by what a second resize
-//! makes of it.
+//! Looks at what the resize of an image has left: by its bytes, by what a check tells of it, and by what a second
+//! resize makes of it.
 use crate::trying::Counts;
 use anyhow::{Result, bail};
 use case_judging::{Growth, Provides};

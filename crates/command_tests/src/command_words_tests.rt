@@ -7,7 +7,7 @@ use std::test::Fail;
 /// Words that are a command, parted by `|`, and a part of what is shown of it.
 ///
 /// Source: what clap 4 makes of such words without settings of its own, and the ends of the values.
-static TAKEN: [(&str, &str); 37] = [
+static TAKEN: [(&str, &str); 38] = [
     (
         "run|I|--mode|D",
         "Run(Run { image: FileName { name: \"I\" }, mode: Direct, hash: Sha256, consent: Withheld })",
@@ -58,6 +58,10 @@ static TAKEN: [(&str, &str); 37] = [
     (
         "salvage|--integrity=hmac-sha256|I|--integrity-key-file|K",
         "hash: HmacSha256 { key_file: FileName { name: \"K\" } } })",
+    ),
+    (
+        "resize|I",
+        "Resize(Resize { image: FileName { name: \"I\" }, hash: Sha256 })",
     ),
     (
         "exercise|I|0|0",
@@ -117,7 +121,7 @@ static TAKEN: [(&str, &str); 37] = [
 ];
 
 /// Words that are no command: one beyond each end, and what clap 4 refuses.
-static REFUSED: [&str; 68] = [
+static REFUSED: [&str; 70] = [
     "run|I|--mode|X",
     "run|I|--mode|",
     "run|I|--mode",
@@ -183,6 +187,8 @@ static REFUSED: [&str; 68] = [
     "format|I|--recalculate",
     "salvage|I|--placed",
     "salvage",
+    "resize",
+    "resize|I|512",
     "frob",
     "",
     "-",

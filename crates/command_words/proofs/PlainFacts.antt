@@ -10,7 +10,7 @@ use Rattle.clap.specs.Simple.{with_index, with_leaf_noted}
 use Rattle.clap.specs.Faults.{given_default_fault}
 use Rattle.clap.proofs.OnLiterals.{clap_on_literals}
 use Rattle.command_words.specs.Table.{Entry, OptionEntry, check_entry, dump_entry, exercise_entry, format_entry}
-use Rattle.command_words.specs.Table.{run_entry, salvage_entry, table}
+use Rattle.command_words.specs.Table.{resize_entry, run_entry, salvage_entry, table}
 use Rattle.command_words.specs.ByClap.{app, entry_app, option_rule, place_rule}
 use Rattle.command_words.specs.Commands.{is_question}
 use Rattle.command_words.specs.PlainForm.{unset_pairs}
@@ -183,6 +183,24 @@ salvage_leaf = record {
   unset = refl;
 }
 
+pub resize_leaf : IsLeafOf resize_entry (leaf resize_entry)
+unfolding clap_on_literals
+resize_leaf = record {
+  options = fact _ _ _ refl refl refl refl refl refl ▹ fact _ _ _ refl refl refl refl refl refl ▹ tt;
+  places = (refl, refl, refl, refl, tt);
+  required = refl;
+  defaults = refl ▹ refl ▹ refl ▹ tt;
+  again = refl;
+  helps = refl;
+  enters = refl;
+  named = refl;
+  met = refl;
+  found = refl;
+  asks = refl;
+  helpless = refl;
+  unset = refl;
+}
+
 pub exercise_leaf : IsLeafOf exercise_entry (leaf exercise_entry)
 unfolding clap_on_literals
 exercise_leaf = record {
@@ -203,4 +221,4 @@ exercise_leaf = record {
 
 -- Each command of the table is a leaf.
 pub leaves : Each (λ entry. IsLeafOf entry (leaf entry)) table
-leaves = format_leaf ▹ run_leaf ▹ dump_leaf ▹ check_leaf ▹ salvage_leaf ▹ exercise_leaf ▹ tt
+leaves = format_leaf ▹ run_leaf ▹ dump_leaf ▹ check_leaf ▹ salvage_leaf ▹ resize_leaf ▹ exercise_leaf ▹ tt

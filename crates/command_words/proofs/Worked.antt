@@ -147,6 +147,16 @@ command_of-placed_salvage : command_of (codes "integrity" ∷ codes "salvage" �
 unfolding clap_on_literals
 command_of-placed_salvage = refl
 
+-- A resize wants the hash alone, and names no number of sectors.
+command_of-resize : command_of (codes "integrity" ∷ codes "resize" ∷ codes "I" ∷ [])
+    ≡ Some (command.Resize (record { image = codes "I"; hash = Sha256 }))
+unfolding clap_on_literals
+command_of-resize = refl
+
+command_of-resize_to : command_of (codes "integrity" ∷ codes "resize" ∷ codes "I" ∷ codes "512" ∷ []) ≡ None
+unfolding clap_on_literals
+command_of-resize_to = refl
+
 -- Behind `--` a word may begin with `-`; one that asks for help makes all of them no command.
 command_of-dashes : command_of (codes "integrity" ∷ codes "dump" ∷ codes "--" ∷ codes "-I" ∷ [])
     ≡ Some (command.Dump (record { image = codes "-I" }))

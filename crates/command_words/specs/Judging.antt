@@ -159,6 +159,12 @@ salvage_of given = do
   hash ← hash_of given
   Some (command.Salvage (record { image = image; hash = hash }))
 
+abbrev pub resize_of : Given → Option Command
+resize_of given = do
+  image ← given (codes "IMAGE")
+  hash ← hash_of given
+  Some (command.Resize (record { image = image; hash = hash }))
+
 abbrev pub exercise_of : Given → Option Command
 exercise_of given = do
   image ← given (codes "IMAGE")
@@ -174,5 +180,6 @@ command_named name given =
     else if bytes_eq name (codes "dump") then dump_of given
     else if bytes_eq name (codes "check") then check_of given
     else if bytes_eq name (codes "salvage") then salvage_of given
+    else if bytes_eq name (codes "resize") then resize_of given
     else if bytes_eq name (codes "exercise") then exercise_of given
     else None

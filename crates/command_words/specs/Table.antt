@@ -60,6 +60,13 @@ salvage_entry = record {
   options = valued (codes "integrity") ∷ valued (codes "integrity-key-file") ∷ [];
 }
 
+abbrev pub resize_entry : Entry
+resize_entry = record {
+  name = codes "resize";
+  places = codes "IMAGE" ∷ [];
+  options = valued (codes "integrity") ∷ valued (codes "integrity-key-file") ∷ [];
+}
+
 abbrev pub exercise_entry : Entry
 exercise_entry = record {
   name = codes "exercise";
@@ -69,4 +76,4 @@ exercise_entry = record {
 
 -- The commands.
 abbrev pub table : List Entry
-table = format_entry ∷ run_entry ∷ dump_entry ∷ check_entry ∷ salvage_entry ∷ exercise_entry ∷ []
+table = format_entry ∷ run_entry ∷ dump_entry ∷ check_entry ∷ salvage_entry ∷ resize_entry ∷ exercise_entry ∷ []

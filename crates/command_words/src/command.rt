@@ -18,6 +18,8 @@ pub enum Command {
     Check(Check),
     /// Prints what can still be read of an image.
     Salvage(Salvage),
+    /// Makes an image use all sectors of its disk.
+    Resize(Resize),
     /// Runs requests on an image that a number decides.
     Exercise(Exercise),
 }
@@ -83,6 +85,15 @@ pub struct Check {
 /// `salvage IMAGE`.
 #[derive(Debug, Drop)]
 pub struct Salvage {
+    /// The image.
+    pub image: FileName,
+    /// The hash of its tags.
+    pub hash: HashChoice,
+}
+
+/// `resize IMAGE`.
+#[derive(Debug, Drop)]
+pub struct Resize {
     /// The image.
     pub image: FileName,
     /// The hash of its tags.

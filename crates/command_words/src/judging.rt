@@ -4,7 +4,7 @@ ghost use Rattle.command_words.specs.Answers.{Answers};
 ghost use Rattle.command_words.specs.Found.{given_in};
 ghost use Rattle.command_words.specs.Judging;
 
-use crate::command::{Check, Command, Dump, Exercise, Format, Run, Salvage};
+use crate::command::{Check, Command, Dump, Exercise, Format, Resize, Run, Salvage};
 use crate::given::Given;
 use crate::numbers::{number, number_or, number_within};
 use crate::table::{
@@ -32,6 +32,7 @@ pub(crate) fn command_named(
         "dump" => dump(alloc, given),
         "check" => check(alloc, given),
         "salvage" => salvage(alloc, given),
+        "resize" => resize(alloc, given),
         "exercise" => exercise(alloc, given),
         _ => Err(WordsFault::Refused),
     }
@@ -111,6 +112,15 @@ fn salvage(alloc: Global, given: &Given<'_>) -> Result<Command, WordsFault>
     let image = image(alloc, given)?;
     let hash = hash(alloc, given)?;
     Ok(Command::Salvage(Salvage { image, hash }))
+}
+
+/// `resize IMAGE`.
+fn resize(alloc: Global, given: &Given<'_>) -> Result<Command, WordsFault>
+    ensures { Answers (Judging.resize_of (given_in given.now)) result }
+{
+    let image = image(alloc, given)?;
+    let hash = hash(alloc, given)?;
+    Ok(Command::Resize(Resize { image, hash }))
 }
 
 /// `exercise IMAGE SEED COUNT`.

@@ -95,7 +95,7 @@ pub(crate) const LEGACY_PADDING: &str = "integrity-legacy-padding";
 pub(crate) const NO_WIPE: &str = "no-wipe";
 
 /// The table. Whatever comes to it is one row here, or one option in a row.
-static COMMANDS: [CommandRow; 6] = [
+static COMMANDS: [CommandRow; 7] = [
     CommandRow {
         name: "format",
         places: &[IMAGE],
@@ -193,6 +193,20 @@ static COMMANDS: [CommandRow; 6] = [
     },
     CommandRow {
         name: "salvage",
+        places: &[IMAGE],
+        options: &[
+            OptionRow {
+                name: INTEGRITY,
+                takes: Takes::Value,
+            },
+            OptionRow {
+                name: KEY_FILE,
+                takes: Takes::Value,
+            },
+        ],
+    },
+    CommandRow {
+        name: "resize",
         places: &[IMAGE],
         options: &[
             OptionRow {

@@ -1,12 +1,14 @@
 -- What the calls of a device tell of each device that it is, and what a call leaves that is to do some events.
-use Rattle.std.specs.Prelude.{◌≡◌, ◌<◌, ℕ, suc, List, Some, Result, IfOk, OnErr, OnOk}
+use Rattle.std.specs.Prelude.{◌≡◌, ◌<◌, ℕ, suc, List, Option, Some, Result, IfOk, OnErr, OnOk}
 use Rattle.disk_model.specs.Disk.{Content}
 use Rattle.disk_model.specs.Identity.{DiskIdentity}
 use Rattle.device_model.specs.Progress.{Answer, Close, Event, FailedClose, IsClosed, Submit, answers}
 use Rattle.device_model.specs.Script.{last_answer}
 use Rattle.request_slots.specs.declared.reply.Reply.{Reply}
 use Rattle.request_slots.specs.declared.request.Request.{Request}
+use Rattle.request_slots.specs.declared.submit_fault.SubmitFault.{SubmitFault}
 use Rattle.request_slots.specs.InFlight.{as_submission, submit_answer}
+use Rattle.request_slots.specs.Submitting.{after_submit}
 use Rattle.device_parts.specs.declared.answers.Actor.{Actor}
 use Rattle.device_parts.specs.declared.answers.Moved.{Moved}
 use Rattle.device_parts.specs.declared.answers.Served.{Served}
@@ -17,10 +19,19 @@ use Rattle.device_parts.specs.Answers.{HasServed, HasStepped, HasTaken, IsSerial
 use Rattle.device_parts.specs.Device.{Answers, HasEnded, IsDone, KeepsParts, Standing}
 use Rattle.device.specs.declared.mode.DeviceParts.{DeviceParts}
 use Rattle.device.specs.Answers.{IsAtRest, WritesInClose, WritesInServe, WritesInStep, refusal_in}
-use Rattle.device.specs.Device.{IsDevice, IsReady, any_mode, mode_of}
+use Rattle.device.specs.Device.{IsDevice, IsReady, any_mode, mode_of, with_slots}
 use Rattle.device.specs.Run.{HasFailed, HasRun}
 
 -- ---- one call
+
+-- Why a request that is submitted to a device comes back, if it does.
+abbrev pub refusal_to : DeviceParts → Condition → Request → Option SubmitFault
+refusal_to parts condition request = refusal_in (mode_of parts.mode) condition parts.common.slots request
+
+-- What is kept of a device behind that, which is nothing more where it comes back.
+abbrev pub with_submitted : DeviceParts → Condition → Request → DeviceParts
+with_submitted parts condition request =
+    with_slots parts (after_submit (refusal_to parts condition request) request parts.common.slots)
 
 -- Whichever device it is, a serve is its event,
 abbrev pub Serves : ℕ → Result Served StepFault → Condition → (old new : DeviceParts)
@@ -38,8 +49,7 @@ Steps actor result condition old new before after = (w : Standing) → IsDevice 
 abbrev pub Submits : Request → Condition → (old new : DeviceParts) → (before after : List Content) → Type 0
 Submits request condition old new before after = (w : Standing) → IsDevice w condition old before
     → IsDone any_mode w (Submit (as_submission request))
-    (submit_answer (refusal_in (mode_of old.mode) condition old.common.slots request) (suc old.common.slots.submitted))
-    condition new after after
+    (submit_answer (refusal_to old condition request) (suc old.common.slots.submitted)) condition new after after
 
 -- the taking of a reply,
 abbrev pub Takes : ℕ → Result Reply ℕ → Condition → (old new : DeviceParts) → (before after : List Content) → Type 0

@@ -4,13 +4,13 @@ ghost use Rattle.disk_model.specs.Identity.{IsBound};
 ghost use Rattle.hmac_tag.specs.TagMaker.{key_of};
 ghost use Rattle.request_slots.specs.Flight.{is_in_flight, slot_of};
 ghost use Rattle.request_slots.specs.Taking.{after_take, taken_by};
-ghost use Rattle.request_slots.specs.Submitting.{after_submit, answer_by};
+ghost use Rattle.request_slots.specs.Submitting.{answer_by};
 ghost use Rattle.device_parts.specs.Answers.{HasStepCause, TurnsBroken, actor_of};
 ghost use Rattle.device_parts.specs.declared.answers.Served.TheVariants.{Did, NoRoom};
 ghost use Rattle.device_model.specs.Progress.{Close, FailedServe, Step};
-ghost use Rattle.device.specs.Answers.{HasNoWork, KeepsClearTags, refusal_in, steps_left};
+ghost use Rattle.device.specs.Answers.{HasNoWork, KeepsClearTags, steps_left};
 ghost use Rattle.device.specs.Calls.{Closes, GivesSerial, HasFewerTurns, Keeps, LeavesAtRest, Serves, StaysReady, Steps};
-ghost use Rattle.device.specs.Calls.{Submits, Takes, WritesClosing, WritesServing, WritesStepping};
+ghost use Rattle.device.specs.Calls.{Submits, Takes, WritesClosing, WritesServing, WritesStepping, refusal_to, with_submitted};
 ghost use Rattle.device.specs.Device.{IsReady, mode_of, with_slots};
 ghost use Rattle.device.specs.Opening.{HasNoFault, HasOpenedIn, HasRefusalCause, IsRefused, IsSettledIn, LeavesOpening};
 
@@ -129,12 +129,9 @@ impl<'d, 'p, D: Disk> Device<'d, 'p, D> {
     pub fn submit(&mut self, request: Request) -> Result<Ticket, (Request, SubmitFault)>
         requires { self.old.parts.common.slots.submitted + 1 < 2 ^ 64 }
 
-        ensures answer { result ≡ answer_by
-            (refusal_in (mode_of self.old.parts.mode) self.old.condition self.old.parts.common.slots request)
+        ensures answer { result ≡ answer_by (refusal_to self.old.parts self.old.condition request)
             (suc self.old.parts.common.slots.submitted) request }
-        ensures submitted { self.new.parts ≡ with_slots self.old.parts (after_submit
-            (refusal_in (mode_of self.old.parts.mode) self.old.condition self.old.parts.common.slots request)
-            request self.old.parts.common.slots) }
+        ensures submitted { self.new.parts ≡ with_submitted self.old.parts self.old.condition request }
         ensures done { Submits request self.old.condition self.old.parts self.new.parts
             (D.moments self.old.disk.now) (D.moments self.new.disk.now) }
 

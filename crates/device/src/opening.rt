@@ -145,12 +145,12 @@ fn open_in_bitmap<'p, D: Disk>(
 ) -> Result<DeviceParts<'p>, OpeningFault>
     requires { IsBound (D.identity disk.old).name }
 
-    ensures opened { IfOk result (λ parts. HasOpenedIn (OpenMode.Bitmap consent) (key_of hash) (D.identity disk.old)
-        parts (D.moments disk.old) (D.moments disk.new)) }
+    ensures opened { IfOk result (λ p. HasOpenedIn (OpenMode.Bitmap consent) (key_of hash) (D.identity disk.old)
+        p (D.moments disk.old) (D.moments disk.new)) }
     ensures accepted { IfOk result (λ parts. HasNoFault (OpenMode.Bitmap consent) (key_of hash)
         (D.identity disk.old).sectors (D.moments disk.old)) }
-    ensures refused { IfErr result (λ fault. IsRefused (OpenMode.Bitmap consent) (key_of hash) (D.identity disk.old)
-        fault (D.moments disk.old) (D.moments disk.new)) }
+    ensures refused { IfErr result (λ f. IsRefused (OpenMode.Bitmap consent) (key_of hash) (D.identity disk.old)
+        f (D.moments disk.old) (D.moments disk.new)) }
     ensures cause { HasOpenCause (D.faults disk.old) (D.faults disk.new) result }
     ensures leaves { LeavesOpening (OpenMode.Bitmap consent) (key_of hash) (D.identity disk.old) (D.identity disk.new)
         (D.moments disk.old) (D.moments disk.new) }

@@ -4,11 +4,10 @@ ghost use Rattle.std.specs.Prelude.{◌≡◌, ◌+◌, ◌<◌, ◌^◌, suc, L
 ghost use Rattle.disk_model.specs.Disk.{Content};
 ghost use Rattle.request_slots.specs.Flight.{is_in_flight, slot_of};
 ghost use Rattle.request_slots.specs.Taking.{after_take, taken_by};
-ghost use Rattle.request_slots.specs.Submitting.{after_submit, answer_by};
+ghost use Rattle.request_slots.specs.Submitting.{answer_by};
 ghost use Rattle.device_parts.specs.declared.condition.Condition.{Condition};
-ghost use Rattle.device.specs.Calls.{GivesSerial, Submits, Takes};
-ghost use Rattle.device.specs.Answers.{refusal_in};
-ghost use Rattle.device.specs.Device.{mode_of, with_slots};
+ghost use Rattle.device.specs.Calls.{GivesSerial, Submits, Takes, refusal_to, with_submitted};
+ghost use Rattle.device.specs.Device.{with_slots};
 
 use crate::{DeviceParts, Mode};
 use device_parts::Condition;
@@ -27,12 +26,9 @@ pub(crate) fn submit(
 ) -> Result<Ticket, (Request, SubmitFault)>
     requires { parts.old.common.slots.submitted + 1 < 2 ^ 64 }
 
-    ensures answer { result ≡ answer_by
-        (refusal_in (mode_of parts.old.mode) condition parts.old.common.slots request)
+    ensures answer { result ≡ answer_by (refusal_to parts.old condition request)
         (suc parts.old.common.slots.submitted) request }
-    ensures submitted { parts.new ≡ with_slots parts.old (after_submit
-        (refusal_in (mode_of parts.old.mode) condition parts.old.common.slots request)
-        request parts.old.common.slots) }
+    ensures submitted { parts.new ≡ with_submitted parts.old condition request }
     ensures done { (moments : List Content) → Submits request condition parts.old parts.new moments moments }
 {
     match parts.mode {

@@ -37,8 +37,8 @@ impl JudgedBitmap {
     }
 }
 
-/// Judges the image of a disk: its first sector, and then its bitmap, which asks for consent where a bit is set and there
-/// is a key. Nothing is done but two reads, and the memory that is taken is for the regions.
+/// Judges the image of a disk: its first sector, and then its bitmap, which asks for consent where a bit is set and
+/// there is a key. Nothing is done but two reads, and the memory that is taken is for the regions.
 ///
 /// # Errors
 ///

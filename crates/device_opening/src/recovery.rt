@@ -19,8 +19,8 @@ use sector_disk::Disk;
 use std::alloc::Global;
 use tag_store::Tags;
 
-/// Opens a device in recovery mode on a disk, by its superblock and its geometry alone: no journal, no bitmap and no tag
-/// is looked at. The disk is called for one read.
+/// Opens a device in recovery mode on a disk, by its superblock and its geometry alone: no journal, no bitmap and no
+/// tag is looked at. The disk is called for one read.
 ///
 /// # Errors
 ///
@@ -37,8 +37,8 @@ pub fn open_recovery<D: Disk>(
 ) -> Result<Parts, OpeningFault>
     requires bound { IsBound (D.identity disk.old).name }
 
-    ensures opened { IfOk result (λ parts. HasOpened in_recovery Model.Recovery (key_of hash) (D.identity disk.old)
-        parts (D.moments disk.old) (D.moments disk.new)) }
+    ensures opened { IfOk result (λ p. HasOpened in_recovery Model.Recovery (key_of hash) (D.identity disk.old)
+        p (D.moments disk.old) (D.moments disk.new)) }
 
     ensures refused { Refuses (format_fault_of (D.identity disk.old).sectors)
         (D.moments disk.old) (D.moments disk.new) result }

@@ -39,8 +39,8 @@ fn number_text(alloc: Global, device: u64) -> io::Result<String> {
     Ok(format!(in alloc; "{major}:{minor}")?)
 }
 
-/// The numbers of the devices that have sectors in common with a device: itself, its partitions, and the whole disk that
-/// it is a partition of.
+/// The numbers of the devices that have sectors in common with a device: itself, its partitions, and the whole disk
+/// that it is a partition of.
 fn overlapping<R>(rt: &R, number: String) -> io::Result<Vec<String>>
 where
     R: Files + AllocGlobal + Clone + Drop,

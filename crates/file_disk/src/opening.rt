@@ -1,8 +1,8 @@
 //! Opens files of the system: apart from the standard streams, and an image so that it is a file or a block device that
 //! nobody writes beside.
 //!
-//! Where the program is started with a standard stream closed, the next file that is opened takes its number. Text would
-//! then be written into an image, or an image be read as a script.
+//! Where the program is started with a standard stream closed, the next file that is opened takes its number. Text
+//! would then be written into an image, or an image be read as a script.
 use crate::in_use::is_in_use;
 use std::fs::{File, OpenFile, OpenOptions};
 use std::io::ErrorKind;
@@ -23,8 +23,8 @@ pub(crate) fn open_for_reads<R: Files<File = File>>(rt: &R, name: &str) -> io::R
     Ok(file)
 }
 
-/// Opens a file or a block device for reads and writes, or for reads alone where it must not be written. Nobody else has
-/// it, as far as locks and the system's lists of what is in use tell.
+/// Opens a file or a block device for reads and writes, or for reads alone where it must not be written. Nobody else
+/// has it, as far as locks and the system's lists of what is in use tell.
 pub(crate) fn open_for_writes<R>(rt: &R, name: &str) -> io::Result<File>
 where
     R: Files<File = File> + AllocGlobal + Clone + Drop,

@@ -154,8 +154,9 @@ pub trait Folder {
     /// What has this name. Where the folder does not tell it, it has no moment.
     ghost named: { Self → List ℕ → NamedDisk };
 
-    /// Opens the file of this name, and locks it until it is dropped: for reads alone beside others that read it, or for
-    /// reads and writes, and then nobody else gets it. One that can't be written is opened for reads in either case.
+    /// Opens the file of this name, and locks it until it is dropped: for reads alone beside others that read it, or
+    /// for reads and writes, and then nobody else gets it. One that can't be written is opened for reads in either
+    /// case.
     ///
     /// # Errors
     ///

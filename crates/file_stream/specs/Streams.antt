@@ -14,7 +14,7 @@ named_as left else (Some file) = left file
 
 -- The most bytes of a line that are held back.
 abbrev pub most_held : ℕ
-most_held = 8192
+most_held = 32768
 
 -- What is held back is the rest of what was: none but its last bytes.
 pub record IsRestOf (old new : List ℕ) : Type 0 where

@@ -13,8 +13,9 @@ use arrayvec::ArrayVec;
 use sector_disk::{Counted, Failed};
 use stream_io::Sink;
 
-/// The most bytes of a line that are held back.
-const ROOM: usize = 8192;
+/// The most bytes of a line that are held back: the text of a block of 4096 bytes, of which none is like the next, has
+/// 20,660.
+const ROOM: usize = 32768;
 
 /// Writes to a file what it takes, and holds back a line until it is whole, or its room is full. So a line goes out by
 /// one call, where the file takes it so.

@@ -10,11 +10,7 @@ use Rattle.disk_model.proofs.DiskLemmas.{IsOfRun-one, OnlyAdds-image, only_candi
 use Rattle.disk_model.proofs.MomentsLemmas.{EachMoment-join, EachMoment-weaker, FromStart-weaker, write_adds}
 use Rattle.image_model.specs.Sectors.{zero_bytes}
 use Rattle.image_model.specs.Superblock.{Superblock, superblock_bytes}
-use Rattle.image_formatting.specs.FirstSector.{zero_sector, head_of, HasZeroHead, IsAmidFounding}
-
--- The bytes may come to the first sector alone.
-abbrev pub IsFirst : List ℕ → ℕ → List ℕ → Type 0
-IsFirst bytes sector x = (sector ≡ 0) × (x ≡ bytes)
+use Rattle.image_formatting.specs.FirstSector.{zero_sector, head_of, HasZeroHead, IsAmidFounding, IsFirst}
 
 -- What only adds zeros there.
 pub forgetting_is : (start later : Content) → OnlyAdds (IsFirst zero_sector) start later → EachImage (λ image. IsImage start image ⊎ HasZeroHead image) later

@@ -87,13 +87,13 @@ HasFilled-same wipe rule format sectors one other is same h = record {
 
 -- ---- the first sector
 
-zero_sector_whole : length zero_sector ≡ 512
+pub zero_sector_whole : length zero_sector ≡ 512
 zero_sector_whole = length-replicate {A = ℕ} 512 0
 
 pub forgotten_first : (start : Content) → forgotten start 0 ≡ zero_sector ∷ []
 forgotten_first start = ap (λ (x : List ℕ). x ∷ []) (last_image-with_one 0 zero_sector start zero_sector_whole)
 
-forgotten_other : (start : Content) (s : ℕ) → s ≢ 0 → last_image (forgotten start) s ≡ last_image start s
+pub forgotten_other : (start : Content) (s : ℕ) → s ≢ 0 → last_image (forgotten start) s ≡ last_image start s
 forgotten_other start s other = last_image-with_other 0 zero_sector start s zero_sector_whole other
 
 module _ (wipe : Wipe) (rule : TagRule) (format : ImageFormat) (sectors : ℕ) (is : IsGeometry format.geometry sectors) where

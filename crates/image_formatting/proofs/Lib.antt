@@ -11,3 +11,4 @@ pub mod WholeLemmas
 mod FormattedLawsLemmas
 mod Worked
 mod StaysLemmas
+mod WrittenLemmas

@@ -9,9 +9,9 @@ use Rattle.disk_model.specs.Disk.{Content, IsImage, AddsSome, last_image, newest
 use Rattle.disk_model.specs.Moments.{content_now, EachMoment, EachSince, FromStart}
 use Rattle.disk_model.proofs.DiskLemmas.{AddsSome-adds, IsOfRun-one, OnlyAdds-wider, with_run-out, with_sectors-in, within_or_out}
 use Rattle.disk_model.proofs.MomentsLemmas.{EachMoment-then, EachMoment-weaker, FromStart-weaker}
-use Rattle.image_formatting.specs.FirstSector.{HasZeroHead, forgotten, zero_sector}
+use Rattle.image_formatting.specs.FirstSector.{HasZeroHead, IsFirst, forgotten, zero_sector}
 use Rattle.image_formatting.specs.Order.{HasFirstSync, IsForgotten, IsInOrder, IsUnsettled}
-use Rattle.image_formatting.proofs.FirstSectorLemmas.{IsFirst, forgetting_is}
+use Rattle.image_formatting.proofs.FirstSectorLemmas.{forgetting_is}
 
 -- ---- moments
 

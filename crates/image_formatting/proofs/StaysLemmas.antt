@@ -1,5 +1,5 @@
 -- Which bytes stay in calls one after the other.
-use Rattle.std.proofs.Common.{◌≡◌, inl, inr, ⊎_elim, ℕ, ◌+◌, ◌-◌, ◌*◌, ◌/◌, ◌%◌, ◌<◌, ◌≤◌, List, length, slice_index, sym, ◌∙◌, ap, arith}
+use Rattle.std.proofs.Common.{◌≡◌, inl, inr, ⊎_elim, ℕ, ◌+◌, ◌-◌, ◌*◌, ◌/◌, ◌%◌, ◌<◌, ◌≤◌, List, length, slice_index, sym, ◌∙◌, ap, arith, Some}
 use Rattle.std.specs.Option.{option_map}
 use Rattle.std.proofs.lemmas.Bool.{cases_lt}
 use Rattle.std.proofs.lemmas.Option.{same_Some}
@@ -36,7 +36,22 @@ keep_changes a b S B f moments start told content told_content s j low out =
     ⊎_elim (λ e. ap (λ (x : Content). slice_index (last_image x s) j) (e ∙ from))
     (λ h. ap (λ (x : List (List ℕ)). slice_index (last_candidate x) j) (h.others s (λ of. out (f s j of))) ∙ ap (λ (x : Content). slice_index (last_image x s) j) from) end.2
 
--- What stands behind some bytes in their last sector is written again as it was.
+-- What stands behind some bytes in their last sector is in the run as it was,
+pub behind_byte : (a : List Content) (at size : ℕ) (bytes : List ℕ) → ((p : ℕ) → size ≤ p → p < length bytes → HasNow (λ c. slice_index bytes p ≡ slice_index (last_image c (at + p / 512)) (p % 512)) a)
+    → length bytes ≡ 512 * (length bytes / 512) → (start : Content) → content_now a ≡ Some start → (s j : ℕ) → IsWithin at (length bytes / 512) s → j < 512 → (IsRunByte at size s j → ⊥)
+    → slice_index (sector_in bytes (s - at)) j ≡ slice_index (last_image start s) j
+behind_byte a at size bytes behind whole start told s j within low out =
+    let p = 512 * (s - at) + j in
+    let sector : p / 512 ≡ s - at = omega (arith, low) in
+    let byte : p % 512 ≡ j = omega (arith, low) in
+    let there : at + p / 512 ≡ s = omega (arith, sector, within.0) in
+    let high : size ≤ p = elim (cases_lt p size) [ inl less ↦ absurd (out (record { begins = omega (arith, within.0); ends = omega (arith, less, within.0) })) | inr more ↦ more ] in
+    ap (λ (n : ℕ). slice_index (sector_in bytes n) j) (sym sector) ∙ ap (slice_index (sector_in bytes (p / 512))) (sym byte)
+    ∙ slice_index-sector_in bytes p
+    ∙ behind p high (omega (arith, within.0, within.1, whole, low)) start told
+    ∙ ap (λ (n : ℕ). slice_index (last_image start n) (p % 512)) there ∙ ap (slice_index (last_image start s)) byte
+
+-- and is written again so.
 pub behind_keeps : (a b : List Content) (at size : ℕ) (bytes : List ℕ) → ((p : ℕ) → size ≤ p → p < length bytes → HasNow (λ c. slice_index bytes p ≡ slice_index (last_image c (at + p / 512)) (p % 512)) a)
     → length bytes ≡ 512 * (length bytes / 512) → content_now b ≡ option_map (with_run at bytes) (content_now a) → ReadsKeep (IsRunByte at size) a b
 behind_keeps a b at size bytes behind whole written start told content told_content s j low out =
@@ -45,16 +60,8 @@ behind_keeps a b at size bytes behind whole written start told content told_cont
     ap (λ (x : Content). slice_index (last_image x s) j) (was.2 ∙ ap (with_run at bytes) from)
     ∙ elim (within_or_out at (length bytes / 512) s) [
       | inl within ↦
-          let p = 512 * (s - at) + j in
-          let sector : p / 512 ≡ s - at = omega (arith, low) in
-          let byte : p % 512 ≡ j = omega (arith, low) in
-          let there : at + p / 512 ≡ s = omega (arith, sector, within.0) in
-          let high : size ≤ p = elim (cases_lt p size) [ inl less ↦ absurd (out (record { begins = omega (arith, within.0); ends = omega (arith, less, within.0) })) | inr more ↦ more ] in
           ap (λ (x : List ℕ). slice_index x j) (last_image-with_run at bytes start s within.0 within.1)
-          ∙ ap (λ (n : ℕ). slice_index (sector_in bytes n) j) (sym sector) ∙ ap (slice_index (sector_in bytes (p / 512))) (sym byte)
-          ∙ slice_index-sector_in bytes p
-          ∙ behind p high (omega (arith, within.0, within.1, whole, low)) start told
-          ∙ ap (λ (n : ℕ). slice_index (last_image start n) (p % 512)) there ∙ ap (slice_index (last_image start s)) byte
+          ∙ behind_byte a at size bytes behind whole start told s j within low out
       | inr behind_run ↦ ap (λ (x : List ℕ). slice_index x j) (last_image-with_run_out at bytes start s behind_run)
     ]
 

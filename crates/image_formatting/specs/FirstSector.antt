@@ -21,6 +21,10 @@ forgotten content = newest_only (with_run 0 zero_sector content)
 abbrev pub founded : Superblock → Content → Content
 founded s content = newest_only (with_run 0 (head_of s) (newest_only content))
 
+-- The bytes come to the first sector alone.
+abbrev pub IsFirst : List ℕ → (sector : ℕ) → (x : List ℕ) → Type 0
+IsFirst bytes sector x = (sector ≡ 0) × (x ≡ bytes)
+
 -- The first sector of an image is zero.
 abbrev pub HasZeroHead : Image → Type 0
 HasZeroHead image = image 0 ≡ zero_sector

@@ -9,3 +9,4 @@ pub mod Order
 pub mod Room
 pub mod Runs
 pub mod Stays
+pub mod Written

@@ -12,6 +12,7 @@ ghost use Rattle.image_formatting.specs.Journal.{HasJournalPlace, bitmap_taken, 
 ghost use Rattle.image_formatting.specs.Room.{HasRoom, HasRuns, zeros_at_once};
 ghost use Rattle.image_formatting.specs.Runs.{ChangesOnly};
 ghost use Rattle.image_formatting.specs.Stays.{ReadsKeep};
+ghost use Rattle.image_formatting.specs.Written.{IsOfFormat, IsOfWipe, OnlyWrites};
 
 use crate::emptying::empty;
 use crate::new_image::Wipe;
@@ -52,6 +53,7 @@ pub(crate) fn fill<D: Disk>(
 
     ensures moments { EachSince (ChangesOnly (IsFillSector wipe format.now.geometry))
         (D.moments disk.old) (D.moments disk.new) }
+    ensures writes { OnlyWrites (IsOfFormat wipe format.now) (D.moments disk.old) (D.moments disk.new) }
 {
     write_zeros(disk, &room.zeros, 1, 7)?;
     fill_journal(disk, format, &room.zeros, &mut room.section)?;
@@ -121,6 +123,7 @@ fn fill_blocks<D: Disk>(
 
     ensures moments { EachSince (ChangesOnly (IsBlocksSector wipe format.now.geometry))
         (D.moments disk.old) (D.moments disk.new) }
+    ensures writes { OnlyWrites (IsOfWipe wipe format.now.geometry) (D.moments disk.old) (D.moments disk.new) }
 {
     match wipe {
         Wipe::Wiped => wipe_blocks(disk, format, maker, &room.zeros, &mut room.tags),

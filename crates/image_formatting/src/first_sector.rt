@@ -4,10 +4,11 @@
 //! cut leaves a magic.
 ghost use Rattle.std.specs.Prelude.{◌≡◌, ◌<◌, length, Ok, OnOk};
 ghost use Rattle.disk_model.specs.Causes.{HasCause};
+ghost use Rattle.disk_model.specs.Disk.{OnlyAdds};
 ghost use Rattle.disk_model.specs.Identity.{IsBound};
 ghost use Rattle.disk_model.specs.Moments.{EachSince, IsChangedBy};
 ghost use Rattle.image_model.specs.Superblock.{IsAccepted, superblock_of};
-ghost use Rattle.image_formatting.specs.FirstSector.{HasZeroHead, IsAmidFounding, forgotten, founded, head_of};
+ghost use Rattle.image_formatting.specs.FirstSector.{HasZeroHead, IsAmidFounding, IsFirst, forgotten, founded, head_of, zero_sector};
 ghost use Rattle.image_formatting.specs.Order.{IsForgotten, IsInOrder, IsUnsettled, SyncsFirst};
 
 use sector_disk::{Disk, Failed};
@@ -32,6 +33,7 @@ pub(crate) fn forget<D: Disk>(disk: &mut D) -> Result<(), Failed>
 
     ensures moments { IsInOrder (IsUnsettled HasZeroHead) IsForgotten
         (D.moments disk.old) (D.moments disk.new) }
+    ensures writes { EachSince (OnlyAdds (IsFirst zero_sector)) (D.moments disk.old) (D.moments disk.new) }
 {
     disk.write_run(0, &[0; 512])?;
     disk.sync()
@@ -58,6 +60,7 @@ pub(crate) fn found<D: Disk>(disk: &mut D, fields: &Super) -> Result<(), Failed>
     ensures identity { D.identity disk.new ≡ D.identity disk.old }
 
     ensures moments { EachSince (IsAmidFounding fields.now) (D.moments disk.old) (D.moments disk.new) }
+    ensures writes { EachSince (OnlyAdds (IsFirst (head_of fields.now))) (D.moments disk.old) (D.moments disk.new) }
 {
     let mut bytes = [0; 512];
     write(fields, &mut bytes);

@@ -9,6 +9,7 @@ ghost use Rattle.image_model.specs.declared.geom_fault.GeomFault.{GeomFault};
 ghost use Rattle.image_formatting.specs.Formatted.{HasFormatCause, HasMade, IsLeftInOrder, IsWritten, IsWrittenBehindSync, IsWrittenInOrder, SyncsNew};
 ghost use Rattle.image_formatting.specs.NewImage.{IsNewImage, provided_of};
 ghost use Rattle.image_formatting.specs.Room.{HasRoom};
+ghost use Rattle.image_formatting.specs.Written.{IsOfFormat, OnlyWrites, OnlyWritesNew};
 
 use crate::filling::fill;
 use crate::first_sector::{forget, found};
@@ -59,6 +60,9 @@ pub fn format<D: Disk>(
     // with the whole new image.
     ensures moments { IsLeftInOrder (key_of hash) (D.identity disk.old).sectors new
         (D.moments disk.old) (D.moments disk.new) }
+
+    // Only sectors of the new image are written, also where the disk fails.
+    ensures writes { OnlyWritesNew (D.identity disk.old).sectors new (D.moments disk.old) (D.moments disk.new) }
 {
     let format = plan(&new, disk.sectors())?;
     let mut room = Room::new(alloc, format.geometry.shape())?;
@@ -95,6 +99,7 @@ fn write_image<D: Disk>(
 
     ensures moments { IsWrittenInOrder wipe maker.now format.now
         (D.moments disk.old) (D.moments disk.new) }
+    ensures writes { OnlyWrites (IsOfFormat wipe format.now) (D.moments disk.old) (D.moments disk.new) }
 {
     forget(disk)?;
     fill(disk, format, wipe, maker, room)?;

@@ -5,7 +5,8 @@
 //! `specs/Formatted.antt`, the file to read first. Zeros come to the first sector before all else,
 //! and are synced; the superblock comes behind a sync of all else. So a cut leaves the disk as it
 //! was, which it can only before the first sync has succeeded (`specs/Order.antt`), or without a
-//! magic, or with the whole new image. All memory is taken before the first write.
+//! magic, or with the whole new image. Only sectors that the new image has are ever written
+//! (`specs/Written.antt`). All memory is taken before the first write.
 #![tactic(auto)]
 
 mod emptying;

@@ -12,6 +12,7 @@ ghost use Rattle.image_formatting.specs.Blocks.{HasTagRun, HoldsTags};
 ghost use Rattle.image_formatting.specs.Tagging.{HasReadBehind, MakesTags};
 ghost use Rattle.image_formatting.specs.Runs.{ChangesOnly};
 ghost use Rattle.image_formatting.specs.Stays.{IsRunByte, ReadsKeep};
+ghost use Rattle.image_formatting.specs.Written.{IsOfTagRun, OnlyWrites};
 
 use commit_id::Shape;
 use hmac_tag::{Tag, TagMaker};
@@ -51,6 +52,7 @@ pub(crate) fn write_tags<D: Disk>(
 
     ensures moments { EachSince (ChangesOnly (IsWithin at (quotient_up (count * shape.tag) 512)))
         (D.moments disk.old) (D.moments disk.new) }
+    ensures writes { OnlyWrites (IsOfTagRun at (count * shape.tag)) (D.moments disk.old) (D.moments disk.new) }
 {
     let sector_size = SECTOR_SIZE as u64;
     // The tags of 512 blocks end where a sector does.
@@ -95,6 +97,7 @@ fn write_tag_run<D: Disk>(
 
     ensures moments { EachSince (ChangesOnly (IsWithin at (quotient_up (count * shape.tag) 512)))
         (D.moments disk.old) (D.moments disk.new) }
+    ensures writes { OnlyWrites (IsOfTagRun at (count * shape.tag)) (D.moments disk.old) (D.moments disk.new) }
 {
     let size = count as usize * shape.tag as usize;
     let run = &mut tags[..size.next_multiple_of(SECTOR_SIZE)];

@@ -10,6 +10,7 @@ ghost use Rattle.image_formatting.specs.Blocks.{HasZeroBlocks, IsAreaRun, IsSect
 ghost use Rattle.image_formatting.specs.Room.{tags_at_once, zeros_at_once};
 ghost use Rattle.image_formatting.specs.Runs.{ChangesOnly};
 ghost use Rattle.image_formatting.specs.Stays.{IsBlockByte, ReadsKeep};
+ghost use Rattle.image_formatting.specs.Written.{IsOfBlocks, OnlyWrites};
 
 use crate::tagging::write_tags;
 use crate::zeroing::write_zeros;
@@ -47,6 +48,8 @@ pub(crate) fn wipe_blocks<D: Disk>(
 
     ensures moments { let g = format.now.geometry in
         EachSince (ChangesOnly (IsSectorOf g 0 g.blocks)) (D.moments disk.old) (D.moments disk.new) }
+    ensures writes { let g = format.now.geometry in
+        OnlyWrites (IsOfBlocks g 0 g.blocks) (D.moments disk.old) (D.moments disk.new) }
 {
     let blocks = format.geometry.blocks();
     let of_area = 1 << (format.fields.log2_interleave - format.fields.log2_spb);
@@ -87,6 +90,7 @@ fn wipe_area<D: Disk>(
 
     ensures moments { EachSince (ChangesOnly (IsSectorOf geometry.now first count))
         (D.moments disk.old) (D.moments disk.new) }
+    ensures writes { OnlyWrites (IsOfBlocks geometry.now first count) (D.moments disk.old) (D.moments disk.new) }
 {
     let (tags_at, _) = geometry.tag_at(first);
     let data_at = geometry.data_at(first);

@@ -1,11 +1,12 @@
 //! Zeros in a run of sectors.
 ghost use Rattle.std.specs.Prelude.{◌≡◌, ◌+◌, ◌^◌, ◌≤◌, OnOk};
 ghost use Rattle.disk_model.specs.Causes.{HasCause};
-ghost use Rattle.disk_model.specs.Disk.{last_image};
+ghost use Rattle.disk_model.specs.Disk.{OnlyAdds, last_image};
 ghost use Rattle.disk_model.specs.Identity.{IsBound};
 ghost use Rattle.disk_model.specs.Moments.{EachSince, HasNow};
 ghost use Rattle.journal_section.specs.Entries.{IsWithin};
 ghost use Rattle.image_formatting.specs.Runs.{ChangesOnly, HasZeros, IsZeroRun};
+ghost use Rattle.image_formatting.specs.Written.{IsZeroWithin};
 
 use image_model::SECTOR_SIZE;
 use sector_disk::{Disk, Failed};
@@ -33,6 +34,7 @@ pub(crate) fn write_zeros<D: Disk>(
     ensures identity { D.identity disk.new ≡ D.identity disk.old }
 
     ensures moments { EachSince (ChangesOnly (IsWithin at count)) (D.moments disk.old) (D.moments disk.new) }
+    ensures writes { EachSince (OnlyAdds (IsZeroWithin at count)) (D.moments disk.old) (D.moments disk.new) }
 {
     let most = (zeros.len() / SECTOR_SIZE) as u64;
     let mut done = 0;

@@ -6,3 +6,4 @@ pub mod Cleared
 pub mod Grown
 pub mod Writing
 pub mod Settled
+pub mod Call

@@ -7,7 +7,7 @@
 //! the old image, or the new one.
 //!
 //! A contract sees a `Plan` as its fields. What is left of an image stands in `resize_model`, whose `specs/Left.antt`
-//! is the file to read first; then `specs/Plan.antt` here.
+//! is the file to read first; then `specs/Call.antt` and `specs/Plan.antt` here.
 #![tactic(auto)]
 
 mod clearing;

@@ -3,23 +3,20 @@ ghost use Rattle.std.specs.Prelude.{◌≡◌, ◌≢◌, false, true, Err, IfOk
 ghost use Rattle.disk_model.specs.Causes.{HasCause};
 ghost use Rattle.disk_model.specs.Disk.{last_image};
 ghost use Rattle.disk_model.specs.Identity.{IsBound};
-ghost use Rattle.disk_model.specs.Moments.{EachMoment, HasNow};
+ghost use Rattle.disk_model.specs.Moments.{HasNow};
 ghost use Rattle.hmac_tag.specs.TagMaker.{key_of};
 ghost use Rattle.image_model.specs.declared.flags.TheConstants.{DIRTY_BITMAP as BITMAP};
 ghost use Rattle.image_model.specs.Superblock.{has_flag};
 ghost use Rattle.journal_reading.specs.Journal.{FitsJournal, IsJournalOn};
-ghost use Rattle.place_model.specs.Format.{format_on};
-ghost use Rattle.resize_model.specs.Left.{IsResizedInOrder, IsResizedTo, KeepsRefused};
-ghost use Rattle.resize_model.specs.Refusals.{CanResize, resize_fault_of};
-ghost use Rattle.resize_model.specs.Resized.{resized_provided};
-ghost use Rattle.resize_model.specs.Written.{IsWrittenByResize};
-ghost use Rattle.image_resizing.specs.Faults.{HasResizeCause, fault_in};
+ghost use Rattle.resize_model.specs.Left.{KeepsRefused};
+ghost use Rattle.image_resizing.specs.Call.{LeavesResized, MovesInOrder, TellsProvided, TellsRefusal, WritesInOrder};
+ghost use Rattle.image_resizing.specs.Faults.{HasResizeCause};
 ghost use Rattle.image_resizing.specs.Plan.{IsPlan};
 ghost use Rattle.image_resizing.specs.Room.{HasGrowthRoom, HasRecoveryRoom};
 ghost use Rattle.image_resizing.specs.Settled.{IsPlanned, KeepsJournal, OpensPlanned, ResizesImage, ResizesNow};
 ghost use Rattle.image_resizing.specs.Settled.{ResizesOpenable};
 ghost use Rattle.image_resizing.specs.Settled.{TellsJournal};
-ghost use Rattle.image_resizing.specs.Writing.{IsOfRecovering, WritesOpenable, WritesResize};
+ghost use Rattle.image_resizing.specs.Writing.{WritesOpenable, WritesResize};
 
 use crate::ResizeFault;
 use crate::growing::grow_settled;
@@ -58,15 +55,11 @@ use std::alloc::Global;
 pub fn resize<D: Disk>(alloc: Global, disk: &mut D, hash: Hash) -> Result<(u64, u64), ResizeFault>
     requires { IsBound (D.identity disk.old).name }
 
-    ensures told { IfOk result (λ told. HasNow (λ start.
-        let sectors = (D.identity disk.old).sectors in
-        let fields = (format_on (key_of hash) sectors (last_image start)).superblock in
-        (told.0 ≡ fields.provided) × (told.1 ≡ resized_provided fields sectors)) (D.moments disk.old)) }
-    ensures resized { OnOk result (HasNow (λ start. HasNow
-        (IsResizedTo (key_of hash) (D.identity disk.old).sectors start) (D.moments disk.new)) (D.moments disk.old)) }
+    ensures told { IfOk result (TellsProvided (key_of hash) (D.identity disk.old).sectors (D.moments disk.old)) }
+    ensures resized { OnOk result (LeavesResized (key_of hash) (D.identity disk.old).sectors
+        (D.moments disk.old) (D.moments disk.new)) }
 
-    ensures refused { result ≢ Err ResizeFault.Memory → result ≢ Err ResizeFault.Disk → HasNow (λ c. fault_in result
-        ≡ resize_fault_of (key_of hash) (D.identity disk.old).sectors (last_image c)) (D.moments disk.old) }
+    ensures refused { TellsRefusal (key_of hash) (D.identity disk.old).sectors (D.moments disk.old) result }
     ensures untouched { IsErr result → result ≢ Err ResizeFault.Disk → D.moments disk.new ≡ D.moments disk.old }
     // An image that is refused is synced at most, also where the disk fails.
     ensures judged { KeepsRefused (key_of hash) (D.identity disk.old).sectors
@@ -76,15 +69,12 @@ pub fn resize<D: Disk>(alloc: Global, disk: &mut D, hash: Hash) -> Result<(u64, 
     ensures identity { D.identity disk.new ≡ D.identity disk.old }
 
     // From the first sync on each image can be opened, as it was or resized.
-    ensures moments { HasNow (λ start. CanResize (key_of hash) (D.identity disk.old).sectors (last_image start)
-        → IsResizedInOrder (key_of hash) (D.identity disk.old).sectors (D.moments disk.old) (D.moments disk.new))
-        (D.moments disk.old) }
+    ensures moments { MovesInOrder (key_of hash) (D.identity disk.old).sectors
+        (D.moments disk.old) (D.moments disk.new) }
     // Nothing is written but by the recovery, for the new blocks, and last the first sector, which keeps what lies
     // behind its fields.
-    ensures writes { HasNow (λ start. CanResize (key_of hash) (D.identity disk.old).sectors (last_image start)
-        → let d = format_on (key_of hash) (D.identity disk.old).sectors (last_image start) in
-        EachMoment (D.moments disk.old) (D.moments disk.new) (IsWrittenByResize (IsOfRecovering d.geometry) d start))
-        (D.moments disk.old) }
+    ensures writes { WritesInOrder (key_of hash) (D.identity disk.old).sectors
+        (D.moments disk.old) (D.moments disk.new) }
 {
     let plan = plan_resize(disk, hash)?;
     resize_planned(alloc, disk, &plan)?;

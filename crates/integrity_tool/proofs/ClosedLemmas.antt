@@ -1,14 +1,14 @@
--- Which bits the close of a run leaves.
-use Rattle.std.proofs.Common.{Option, Result, Ok, Err, OnOk, is_err, ◌≡◌, ℕ, false, List, [], sym, ◌∙◌, ap, subst}
+-- What the close of a run leaves.
+use Rattle.std.proofs.Common.{Option, Result, Ok, Err, OnOk, is_err, ◌≡◌, ℕ, false, List, [], sym, subst}
 use Rattle.std.proofs.lemmas.Result.{on_ok_weaker}
 use Rattle.disk_model.specs.Disk.{Content, Image, last_image}
 use Rattle.disk_model.specs.Identity.{DiskIdentity}
 use Rattle.disk_model.specs.Moments.{HasNow}
-use Rattle.image_model.specs.Geometry.{Geometry}
 use Rattle.device_model.specs.Device.{DeviceKind}
 use Rattle.device_model.specs.Mode.{DeviceFormat}
 use Rattle.device_model.specs.Mode as Modes
 use Rattle.device_model.specs.Progress.{DeviceState}
+use Rattle.place_model.specs.Format.{DiskFormat}
 use Rattle.device_parts.specs.declared.answers.StepFault.{StepFault}
 use Rattle.device_parts.specs.declared.condition.Condition.{Condition}
 use Rattle.device_parts.specs.declared.condition.Condition.TheVariants.{Working}
@@ -26,7 +26,7 @@ use Rattle.command_ending.specs.declared.ended.Ended.{Ended}
 use Rattle.integrity_tool.specs.declared.closing.CloseFault.{CloseFault}
 use Rattle.integrity_tool.specs.Closing.{ended_close}
 use Rattle.integrity_tool.specs.declared.asked.Task.{Task}
-use Rattle.integrity_tool.specs.Closed.{ClosesTask, ComesTo, HasBitsOf, IsClosedAt, IsClosedBehind, state_behind}
+use Rattle.integrity_tool.specs.Closed.{ClosesTask, ComesTo, HasAllPlaced, IsClosedAt, IsClosedBehind, IsClosedIn, state_behind}
 
 -- A close that answers well leaves each image as the mode has it.
 pub rests_closed : {T : Type 0} (result : Result T StepFault) → is_err result ≡ false → (condition : Condition) (parts : DeviceParts)
@@ -35,37 +35,41 @@ pub rests_closed : {T : Type 0} (result : Result T StepFault) → is_err result 
 rests_closed (Ok done) not condition parts a b rests = rests
 rests_closed (Err fault) not condition parts a b rests = absurd (cc)
 
--- The bits that a close leaves are those that were set before it, of the regions that awaited, behind all lines of a script.
-bits_left : (mode : Mode) (there here : Standing) (common : Parts) (a b : List Content) → IsDeviceIn mode here Working common a
+-- What a close leaves in a device's state it leaves in the state behind all lines of a script, which leads there.
+left_behind : (there here : Standing) (m : Modes.Mode) (b : List Content) → m ≡ here.format.mode
+    → HasNow (IsClosedIn m here.on here.format.blocks.tag here.state) b → (script : List ℕ) (comes : ComesTo there script here [])
+    → HasNow (IsClosedIn there.format.mode there.on there.format.blocks.tag (state_behind there.format there.state comes.all)) b
+left_behind there here m b is left script comes =
+    subst (λ (s : DeviceState). HasNow (IsClosedIn there.format.mode there.on there.format.blocks.tag s) b) comes.comes
+    (subst (λ (w : Standing). HasNow (IsClosedIn w.format.mode w.on w.format.blocks.tag here.state) b) comes.same
+    (subst (λ (x : Modes.Mode). HasNow (IsClosedIn x here.on here.format.blocks.tag here.state) b) is left))
+
+-- A close leaves each image as the mode has it, behind all lines of a script.
+closed_in : (mode : Mode) (there here : Standing) (common : Parts) (a b : List Content) → IsDeviceIn mode here Working common a
     → IsAtRest mode here b → (script : List ℕ) (comes : ComesTo there script here [])
-    → HasNow (HasBitsOf there.format.mode there.on.geometry (state_behind there.format there.state comes.all)) b
-bits_left Direct there here common a b is rests script comes =
-    subst (λ (m : Modes.Mode). HasNow (HasBitsOf m there.on.geometry (state_behind there.format there.state comes.all)) b)
-    (own_direct here Working common a is ∙ ap (λ (w : Standing). w.format.mode) comes.same) (λ c told. tt)
-bits_left (Journal journal) there here common a b is rests script comes =
-    subst (λ (m : Modes.Mode). HasNow (HasBitsOf m there.on.geometry (state_behind there.format there.state comes.all)) b)
-    (plain_journal.own here Working _ a is ∙ ap (λ (w : Standing). w.format.mode) comes.same) (λ c told. tt)
-bits_left (Bitmap regions) there here common a b is rests script comes =
-    subst (λ (m : Modes.Mode). HasNow (HasBitsOf m there.on.geometry (state_behind there.format there.state comes.all)) b)
-    (plain_bitmap.own here Working _ a is ∙ ap (λ (w : Standing). w.format.mode) comes.same)
-    (subst (λ (s : DeviceState). HasNow (HasBitsOf Modes.Bitmap there.on.geometry s) b) comes.comes
-    (subst (λ (w : Standing). HasNow (HasBitsOf Modes.Bitmap w.on.geometry here.state) b) comes.same rests))
-bits_left Recovery there here common a b is rests script comes =
-    subst (λ (m : Modes.Mode). HasNow (HasBitsOf m there.on.geometry (state_behind there.format there.state comes.all)) b)
-    (plain_recovery.own here Working common a is ∙ ap (λ (w : Standing). w.format.mode) comes.same) (λ c told. tt)
+    → HasNow (IsClosedIn there.format.mode there.on there.format.blocks.tag (state_behind there.format there.state comes.all)) b
+closed_in Direct there here common a b is rests script comes =
+    left_behind there here Modes.Direct b (own_direct here Working common a is) (λ c told. tt) script comes
+closed_in (Journal journal) there here common a b is rests script comes =
+    left_behind there here Modes.Journal b (plain_journal.own here Working _ a is)
+    (subst (λ (d : DiskFormat). HasNow (HasAllPlaced d here.format.blocks.tag here.state) b) rests.format rests.placed) script comes
+closed_in (Bitmap regions) there here common a b is rests script comes =
+    left_behind there here Modes.Bitmap b (plain_bitmap.own here Working _ a is) rests script comes
+closed_in Recovery there here common a b is rests script comes =
+    left_behind there here Modes.Recovery b (plain_recovery.own here Working common a is) (λ c told. tt) script comes
 
 -- So is the device of a run that came to its close, where it was opened on an image.
-pub closed_behind : (kind : DeviceKind) (image : Image) (g : Geometry) (script : List ℕ) (w here : Standing) (parts : DeviceParts)
-    (a b : List Content) → w.format ≡ kind.format image → w.state ≡ kind.opened image → w.on.geometry ≡ g
+pub closed_behind : (kind : DeviceKind) (image : Image) (d : DiskFormat) (script : List ℕ) (w here : Standing) (parts : DeviceParts)
+    (a b : List Content) → w.format ≡ kind.format image → w.state ≡ kind.opened image → w.on ≡ d
     → IsDevice here Working parts a → IsAtRest parts.mode here b → ComesTo w script here []
-    → HasNow (IsClosedBehind kind image g script) b
-closed_behind kind image g script w here parts a b format state geometry is rests comes c told = record {
+    → HasNow (IsClosedBehind kind image d script) b
+closed_behind kind image d script w here parts a b format state on is rests comes c told = record {
   lines = comes.all;
   read = comes.read;
-  bits = subst (λ (f : DeviceFormat). HasBitsOf f.mode g (state_behind f (kind.opened image) comes.all) c) format
-      (subst (λ (s : DeviceState). HasBitsOf w.format.mode g (state_behind w.format s comes.all) c) state
-      (subst (λ (y : Geometry). HasBitsOf w.format.mode y (state_behind w.format w.state comes.all) c) geometry
-      (bits_left parts.mode w here parts.common a b is rests script comes c told)));
+  closed = subst (λ (f : DeviceFormat). IsClosedIn f.mode d f.blocks.tag (state_behind f (kind.opened image) comes.all) c) format
+      (subst (λ (s : DeviceState). IsClosedIn w.format.mode d w.format.blocks.tag (state_behind w.format s comes.all) c) state
+      (subst (λ (y : DiskFormat). IsClosedIn w.format.mode y w.format.blocks.tag (state_behind w.format w.state comes.all) c) on
+      (closed_in parts.mode w here parts.common a b is rests script comes c told)));
 }
 
 -- What holds behind a close that answers well holds behind a run that it ends.

@@ -23,10 +23,9 @@ use Rattle.place_model.specs.Kind.{CanOpenIn, kind_in}
 use Rattle.direct_laws.specs.MomentLaws.{IsLeftNow}
 use Rattle.image_formatting.specs.declared.format_fault.FormatFault.{FormatFault}
 use Rattle.image_formatting.specs.declared.format_fault.FormatFault.TheVariants as FormatFaults
-use Rattle.image_formatting.specs.Formatted.{HasMade, IsLeftByFormat, IsLeftInOrder, IsNewContent, format_with, rule_with}
+use Rattle.image_formatting.specs.Formatted.{HasMade, IsNewContent, format_with, rule_with}
 use Rattle.image_formatting.specs.FormattedLaws.{NewOpensLaw}
 use Rattle.image_formatting.specs.NewImage.{IsNewImage, provided_of}
-use Rattle.image_formatting.proofs.WholeLemmas.{left_in_order}
 use Rattle.image_judging.specs.declared.opening_fault.OpeningFault.{OpeningFault}
 use Rattle.image_judging.specs.declared.opening_fault.OpeningFault.TheVariants as OpeningFaults
 use Rattle.image_judging.specs.FaultLaws.{OpensLaw}
@@ -58,7 +57,7 @@ use Rattle.command_model.proofs.ExerciseLemmas.{after_events-script, changes_of-
 use Rattle.integrity_tool.specs.declared.asked.Task.TheVariants.{Exercise}
 use Rattle.integrity_tool.specs.Exercised.{HasCounted, IsCountTold, IsExercised, IsExercisedOn, IsExercisedTo, IsMomentOfNew, IsTallyTold, ended_count, exercise_changes, new_run, new_standing}
 use Rattle.integrity_tool.specs.Exercising.{exercise_image, exercise_outset, exercising_of, outset_by_exercise}
-use Rattle.integrity_tool.specs.Making.{ended_by_format}
+use Rattle.integrity_tool.specs.Making.{IsLeftByMaking, IsMadeInOrder, ended_by_format}
 use Rattle.integrity_tool.specs.Opening.{HasRunOn, IsMomentOf, IsOpenedTo, IsWrittenByRun}
 use Rattle.integrity_tool.specs.Order.{HasMomentsAt}
 use Rattle.integrity_tool.specs.Outset.{geometry_on}
@@ -68,7 +67,7 @@ use Rattle.integrity_tool.proofs.ClosingLemmas.{failed_close, since_event}
 use Rattle.integrity_tool.proofs.MakingLemmas.{left_since}
 use Rattle.integrity_tool.proofs.OpeningLemmas.{at_told, written_in}
 use Rattle.integrity_tool.proofs.RunningLemmas.{now_of, told_nothing}
-use Rattle.integrity_tool.proofs.StartLemmas.{before_kept, fine_exercise, nothing_run, refused_run, untouched_kept}
+use Rattle.integrity_tool.proofs.StartLemmas.{before_kept, fine_exercise, left_at_start, nothing_run, refused_run, untouched_kept}
 use Rattle.integrity_tool.proofs.TopLemmas.{told_at_end}
 
 -- ---- on a device
@@ -392,7 +391,7 @@ module _ (sectors count seed : ℕ) (start : Content) (script : List ℕ) where
 
   -- A moment of the making.
   amid_making : (provided : ℕ) → provided_of exercise_image sectors ≡ Ok provided → (c : Content)
-      → IsLeftByFormat None sectors exercise_image start c
+      → IsLeftByMaking None sectors exercise_image start c
       → IsMomentOf outset (geometry_on sectors (last_image start)) start script c
   amid_making provided is c left =
       let unmade : IsUnmade (only_ends NoMemory) = record { ending = NoMemory; outside = tt; is = refl } in
@@ -404,12 +403,12 @@ module _ (sectors count seed : ℕ) (start : Content) (script : List ℕ) where
       })
 
   module _ {a m : List Content} (told : content_now a ≡ Some start)
-      (order : IsLeftInOrder None sectors exercise_image a m) where
+      (order : IsMadeInOrder None sectors exercise_image a m) where
     making_each : (provided : ℕ) → provided_of exercise_image sectors ≡ Ok provided
         → EachMoment a m (IsMomentOf outset (geometry_on sectors (last_image start)) start script)
     making_each provided is =
         EachMoment-weaker (amid_making provided is)
-        (left_since None sectors exercise_image start told (left_in_order None sectors exercise_image order))
+        (left_since None sectors exercise_image start told order)
 
     -- ---- the image is not made
 
@@ -450,8 +449,8 @@ module _ (sectors count seed : ℕ) (start : Content) (script : List ℕ) where
             told = told_nothing held;
             left = content_at_end
                 (EachMoment-weaker (λ c left. inl (refl, left))
-                (left_since None sectors exercise_image start told (left_in_order None sectors exercise_image order)))
-                (at_told _ a start told (inl (refl, λ x is_x. inl is_x)));
+                (left_since None sectors exercise_image start told order))
+                (at_told _ a start told (inl (refl, left_at_start None sectors exercise_image start)));
           }),
           making_each provided is,
         )
@@ -632,7 +631,7 @@ new_can_open law sectors provided start made is_provided new whole =
     (opens.0.openable, opens.1.1)
 
 module _ (law : NewOpensLaw) (sectors count seed : ℕ) (start : Content) (script : List ℕ) {a m : List Content}
-    (told : content_now a ≡ Some start) (order : IsLeftInOrder None sectors exercise_image a m) (provided : ℕ)
+    (told : content_now a ≡ Some start) (order : IsMadeInOrder None sectors exercise_image a m) (provided : ℕ)
     (all : HasMade None sectors exercise_image provided a m)
     (whole : (c : Content) → content_now m ≡ Some c → (sector : ℕ) → sector < sectors → length (last_image c sector) ≡ 512)
     (result : Result TagsFound Ended) (b : List Content) (held_before held : Option (List ℕ))
@@ -642,7 +641,7 @@ module _ (law : NewOpensLaw) (sectors count seed : ℕ) (start : Content) (scrip
   pub exercise_whole : HasRunOn (exercise_outset sectors count seed) start script (ending_by result) b held_before held
       × HasMomentsAt (Exercise seed count) None sectors start script a b
   exercise_whole =
-      let at = told_at_end start told (left_since None sectors exercise_image start told (left_in_order None sectors exercise_image order)) in
+      let at = told_at_end start told (left_since None sectors exercise_image start told order) in
       let can = new_can_open law sectors provided start at.0 all.is_provided (all.is_written start told at.0 at.1) (whole at.0 at.1) in
       let to = exercised at.0 at.1 can in (
         exercise_ran sectors count seed start script told order provided all at.0 at.1 to.counted b to.exercised held_before held result to.told,

@@ -1,13 +1,16 @@
 -- The key that the first bytes of a file are.
-use Rattle.std.proofs.Common.{◌≡◌, ◌≢◌, ℕ, ◌<◌, ◌≤◌, ◌==◌, Bool, true, false, if◌then◌else◌, List, length, drop, take, ltb, refl, sym, ap, subst, ◌∙◌, arith, rules, Option, None, Some, Result, Ok, Err}
-use Rattle.std.specs.Option.{ForSome}
+use Rattle.std.proofs.Common.{◌≡◌, ◌≢◌, ◌⊎◌, inl, inr, ℕ, ◌<◌, ◌≤◌, ◌==◌, Bool, true, false, if◌then◌else◌, List, length, take, ltb, refl, sym, ap, subst, ◌∙◌, arith, rules, Option, None, Some, Result, Ok, Err}
 use Rattle.std.proofs.lemmas.Bool.{lt-ltb, ne_eqb}
 use Rattle.std.proofs.lemmas.List.{length-take, take_all}
-use Rattle.device_model.specs.Ending.{KeyRefusal, EmptyKey, LongKey}
+use Rattle.device_model.specs.Ending.{KeyRefusal, EmptyKey, LongKey, status_of}
 use Rattle.command_words.specs.declared.values.HashChoice.{HashChoice}
 use Rattle.command_words.specs.declared.values.HashChoice.TheVariants.{HmacSha256, Sha256}
-use Rattle.integrity_tool.specs.Words.{key_file_of}
-use Rattle.integrity_tool.specs.KeyFile.{HasFile, HasReadKey}
+use Rattle.integrity_tool.specs.declared.asked.Asked.{Asked}
+use Rattle.integrity_tool.specs.Words.{asked_of, key_file_of, key_file_of_asked}
+use Rattle.command_ending.specs.Ended.{ending_of}
+use Rattle.command_ending.specs.declared.ended.Ended.{Ended}
+use Rattle.command_ending.specs.declared.ended.Ended.TheVariants as Endings
+use Rattle.integrity_tool.specs.KeyFile.{HasFile, HasKeyRead, ReadsKey}
 use Rattle.integrity_tool.specs.Outset.{key_by, key_in, keyed}
 
 by_tests : (bytes : List ℕ) (empty long : Bool) → (length bytes == 0) ≡ empty → ltb 4096 (length bytes) ≡ long
@@ -63,33 +66,66 @@ ok_no_err r x e is_ok is_err = subst is_ok_type (sym is_ok ∙ is_err) tt
 -- ---- what is read
 
 -- Where no file is chosen the source is the same.
-pub read_no_key : (choice : HashChoice) (named : List ℕ → Option (List ℕ)) (left : Option (List ℕ))
-    (is_same has_key : Type 0) → choice ≡ Sha256 → is_same
-    → HasReadKey (key_file_of choice) named left is_same has_key
-read_no_key choice named left is_same has_key is same =
-    subst (λ (x : HashChoice). HasReadKey (key_file_of x) named left is_same has_key) (sym is) same
+pub read_no_key : {K : Type 0} (choice : HashChoice) (named : K → List ℕ → Option (List ℕ))
+    (left : K → Option (List ℕ)) (key used : K) (is_read : Type 0) → choice ≡ Sha256 → used ≡ key
+    → ReadsKey (key_file_of choice) named left key used is_read
+read_no_key choice named left key used is_read is same =
+    subst (λ (x : HashChoice). ReadsKey (key_file_of x) named left key used is_read) (sym is) same
 
-pub read_key : (choice : HashChoice) (file name : List ℕ) (named : List ℕ → Option (List ℕ))
-    (left : Option (List ℕ)) (is_same has_key : Type 0) → choice ≡ HmacSha256 file → name ≡ file
-    → (has_key → ForSome (named name) (λ bytes. left ≡ Some (drop 4097 bytes)))
-    → HasReadKey (key_file_of choice) named left is_same has_key
-read_key choice file name named left is_same has_key is same read =
-    subst (λ (x : HashChoice). HasReadKey (key_file_of x) named left is_same has_key) (sym is)
-    (subst (λ (n : List ℕ). has_key → ForSome (named n) (λ bytes. left ≡ Some (drop 4097 bytes))) same read)
+-- Where one is, what is read of the file of that name.
+pub read_key : {K : Type 0} (choice : HashChoice) (file name : List ℕ) (named : K → List ℕ → Option (List ℕ))
+    (left : K → Option (List ℕ)) (key used : K) (is_read : Type 0) → choice ≡ HmacSha256 file → name ≡ file
+    → ReadsKey (Some name) named left key used is_read → ReadsKey (key_file_of choice) named left key used is_read
+read_key choice file name named left key used is_read is same read =
+    subst (λ (x : HashChoice). ReadsKey (key_file_of x) named left key used is_read) (sym is)
+    (subst (λ (n : List ℕ). ReadsKey (Some n) named left key used is_read) same read)
 
--- What was read of the same file, where there is a key then too.
-pub read_as : (file other : Option (List ℕ)) (named : List ℕ → Option (List ℕ)) (left : Option (List ℕ))
-    (is_same has_key had_key : Type 0) → other ≡ file → (has_key → had_key)
-    → HasReadKey file named left is_same had_key → HasReadKey other named left is_same has_key
-read_as file other named left is_same has_key had_key is weaker read =
-    subst (λ (f : Option (List ℕ)). HasReadKey f named left is_same has_key) (sym is) (by file read)
+-- What was read of the same file, where it is read then too.
+pub read_as : {K : Type 0} (file other : Option (List ℕ)) (named : K → List ℕ → Option (List ℕ))
+    (left : K → Option (List ℕ)) (key used : K) (is_read was_read : Type 0) → other ≡ file → (is_read → was_read)
+    → ReadsKey file named left key used was_read → ReadsKey other named left key used is_read
+read_as file other named left key used is_read was_read is weaker read =
+    subst (λ (f : Option (List ℕ)). ReadsKey f named left key used is_read) (sym is) (by file read)
   where
-    by : (f : Option (List ℕ)) → HasReadKey f named left is_same had_key → HasReadKey f named left is_same has_key
+    by : (f : Option (List ℕ)) → ReadsKey f named left key used was_read → ReadsKey f named left key used is_read
     by None same = same
-    by (Some f) told = λ has. told (weaker has)
+    by (Some f) told = λ bytes has. ((told bytes has).0, λ now. (told bytes has).1 (weaker now))
 
--- Where the source is the same and there is no key.
-pub not_read : (file : Option (List ℕ)) (named : List ℕ → Option (List ℕ)) (left : Option (List ℕ))
-    (is_same has_key : Type 0) → is_same → (has_key → ⊥) → HasReadKey file named left is_same has_key
-not_read None named left is_same has_key same none = same
-not_read (Some file) named left is_same has_key same none = λ has. absurd (none has)
+-- Where the source is the same and no file is read.
+pub not_read : {K : Type 0} (file : Option (List ℕ)) (named : K → List ℕ → Option (List ℕ))
+    (left : K → Option (List ℕ)) (key used : K) (is_read : Type 0) → used ≡ key → (is_read → ⊥)
+    → ReadsKey file named left key used is_read
+not_read None named left key used is_read same none = same
+not_read (Some file) named left key used is_read same none = λ bytes has. (
+  record {
+    count = 0;
+    within = omega arith;
+    rest = ap (λ (k : _). named k file) same ∙ has;
+  },
+  λ now. absurd (none now),
+)
+
+-- Where words are no command no key file is named, and where there is no memory for them none is read.
+pub words_unread : {K : Type 0} (words : List (List ℕ)) (named : K → List ℕ → Option (List ℕ))
+    (left : K → Option (List ℕ)) (key : K) (ended : Ended) → (ended ≡ Endings.Words) ⊎ (ended ≡ Endings.Memory)
+    → (ended ≡ Endings.Words → asked_of words ≡ None)
+    → ReadsKey (key_file_of_asked (asked_of words)) named left key key (HasKeyRead ended)
+words_unread words named left key ended (inl is) none =
+    subst (λ (a : Option Asked). ReadsKey (key_file_of_asked a) named left key key (HasKeyRead ended)) (sym (none is)) refl
+words_unread words named left key ended (inr is) none =
+    not_read (key_file_of_asked (asked_of words)) named left key key (HasKeyRead ended) refl
+    (λ read. subst HasKeyRead is read)
+
+-- Where neither status 5 nor 7 tells of it, the key file was read.
+pub was_read : (ended : Ended) → (status_of (ending_of ended) ≢ 5) × (status_of (ending_of ended) ≢ 7)
+    → HasKeyRead ended
+was_read Endings.Words is = tt
+was_read (Endings.Key refusal) is = tt
+was_read (Endings.Line number refusal) is = tt
+was_read Endings.Length is = tt
+was_read (Endings.Image fault) is = tt
+was_read Endings.Disk is = tt
+was_read Endings.KeySource is = is.0 refl
+was_read Endings.Script is = tt
+was_read Endings.Sink is = tt
+was_read Endings.Memory is = is.1 refl

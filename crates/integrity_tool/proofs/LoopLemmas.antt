@@ -20,7 +20,7 @@ use Rattle.device_model.specs.ScriptRun.{IsRunOf, ScriptRun, ScriptStep, line_st
 use Rattle.device_model.proofs.UniqueReading.{read_once}
 use Rattle.script_text.proofs.ScriptRunLemmas.{run_is_split}
 use Rattle.script_reader.specs.Lines.{FindsEnd, FindsWholeLine}
-use Rattle.script_reader.specs.Reading.{HasNoNewline, IsWithin, Reading, TakesLine, most_piece}
+use Rattle.script_reader.specs.Reading.{BeginsLine, HasNoNewline, IsWithin, Reading, TakesLine, most_piece}
 use Rattle.script_reader.proofs.LinesLemmas.{is_too_long-script, lines_left-script}
 use Rattle.device_parts.specs.declared.condition.Condition.TheVariants as Conditions
 use Rattle.device.specs.declared.mode.DeviceParts.{DeviceParts}
@@ -53,6 +53,10 @@ texts_of-push : (steps : List ScriptStep) (step : ScriptStep)
 texts_of-push steps step = flat_map-append (λ (s : ScriptStep). s.text) steps (step ∷ [])
     ∙ ap (λ (text : List ℕ). texts_of steps ++ text)
     (flat_map-cons (λ (s : ScriptStep). s.text) step [] ∙ append-nil step.text)
+
+-- The first steps are no more than all.
+length-first : (first rest all : List ScriptStep) → all ≡ first ++ rest → length first ≤ length all
+length-first first rest all is = omega (arith, ap length is, length-append first rest)
 
 newlines_in-append : (one other : List ℕ) → newlines_in (one ++ other) ≡ newlines_in one + newlines_in other
 newlines_in-append [] other = omega arith
@@ -318,17 +322,19 @@ module _ (there : Standing) (run : ScriptRun) (start : List Content) (held_start
           comes = behind.comes;
         }
 
-    -- The bytes that are taken when its line was looked for, the text of all lines before it being printed.
-    pub line_read : (after : Option (List ℕ)) (held_b : Option (List ℕ))
-        → TakesLine old new (old.unread ++ left) (new.unread ++ later) → IsWithin new → after ≡ Some later
-        → HoldsText [] held held_b → HasReadTo run script after held_start held_b
-    line_read after held_b takes within told holds =
+    -- This is taken of its line and behind that, the text of all lines before it being printed.
+    read_to : (line ending behind : List ℕ) (after : Option (List ℕ)) (held_b : Option (List ℕ)) (failed : Type 0)
+        → old.unread ++ left ≡ line ++ (ending ++ behind) → HasNoNewline line → length ending ≤ 1
+        → IsSomeAnd after (λ more. length behind ≤ length more + most_piece)
+        → (failed → after ≡ Some (ending ++ behind))
+        → HoldsText [] held held_b → HasReadTo run script after held_start held_b failed
+    read_to line ending behind after held_b failed bytes plain short taken asked holds =
         let passed = at.passed in
-        let ahead = within.ahead in
         let steps_is : take (length passed.steps) run.steps ≡ passed.steps =
         ap (take (length passed.steps)) passed.is_split ∙ take-append_seam passed.steps _ in
         record {
           done = length passed.steps;
+          of_run = length-first passed.steps _ run.steps passed.is_split;
           printed = record {
             more = holds.more;
             is = holds.is ∙ ap (held_with holds.more) passed.printed
@@ -336,17 +342,57 @@ module _ (there : Standing) (run : ScriptRun) (start : List Content) (held_start
                 ∙ ap (λ (steps : List ScriptStep). held_with (texts_of steps ++ holds.more) held_start) (sym steps_is);
           };
           front = passed.front;
-          line = new.line;
-          ending = takes.ending;
-          behind = new.unread ++ later;
-          bytes = passed.bytes ∙ ap (λ (l : List ℕ). passed.front ++ l) takes.bytes;
+          line = line;
+          ending = ending;
+          behind = behind;
+          bytes = passed.bytes ∙ ap (λ (l : List ℕ). passed.front ++ l) bytes;
           within = passed.within;
-          plain = takes.plain;
-          short = takes.short;
-          taken = subst (λ (o : Option (List ℕ)). IsSomeAnd o
-              (λ more. length (new.unread ++ later) ≤ length more + most_piece)) (sym told)
-              (omega (arith, ahead, length-append new.unread later));
+          plain = plain;
+          short = short;
+          taken = taken;
+          asked = asked;
         }
+
+    -- The bytes that are taken when its line was looked for.
+    pub line_read : (after : Option (List ℕ)) (held_b : Option (List ℕ)) (failed : Type 0) → (failed → ⊥)
+        → TakesLine old new (old.unread ++ left) (new.unread ++ later) → IsWithin new → after ≡ Some later
+        → HoldsText [] held held_b → HasReadTo run script after held_start held_b failed
+    line_read after held_b failed fine takes within told holds =
+        let ahead = within.ahead in
+        read_to new.line takes.ending (new.unread ++ later) after held_b failed takes.bytes takes.plain takes.short
+        (subst (λ (o : Option (List ℕ)). IsSomeAnd o (λ more. length (new.unread ++ later) ≤ length more + most_piece))
+        (sym told) (omega (arith, ahead, length-append new.unread later)))
+        (λ rose. absurd (fine rose)) holds
+
+    -- Where the source failed, a line has begun at most, and no byte behind that is read.
+    line_begun : (after : Option (List ℕ)) (failed : Type 0) → BeginsLine old new (old.unread ++ left) later
+        → after ≡ Some later → HasReadTo run script after held_start held failed
+    line_begun after failed begins told =
+        read_to new.line [] later after held failed begins.bytes begins.plain (omega arith)
+        (subst (λ (o : Option (List ℕ)). IsSomeAnd o (λ more. length later ≤ length more + most_piece)) (sym told)
+        (omega arith)) (λ rose. told) (holds_same refl)
+
+    -- What is taken where no line is found.
+    pub none_read : (after : Option (List ℕ)) (failed : Type 0) (ended : Ended)
+        → HasAdvanced number old new left later (Err ended)
+        → TakesLine old new (old.unread ++ left) (new.unread ++ later) → IsWithin new → after ≡ Some later
+        → (ended ≢ Endings.Script → failed → ⊥) → HasReadTo run script after held_start held failed
+    none_read after failed (Endings.Line n refusal) advanced takes within told fine =
+        line_read after held failed (fine (λ (is : Endings.Line n refusal ≡ Endings.Script). absurd (cc))) takes
+        within told (holds_same refl)
+    none_read after failed Endings.Length advanced takes within told fine =
+        line_read after held failed (fine (λ (is : Endings.Length ≡ Endings.Script). absurd (cc))) takes within told
+        (holds_same refl)
+    none_read after failed Endings.Words (is, begins) takes within told fine = line_begun after failed begins told
+    none_read after failed (Endings.Key refusal) (is, begins) takes within told fine =
+        line_begun after failed begins told
+    none_read after failed (Endings.Image fault) (is, begins) takes within told fine =
+        line_begun after failed begins told
+    none_read after failed Endings.Disk (is, begins) takes within told fine = line_begun after failed begins told
+    none_read after failed Endings.KeySource (is, begins) takes within told fine = line_begun after failed begins told
+    none_read after failed Endings.Script (is, begins) takes within told fine = line_begun after failed begins told
+    none_read after failed Endings.Sink (is, begins) takes within told fine = line_begun after failed begins told
+    none_read after failed Endings.Memory (is, begins) takes within told fine = line_begun after failed begins told
 
     -- A line is found and stops the run.
     pub line_stopped : (now_b : List Content) (held_b : Option (List ℕ)) (ended : Ended)
@@ -415,20 +461,24 @@ module _ (there : Standing) (run : ScriptRun) (start : List Content) (held_start
       where
         beyond_is : (n : ℕ) → most_script < n → ltb most_script n ≡ true
         beyond_is n beyond = lt-ltb most_script n beyond
-    advance_stopped Endings.Words is = source_failed Endings.Words is
-    advance_stopped (Endings.Key refusal) is = source_failed (Endings.Key refusal) is
-    advance_stopped (Endings.Image fault) is = source_failed (Endings.Image fault) is
-    advance_stopped Endings.Disk is = source_failed Endings.Disk is
-    advance_stopped Endings.KeySource is = source_failed Endings.KeySource is
-    advance_stopped Endings.Script is = source_failed Endings.Script is
-    advance_stopped Endings.Sink is = source_failed Endings.Sink is
-    advance_stopped Endings.Memory is = source_failed Endings.Memory is
+    advance_stopped Endings.Words (is, begins) = source_failed Endings.Words is
+    advance_stopped (Endings.Key refusal) (is, begins) = source_failed (Endings.Key refusal) is
+    advance_stopped (Endings.Image fault) (is, begins) = source_failed (Endings.Image fault) is
+    advance_stopped Endings.Disk (is, begins) = source_failed Endings.Disk is
+    advance_stopped Endings.KeySource (is, begins) = source_failed Endings.KeySource is
+    advance_stopped Endings.Script (is, begins) = source_failed Endings.Script is
+    advance_stopped Endings.Sink (is, begins) = source_failed Endings.Sink is
+    advance_stopped Endings.Memory (is, begins) = source_failed Endings.Memory is
 
 -- ---- causes
 
 -- What came to its end was not ended.
 pub not_ended : {T : Type 0} {result : Result T Ended} (told : T) (ended : Ended) → result ≡ Ok told → result ≡ Err ended → ⊥
 not_ended told ended is other = absurd (cc)
+
+-- A count that is as it was has not risen.
+pub not_risen : {before after : ℕ} → after ≡ before → before < after → ⊥
+not_risen same rose = omega (arith, same, rose)
 
 pub at_most : {before after : ℕ} → after ≡ before → before ≤ after
 at_most same = omega (arith, same)
@@ -536,15 +586,25 @@ module _ (w : Standing) (run : ScriptRun) (script : List ℕ) (start : List Cont
   turn_ended (Some left) (Some later) false at advanced is =
       end_found w run start held_start number found old new left later parts now held script at (advanced left refl)
 
-  -- What is taken of the script where its line was looked for,
-  pub turn_read : (before after : Option (List ℕ)) (held_b : Option (List ℕ)) → StandsAt before
-      → Takes before after → IsWithin new → HoldsText [] held held_b
-      → HasReadTo run script after held_start held_b
-  turn_read None after held_b at takes within holds = absurd at
-  turn_read (Some left) None held_b at takes within holds = absurd (takes left refl)
-  turn_read (Some left) (Some later) held_b at takes within holds =
+  -- What is taken of the script where its line was looked for, and the source has not failed;
+  pub turn_read : (before after : Option (List ℕ)) (held_b : Option (List ℕ)) (failed : Type 0) → StandsAt before
+      → Takes before after → IsWithin new → HoldsText [] held held_b → (failed → ⊥)
+      → HasReadTo run script after held_start held_b failed
+  turn_read None after held_b failed at takes within holds fine = absurd at
+  turn_read (Some left) None held_b failed at takes within holds fine = absurd (takes left refl)
+  turn_read (Some left) (Some later) held_b failed at takes within holds fine =
       line_read w run start held_start number found old new left later parts now held script at (Some later) held_b
-      (takes left refl) within refl holds
+      failed fine (takes left refl) within refl holds
+
+  -- where none is found, whether the source has failed or not;
+  pub turn_unread : (before after : Option (List ℕ)) (failed : Type 0) (ended : Ended) → StandsAt before
+      → Advances before after (Err ended) → Takes before after → IsWithin new
+      → (ended ≢ Endings.Script → failed → ⊥) → HasReadTo run script after held_start held failed
+  turn_unread None after failed ended at advanced takes within fine = absurd at
+  turn_unread (Some left) None failed ended at advanced takes within fine = absurd (takes left refl)
+  turn_unread (Some left) (Some later) failed ended at advanced takes within fine =
+      none_read w run start held_start number found old new left later parts now held script at (Some later)
+      failed ended (advanced left refl) (takes left refl) within refl fine
 
   -- and what a line that stops the run has printed.
   pub turn_held : (before after : Option (List ℕ)) (more : Bool) (bytes : List ℕ) (now_b : List Content)

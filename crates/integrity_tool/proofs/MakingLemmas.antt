@@ -1,9 +1,9 @@
 -- The making of a new image: what it prints, and what it leaves.
-use Rattle.std.proofs.Common.{◌≡◌, ◌≢◌, ◌↔◌, ◌∙◌, inl, inr, ℕ, false, List, [], ◌∷◌, ◌++◌, codes, refl, sym, ap, subst, Option, Some, Result, Ok, Err}
+use Rattle.std.proofs.Common.{◌≡◌, ◌≢◌, ◌↔◌, ◌∙◌, inr, ℕ, false, List, [], ◌∷◌, ◌++◌, codes, refl, sym, ap, subst, Option, Some, Result, Ok, Err}
 use Rattle.std.specs.Fmt.{decimal}
 use Rattle.std.specs.Option.{IsSomeAnd, option_map}
-use Rattle.disk_model.specs.Disk.{Content}
-use Rattle.disk_model.specs.Moments.{content_now, EachMoment, EachSince}
+use Rattle.disk_model.specs.Disk.{Content, OnlyAdds}
+use Rattle.disk_model.specs.Moments.{content_now, EachMoment, FromStart}
 use Rattle.disk_model.proofs.MomentsLemmas.{EachMoment-kept, EachMoment-weaker, content_at_end}
 use Rattle.device_model.specs.Ending.{Complete, DiskFailed, NoMemory, RefusedImage, ByGeometry, SinkFailed}
 use Rattle.stream_io.specs.Stream.{with_bytes, AddsPrefix}
@@ -14,21 +14,31 @@ use Rattle.image_formatting.specs.declared.format_fault.FormatFault.TheVariants 
 use Rattle.image_formatting.specs.declared.new_image.NewImage.{NewImage}
 use Rattle.image_formatting.specs.Formatted.{HasMade, IsLeftByFormat}
 use Rattle.image_formatting.specs.NewImage.{provided_of}
+use Rattle.image_formatting.specs.Written.{IsOfNewImage}
+use Rattle.image_formatting.proofs.WholeLemmas.{left_in_order}
+use Rattle.device.proofs.RunLemmas.{EachMoment-both}
 use Rattle.command_ending.specs.Ended.{ending_of}
 use Rattle.command_model.specs.CommandRun.{Outset, Makes, only_prints}
-use Rattle.integrity_tool.specs.Making.{ended_by_format, format_outset, formatted_text, making_of, outset_by_format}
+use Rattle.integrity_tool.specs.Making.{IsLeftByMaking, IsMadeInOrder, ended_by_format, format_outset, formatted_text, making_of, outset_by_format}
 use Rattle.integrity_tool.specs.Opening.{HasRunOn, IsMomentOf}
 use Rattle.integrity_tool.proofs.RunningLemmas.{told_nothing}
-use Rattle.integrity_tool.proofs.StartLemmas.{before_kept, fine_format, made_prints, nothing_run, refused_run, untouched_kept}
+use Rattle.integrity_tool.proofs.StartLemmas.{before_kept, fine_format, left_at_start, made_prints, nothing_run, refused_run, untouched_kept}
 use Rattle.integrity_tool.proofs.TextsLemmas.{none_short}
 use Rattle.integrity_tool.proofs.PrintingLemmas.{one_cut, one_printed}
 
--- A formatting leaves what it began with, or what it may.
+-- A formatting leaves what it may, and writes what it may.
 pub left_since : (key : Option (List ℕ)) (sectors : ℕ) (new : NewImage) (start : Content) {a b : List Content} → content_now a ≡ Some start
-    → EachSince (IsLeftByFormat key sectors new) a b → EachMoment a b (IsLeftByFormat key sectors new start)
-left_since key sectors new start told since =
+    → IsMadeInOrder key sectors new a b → EachMoment a b (IsLeftByMaking key sectors new start)
+left_since key sectors new start {a} {b} told made =
     EachMoment-weaker
-    (λ c from. subst (λ (o : Option Content). IsSomeAnd o (λ s. IsLeftByFormat key sectors new s c)) told from) since
+    (λ c both. record {
+      images = by (IsLeftByFormat key sectors new) c both.0;
+      writes = by (λ s. OnlyAdds (IsOfNewImage sectors new s) s) c both.1;
+    })
+    (EachMoment-both (left_in_order key sectors new made.order) made.writes)
+  where
+    by : (P : Content → Content → Type 0) (c : Content) → FromStart a P c → P start c
+    by P c from = subst (λ (o : Option Content). IsSomeAnd o (λ s. P s c)) told from
 
 makes : (key : Option (List ℕ)) (sectors : ℕ) (new : NewImage) (provided : ℕ) → provided_of new sectors ≡ Ok provided
     → format_outset key sectors new ≡ Makes (making_of key sectors new provided)
@@ -58,14 +68,14 @@ module _ (key : Option (List ℕ)) (sectors : ℕ) (new : NewImage) (start : Con
       (one_cut (Makes (making_of key sectors new provided)) (formatted_text provided) start script b held_before held (λ s. refl) put
       (all.is_written start told))
 
-  module _ (g : Geometry) (since : EachSince (IsLeftByFormat key sectors new) a b) where
+  module _ (g : Geometry) (order : IsMadeInOrder key sectors new a b) where
     amid : (provided : ℕ) → provided_of new sectors ≡ Ok provided → EachMoment a b (IsMomentOf (format_outset key sectors new) g start script)
     amid provided is =
         subst (λ (o : Outset). EachMoment a b (IsMomentOf o g start script)) (sym (makes key sectors new provided is))
         (EachMoment-weaker (λ c left. record {
           left = record { run = only_prints (formatted_text provided ∷ []) false; is_run = refl; made = 0; left = left };
           only = record { run = only_prints (formatted_text provided ∷ []) false; is_run = refl; only = left };
-        }) (left_since key sectors new start told since))
+        }) (left_since key sectors new start told order))
 
     pub made_through : (provided : ℕ) → HasMade key sectors new provided a b → EachMoment a b (IsMomentOf (format_outset key sectors new) g start script)
     made_through provided all = amid provided all.is_provided
@@ -81,9 +91,9 @@ module _ (key : Option (List ℕ)) (sectors : ℕ) (new : NewImage) (start : Con
           changes = [];
           ended = inr (none_short (formatted_text provided ∷ []) false DiskFailed (made_prints provided) tt);
           told = told_nothing held;
-          left = content_at_end (left_since key sectors new start told since)
-              (λ c here. subst (λ (o : Option Content). IsSomeAnd o (λ s. IsLeftByFormat key sectors new start s)) (sym told ∙ here)
-              (λ image is. inl is));
+          left = content_at_end (left_since key sectors new start told order)
+              (λ c here. subst (λ (o : Option Content). IsSomeAnd o (λ s. IsLeftByMaking key sectors new start s)) (sym told ∙ here)
+              (left_at_start key sectors new start));
         })
 
     -- Why it was not made.

@@ -319,11 +319,11 @@ module _ (law : OpensLaw) (bitmap : BitmapOpensLaw) (mode : OpenMode) (key : Opt
           ]
 
 -- What is taken of the script is so of the command's.
-pub read_on_image : (mode : OpenMode) (key : Option (List ℕ)) (sectors : ℕ) (image : Image) (script : List ℕ)
+pub read_on_image : {failed : Type 0} (mode : OpenMode) (key : Option (List ℕ)) (sectors : ℕ) (image : Image) (script : List ℕ)
     → let kind = kind_in (asked_mode mode) key sectors in fault_in_mode mode key sectors image ≡ None
-    → (run : ScriptRun) (left held_before held : Option (List ℕ)) → IsRunOf (kind.format image) (kind.opened image) script run
-    → HasReadTo run script left held_before held
-    → HasReadIn (outset_on mode key sectors image) script left held_before held
+    → (run : ScriptRun) (left held_before held : Option (List ℕ))
+    → IsRunOf (kind.format image) (kind.opened image) script run → HasReadTo run script left held_before held failed
+    → HasReadIn (outset_on mode key sectors image) script left held_before held failed
 read_on_image mode key sectors image script none run left held_before held is_run read = record {
   run = run;
   is_run = subst (λ (o : Outset). IsRunAt o script run) (sym (ap (outset_by mode key sectors image) none))

@@ -10,6 +10,7 @@ use Rattle.disk_model.specs.Moments.{content_now, EachMoment, EachSince, HasNow}
 use Rattle.disk_model.proofs.MomentsLemmas.{EachMoment-kept, EachMoment-weaker, content_at_end, no_moment}
 use Rattle.device_model.specs.Device.{DeviceKind}
 use Rattle.disk_model.specs.Identity.{NamedDisk}
+use Rattle.disk_model.proofs.DiskLemmas.{OnlyAdds-none}
 use Rattle.device_model.specs.Ending.{Ending, Complete, DiskFailed, KeyFailed, NoMemory, RefusedImage, RefusedLength, RefusedLine, RefusedWords, RefusedKey, ScriptFailed, SinkFailed, KeyRefusal}
 use Rattle.device_model.specs.Mode.{DeviceFormat}
 use Rattle.device_model.specs.Progress.{DeviceState}
@@ -33,6 +34,10 @@ use Rattle.device.specs.Opening.{fault_in_mode}
 use Rattle.place_model.specs.Format.{DiskFormat, format_on}
 use Rattle.device_model.specs.Ending as Refusals
 use Rattle.recovery_laws.specs.Refusals.{read_fault_of}
+use Rattle.resize_model.specs.Left.{IsInOrderBy}
+use Rattle.resize_model.specs.Refusals.{resize_fault_of}
+use Rattle.resize_model.specs.Resized.{resized_text}
+use Rattle.resize_model.specs.Resizing.{outset_by_resize}
 use Rattle.salvage_model.specs.Salvaging.{block_text, counts_text, outset_by_salvage, salvage_outset, verdict_text}
 use Rattle.salvage_model.specs.Verdicts.{Verdict, is_good, salvaged_bytes, verdict_on}
 use Rattle.image_dump.specs.declared.dump_fault.DumpFault.{DumpFault}
@@ -42,13 +47,15 @@ use Rattle.image_dump.specs.Dump.{dump_of}
 use Rattle.image_dump.specs.Lines.{dump_lines, joined_lines}
 use Rattle.image_formatting.specs.declared.new_image.NewImage.{NewImage}
 use Rattle.image_formatting.specs.NewImage.{provided_of}
+use Rattle.image_formatting.specs.Written.{IsOfNewImage}
 use Rattle.integrity_tool.specs.declared.asked.Asked.{Asked}
 use Rattle.integrity_tool.specs.declared.asked.Task.{Task}
 use Rattle.integrity_tool.specs.declared.asked.Task.TheVariants as Tasks
 use Rattle.integrity_tool.specs.Checking.{check_outset, counts_line, bad_line, outset_by_check}
 use Rattle.integrity_tool.specs.Dumping.{dump_outset, outset_by_dump}
 use Rattle.integrity_tool.specs.Exercising.{exercise_image, exercise_outset, outset_by_exercise}
-use Rattle.integrity_tool.specs.Making.{format_outset, formatted_text, outset_by_format}
+use Rattle.integrity_tool.specs.Making.{IsLeftByMaking, IsMadeInOrder, format_outset, formatted_text, outset_by_format}
+use Rattle.integrity_tool.specs.Resizing.{Recovers, resizing_outset}
 use Rattle.integrity_tool.specs.Words.{asked_of, key_file_of, key_file_of_asked}
 use Rattle.integrity_tool.specs.KeyFile.{HasFile, HasHash, IsKeyRefused, IsKeyed}
 use Rattle.integrity_tool.specs.Top.{Given, HasMomentsIn, IsGiven, IsKeyRefusal, IsRefusedByKey, outset_in}
@@ -180,15 +187,31 @@ fine_salvaged d image (Some refusal) = no_complete _ (λ (x : ⊥). x)
 pub fine_salvage : (key : Option (List ℕ)) (sectors : ℕ) (image : Image) → IsFine (salvage_outset key sectors image)
 fine_salvage key sectors image = fine_salvaged (format_on key sectors image) image (read_fault_of sectors image)
 
+pub resized_prints : (provided resized : ℕ) → 0 < length (resized_text provided resized)
+resized_prints provided resized =
+    omega (arith, length-append (codes "provided ") (drop 9 (resized_text provided resized)))
+
+fine_resized : (key : Option (List ℕ)) (sectors : ℕ) (image : Image) (refusal : Option Refusals.ImageFault)
+    → IsFine (outset_by_resize (Recovers key sectors image) key sectors image refusal)
+fine_resized key sectors image None = (resized_prints _ _, λ start. inl refl)
+fine_resized key sectors image (Some refusal) = no_complete _ (λ (x : ⊥). x)
+
+pub fine_resize : (key : Option (List ℕ)) (sectors : ℕ) (image : Image) → IsFine (resizing_outset key sectors image)
+fine_resize key sectors image = fine_resized key sectors image (resize_fault_of key sectors image)
+
+-- What stood at the start may stand while an image is made.
+pub left_at_start : (key : Option (List ℕ)) (sectors : ℕ) (new : NewImage) (start : Content) → IsLeftByMaking key sectors new start start
+left_at_start key sectors new start = record { images = λ image is. inl is; writes = OnlyAdds-none (IsOfNewImage sectors new start) start }
+
 fine_made : (key : Option (List ℕ)) (sectors : ℕ) (new : NewImage) (told : Result ℕ GeomFault) → IsFine (outset_by_format key sectors new told)
-fine_made key sectors new (Ok provided) = (made_prints provided, λ start image is. inl is)
+fine_made key sectors new (Ok provided) = (made_prints provided, left_at_start key sectors new)
 fine_made key sectors new (Err fault) = no_complete _ (λ (x : ⊥). x)
 
 pub fine_format : (key : Option (List ℕ)) (sectors : ℕ) (new : NewImage) → IsFine (format_outset key sectors new)
 fine_format key sectors new = fine_made key sectors new (provided_of new sectors)
 
 fine_exercised : (sectors count seed : ℕ) (told : Result ℕ GeomFault) → IsFine (outset_by_exercise sectors count seed told)
-fine_exercised sectors count seed (Ok provided) = λ start image is. inl is
+fine_exercised sectors count seed (Ok provided) = left_at_start None sectors exercise_image
 fine_exercised sectors count seed (Err fault) = no_complete _ (λ (x : ⊥). x)
 
 pub fine_exercise : (sectors count seed : ℕ) → IsFine (exercise_outset sectors count seed)
@@ -199,6 +222,7 @@ fine_at (Tasks.Run mode) key sectors image = fine_on mode key sectors image
 fine_at Tasks.Dump key sectors image = fine_dump sectors image
 fine_at (Tasks.Check what) key sectors image = fine_check what key sectors image
 fine_at Tasks.Salvage key sectors image = fine_salvage key sectors image
+fine_at Tasks.Resize key sectors image = fine_resize key sectors image
 fine_at (Tasks.Format new) key sectors image = fine_format key sectors new
 fine_at (Tasks.Exercise seed count) key sectors image = fine_exercise sectors count seed
 
@@ -473,8 +497,8 @@ refused_run outset start script ending is after untouched held_before held same 
 -- ---- what is taken of the script
 
 -- Nothing of it is taken.
-pub read_none : (outset : Outset) (script : List ℕ) (held : Option (List ℕ)) {left : Option (List ℕ)} → left ≡ Some script
-    → HasReadIn outset script left held held
+pub read_none : (outset : Outset) (script : List ℕ) (held : Option (List ℕ)) {left : Option (List ℕ)} {failed : Type 0}
+    → left ≡ Some script → HasReadIn outset script left held held failed
 read_none outset script held told =
     let run = some_run outset script in
     record {
@@ -482,6 +506,7 @@ read_none outset script held told =
       is_run = run.1;
       read = record {
         done = 0;
+        of_run = omega arith;
         printed = record { more = []; is = told_nothing held };
         front = [];
         line = [];
@@ -493,15 +518,17 @@ read_none outset script held told =
         short = omega arith;
         taken = subst (λ (o : Option (List ℕ)). IsSomeAnd o (λ more. length script ≤ length more + most_piece))
             (sym told) (omega arith);
+        asked = λ rose. told;
       };
     }
 
 -- More is printed.
 pub read_further : (run : ScriptRun) (script : List ℕ) (left held_before held : Option (List ℕ)) {held_after : Option (List ℕ)}
-    → HasReadTo run script left held_before held → HoldsText [] held held_after
-    → HasReadTo run script left held_before held_after
+    {failed : Type 0} → HasReadTo run script left held_before held failed → HoldsText [] held held_after
+    → HasReadTo run script left held_before held_after failed
 read_further run script left held_before held read more = record {
   done = read.done;
+  of_run = read.of_run;
   printed = record {
     more = read.printed.more ++ more.more;
     is = more.is ∙ ap (held_with more.more) read.printed.is
@@ -518,11 +545,12 @@ read_further run script left held_before held read more = record {
   plain = read.plain;
   short = read.short;
   taken = read.taken;
+  asked = read.asked;
 }
 
 pub read_in_further : (outset : Outset) (script : List ℕ) (left held_before held : Option (List ℕ)) {held_after : Option (List ℕ)}
-    → HasReadIn outset script left held_before held → HoldsText [] held held_after
-    → HasReadIn outset script left held_before held_after
+    {failed : Type 0} → HasReadIn outset script left held_before held failed → HoldsText [] held held_after
+    → HasReadIn outset script left held_before held_after failed
 read_in_further outset script left held_before held read more =
     record { run = read.run; is_run = read.is_run; read = read_further read.run script left held_before held read.read more }
 
@@ -571,25 +599,42 @@ no_key_salvaged : (d : DiskFormat) (image : Image) (refusal : Option Refusals.Im
 no_key_salvaged d image None is = is
 no_key_salvaged d image (Some refusal) is = is
 
+no_key_resized : (key : Option (List ℕ)) (sectors : ℕ) (image : Image) (refusal : Option Refusals.ImageFault)
+    → IsRefusedByKey (outset_by_resize (Recovers key sectors image) key sectors image refusal) → ⊥
+no_key_resized key sectors image None is = is
+no_key_resized key sectors image (Some refusal) is = is
+
 no_key_at : (task : Task) (key : Option (List ℕ)) (sectors : ℕ) (image : Image) → IsRefusedByKey (outset_at task key sectors image) → ⊥
 no_key_at (Tasks.Run mode) key sectors image is = no_key_by mode key sectors image (fault_in_mode mode key sectors image) is
 no_key_at Tasks.Dump key sectors image is = no_key_shown (dump_of sectors image) is
 no_key_at (Tasks.Check what) key sectors image is = no_key_checked what (format_on key sectors image) image (fault_for what key sectors image) is
 no_key_at Tasks.Salvage key sectors image is = no_key_salvaged (format_on key sectors image) image (read_fault_of sectors image) is
+no_key_at Tasks.Resize key sectors image is = no_key_resized key sectors image (resize_fault_of key sectors image) is
 no_key_at (Tasks.Format new) key sectors image is = no_key_made key sectors new (provided_of new sectors) is
 no_key_at (Tasks.Exercise seed count) key sectors image is = no_key_exercised sectors count seed (provided_of exercise_image sectors) is
 
 -- ---- the order
 
--- A disk that is not written keeps to every order.
+-- A disk that is not written is no further than at the start of a resize, whatever the image is.
+unresized : (key : Option (List ℕ)) (sectors : ℕ) (refusal : Option Refusals.ImageFault) {a b : List Content} → b ≡ a
+    → IsInOrderBy refusal key sectors a b
+unresized key sectors None {a} same = record { unsynced = a; earlier = no_moment a _; later = EachMoment-kept _ same }
+unresized key sectors (Some refusal) same = EachMoment-kept _ same
+
+-- Nor is it further than at the start of a making.
+unmade_kept : (key : Option (List ℕ)) (sectors : ℕ) (new : NewImage) {a b : List Content} → b ≡ a → IsMadeInOrder key sectors new a b
+unmade_kept key sectors new same = record { order = inl (EachMoment-kept _ same); writes = EachMoment-kept _ same }
+
+-- So it keeps to every order.
 kept_at : (task : Task) (key : Option (List ℕ)) (sectors : ℕ) {a b : List Content} → b ≡ a → IsInOrderAt task key sectors a b
 kept_at (Tasks.Run mode) key sectors same = still_kept (asked_mode mode) same
 kept_at Tasks.Dump key sectors same = same
 kept_at (Tasks.Check what) key sectors same = same
 kept_at Tasks.Salvage key sectors same = same
-kept_at (Tasks.Format new) key sectors same = inl (EachMoment-kept _ same)
+kept_at Tasks.Resize key sectors same = λ start told. unresized key sectors (resize_fault_of key sectors (last_image start)) same
+kept_at (Tasks.Format new) key sectors same = unmade_kept key sectors new same
 kept_at (Tasks.Exercise seed count) key sectors {b = b} same =
-    record { made = b; making = inl (EachMoment-kept _ same); behind = no_moment b _ }
+    record { made = b; making = unmade_kept None sectors exercise_image same; behind = no_moment b _ }
 
 kept_under : (task : Task) (told : Result (Option (List ℕ)) KeyRefusal) (sectors : ℕ) {a b : List Content} → b ≡ a → IsInOrderUnder task told sectors a b
 kept_under task (Ok key) sectors same = kept_at task key sectors same
@@ -723,12 +768,13 @@ module _ (given : Given) (words : List (List ℕ)) (keys : List ℕ → Option (
     -- What is taken of its script is so of the command's.
     pub read_given : (key : Option (List ℕ)) → IsKeyed (key_file_of asked.hash) keys (HasHash key) → (sectors : ℕ)
         (mid : List Content) → image ≡ record { sectors = sectors; moments = mid }
-        → (left held_after : Option (List ℕ))
+        → (left held_after : Option (List ℕ)) {failed : Type 0}
         → HasReadIn (outset_at asked.task key sectors (last_image given.content)) given.script left held held_after
-        → HasReadIn (outset_in given) given.script left held held_after
-    read_given key keyed sectors mid there left held_after read =
+        failed
+        → HasReadIn (outset_in given) given.script left held held_after failed
+    read_given key keyed sectors mid there left held_after {failed} read =
         let entry : Image = last_image given.content in
-        subst (λ (o : Outset). HasReadIn o given.script left held held_after)
+        subst (λ (o : Outset). HasReadIn o given.script left held held_after failed)
         (sym (outset_asked (Some asked) asks
         ∙ ap (λ (told : Result (Option (List ℕ)) KeyRefusal). outset_under asked.task told given.sectors entry)
         (keyed given.key_bytes has_key)

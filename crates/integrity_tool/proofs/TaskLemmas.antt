@@ -72,7 +72,8 @@ whatever_ended P holds (Err ended) = holds ended
 
 -- A script that is not called has all of it left, whatever is printed.
 pub read_no_script : (outset : Outset) (start : Content) (script : List ℕ) (ending : Ending) (after : List Content) (held_before held left : Option (List ℕ))
-    → left ≡ Some script → HasRunOn outset start script ending after held_before held → HasReadIn outset script left held_before held
+    {failed : Type 0} → left ≡ Some script → HasRunOn outset start script ending after held_before held
+    → HasReadIn outset script left held_before held failed
 read_no_script outset start script ending after held_before held left told ran =
     read_in_further outset script left held_before held_before (read_none outset script held_before told)
     (record { more = ran.text; is = ran.told })

@@ -1,5 +1,5 @@
 -- What the calls of a command tell, over the disk, the source of the script and the sink that they are given.
-use Rattle.std.specs.Prelude.{◌≡◌, ℕ, ◌++◌, List, [], Option, Some, Result, IfErr, IfOk}
+use Rattle.std.specs.Prelude.{◌≡◌, ℕ, ◌<◌, ◌++◌, List, [], Option, Some, Result, IfErr, IfOk}
 use Rattle.std.specs.Option.{ForSome, IsSomeAnd}
 use Rattle.disk_model.specs.Causes.{Rose}
 use Rattle.disk_model.specs.Disk.{Content, Image, last_image}
@@ -37,6 +37,12 @@ abbrev pub HasCauseOfRun : {T D S O : Type 0} → (D → ℕ) → (S → ℕ) �
 HasCauseOfRun disk_faults script_faults sink_faults result first last script read sink out = IfErr result
     (HasEndCause (Rose (disk_faults first) (disk_faults last)) (Rose (script_faults script) (script_faults read))
     (Rose (sink_faults sink) (sink_faults out)))
+
+-- What ends what has no script is the disk or the sink only so.
+abbrev pub HasCauseOfTask : {T D O : Type 0} → (D → ℕ) → (O → ℕ) → Result T Ended → (first last : D) → (sink out : O)
+    → Type 0
+HasCauseOfTask disk_faults sink_faults result first last sink out = IfErr result
+    (HasEndCause (Rose (disk_faults first) (disk_faults last)) ⊥ (Rose (sink_faults sink) (sink_faults out)))
 
 -- Each count of faults rises only where that is what ended it: of what has no script,
 abbrev pub IsCountedInTask : {T D O : Type 0} → (D → ℕ) → (O → ℕ) → Result T Ended → (first last : D) → (sink out : O)
@@ -88,12 +94,14 @@ RunsScript identity moments left held mode key ending first last script sink out
     × EachMoment (moments first) (moments last) (IsMomentOn mode key (identity first).sectors c bytes)
     × KeepsStill (asked_mode mode) (moments first) (moments last)) (moments first)
 
--- No more of the script is taken than the run of this has come to.
+-- No more of the script is taken than the run of this has come to, nor is its source asked for more before that.
 abbrev pub ReadsOnlyRun : {D S O : Type 0} → (D → DiskIdentity) → (D → List Content) → (S → Option (List ℕ))
-    → (O → Option (List ℕ)) → ((sectors : ℕ) → Image → Outset) → D → (script read : S) → (sink out : O) → Type 0
-ReadsOnlyRun identity moments left held outset first script read sink out = (bytes : List ℕ)
+    → (O → Option (List ℕ)) → (S → ℕ) → ((sectors : ℕ) → Image → Outset) → D → (script read : S) → (sink out : O)
+    → Type 0
+ReadsOnlyRun identity moments left held faults outset first script read sink out = (bytes : List ℕ)
     → left script ≡ Some bytes → HasNow (λ c.
-    HasReadIn (outset (identity first).sectors (last_image c)) bytes (left read) (held sink) (held out)) (moments first)
+    HasReadIn (outset (identity first).sectors (last_image c)) bytes (left read) (held sink) (held out)
+    (faults script < faults read)) (moments first)
 
 -- The script stays unread where it ended before that, or has none.
 abbrev pub LeavesScript : {T S : Type 0} → Result T Ended → (has_none : Type 0) → (script read : S) → Type 0
@@ -142,10 +150,11 @@ StopsLines moments left held result old first last script sink out = IfErr resul
     → IsRunOf w.format w.state bytes run
     → IsStopped w run (ending_of ended) (moments first) (moments last) (held sink) (held out))
 
--- No more of the script is taken than its bound, nor than the run has come to.
+-- No more of the script is taken than its bound, nor than the run has come to, nor is its source asked for more before
+-- that.
 abbrev pub ReadsLines : {D S O : Type 0} → (D → List Content) → (S → Option (List ℕ)) → (O → Option (List ℕ))
-    → DeviceParts → D → (script read : S) → (sink out : O) → Type 0
-ReadsLines moments left held old first script read sink out = HasTaken (left script) (left read)
+    → (S → ℕ) → DeviceParts → D → (script read : S) → (sink out : O) → Type 0
+ReadsLines moments left held faults old first script read sink out = HasTaken (left script) (left read)
     × ((w : Standing) (bytes : List ℕ) (run : ScriptRun) → IsDevice w Working old (moments first)
     → left script ≡ Some bytes → IsRunOf w.format w.state bytes run
-    → HasReadTo run bytes (left read) (held sink) (held out))
+    → HasReadTo run bytes (left read) (held sink) (held out) (faults script < faults read))

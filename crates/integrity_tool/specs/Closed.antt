@@ -1,4 +1,4 @@
--- The device behind the lines of a script, and which bits its close leaves.
+-- The device behind the lines of a script, and what its close leaves.
 use Rattle.std.specs.Prelude.{◌≡◌, ℕ, ◌<◌, ◌&&◌, List, [], ◌∷◌, Option, Some, None, Result, Ok, Err, OnOk}
 use Rattle.std.specs.List.{AllZip}
 use Rattle.disk_model.specs.Disk.{Content, EachImage, Image, last_image}
@@ -9,17 +9,19 @@ use Rattle.image_model.specs.Geometry.{Geometry, regions}
 use Rattle.device_model.specs.Device.{DeviceKind}
 use Rattle.device_model.specs.Ending.{KeyRefusal}
 use Rattle.device_model.specs.Grammar.{ReadLine, IsReadAs, Means, Refused}
-use Rattle.device_model.specs.Mode.{DeviceFormat, Mode, Bitmap}
+use Rattle.device_model.specs.History.{Tagger, cells_now}
+use Rattle.device_model.specs.Mode.{DeviceFormat, Mode, Bitmap, Journal}
 use Rattle.device_model.specs.Progress.{DeviceState}
 use Rattle.device_model.specs.Script.{line_outcome}
 use Rattle.device_model.specs.ScriptBytes.{lines_of}
+use Rattle.place_model.specs.Format.{DiskFormat, format_on, placed_on}
 use Rattle.place_model.specs.Kind.{kind_in}
 use Rattle.device_parts.specs.Device.{Standing}
 use Rattle.device.specs.Opening.{asked_mode}
 use Rattle.integrity_tool.specs.declared.asked.Asked.{Asked}
 use Rattle.integrity_tool.specs.declared.asked.Task.{Task}
 use Rattle.integrity_tool.specs.declared.asked.Task.TheVariants as Tasks
-use Rattle.integrity_tool.specs.Outset.{geometry_on, key_by}
+use Rattle.integrity_tool.specs.Outset.{key_by}
 use Rattle.integrity_tool.specs.Words.{key_file_of}
 
 -- ---- behind some lines
@@ -39,29 +41,43 @@ pub record ComesTo (there : Standing) (script : List ℕ) (here : Standing) (lin
 
 -- ---- behind the close
 
--- In bitmap mode each image has those bits set that are set in this state, and whose regions await in it.
-abbrev pub HasBitsOf : Mode → Geometry → DeviceState → Content → Type 0
-HasBitsOf Bitmap g s c = let counts = s.progress.regions in
+-- Each image has in the place of each block the cell that the history gives it, so that who reads it without a replay
+-- reads the latest write.
+abbrev pub HasAllPlaced : DiskFormat → Tagger → DeviceState → Content → Type 0
+HasAllPlaced d tag s c = EachImage (λ image. (b : ℕ) → b < d.geometry.blocks
+    → placed_on d image b ≡ cells_now tag s.history b) c
+
+-- Each image has those bits set that are set in this state, and whose regions await in it.
+abbrev pub HasBitsOf : Geometry → DeviceState → Content → Type 0
+HasBitsOf g s c = let counts = s.progress.regions in
     EachImage (λ image. (region : ℕ) → region < regions g
     → is_dirty g image region ≡ (counts.set_bits region && counts.awaiting region)) c
-HasBitsOf mode g s c = Unit {0}
 
--- Each image has those bits set that were set before the close of a device, and whose regions awaited then: the device
--- of this kind that opened an image, behind the lines of a script.
-pub record IsClosedBehind (kind : DeviceKind) (image : Image) (g : Geometry) (script : List ℕ) (c : Content)
+-- How a close in a mode leaves the images of a device that is in this state. In direct mode, and in recovery mode, it
+-- leaves no more than a flush does.
+abbrev pub IsClosedIn : Mode → DiskFormat → Tagger → DeviceState → Content → Type 0
+IsClosedIn Journal d tag s c = HasAllPlaced d tag s c
+IsClosedIn Bitmap d tag s c = HasBitsOf d.geometry s c
+IsClosedIn mode d tag s c = Unit {0}
+
+-- So is each image left by the close of the device of this kind that opened an image in this format, behind the lines of
+-- a script.
+pub record IsClosedBehind (kind : DeviceKind) (image : Image) (d : DiskFormat) (script : List ℕ) (c : Content)
     : Type 0 where
   pub lines : List ReadLine
   pub read : AllZip IsReadAs (lines_of script) lines
-  pub bits : HasBitsOf (kind.format image).mode g
+  pub closed : IsClosedIn (kind.format image).mode d (kind.format image).blocks.tag
       (state_behind (kind.format image) (kind.opened image) lines) c
 
--- So it is behind what is done on a disk of so many sectors with this image, under a key, where that is the run of a script.
+-- So it is behind what is done on a disk of so many sectors with this image, under a key, where that is the run of a
+-- script.
 abbrev pub IsClosedAt : Task → (key : Option (List ℕ)) → (sectors : ℕ) → Image → (script : List ℕ) → Content → Type 0
 IsClosedAt (Tasks.Run mode) key sectors image script c =
-    IsClosedBehind (kind_in (asked_mode mode) key sectors) image (geometry_on sectors image) script c
+    IsClosedBehind (kind_in (asked_mode mode) key sectors) image (format_on key sectors image) script c
 IsClosedAt Tasks.Dump key sectors image script c = Unit {0}
 IsClosedAt (Tasks.Check what) key sectors image script c = Unit {0}
 IsClosedAt Tasks.Salvage key sectors image script c = Unit {0}
+IsClosedAt Tasks.Resize key sectors image script c = Unit {0}
 IsClosedAt (Tasks.Format new) key sectors image script c = Unit {0}
 IsClosedAt (Tasks.Exercise seed count) key sectors image script c = Unit {0}
 
@@ -69,7 +85,8 @@ abbrev pub IsClosedUnder : Task → Result (Option (List ℕ)) KeyRefusal → �
 IsClosedUnder task (Ok key) sectors image script c = IsClosedAt task key sectors image script c
 IsClosedUnder task (Err refusal) sectors image script c = Unit {0}
 
-abbrev pub IsClosedFor : Option Asked → (key_bytes : List ℕ) → (sectors : ℕ) → Image → (script : List ℕ) → Content → Type 0
+abbrev pub IsClosedFor : Option Asked → (key_bytes : List ℕ) → (sectors : ℕ) → Image → (script : List ℕ) → Content
+    → Type 0
 IsClosedFor None key_bytes sectors image script c = Unit {0}
 IsClosedFor (Some asked) key_bytes sectors image script c =
     IsClosedUnder asked.task (key_by (key_file_of asked.hash) key_bytes) sectors image script c

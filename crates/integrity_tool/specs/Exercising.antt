@@ -13,9 +13,10 @@ use Rattle.image_formatting.specs.declared.new_image.ImageMode.TheVariants as im
 use Rattle.image_formatting.specs.declared.new_image.NewImage.{NewImage}
 use Rattle.image_formatting.specs.declared.new_image.Padding.TheVariants.{Fixed}
 use Rattle.image_formatting.specs.declared.new_image.Wipe.TheVariants.{Wiped}
-use Rattle.image_formatting.specs.Formatted.{IsLeftByFormat, IsLeftInOrder, IsNewContent, format_with, rule_with}
+use Rattle.image_formatting.specs.Formatted.{IsNewContent, format_with, rule_with}
 use Rattle.image_formatting.specs.NewImage.{provided_of}
 use Rattle.command_model.specs.CommandRun.{Exercising, Outset, RefusedBy, Exercises}
+use Rattle.integrity_tool.specs.Making.{IsLeftByMaking, IsMadeInOrder}
 
 -- The image of an exercise.
 abbrev pub exercise_image : NewImage
@@ -34,7 +35,7 @@ exercise_image = record {
 -- The exercise with so many requests of a seed, on a disk of so many sectors whose image provides so many.
 abbrev pub exercising_of : (sectors provided count seed : ℕ) → Exercising
 exercising_of sectors provided count seed = record {
-  MayBeLeft = IsLeftByFormat None sectors exercise_image;
+  MayBeLeft = IsLeftByMaking None sectors exercise_image;
   IsMade = IsNewContent exercise_image.wipe (rule_with None exercise_image) (format_with exercise_image provided);
   kind = kind_in Journal None sectors;
   geometry = λ image. (format_on None sectors image).geometry;
@@ -51,8 +52,9 @@ outset_by_exercise sectors count seed (Err fault) = RefusedBy (RefusedImage (ByG
 abbrev pub exercise_outset : (sectors count seed : ℕ) → Outset
 exercise_outset sectors count seed = outset_by_exercise sectors count seed (provided_of exercise_image sectors)
 
--- The image is made in its order, or as far as that came; and behind that each image can be opened.
+-- The image is made in its order, or as far as that came, and only its sectors are written then; and behind that each
+-- image can be opened.
 pub record IsExercisedInOrder (sectors : ℕ) (before after : List Content) : Type 0 where
   pub made : List Content
-  pub making : IsLeftInOrder None sectors exercise_image before made
+  pub making : IsMadeInOrder None sectors exercise_image before made
   pub behind : EachMoment made after (EachImage (CanOpenIn Journal None sectors))

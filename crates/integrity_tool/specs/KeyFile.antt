@@ -3,6 +3,7 @@ use Rattle.std.specs.Prelude.{◌≡◌, ℕ, List, drop, Option, Some, None, Re
 use Rattle.std.specs.Option.{ForSome}
 use Rattle.disk_model.specs.Causes.{Rose}
 use Rattle.device_model.specs.Ending.{KeyRefusal}
+use Rattle.stream_io.specs.Stream.{TakesAtMost}
 use Rattle.command_ending.specs.Ended.{key_refusal_of}
 use Rattle.command_ending.specs.declared.ended.Ended.{Ended}
 use Rattle.command_ending.specs.declared.ended.Ended.TheVariants as Endings
@@ -25,13 +26,26 @@ HasHash key told = told ≡ Ok key
 abbrev pub most_read : ℕ
 most_read = 4097
 
--- What is read for a key: nothing where there is no key file, so that the source is the same; and of a file, where there
--- is a key, at most so many bytes.
-abbrev pub HasReadKey : Option (List ℕ) → (named : List ℕ → Option (List ℕ)) → (left : Option (List ℕ))
-    → (is_same has_key : Type 0) → Type 0
-HasReadKey None named left is_same has_key = is_same
-HasReadKey (Some file) named left is_same has_key =
-    has_key → ForSome (named file) (λ bytes. left ≡ Some (drop most_read bytes))
+-- Where this ended what followed, the key file was read: its source did not fail, and there was memory.
+abbrev pub HasKeyRead : Ended → Type 0
+HasKeyRead Endings.Words = Unit {0}
+HasKeyRead (Endings.Key refusal) = Unit {0}
+HasKeyRead (Endings.Line number refusal) = Unit {0}
+HasKeyRead Endings.Length = Unit {0}
+HasKeyRead (Endings.Image fault) = Unit {0}
+HasKeyRead Endings.Disk = Unit {0}
+HasKeyRead Endings.KeySource = ⊥
+HasKeyRead Endings.Script = Unit {0}
+HasKeyRead Endings.Sink = Unit {0}
+HasKeyRead Endings.Memory = ⊥
+
+-- What is read for a key: nothing where there is no key file, so that the source is the same; and of a file at most so
+-- many of its first bytes, whatever comes of it, and all of those where it is read.
+abbrev pub ReadsKey : {K : Type 0} → Option (List ℕ) → (K → List ℕ → Option (List ℕ)) → (K → Option (List ℕ))
+    → (key used : K) → (is_read : Type 0) → Type 0
+ReadsKey None named left key used is_read = used ≡ key
+ReadsKey (Some file) named left key used is_read = ForSome (named key file) (λ bytes.
+    TakesAtMost most_read (Some bytes) (named used file) × (is_read → left used ≡ Some (drop most_read bytes)))
 
 -- Why there is no key: its bytes are none, its source failed, or there is no memory.
 abbrev pub IsKeyRefused : Option (List ℕ) → (named : List ℕ → Option (List ℕ)) → (faults_before faults : ℕ)

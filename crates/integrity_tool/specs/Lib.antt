@@ -14,6 +14,7 @@ pub mod Reopening
 pub mod Checking
 pub mod Dumping
 pub mod Salvaging
+pub mod Resizing
 pub mod Exercising
 pub mod Exercised
 pub mod Making

@@ -7,7 +7,7 @@ use Rattle.device_model.specs.ScriptRun.{run_from}
 use Rattle.device.specs.declared.mode.DeviceParts.{DeviceParts}
 use Rattle.device_parts.specs.Device.{Standing}
 use Rattle.script_reader.specs.Lines.{FindsEnd, FindsLongLine, FindsLongScript, FindsWholeLine}
-use Rattle.script_reader.specs.Reading.{Reading}
+use Rattle.script_reader.specs.Reading.{BeginsLine, Reading}
 use Rattle.script_session.specs.declared.line_end.LineEnd.{LineEnd}
 use Rattle.script_session.specs.declared.line_end.LineEnd.TheVariants as Ends
 use Rattle.script_session.specs.declared.tags_found.TagsFound.{TagsFound}
@@ -26,7 +26,8 @@ ended_by number Ends.Disk = Endings.Disk
 ended_by number Ends.Sink = Endings.Sink
 ended_by number Ends.Memory = Endings.Memory
 
--- What stands next in a script: a line; its end; a line that is too long; or bytes beyond its bound.
+-- What stands next in a script: a line; its end; a line that is too long; or bytes beyond its bound. Where the source
+-- failed, a line has begun at most: its bytes are taken, and none behind them is read.
 abbrev pub HasAdvanced : ℕ → (old new : Reading) → (left later : List ℕ) → Result Bool Ended → Type 0
 HasAdvanced number old new left later (Ok true) = FindsWholeLine old new (old.unread ++ left)
     (new.unread ++ later)
@@ -34,7 +35,8 @@ HasAdvanced number old new left later (Ok false) = FindsEnd old new (old.unread 
 HasAdvanced number old new left later (Err (Endings.Line n refusal)) =
     (n ≡ number) × (refusal ≡ Refusals.Form TooLong) × FindsLongLine old new (old.unread ++ left)
 HasAdvanced number old new left later (Err Endings.Length) = FindsLongScript old new (old.unread ++ left)
-HasAdvanced number old new left later (Err ended) = ended ≡ Endings.Script
+HasAdvanced number old new left later (Err ended) =
+    (ended ≡ Endings.Script) × BeginsLine old new (old.unread ++ left) later
 
 -- The bytes are a line, which was run.
 pub record HasRunBytes (w : Standing) (bytes : List ℕ) (found : TagsFound) (parts : DeviceParts)

@@ -1,13 +1,15 @@
 -- What `format` makes and prints, or why an image is refused by it.
 use Rattle.std.specs.Prelude.{ℕ, List, ◌++◌, codes, Option, Result, Ok, Err}
 use Rattle.std.specs.Fmt.{decimal}
+use Rattle.disk_model.specs.Disk.{Content, OnlyAdds}
 use Rattle.device_model.specs.Ending.{RefusedImage, ByGeometry}
 use Rattle.image_model.specs.declared.geom_fault.GeomFault.{GeomFault}
 use Rattle.image_formatting.specs.declared.format_fault.FormatFault.{FormatFault}
 use Rattle.image_formatting.specs.declared.format_fault.FormatFault.TheVariants.{Geom, Memory, Disk}
 use Rattle.image_formatting.specs.declared.new_image.NewImage.{NewImage}
-use Rattle.image_formatting.specs.Formatted.{IsLeftByFormat, IsNewContent, format_with, rule_with}
+use Rattle.image_formatting.specs.Formatted.{IsLeftByFormat, IsLeftInOrder, IsNewContent, format_with, rule_with}
 use Rattle.image_formatting.specs.NewImage.{provided_of}
+use Rattle.image_formatting.specs.Written.{IsOfNewImage, OnlyWritesNew}
 use Rattle.command_ending.specs.declared.ended.Ended.{Ended}
 use Rattle.command_ending.specs.declared.ended.Ended.TheVariants as Endings
 use Rattle.command_ending.specs.declared.image_fault.ImageFault.TheVariants as Faults
@@ -23,11 +25,23 @@ ended_by_format Disk = Endings.Disk
 abbrev pub formatted_text : (provided : ℕ) → List ℕ
 formatted_text provided = codes "formatted provided " ++ decimal provided ++ codes "\n"
 
+-- What stands while such an image is made: an image that was there at the start, one without a magic, or the whole new
+-- one; and nothing is written but to the sectors that the new image has.
+pub record IsLeftByMaking (key : Option (List ℕ)) (sectors : ℕ) (new : NewImage) (start later : Content) : Type 0 where
+  pub images : IsLeftByFormat key sectors new start later
+  pub writes : OnlyAdds (IsOfNewImage sectors new start) start later
+
+-- It is made in its order, or as far as that came, and nothing else is ever written meanwhile.
+pub record IsMadeInOrder (key : Option (List ℕ)) (sectors : ℕ) (new : NewImage) (before after : List Content)
+    : Type 0 where
+  pub order : IsLeftInOrder key sectors new before after
+  pub writes : OnlyWritesNew sectors new before after
+
 -- The making of such an image with this key, on a disk of so many sectors.
 abbrev pub making_of : Option (List ℕ) → (sectors : ℕ) → NewImage → (provided : ℕ) → Making
 making_of key sectors new provided = record {
   text = formatted_text provided;
-  MayBeLeft = IsLeftByFormat key sectors new;
+  MayBeLeft = IsLeftByMaking key sectors new;
   IsMade = IsNewContent new.wipe (rule_with key new) (format_with new provided);
 }
 

@@ -104,11 +104,12 @@ IsMomentAt task key sectors start script later =
     IsMomentOf (outset_at task key sectors (last_image start)) (geometry_on sectors (last_image start)) start script
     later
 
--- No more of the script is taken than its run has come to.
-pub record HasReadIn (outset : Outset) (script : List ℕ) (left held_before held : Option (List ℕ)) : Type 0 where
+-- No more of the script is taken than its run has come to, nor is its source asked for more before that.
+pub record HasReadIn (outset : Outset) (script : List ℕ) (left held_before held : Option (List ℕ)) (failed : Type 0)
+    : Type 0 where
   pub run : ScriptRun
   pub is_run : IsRunAt outset script run
-  pub read : HasReadTo run script left held_before held
+  pub read : HasReadTo run script left held_before held failed
 
 -- What can end a run on an image: neither words, nor a key.
 abbrev pub EndsImage : Ended → Type 0

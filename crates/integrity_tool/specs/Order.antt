@@ -3,26 +3,29 @@ use Rattle.std.specs.Prelude.{ℕ, List, Option, Some, None, Result, Ok, Err}
 use Rattle.disk_model.specs.Disk.{Content}
 use Rattle.disk_model.specs.Moments.{EachMoment}
 use Rattle.device_model.specs.Ending.{KeyRefusal}
-use Rattle.image_formatting.specs.Formatted.{IsLeftInOrder}
 use Rattle.device.specs.Opening.{asked_mode}
 use Rattle.device.specs.Tags.{KeepsStill}
 use Rattle.recovery_laws.specs.MomentLaws.{KeepsMoments}
+use Rattle.resize_model.specs.Left.{IsInResizeOrder}
 use Rattle.integrity_tool.specs.declared.asked.Asked.{Asked}
 use Rattle.integrity_tool.specs.declared.asked.Task.{Task}
 use Rattle.integrity_tool.specs.declared.asked.Task.TheVariants as Tasks
 use Rattle.integrity_tool.specs.Exercising.{IsExercisedInOrder}
+use Rattle.integrity_tool.specs.Making.{IsMadeInOrder}
 use Rattle.integrity_tool.specs.Opening.{IsMomentAt}
 use Rattle.integrity_tool.specs.Outset.{key_by}
 use Rattle.integrity_tool.specs.Words.{key_file_of}
 
--- A new image is made in its order, one to be exercised too. What only reads an image, whatever that is, as a run in recovery
--- mode does, neither writes to its disk nor syncs it.
+-- A new image is made in its order, one to be exercised too, and until it is made only sectors that it has are written;
+-- an image is resized in its order. What only reads an image, whatever that is, as a run in recovery mode does, neither
+-- writes to its disk nor syncs it.
 abbrev pub IsInOrderAt : Task → (key : Option (List ℕ)) → (sectors : ℕ) → (before after : List Content) → Type 0
 IsInOrderAt (Tasks.Run mode) key sectors before after = KeepsStill (asked_mode mode) before after
 IsInOrderAt Tasks.Dump key sectors before after = KeepsMoments before after
 IsInOrderAt (Tasks.Check what) key sectors before after = KeepsMoments before after
 IsInOrderAt Tasks.Salvage key sectors before after = KeepsMoments before after
-IsInOrderAt (Tasks.Format new) key sectors before after = IsLeftInOrder key sectors new before after
+IsInOrderAt Tasks.Resize key sectors before after = IsInResizeOrder key sectors before after
+IsInOrderAt (Tasks.Format new) key sectors before after = IsMadeInOrder key sectors new before after
 IsInOrderAt (Tasks.Exercise seed count) key sectors before after = IsExercisedInOrder sectors before after
 
 -- The same, under the key that is told, where one is.

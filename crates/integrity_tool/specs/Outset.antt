@@ -20,6 +20,7 @@ use Rattle.integrity_tool.specs.Dumping.{dump_outset}
 use Rattle.integrity_tool.specs.Exercising.{exercise_outset}
 use Rattle.integrity_tool.specs.Making.{format_outset}
 use Rattle.integrity_tool.specs.Refusing.{ending_by_refusal}
+use Rattle.integrity_tool.specs.Resizing.{resizing_outset}
 use Rattle.integrity_tool.specs.Words.{asked_of, key_file_of}
 use Rattle.command_model.specs.CommandRun.{Outset, ReadsOn, RefusedBy, RunsOn}
 
@@ -62,6 +63,7 @@ outset_at (Tasks.Run mode) key sectors image = outset_on mode key sectors image
 outset_at Tasks.Dump key sectors image = dump_outset sectors image
 outset_at (Tasks.Check what) key sectors image = check_outset what key sectors image
 outset_at Tasks.Salvage key sectors image = salvage_outset key sectors image
+outset_at Tasks.Resize key sectors image = resizing_outset key sectors image
 outset_at (Tasks.Format new) key sectors image = format_outset key sectors new
 outset_at (Tasks.Exercise seed count) key sectors image = exercise_outset sectors count seed
 

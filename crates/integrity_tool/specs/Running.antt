@@ -1,5 +1,5 @@
 -- The run of a script on a device that stands somewhere in it: what stops it, and what leads there.
-use Rattle.std.specs.Prelude.{◌≡◌, ◌≢◌, ℕ, ◌+◌, ◌==◌, if◌then◌else◌, ltb, Bool, List, [], ◌∷◌, ◌++◌, length, take, Option, Result, Ok, Err, ◌≤◌}
+use Rattle.std.specs.Prelude.{◌≡◌, ◌≢◌, ℕ, ◌+◌, ◌==◌, if◌then◌else◌, ltb, Bool, List, [], ◌∷◌, ◌++◌, length, take, Option, Some, Result, Ok, Err, ◌≤◌}
 use Rattle.std.specs.List.{AllZip}
 use Rattle.std.specs.Option.{ForSome, IsSomeAnd}
 use Rattle.disk_model.specs.Disk.{Content}
@@ -163,10 +163,14 @@ pub record HoldsText (text : List ℕ) (held_before held : Option (List ℕ)) : 
   pub more : List ℕ
   pub is : held ≡ held_with (text ++ more) held_before
 
--- No more of a script is taken than lines whose text is all printed, one line behind them, and one piece behind that. What
--- ends a line is its newline, or nothing.
-pub record HasReadTo (run : ScriptRun) (script : List ℕ) (left held_before held : Option (List ℕ)) : Type 0 where
+-- No more of a script is taken than lines of its run whose text is all printed, one line behind them, and one piece
+-- behind that. What ends a line is its newline, or nothing. A line that is refused is none of the run: it is the one
+-- behind them. Where the source failed, not even what ends that one line is taken. Any call of the source may fail: so
+-- it is called only where each line that it gave whole is run, and the text printed.
+pub record HasReadTo (run : ScriptRun) (script : List ℕ) (left held_before held : Option (List ℕ)) (failed : Type 0)
+    : Type 0 where
   pub done : ℕ
+  pub of_run : done ≤ length run.steps
   pub printed : HoldsText (texts_of (take done run.steps)) held_before held
   pub front : List ℕ
   pub line : List ℕ
@@ -177,3 +181,4 @@ pub record HasReadTo (run : ScriptRun) (script : List ℕ) (left held_before hel
   pub plain : HasNoNewline line
   pub short : length ending ≤ 1
   pub taken : IsSomeAnd left (λ more. length behind ≤ length more + most_piece)
+  pub asked : failed → left ≡ Some (ending ++ behind)

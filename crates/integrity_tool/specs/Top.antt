@@ -1,5 +1,5 @@
 -- What the top call is given, and what ends it.
-use Rattle.std.specs.Prelude.{◌≡◌, ◌≢◌, ◌⊎◌, ℕ, ◌≤◌, List, Option, Some, None, Result, Err, IfErr}
+use Rattle.std.specs.Prelude.{◌≡◌, ◌≢◌, ◌⊎◌, ℕ, ◌<◌, ◌≤◌, List, Option, Some, None, Result, Err, IfErr}
 use Rattle.std.specs.Option.{ForSome, IsSomeAnd}
 use Rattle.disk_model.specs.Causes.{Rose}
 use Rattle.disk_model.specs.Disk.{Content, last_image}
@@ -157,19 +157,27 @@ ClosesGiven words named keys left first last key script = (given : Given)
     → HasNow (IsClosedFor (asked_of given.words) given.key_bytes given.sectors (last_image given.content) given.script)
     (named last (image_name words)).moments
 
--- A key that is refused is so before the disk is called, and before the script is read.
+-- A key that is refused is so before the disk is called, and before the script is read,
 abbrev pub RefusesKeyFirst : {D K S : Type 0} → List (List ℕ) → (D → List ℕ → NamedDisk)
     → (K → List ℕ → Option (List ℕ)) → (S → Option (List ℕ)) → (first last : D) → K → (script read : S) → Type 0
 RefusesKeyFirst words named keys left first last key script read = (given : Given)
     → IsGiven words (keys key) (named first (image_name words)) (left script) given
     → IsRefusedByKey (outset_in given) → (last ≡ first) × (read ≡ script)
 
--- No more of the script is taken than its run has come to.
+-- and so is one whose source fails.
+abbrev pub JudgesKeyFirst : {D K S : Type 0} → List (List ℕ) → (D → List ℕ → NamedDisk)
+    → (K → List ℕ → Option (List ℕ)) → (S → Option (List ℕ)) → (K → ℕ) → (first last : D) → (key used : K)
+    → (script read : S) → Type 0
+JudgesKeyFirst words named keys left key_faults first last key used script read =
+    RefusesKeyFirst words named keys left first last key script read
+    × (key_faults used ≢ key_faults key → (last ≡ first) × (read ≡ script))
+
+-- No more of the script is taken than its run has come to, nor is its source asked for more before that.
 abbrev pub ReadsGiven : {D K S O : Type 0} → List (List ℕ) → (D → List ℕ → NamedDisk) → (K → List ℕ → Option (List ℕ))
-    → (S → Option (List ℕ)) → (O → Option (List ℕ)) → D → K → (script read : S) → (sink out : O) → Type 0
-ReadsGiven words named keys left held first key script read sink out = (given : Given)
+    → (S → Option (List ℕ)) → (O → Option (List ℕ)) → (S → ℕ) → D → K → (script read : S) → (sink out : O) → Type 0
+ReadsGiven words named keys left held faults first key script read sink out = (given : Given)
     → IsGiven words (keys key) (named first (image_name words)) (left script) given
-    → HasReadIn (outset_in given) given.script (left read) (held sink) (held out)
+    → HasReadIn (outset_in given) given.script (left read) (held sink) (held out) (faults script < faults read)
 
 -- Words that are no command end it so, and touch neither the disk nor a source.
 abbrev pub TouchesNothing : {D K S : Type 0} → List (List ℕ) → (ends : Type 0) → (first last : D) → (key used : K)

@@ -1,5 +1,5 @@
 -- What the words ask for.
--- Own: the commands are `format`, `dump`, `check`, `salvage`, `run` and `exercise`.
+-- Own: the commands are `format`, `dump`, `check`, `salvage`, `resize`, `run` and `exercise`.
 use Rattle.std.specs.Prelude.{◌≤◌, ℕ, List, [], Option, Some, None}
 use Rattle.std.specs.Option.{option_map}
 use Rattle.command_words.specs.Commands.{command_of}
@@ -12,6 +12,7 @@ use Rattle.command_words.specs.declared.command.Dump.{Dump}
 use Rattle.command_words.specs.declared.command.Exercise.{Exercise}
 use Rattle.command_words.specs.declared.command.Format.{Format}
 use Rattle.command_words.specs.declared.command.Run.{Run}
+use Rattle.command_words.specs.declared.command.Resize.{Resize}
 use Rattle.command_words.specs.declared.command.Salvage.{Salvage}
 use Rattle.command_words.specs.declared.values.Checked.{Checked}
 use Rattle.command_words.specs.declared.values.Checked.TheVariants as checks
@@ -81,6 +82,7 @@ IsTask (Tasks.Run mode) = Unit {0}
 IsTask Tasks.Dump = Unit {0}
 IsTask (Tasks.Check what) = Unit {0}
 IsTask Tasks.Salvage = Unit {0}
+IsTask Tasks.Resize = Unit {0}
 IsTask (Tasks.Format new) = IsNewImage new
 IsTask (Tasks.Exercise seed count) = count ≤ most_requests
 
@@ -118,6 +120,9 @@ check_asked check = record { image = check.image; hash = check.hash; task = Task
 abbrev pub salvage_asked : Salvage → Asked
 salvage_asked salvage = record { image = salvage.image; hash = salvage.hash; task = Tasks.Salvage }
 
+abbrev pub resize_asked : Resize → Asked
+resize_asked resize = record { image = resize.image; hash = resize.hash; task = Tasks.Resize }
+
 -- An exercise makes tags without a key.
 abbrev pub exercise_asked : Exercise → Asked
 exercise_asked exercise = record {
@@ -133,6 +138,7 @@ asked_by (Commands.Run run) = run_asked run
 asked_by (Commands.Dump dump) = dump_asked dump
 asked_by (Commands.Check check) = check_asked check
 asked_by (Commands.Salvage salvage) = salvage_asked salvage
+asked_by (Commands.Resize resize) = resize_asked resize
 asked_by (Commands.Exercise exercise) = exercise_asked exercise
 
 -- What the words ask for. The first is the program's name.
@@ -164,6 +170,7 @@ IsScriptless (Tasks.Run mode) = ⊥
 IsScriptless Tasks.Dump = Unit {0}
 IsScriptless (Tasks.Check what) = Unit {0}
 IsScriptless Tasks.Salvage = Unit {0}
+IsScriptless Tasks.Resize = Unit {0}
 IsScriptless (Tasks.Format new) = Unit {0}
 IsScriptless (Tasks.Exercise seed count) = Unit {0}
 

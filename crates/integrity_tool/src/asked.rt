@@ -2,13 +2,13 @@
 ghost use Rattle.std.specs.Prelude.{◌≡◌, ◌⊎◌, Err, IfErr, IfOk, None, Some, map};
 ghost use Rattle.std.specs.String.{string_bytes};
 ghost use Rattle.command_ending.specs.declared.ended.Ended.TheVariants as Endings;
-ghost use Rattle.integrity_tool.specs.Words.{IsTask, asked_by, asked_of, check_asked, consent_as, dump_asked, exercise_asked, format_asked, image_mode_as, mode_as, new_image_of, padding_as, run_asked, salvage_asked, what_as, wipe_as};
+ghost use Rattle.integrity_tool.specs.Words.{IsTask, asked_by, asked_of, check_asked, consent_as, dump_asked, exercise_asked, format_asked, image_mode_as, mode_as, new_image_of, padding_as, resize_asked, run_asked, salvage_asked, what_as, wipe_as};
 ghost use Rattle.image_formatting.specs.NewImage.{IsNewImage};
 
 use command_ending::Ended;
 use command_words::{
     Check, Checked, Command, Consent, Dump, Exercise, FileName, Format, HashChoice, ImageMode,
-    Mode, Padding, Run, Salvage, Wipe, WordsFault, parse,
+    Mode, Padding, Resize, Run, Salvage, Wipe, WordsFault, parse,
 };
 use device::OpenMode;
 use image_check::What;
@@ -37,6 +37,8 @@ pub(crate) enum Task {
     Check(What),
     /// What stands in the place of each block is printed.
     Salvage,
+    /// It gets all sectors of its disk.
+    Resize,
     /// A new image is made.
     Format(NewImage),
     /// A new image is made and exercised.
@@ -79,6 +81,7 @@ fn asked_by(command: Command) -> Asked
         Command::Dump(dump) => dump_asked(dump),
         Command::Check(check) => check_asked(check),
         Command::Salvage(salvage) => salvage_asked(salvage),
+        Command::Resize(resize) => resize_asked(resize),
         Command::Exercise(exercise) => exercise_asked(exercise),
     }
 }
@@ -159,6 +162,17 @@ fn salvage_asked(salvage: Salvage) -> Asked
         image: salvage.image,
         hash: salvage.hash,
         task: Task::Salvage,
+    }
+}
+
+/// What `resize` asks for.
+fn resize_asked(resize: Resize) -> Asked
+    ensures { result ≡ resize_asked resize }
+{
+    Asked {
+        image: resize.image,
+        hash: resize.hash,
+        task: Task::Resize,
     }
 }
 

@@ -16,6 +16,7 @@ use crate::dumping::print_image;
 use crate::exercising::exercise_image;
 use crate::making::make_image;
 use crate::opening::run_image;
+use crate::resizing::resize_image;
 use crate::salvaging::print_salvage;
 use command_ending::Ended;
 use hmac_tag::Hash;
@@ -56,7 +57,7 @@ pub(crate) fn carry_out<D: Disk, S: Source, O: Sink>(
 
     ensures unread { LeavesScript result (IsScriptless task) script.old script.new }
     ensures taken { HasTaken (S.left script.old) (S.left script.new) }
-    ensures ahead { ReadsOnlyRun D.identity D.moments S.left O.held (outset_at task (key_of hash))
+    ensures ahead { ReadsOnlyRun D.identity D.moments S.left O.held S.faults (outset_at task (key_of hash))
         disk.old script.old script.new out.old out.new }
     ensures identity { D.identity disk.new ≡ D.identity disk.old }
 {
@@ -65,6 +66,7 @@ pub(crate) fn carry_out<D: Disk, S: Source, O: Sink>(
         Task::Dump => done(print_image(alloc, disk, out)),
         Task::Check(what) => print_check(alloc, disk, hash, what, out),
         Task::Salvage => print_salvage(alloc, disk, hash, out),
+        Task::Resize => done(resize_image(alloc, disk, hash, out)),
         Task::Format(new) => done(make_image(alloc, disk, hash, new, out)),
         Task::Exercise { seed, count } => exercise_image(alloc, disk, seed, count, out),
     }

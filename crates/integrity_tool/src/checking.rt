@@ -3,7 +3,7 @@
 //! A line is printed before the next block is judged, so that memory does not grow with the number of bad blocks.
 ghost use Rattle.std.specs.Prelude.{◌≡◌, ltb, [], IfErr, IfOk};
 ghost use Rattle.std.specs.Option.{IsSomeAnd};
-ghost use Rattle.disk_model.specs.Causes.{HasCause, Rose};
+ghost use Rattle.disk_model.specs.Causes.{HasCause};
 ghost use Rattle.disk_model.specs.Identity.{IsBound};
 ghost use Rattle.hmac_tag.specs.TagMaker.{key_of};
 ghost use Rattle.stream_io.specs.Stream.{AddsPrefix};
@@ -12,9 +12,9 @@ ghost use Rattle.image_check.specs.Report.{with_found};
 ghost use Rattle.script_session.specs.Told.{finds_fault};
 ghost use Rattle.command_ending.specs.Ended.{Puts};
 ghost use Rattle.integrity_tool.specs.declared.asked.Task.TheVariants.{Check};
-ghost use Rattle.integrity_tool.specs.Calls.{IsCountedInTask, RunsTask};
+ghost use Rattle.integrity_tool.specs.Calls.{HasCauseOfTask, IsCountedInTask, RunsTask};
 ghost use Rattle.integrity_tool.specs.Checking.{CutsList, IsListed, ListsBad, bad_line, counts_line};
-ghost use Rattle.integrity_tool.specs.Running.{HasEndCause, ending_by};
+ghost use Rattle.integrity_tool.specs.Running.{ending_by};
 ghost use Rattle.integrity_tool.specs.Tasks.{EndsTask};
 
 use crate::refusing::ended_by_opening;
@@ -48,8 +48,7 @@ pub(crate) fn print_check<D: Disk, O: Sink>(
         disk.old disk.new out.old out.new }
 
     ensures ends { IfErr result EndsTask }
-    ensures cause { IfErr result (HasEndCause (Rose (D.faults disk.old) (D.faults disk.new)) ⊥
-        (Rose (O.faults out.old) (O.faults out.new))) }
+    ensures cause { HasCauseOfTask D.faults O.faults result disk.old disk.new out.old out.new }
     ensures counted { IsCountedInTask D.faults O.faults result disk.old disk.new out.old out.new }
 
     ensures identity { D.identity disk.new ≡ D.identity disk.old }
@@ -90,8 +89,7 @@ fn print_bad<D: Disk, O: Sink>(
 
     ensures cut { CutsList D.identity D.moments O.held image.old result disk.old out.old out.new }
     ensures ends { IfErr result EndsTask }
-    ensures cause { IfErr result (HasEndCause (Rose (D.faults disk.old) (D.faults disk.new)) ⊥
-        (Rose (O.faults out.old) (O.faults out.new))) }
+    ensures cause { HasCauseOfTask D.faults O.faults result disk.old disk.new out.old out.new }
     ensures counted { IsCountedInTask D.faults O.faults result disk.old disk.new out.old out.new }
 
     ensures format { image.new.format ≡ image.old.format }

@@ -1,11 +1,9 @@
 //! Prints what an image shows.
 ghost use Rattle.std.specs.Prelude.{◌≡◌, IfErr, None};
-ghost use Rattle.disk_model.specs.Causes.{Rose};
 ghost use Rattle.disk_model.specs.Identity.{IsBound};
 ghost use Rattle.integrity_tool.specs.declared.asked.Task.TheVariants.{Dump};
-ghost use Rattle.integrity_tool.specs.Calls.{IsCountedInTask, RunsTask};
+ghost use Rattle.integrity_tool.specs.Calls.{HasCauseOfTask, IsCountedInTask, RunsTask};
 ghost use Rattle.integrity_tool.specs.Dumping.{ended_by_dump};
-ghost use Rattle.integrity_tool.specs.Running.{HasEndCause};
 ghost use Rattle.integrity_tool.specs.Tasks.{EndsTask, ending_done};
 
 use command_ending::{Ended, ImageFault};
@@ -33,8 +31,7 @@ pub(crate) fn print_image<D: Disk, O: Sink>(
         disk.old disk.new out.old out.new }
 
     ensures ends { IfErr result EndsTask }
-    ensures cause { IfErr result (HasEndCause (Rose (D.faults disk.old) (D.faults disk.new)) ⊥
-        (Rose (O.faults out.old) (O.faults out.new))) }
+    ensures cause { HasCauseOfTask D.faults O.faults result disk.old disk.new out.old out.new }
     ensures counted { IsCountedInTask D.faults O.faults result disk.old disk.new out.old out.new }
 
     ensures identity { D.identity disk.new ≡ D.identity disk.old }

@@ -7,7 +7,7 @@ ghost use Rattle.script_session.specs.Stop.{HasStopCause};
 ghost use Rattle.script_session.specs.Told.{finds_fault};
 ghost use Rattle.command_model.specs.Exercise.{finds_faults};
 ghost use Rattle.integrity_tool.specs.declared.asked.Task.TheVariants.{Exercise};
-ghost use Rattle.integrity_tool.specs.Calls.{IsCountedInTask, PassesMoments, RunsTask};
+ghost use Rattle.integrity_tool.specs.Calls.{HasCauseOfTask, IsCountedInTask, PassesMoments, RunsTask};
 ghost use Rattle.integrity_tool.specs.Exercised.{EndsExercise, ExercisesDevice, ExercisesNew, IsTallyTold, TellsExercise, ended_count};
 ghost use Rattle.integrity_tool.specs.Exercising as Exercising;
 ghost use Rattle.integrity_tool.specs.Running.{HasEndCause, IsCounted, ending_by};
@@ -55,8 +55,7 @@ pub(crate) fn exercise_image<D: Disk, O: Sink>(
     ensures moments { PassesMoments D.identity D.moments (Exercise seed count) None disk.old disk.new }
 
     ensures ends { IfErr result EndsTask }
-    ensures cause { IfErr result (HasEndCause (Rose (D.faults disk.old) (D.faults disk.new)) ⊥
-        (Rose (O.faults out.old) (O.faults out.new))) }
+    ensures cause { HasCauseOfTask D.faults O.faults result disk.old disk.new out.old out.new }
     ensures counted { IsCountedInTask D.faults O.faults result disk.old disk.new out.old out.new }
 
     ensures identity { D.identity disk.new ≡ D.identity disk.old }
@@ -108,8 +107,7 @@ fn exercise_made<D: Disk, O: Sink>(
         disk.old disk.new out.old out.new }
 
     ensures ends { IfErr result EndsTask }
-    ensures cause { IfErr result (HasEndCause (Rose (D.faults disk.old) (D.faults disk.new)) ⊥
-        (Rose (O.faults out.old) (O.faults out.new))) }
+    ensures cause { HasCauseOfTask D.faults O.faults result disk.old disk.new out.old out.new }
     ensures counted { IsCountedInTask D.faults O.faults result disk.old disk.new out.old out.new }
 
     ensures identity { D.identity disk.new ≡ D.identity disk.old }

@@ -1,8 +1,8 @@
 //! The hash of tags, with the key that a file has.
-ghost use Rattle.std.specs.Prelude.{◌≡◌, Err, IfErr, IfOk, IsOk};
+ghost use Rattle.std.specs.Prelude.{Err, IfErr, IfOk};
 ghost use Rattle.hmac_tag.specs.TagMaker.{key_of};
 ghost use Rattle.integrity_tool.specs.Words.{key_file_of};
-ghost use Rattle.integrity_tool.specs.KeyFile.{HasHash, HasReadKey, IsKeyRefused, IsKeyed};
+ghost use Rattle.integrity_tool.specs.KeyFile.{HasHash, HasKeyRead, IsKeyRefused, IsKeyed, ReadsKey};
 ghost use Rattle.integrity_tool.specs.Running.{IsCounted};
 
 use command_ending::{Ended, KeyRefusal};
@@ -33,8 +33,8 @@ pub(crate) fn hash_of<K: NamedSource>(
         (K.faults source.old) (K.faults source.new) ended) }
 
     ensures counted { IsCounted Ended.KeySource (K.faults source.old) (K.faults source.new) result }
-    ensures read { HasReadKey (key_file_of choice.now) (K.named source.old) (K.left source.new)
-        (source.new ≡ source.old) (IsOk result) }
+    ensures read { ReadsKey (key_file_of choice.now) K.named K.left source.old source.new
+        (IfErr result HasKeyRead) }
 {
     match choice {
         HashChoice::Sha256 => Ok(Hash::Sha256),

@@ -16,6 +16,7 @@ mod making;
 mod opening;
 mod refusing;
 mod reopening;
+mod resizing;
 mod running;
 mod salvaging;
 mod top_call;

@@ -7,7 +7,7 @@ ghost use Rattle.device.specs.Calls.{Works};
 ghost use Rattle.script_reader.specs.Reading.{IsWithin};
 ghost use Rattle.script_session.specs.Calls.{StaysOn};
 ghost use Rattle.script_session.specs.Tickets.{AreInFlight};
-ghost use Rattle.integrity_tool.specs.Calls.{IsCountedInTask, RunsBytes, StopsAtBytes, TakesNextLine};
+ghost use Rattle.integrity_tool.specs.Calls.{HasCauseOfTask, IsCountedInTask, RunsBytes, StopsAtBytes, TakesNextLine};
 ghost use Rattle.integrity_tool.specs.Lines.{HasAdvanced, ended_by};
 ghost use Rattle.integrity_tool.specs.Running.{EndsScript, HasEndCause, HasRead, IsCounted};
 
@@ -81,9 +81,7 @@ pub(crate) fn run_bytes<'d, 'p, D: Disk, O: Sink>(
         device.old.disk.now device.new.disk.now out.old out.new }
 
     ensures ends { IfErr result EndsScript }
-    ensures cause { IfErr result (HasEndCause
-        (Rose (D.faults device.old.disk.now) (D.faults device.new.disk.now))
-        ⊥ (Rose (O.faults out.old) (O.faults out.new))) }
+    ensures cause { HasCauseOfTask D.faults O.faults result device.old.disk.now device.new.disk.now out.old out.new }
     ensures counted { IsCountedInTask D.faults O.faults result
         device.old.disk.now device.new.disk.now out.old out.new }
 

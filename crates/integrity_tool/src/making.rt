@@ -1,14 +1,13 @@
 //! Makes a new image, and tells how many sectors it provides.
 ghost use Rattle.std.specs.Prelude.{◌≡◌, IfErr};
-ghost use Rattle.disk_model.specs.Causes.{HasCause, Rose};
+ghost use Rattle.disk_model.specs.Causes.{HasCause};
 ghost use Rattle.disk_model.specs.Identity.{IsBound};
 ghost use Rattle.hmac_tag.specs.TagMaker.{key_of};
 ghost use Rattle.image_formatting.specs.NewImage.{IsNewImage};
 ghost use Rattle.command_ending.specs.Ended.{Puts};
 ghost use Rattle.integrity_tool.specs.declared.asked.Task.TheVariants.{Format};
-ghost use Rattle.integrity_tool.specs.Calls.{IsCountedInTask, PassesMoments, RunsTask};
+ghost use Rattle.integrity_tool.specs.Calls.{HasCauseOfTask, IsCountedInTask, PassesMoments, RunsTask};
 ghost use Rattle.integrity_tool.specs.Making.{ended_by_format, formatted_text};
-ghost use Rattle.integrity_tool.specs.Running.{HasEndCause};
 ghost use Rattle.integrity_tool.specs.Tasks.{EndsTask, ending_done};
 
 use command_ending::{Ended, ImageFault, put_pieces};
@@ -41,8 +40,7 @@ pub(crate) fn make_image<D: Disk, O: Sink>(
     ensures moments { PassesMoments D.identity D.moments (Format new) (key_of hash) disk.old disk.new }
 
     ensures ends { IfErr result EndsTask }
-    ensures cause { IfErr result (HasEndCause (Rose (D.faults disk.old) (D.faults disk.new)) ⊥
-        (Rose (O.faults out.old) (O.faults out.new))) }
+    ensures cause { HasCauseOfTask D.faults O.faults result disk.old disk.new out.old out.new }
     ensures counted { IsCountedInTask D.faults O.faults result disk.old disk.new out.old out.new }
 
     ensures identity { D.identity disk.new ≡ D.identity disk.old }

@@ -57,7 +57,7 @@ pub(crate) fn run_image<D: Disk, S: Source, O: Sink>(
 
     ensures unread { IfErr result (λ ended. IsBeforeScript ended → script.new ≡ script.old) }
     ensures taken { HasTaken (S.left script.old) (S.left script.new) }
-    ensures ahead { ReadsOnlyRun D.identity D.moments S.left O.held (outset_on mode (key_of hash))
+    ensures ahead { ReadsOnlyRun D.identity D.moments S.left O.held S.faults (outset_on mode (key_of hash))
         disk.old script.old script.new out.old out.new }
     ensures identity { D.identity disk.new ≡ D.identity disk.old }
 {
@@ -116,7 +116,7 @@ fn run_device<'d, D: Disk, S: Source, O: Sink>(
 
     ensures unread { IfErr ended.new (λ ended. IsBeforeScript ended → script.new ≡ script.old) }
     ensures taken { HasTaken (S.left script.old) (S.left script.new) }
-    ensures ahead { ReadsOnlyRun D.identity D.moments S.left O.held (outset_on mode (key_of hash))
+    ensures ahead { ReadsOnlyRun D.identity D.moments S.left O.held S.faults (outset_on mode (key_of hash))
         disk.old script.old script.new out.old out.new }
     ensures identity { D.identity result.now ≡ D.identity disk.old }
     ensures same_disk { result.ghost_name ≡ disk.entry.ghost_name }

@@ -2,7 +2,7 @@
 //!
 //! A line is printed before the next block is read, so that one block and its line are held at a time.
 ghost use Rattle.std.specs.Prelude.{◌≡◌, ◌+◌, ◌<◌, ◌^◌, if◌then◌else◌, length, IfErr};
-ghost use Rattle.disk_model.specs.Causes.{HasCause, Rose};
+ghost use Rattle.disk_model.specs.Causes.{HasCause};
 ghost use Rattle.disk_model.specs.Identity.{IsBound};
 ghost use Rattle.hmac_tag.specs.TagMaker.{key_of};
 ghost use Rattle.image_salvage.specs.Salvaged.{IsSalvageOf, IsSameSalvage, block_size};
@@ -11,8 +11,8 @@ ghost use Rattle.salvage_model.specs.Salvaging.{counts_text};
 ghost use Rattle.salvage_model.specs.Verdicts.{is_good};
 ghost use Rattle.command_ending.specs.Ended.{Puts};
 ghost use Rattle.integrity_tool.specs.declared.asked.Task.TheVariants as Tasks;
-ghost use Rattle.integrity_tool.specs.Calls.{IsCountedInTask, RunsTask};
-ghost use Rattle.integrity_tool.specs.Running.{HasEndCause, ending_by};
+ghost use Rattle.integrity_tool.specs.Calls.{HasCauseOfTask, IsCountedInTask, RunsTask};
+ghost use Rattle.integrity_tool.specs.Running.{ending_by};
 ghost use Rattle.integrity_tool.specs.Salvaging.{CutsBlocks, TellsBlocks, TellsImage};
 ghost use Rattle.integrity_tool.specs.Tasks.{EndsTask};
 
@@ -51,8 +51,7 @@ pub(crate) fn print_salvage<D: Disk, O: Sink>(
         disk.old disk.new out.old out.new }
 
     ensures ends { IfErr result EndsTask }
-    ensures cause { IfErr result (HasEndCause (Rose (D.faults disk.old) (D.faults disk.new)) ⊥
-        (Rose (O.faults out.old) (O.faults out.new))) }
+    ensures cause { HasCauseOfTask D.faults O.faults result disk.old disk.new out.old out.new }
     ensures counted { IsCountedInTask D.faults O.faults result disk.old disk.new out.old out.new }
 
     ensures identity { D.identity disk.new ≡ D.identity disk.old }
@@ -83,8 +82,7 @@ fn salvage_disk<'d, D: Disk, O: Sink>(
         disk.old result.now out.old out.new }
 
     ensures ends { IfErr ended.new EndsTask }
-    ensures cause { IfErr ended.new (HasEndCause (Rose (D.faults disk.old) (D.faults result.now)) ⊥
-        (Rose (O.faults out.old) (O.faults out.new))) }
+    ensures cause { HasCauseOfTask D.faults O.faults ended.new disk.old result.now out.old out.new }
     ensures counted { IsCountedInTask D.faults O.faults ended.new disk.old result.now out.old out.new }
 
     ensures identity { D.identity result.now ≡ D.identity disk.old }
@@ -133,9 +131,7 @@ fn print_image<D: Disk, O: Sink>(
         salvage.old.disk.now out.old out.new }
 
     ensures ends { IfErr result EndsTask }
-    ensures cause { IfErr result (HasEndCause
-        (Rose (D.faults salvage.old.disk.now) (D.faults salvage.new.disk.now)) ⊥
-        (Rose (O.faults out.old) (O.faults out.new))) }
+    ensures cause { HasCauseOfTask D.faults O.faults result salvage.old.disk.now salvage.new.disk.now out.old out.new }
     ensures counted { IsCountedInTask D.faults O.faults result
         salvage.old.disk.now salvage.new.disk.now out.old out.new }
 
@@ -180,9 +176,7 @@ fn print_blocks<D: Disk, O: Sink>(
     ensures cut { CutsBlocks D.identity D.moments O.held salvage.old.image result
         salvage.old.disk.now out.old out.new }
     ensures ends { IfErr result EndsTask }
-    ensures cause { IfErr result (HasEndCause
-        (Rose (D.faults salvage.old.disk.now) (D.faults salvage.new.disk.now)) ⊥
-        (Rose (O.faults out.old) (O.faults out.new))) }
+    ensures cause { HasCauseOfTask D.faults O.faults result salvage.old.disk.now salvage.new.disk.now out.old out.new }
     ensures counted { IsCountedInTask D.faults O.faults result
         salvage.old.disk.now salvage.new.disk.now out.old out.new }
 

@@ -1,15 +1,15 @@
 -- The cells of a journal's first sectors, and the grid that they give.
-use Rattle.std.proofs.Common.{◌≡◌, inl, inr, ℕ, ◌+◌, ◌*◌, ◌/◌, ◌<◌, ◌≤◌, false, refl, sym, ◌∙◌, ap, subst, arith, Some, None, List, [], ◌∷◌, ◌++◌, length, take, get_or, append-nil, length-append}
+use Rattle.std.proofs.Common.{◌≡◌, inl, inr, ℕ, ◌+◌, ◌*◌, ◌<◌, ◌≤◌, false, refl, sym, ◌∙◌, ap, subst, arith, Some, None, List, [], ◌∷◌, ◌++◌, length, get_or, append-nil, length-append}
 use Rattle.std.specs.Prelude.{nat_lt, ok_or, slice_index_or}
 use Rattle.std.proofs.lemmas.Bool.Decides.{nat_tests}
 use Rattle.std.proofs.lemmas.Bool.{cases_lt, cases_eq}
 use Rattle.std.proofs.lemmas.List.{get_or_append_left, get_or-append-add, get_or_past, take_all}
-use Rattle.std.proofs.lemmas.List.FromFn.{length-map-range_with_len, map-range_with_len_more}
+use Rattle.std.proofs.lemmas.List.FromFn.{map-range_with_len_more}
 use Rattle.std.proofs.lemmas.Option.{none-some}
 use Rattle.disk_model.specs.Disk.{Content, Image, last_image, sector_in}
 use Rattle.image_model.specs.Geometry.{Geometry, journal_sectors, section_at, section_sectors, IsGeometry}
-use Rattle.image_model.specs.Grid.{IsGridOf, blank_bound, grid_with, sector_cell, walk_of}
-use Rattle.image_model.specs.Scan.{Grid, IsGrid, SectorCell, blank_number, cell_number, is_blank_sector, numbers_of, scan_fault_of, walk_of_grid}
+use Rattle.image_model.specs.Grid.{blank_bound, grid_with, sector_cell, walk_of}
+use Rattle.image_model.specs.Scan.{Grid, SectorCell, blank_number, cell_number, is_blank_sector, numbers_of, scan_fault_of, walk_of_grid}
 use Rattle.image_model.specs.Sectors.{bytes_at}
 use Rattle.image_model.specs.Walk.{plan_of}
 use Rattle.image_model.specs.declared.sector_cell.Cell.TheVariants.{Zero}

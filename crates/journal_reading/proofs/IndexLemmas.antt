@@ -1,6 +1,6 @@
 -- Which entry is the newest of each block, as entries are added in the order of the replay.
-use Rattle.std.proofs.Common.{◌≡◌, ◌⊎◌, inl, inr, ℕ, ◌+◌, ◌*◌, ◌/◌, ◌%◌, ◌<◌, ◌≤◌, ◌==◌, true, false, if◌then◌else◌, refl, sym, ◌∙◌, ap, subst, arith, Option, Some, None, is_some, List, [], ◌∷◌, ◌++◌, length, take, filter_map, slice_get, length-append, Ok, option_and_then}
-use Rattle.std.specs.Option.{option_map, option_or}
+use Rattle.std.proofs.Common.{◌≡◌, ◌⊎◌, inl, inr, ℕ, ◌+◌, ◌*◌, ◌/◌, ◌%◌, ◌≤◌, refl, sym, ◌∙◌, ap, subst, arith, Option, Some, None, is_some, List, [], ◌∷◌, ◌++◌, length, take, filter_map, slice_get, length-append, Ok, option_and_then}
+use Rattle.std.specs.Option.{option_map}
 use Rattle.std.proofs.Math.Nat.{mul-div_cancel}
 use Rattle.std.proofs.lemmas.Bool.{cases_eq, eq-eqb, ne_eqb}
 use Rattle.std.proofs.lemmas.List.{take_more, take_all, append-nil}
@@ -12,11 +12,10 @@ use Rattle.image_model.specs.declared.journal_plan.Plan.{Plan}
 use Rattle.image_model.specs.Cells.{entry_of, last_entry, replayed_entries}
 use Rattle.image_model.specs.Geometry.{Geometry}
 use Rattle.image_model.specs.Grid.{walk_of}
-use Rattle.image_model.specs.Openable.{IsReplayable}
 use Rattle.image_model.specs.Section.{Entry}
 use Rattle.image_model.proofs.NumberLemmas.{cases_option}
 use Rattle.journal_model.proofs.EntriesLemmas.{last_entry-append}
-use Rattle.journal_reading.specs.Index.{AddsEntry, IsIndexOf, counted_places, numbered_entry, with_number}
+use Rattle.journal_reading.specs.Index.{AddsEntry, IsIndexOf, counted_places, numbered_entry}
 use Rattle.journal_reading.specs.Places.{places_of}
 
 -- ---- what is kept of the front of a list

@@ -1,23 +1,15 @@
 -- A journal in memory, and what an image whose journal it is tells.
-use Rattle.std.proofs.Common.{◌≡◌, ℕ, ◌+◌, ◌-◌, ◌*◌, ◌/◌, ◌<◌, ◌≤◌, refl, sym, ◌∙◌, ap, subst, arith, Option, option_and_then, Result, Ok, Err, IsOk, List, [], ◌∷◌, ◌++◌, length, map, filter_map, slice_get}
-use Rattle.std.specs.List.{range_with_len, flat_map}
-use Rattle.std.specs.Option.{option_map, option_or}
-use Rattle.std.specs.Result.{result_err}
-use Rattle.std.proofs.lemmas.List.Elements.{filter_map-append}
+use Rattle.std.proofs.Common.{◌≡◌, ℕ, ◌+◌, ◌-◌, ◌*◌, ◌/◌, ◌<◌, ◌≤◌, sym, ◌∙◌, ap, subst, arith, IsOk, List, length}
 use Rattle.std.proofs.Math.Nat.{mul-le-mul_right}
 use Rattle.disk_model.specs.Disk.{Content, Image, Reads, last_image, sector_in}
-use Rattle.image_model.specs.declared.journal_plan.Plan.{Plan}
-use Rattle.image_model.specs.declared.scan_fault.ScanFault.{ScanFault}
-use Rattle.image_model.specs.Cells.{counted_sections, entry_of, entry_places, replayed_entries, section_bytes}
-use Rattle.image_model.specs.Geometry.{Geometry, IsGeometry, journal_sectors, section_at, section_entries, section_sectors}
+use Rattle.image_model.specs.Cells.{entry_of, replayed_entries, section_bytes}
+use Rattle.image_model.specs.Geometry.{Geometry, IsGeometry, journal_sectors, section_at, section_sectors}
 use Rattle.image_model.specs.Grid.{walk_of}
-use Rattle.image_model.specs.Openable.{JournalFault, Scan, entry_fault, journal_fault_of}
 use Rattle.image_model.specs.Section.{entry_at}
 use Rattle.image_model.specs.Sectors.{piece}
-use Rattle.image_model.specs.Walk.{sections_of}
 use Rattle.image_model.proofs.ScanLemmas.{place_low}
 use Rattle.image_model.proofs.SectorLemmas.{bytes_at_read, bytes_at-same, length-piece, piece-piece}
-use Rattle.place_model.proofs.JournalLemmas.{replayed_entries-same, walk-same, walk_of-same}
+use Rattle.place_model.proofs.JournalLemmas.{replayed_entries-same, walk_of-same}
 use Rattle.journal_reading.specs.Journal.{HasJournal, journal_image}
 
 -- ---- sectors

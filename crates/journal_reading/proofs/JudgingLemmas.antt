@@ -1,6 +1,6 @@
 -- The first fault of a journal's entries, and what is kept of those before it.
-use Rattle.std.proofs.Common.{◌≡◌, ◌≢◌, ◌⊎◌, inl, inr, ℕ, zero, suc, ◌+◌, ◌*◌, ◌/◌, ◌<◌, ◌≤◌, refl, sym, ◌∙◌, ap, subst, arith, Option, Some, None, is_some, if◌then◌else◌, option_and_then, Result, Ok, Err, IfOk, List, [], ◌∷◌, ◌++◌, length, take, filter_map, slice_get, true, false, bytes_eq}
-use Rattle.std.proofs.lemmas.Bool.{cases_Bool, cases_eq, eq-eqb, ne_eqb}
+use Rattle.std.proofs.Common.{◌≡◌, ◌≢◌, inl, inr, ℕ, zero, suc, ◌+◌, ◌/◌, ◌<◌, ◌≤◌, refl, sym, ◌∙◌, ap, subst, arith, Option, Some, None, option_and_then, Result, Ok, Err, IfOk, List, [], ◌∷◌, ◌++◌, length, take, filter_map, slice_get, true, false, bytes_eq}
+use Rattle.std.proofs.lemmas.Bool.{cases_Bool, cases_eq, ne_eqb}
 use Rattle.std.proofs.lemmas.Nat.{div_below}
 use Rattle.std.proofs.lemmas.Slice.Eq.{bytes_eq-Decides}
 use Rattle.std.proofs.lemmas.List.{take_more, take_all}
@@ -26,7 +26,7 @@ use Rattle.journal_reading.specs.Faults.{as_fault, refusal_in}
 use Rattle.journal_reading.specs.Grids.{IsGridOn}
 use Rattle.journal_reading.specs.Index.{AddsEntry}
 use Rattle.journal_reading.specs.Journal.{IsJudgedOn}
-use Rattle.journal_reading.specs.Judging.{IsJudgedAt, StaysInside, entry_on, fault_on}
+use Rattle.journal_reading.specs.Judging.{IsJudgedAt, StaysInside, entry_on}
 use Rattle.journal_reading.specs.Newest.{newest_in}
 use Rattle.journal_reading.specs.Places.{places_of}
 use Rattle.journal_reading.proofs.IndexLemmas.{IsIndexUpTo, index-next, index-none, index_all, index_count}

@@ -1,5 +1,5 @@
 -- The places of the entries of a walk, by their numbers.
-use Rattle.std.proofs.Common.{◌≡◌, ◌⊎◌, inl, inr, ℕ, zero, suc, ◌+◌, ◌-◌, ◌*◌, ◌/◌, ◌%◌, ◌^◌, ◌<◌, ◌≤◌, Bool, true, false, refl, sym, ◌∙◌, ap, subst, arith, Some, None, Result, Ok, Err, List, [], ◌∷◌, ◌++◌, length, map, get_or, slice_get, length-append}
+use Rattle.std.proofs.Common.{◌≡◌, ◌⊎◌, inl, inr, ℕ, zero, suc, ◌+◌, ◌-◌, ◌*◌, ◌/◌, ◌%◌, ◌^◌, ◌<◌, ◌≤◌, Bool, true, false, refl, sym, ◌∙◌, ap, subst, arith, Some, Result, Ok, Err, List, [], ◌∷◌, ◌++◌, length, map, get_or, slice_get, length-append}
 use Rattle.std.specs.List.{range_with_len, flat_map}
 use Rattle.std.proofs.lemmas.Bool.{cases_lt, lt-ltb, le-ltb}
 use Rattle.std.proofs.lemmas.List.{get_or_append_left, get_or-append-add}
@@ -11,7 +11,7 @@ use Rattle.image_model.specs.declared.scan_fault.ScanFault.{ScanFault}
 use Rattle.image_model.specs.Geometry.{Geometry, IsGeometry, section_entries, section_sectors}
 use Rattle.image_model.specs.Scan.{Grid, blank_number, blank_plan, numbers_of, scan_fault_of, walk_of_grid}
 use Rattle.image_model.specs.Walk.{is_wholly, later, occurs, plan_by, plan_of, range, reach, sections_of, whole_sections}
-use Rattle.std.proofs.Math.Nat.{mul-le-mul_left, mul-le-mul_right}
+use Rattle.std.proofs.Math.Nat.{mul-le-mul_left}
 use Rattle.image_model.proofs.Bounds.{has_entries}
 use Rattle.image_model.proofs.BelowLemmas.{front_le}
 use Rattle.image_model.proofs.NumberLemmas.{cases_option}

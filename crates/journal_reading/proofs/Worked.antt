@@ -1,5 +1,5 @@
 -- The definitions at values from outside.
-use Rattle.std.proofs.Common.{◌≡◌, ℕ, refl, List, [], ◌∷◌}
+use Rattle.std.proofs.Common.{◌≡◌, refl, [], ◌∷◌}
 use Rattle.journal_reading.specs.Journal.{journal_image}
 
 -- Sector 8 is the first of the journal.

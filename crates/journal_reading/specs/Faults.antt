@@ -1,8 +1,12 @@
 -- Why a journal is refused, and what the reading of one may answer.
-use Rattle.std.specs.Prelude.{◌≡◌, ◌≢◌, ℕ, ◌≤◌, Option, Some, None, option_map, Result, Ok, Err}
+use Rattle.std.specs.Prelude.{◌≡◌, ◌≢◌, ℕ, ◌≤◌, List, Option, Some, None, option_map, Result, Ok, Err}
 use Rattle.std.specs.Result.{result_err}
 use Rattle.disk_model.specs.Causes.{Rose}
+use Rattle.disk_model.specs.Disk.{Content, last_image}
+use Rattle.disk_model.specs.Moments.{HasNow}
+use Rattle.image_model.specs.Geometry.{Geometry}
 use Rattle.image_model.specs.Openable as model
+use Rattle.hmac_tag.specs.TagMaker.{TagRule}
 use Rattle.journal_reading.specs.declared.faults.JournalFault.{JournalFault}
 use Rattle.journal_reading.specs.declared.faults.JournalFault.TheVariants.{Scan, JournalBlock, JournalTag}
 use Rattle.journal_reading.specs.declared.faults.ReplayFault.{ReplayFault}
@@ -24,6 +28,12 @@ refusal_in (Ok answer) = None
 refusal_in (Err Memory) = None
 refusal_in (Err Disk) = None
 refusal_in (Err (Journal fault)) = Some (as_fault fault)
+
+-- Where neither memory nor the disk is what was wanting, the answer tells the fault of the journal that reads give, or
+-- that it has none.
+abbrev pub TellsFault : {T : Type 0} → TagRule → Geometry → Result T ReplayFault → List Content → Type 0
+TellsFault rule g result moments = result ≢ Err Memory → result ≢ Err Disk
+    → HasNow (λ c. refusal_in result ≡ model.journal_fault_of rule.key rule.salt g (last_image c)) moments
 
 -- The count of faults never falls; `Disk` comes only where it rose, and else it is as it was.
 pub record HasReplayCause {T : Type 0} (before after : ℕ) (result : Result T ReplayFault) : Type 0 where

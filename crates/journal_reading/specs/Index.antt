@@ -1,6 +1,6 @@
 -- Where the newest entry of each block stands, as it is kept.
 -- Own: the newest entry of a block is the last one that is replayed for it.
-use Rattle.std.specs.Prelude.{◌≡◌, ℕ, ◌*◌, ◌/◌, ◌==◌, List, if◌then◌else◌, Option, Some, None, option_and_then, option_map, is_some, slice_get}
+use Rattle.std.specs.Prelude.{◌≡◌, ℕ, ◌/◌, ◌==◌, List, if◌then◌else◌, Option, Some, None, option_and_then, option_map, is_some, slice_get}
 use Rattle.disk_model.specs.Disk.{Image}
 use Rattle.image_model.specs.Cells.{counted_sections, entry_of, entry_places, last_entry, replayed_entries}
 use Rattle.image_model.specs.Geometry.{Geometry}

@@ -7,3 +7,4 @@ pub mod Faults
 pub mod Index
 pub mod Newest
 pub mod Judging
+pub mod Leaving

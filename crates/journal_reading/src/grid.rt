@@ -9,6 +9,7 @@ ghost use Rattle.commit_id.specs.Grid.{as_grid};
 ghost use Rattle.sector_window.specs.Window.{HasRoom};
 ghost use Rattle.journal_reading.specs.Cells.{AreFirstCells};
 ghost use Rattle.journal_reading.specs.Grids.{HasGridRoom, IsGridFor, IsGridOn};
+ghost use Rattle.journal_reading.specs.Leaving.{LeavesDisk};
 
 use crate::cells::cell_of;
 use commit_id::{Cell, Grid};
@@ -117,8 +118,7 @@ fn read_cell<D: Disk>(
 
     ensures window { HasRoom 1 window.new (D.moments disk.new) }
     ensures capacity { vec_capacity cells.new ≡ vec_capacity cells.old }
-    ensures identity { D.identity disk.new ≡ D.identity disk.old }
-    ensures kept { D.moments disk.new ≡ D.moments disk.old }
+    ensures leaves { LeavesDisk (D.identity disk.old) (D.identity disk.new) (D.moments disk.old) (D.moments disk.new) }
 {
     let k = cells.len() as u64;
     let at = JOURNAL_AT + k;

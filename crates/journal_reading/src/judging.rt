@@ -1,21 +1,19 @@
 //! Judging the used entries of a journal, before any is replayed: its sections are read one by one.
 ghost use Rattle.std.specs.Prelude.{◌≡◌, ◌≢◌, ◌*◌, ◌^◌, ◌<◌, length, Err, IfOk, Ok};
-ghost use Rattle.std.specs.Option.{option_and_then};
 ghost use Rattle.disk_model.specs.Disk.{last_image};
 ghost use Rattle.disk_model.specs.Identity.{IsBound};
 ghost use Rattle.disk_model.specs.Moments.{HasNow};
 ghost use Rattle.image_model.specs.Geometry.{IsGeometry, section_entries, section_sectors};
-ghost use Rattle.image_model.specs.Openable.{entry_fault, is_block_start, journal_fault_of};
+ghost use Rattle.image_model.specs.Openable.{entry_fault, is_block_start};
 ghost use Rattle.image_model.specs.Scan.{walk_of_grid};
-ghost use Rattle.image_model.specs.Section.{entry_at};
 ghost use Rattle.commit_id.specs.Grid.{as_grid};
 ghost use Rattle.sector_window.specs.Window.{HasRoom};
 ghost use Rattle.journal_reading.specs.Entries.{entry_with};
-ghost use Rattle.journal_reading.specs.Faults.{HasReplayCause, fault_in, refusal_in};
+ghost use Rattle.journal_reading.specs.Faults.{HasReplayCause, TellsFault, fault_in, refusal_in};
 ghost use Rattle.journal_reading.specs.Grids.{IsGridFor, IsGridOn};
-ghost use Rattle.journal_reading.specs.Index.{AddsEntry};
 ghost use Rattle.journal_reading.specs.Journal.{FitsJournal, IsJudgedOn};
-ghost use Rattle.journal_reading.specs.Judging.{IsJudgedAt, StaysInside};
+ghost use Rattle.journal_reading.specs.Judging.{AddsInSection, JudgesAt, StaysInside, fault_in_section};
+ghost use Rattle.journal_reading.specs.Leaving.{LeavesDisk};
 ghost use Rattle.journal_reading.specs.Newest.{newest_in};
 ghost use Rattle.journal_reading.specs.Places.{IsWalk, places_of};
 
@@ -67,9 +65,7 @@ pub(crate) fn judge_planned<D: Disk>(
     ensures judged { IfOk result (λ journal. HasNow (λ c. IsJudgedOn maker.now geometry.now (last_image c) journal)
         (D.moments disk.old)) }
 
-    ensures refused { result ≢ Err ReplayFault.Memory → result ≢ Err ReplayFault.Disk
-        → HasNow (λ c. refusal_in result ≡ journal_fault_of maker.now.key maker.now.salt
-        geometry.now (last_image c)) (D.moments disk.old) }
+    ensures refused { TellsFault maker.now geometry.now result (D.moments disk.old) }
     ensures cause { HasReplayCause (D.faults disk.old) (D.faults disk.new) result }
 
     ensures identity { D.identity disk.new ≡ D.identity disk.old }
@@ -128,15 +124,13 @@ fn judge_at<D: Disk>(
     requires window { HasRoom (section_sectors geometry.now.shape) window.old (D.moments disk.old) }
     requires block { length block.old ≡ 512 * geometry.now.shape.spb }
 
-    ensures judged { HasNow (λ c. IsJudgedAt maker.now geometry.now (last_image c) walk.now number
-        (newest_in newest.old) (newest_in newest.new) result) (D.moments disk.old) }
+    ensures judged { JudgesAt maker.now geometry.now (D.moments disk.old) walk.now number newest.old newest.new result }
     ensures inside { IfOk result (StaysInside geometry.now (newest_in newest.old) (newest_in newest.new)) }
 
     ensures cause { HasReplayCause (D.faults disk.old) (D.faults disk.new) result }
 
     ensures window { HasRoom (section_sectors geometry.now.shape) window.new (D.moments disk.new) }
-    ensures identity { D.identity disk.new ≡ D.identity disk.old }
-    ensures kept { D.moments disk.new ≡ D.moments disk.old }
+    ensures leaves { LeavesDisk (D.identity disk.old) (D.identity disk.new) (D.moments disk.old) (D.moments disk.new) }
 {
     let place = entry_place(geometry, walk, number);
     let at = geometry.section_at(place.section);
@@ -175,12 +169,11 @@ fn judge_entry(
     requires entry { place.entry < section_entries geometry.now.shape }
     requires block { length block.old ≡ 512 * geometry.now.shape.spb }
 
-    ensures added { IfOk result (AddsEntry geometry.now number
-        (entry_at geometry.now.shape section.now place.entry) (newest_in newest.old) (newest_in newest.new)) }
+    ensures added { IfOk result (AddsInSection geometry.now number (place.section, place.entry) section.now
+        newest.old newest.new) }
 
-    ensures refused { result ≢ Err ReplayFault.Memory → refusal_in result ≡ option_and_then
-        (entry_fault maker.now.key maker.now.salt geometry.now (place.section, place.entry))
-        (entry_at geometry.now.shape section.now place.entry) }
+    ensures refused { result ≢ Err ReplayFault.Memory → refusal_in result
+        ≡ fault_in_section maker.now geometry.now (place.section, place.entry) section.now }
     ensures disk { result ≢ Err ReplayFault.Disk }
 {
     let Some(view) = read_in_section(geometry, section, place.entry, block) else {

@@ -1,12 +1,11 @@
 //! Reading a journal, and judging what stands in it.
-ghost use Rattle.std.specs.Prelude.{◌≡◌, ◌≢◌, ◌*◌, length, Err, IfOk, OnOk};
+ghost use Rattle.std.specs.Prelude.{◌≡◌, ◌*◌, length, IfOk, OnOk};
 ghost use Rattle.disk_model.specs.Causes.{HasCause};
 ghost use Rattle.disk_model.specs.Disk.{last_image};
 ghost use Rattle.disk_model.specs.Identity.{IsBound};
 ghost use Rattle.disk_model.specs.Moments.{HasNow};
 ghost use Rattle.image_model.specs.Geometry.{IsGeometry, journal_sectors};
-ghost use Rattle.image_model.specs.Openable.{journal_fault_of};
-ghost use Rattle.journal_reading.specs.Faults.{HasReplayCause, refusal_in};
+ghost use Rattle.journal_reading.specs.Faults.{HasReplayCause, TellsFault};
 ghost use Rattle.journal_reading.specs.Journal.{FitsJournal, HasJournal, IsJudgedOn};
 
 use crate::grid::{GridRoom, JOURNAL_AT, read_grid};
@@ -86,9 +85,7 @@ pub fn judge_journal<D: Disk>(
     ensures judged { IfOk result (λ journal. HasNow (λ c. IsJudgedOn maker.now geometry.now (last_image c) journal)
         (D.moments disk.old)) }
 
-    ensures refused { result ≢ Err ReplayFault.Memory → result ≢ Err ReplayFault.Disk
-        → HasNow (λ c. refusal_in result ≡ journal_fault_of maker.now.key maker.now.salt
-        geometry.now (last_image c)) (D.moments disk.old) }
+    ensures refused { TellsFault maker.now geometry.now result (D.moments disk.old) }
     ensures cause { HasReplayCause (D.faults disk.old) (D.faults disk.new) result }
 
     ensures identity { D.identity disk.new ≡ D.identity disk.old }

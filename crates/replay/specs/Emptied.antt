@@ -1,9 +1,10 @@
 -- An image whose journal is at rest, so that a recovery leaves it as it is; and one whose journal is empty, so that an
 -- emptying does.
 -- Own: a journal is empty where it has one commit number and no used entry.
-use Rattle.std.specs.Prelude.{◌≡◌, ℕ, ◌<◌, [], Some}
+use Rattle.std.specs.Prelude.{◌≡◌, ℕ, ◌<◌, List, [], Some}
 use Rattle.std.specs.List.{Contains}
 use Rattle.disk_model.specs.Disk.{Content, Image, OnlyAdds, last_image}
+use Rattle.disk_model.specs.Moments.{EachSince}
 use Rattle.image_model.specs.Cells.{last_entry, placed_cells_of, replayed_entries}
 use Rattle.image_model.specs.Geometry.{Geometry, section_sectors}
 use Rattle.image_model.specs.Section.{Entry}
@@ -24,6 +25,10 @@ pub record IsRestingJournal (g : Geometry) (image : Image) : Type 0 where
 abbrev pub KeepsResting : Geometry → (start from c : Content) → Type 0
 KeepsResting g start from c = IsRestingJournal g (last_image start)
     → OnlyAdds (IsOfPlacing g (Contains (replayed_entries g (last_image start)))) from c
+
+-- So it is of each content since the start of a call.
+abbrev pub StaysResting : Geometry → (before after : List Content) → Type 0
+StaysResting g before after = EachSince (λ start. KeepsResting g start start) before after
 
 -- Each block that has a replayed entry has the data and the tag of its last one in their places already,
 pub record IsInPlaceAlready (g : Geometry) (image : Image) : Type 0 where

@@ -15,13 +15,25 @@ use Rattle.journal_reading.specs.Places.{places_of}
 use Rattle.buffer_cache.specs.Cached.{HasNoMark}
 use Rattle.tag_store.specs.Store.{IsStore, Store, given_tags}
 
--- A journal that was judged is replayed by bytes that were read of it, over a disk with a store of tags.
-pub record IsReplaying (g : Geometry) (bytes : List ℕ) (journal : JudgedJournal) (store : Store) (disk : DiskIdentity)
-    (moments : List Content) : Type 0 where
+-- There are as many bytes as a journal of this geometry has, over a disk with a store of its tags.
+pub record HasScratch (g : Geometry) (bytes : List ℕ) (store : Store) (disk : DiskIdentity) (moments : List Content)
+    : Type 0 where
   pub geometry : g ≡ store.geometry
   pub size : length bytes ≡ 512 * journal_sectors g
-  pub fits : FitsJournal g journal
   pub store_is : IsStore store disk moments
+
+-- A journal that was judged is replayed with such bytes: they are read of it, or are room for them.
+pub record IsReplaying (g : Geometry) (bytes : List ℕ) (journal : JudgedJournal) (store : Store) (disk : DiskIdentity)
+    (moments : List Content) : Type 0 where
+  pub scratch : HasScratch g bytes store disk moments
+  pub open scratch use *
+  pub fits : FitsJournal g journal
+
+-- Behind a call the store is one of the disk's tags still, with the geometry that it had, and the disk is the same.
+pub record KeepsStoreOn (old new : Store) (disk now : DiskIdentity) (after : List Content) : Type 0 where
+  pub store : IsStore new now after
+  pub geometry : new.geometry ≡ old.geometry
+  pub identity : now ≡ disk
 
 -- The journal of an image has these bytes, and this is kept of it.
 pub record IsReadOn (g : Geometry) (bytes : List ℕ) (journal : JudgedJournal) (image : Image) : Type 0 where

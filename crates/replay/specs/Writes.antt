@@ -2,12 +2,17 @@
 -- Source: Linux, drivers/md/dm-integrity.c, do_journal_write and init_journal.
 use Rattle.std.specs.Prelude.{◌≡◌, ◌⊎◌, ℕ, ◌/◌, List}
 use Rattle.std.specs.List.{Contains}
-use Rattle.disk_model.specs.Disk.{Content, IsOfRun, newest_only}
-use Rattle.disk_model.specs.Moments.{EachSince}
+use Rattle.disk_model.specs.Disk.{Content, Image, IsOfRun, OnlyAdds, last_image, newest_only}
+use Rattle.disk_model.specs.Moments.{EachSince, HasNow}
+use Rattle.image_model.specs.Cells.{replayed_entries}
 use Rattle.image_model.specs.Geometry.{Geometry, data_at, section_at}
 use Rattle.image_model.specs.Section.{Entry}
+use Rattle.buffer_cache.specs.Cached.{HasNoMark}
 use Rattle.journal_erasure.specs.EmptySections.{AreEmptySections}
-use Rattle.tag_store.specs.Store.{HoldsTag}
+use Rattle.journal_reading.specs.declared.reading.JudgedJournal.{JudgedJournal}
+use Rattle.journal_reading.specs.Journal.{journal_image}
+use Rattle.tag_store.specs.Store.{HoldsTag, Store}
+use Rattle.replay.specs.Replaying.{entries_on}
 
 -- The bytes are those of one of these entries, in the place of its block.
 pub record IsOfEntry (g : Geometry) (Among : Entry → Type 0) (sector : ℕ) (x : List ℕ) : Type 0 where
@@ -33,3 +38,25 @@ IsOfRecovery g entries sector x = IsOfPlacing g (Contains entries) sector x ⊎ 
 -- Each content since the start is the one there with nothing pending: the disk was synced at most.
 abbrev pub OnlySyncs : (before after : List Content) → Type 0
 OnlySyncs before after = EachSince (λ start c. c ≡ newest_only start) before after
+
+-- So it is where no tag is still to be written and the image at the start is of this kind.
+abbrev pub OnlySyncsWhere : (Image → Type 0) → Store → (before after : List Content) → Type 0
+OnlySyncsWhere P store before after =
+    HasNoMark store.sectors → HasNow (λ start. P (last_image start) → OnlySyncs before after) before
+
+-- ---- since the start of a call
+
+-- Nothing is written but sectors of tags, and in their places the entries of a journal that was judged and read,
+abbrev pub AddsRead : Geometry → (bytes : List ℕ) → JudgedJournal → (before after : List Content) → Type 0
+AddsRead g bytes journal before after =
+    EachSince (OnlyAdds (IsOfPlacing g (Contains (entries_on g (journal_image bytes) journal.plan.walk)))) before after
+
+-- or those of the image at the start,
+abbrev pub AddsPlacing : Geometry → (before after : List Content) → Type 0
+AddsPlacing g before after =
+    EachSince (λ start. OnlyAdds (IsOfPlacing g (Contains (replayed_entries g (last_image start)))) start) before after
+
+-- and with these the empty sections of an erased journal.
+abbrev pub AddsRecovery : Geometry → (before after : List Content) → Type 0
+AddsRecovery g before after =
+    EachSince (λ start. OnlyAdds (IsOfRecovery g (replayed_entries g (last_image start))) start) before after

@@ -1,13 +1,13 @@
 //! Emptying a journal at rest.
-ghost use Rattle.std.specs.Prelude.{◌≡◌, ◌*◌, ◌<◌, [], false, length, IfOk, Ok, OnOk};
+ghost use Rattle.std.specs.Prelude.{◌≡◌, false, length, IfOk, Ok, OnOk};
 ghost use Rattle.disk_model.specs.Causes.{HasCause};
-ghost use Rattle.disk_model.specs.Disk.{EachImage, OnlyAdds};
-ghost use Rattle.disk_model.specs.Moments.{EachMoment, EachSince, HasNow};
-ghost use Rattle.image_model.specs.Geometry.{journal_sectors};
-ghost use Rattle.journal_model.specs.JournaledDisk.{IsCutOf, JournaledDisk};
-ghost use Rattle.place_writer.specs.Cells.{HasCells};
-ghost use Rattle.tag_store.specs.Store.{IsStore, given_tags};
-ghost use Rattle.replay.specs.Recovery.{IsAtRestOn, LeavesRecovered};
+ghost use Rattle.disk_model.specs.Disk.{OnlyAdds};
+ghost use Rattle.disk_model.specs.Moments.{EachSince};
+ghost use Rattle.journal_model.specs.JournaledDisk.{JournaledDisk};
+ghost use Rattle.tag_store.specs.Store.{IsStore};
+ghost use Rattle.replay.specs.Calls.{LeavesCutsOf, LeavesOn};
+ghost use Rattle.replay.specs.Recovery.{GoesOnIn, IsAtRestOn};
+ghost use Rattle.replay.specs.Replaying.{HasScratch};
 ghost use Rattle.replay.specs.Writes.{IsOfEmptyJournal};
 
 use crate::finishing::erase_journal;
@@ -32,14 +32,11 @@ pub fn empty<D: Disk>(
     pool: &mut Run<'_>,
     at: Recovered,
 ) -> Result<Recovered, Failed>
-    requires geometry { geometry.now ≡ tags.now.geometry }
-    requires next { at.next < geometry.now.sections }
-    requires number { at.number < 4 }
-    requires pool { length pool.old.bytes ≡ 512 * journal_sectors geometry.now }
-    requires store { IsStore tags.now (D.identity disk.old) (D.moments disk.old) }
+    requires scratch { HasScratch geometry.now pool.old.bytes tags.now (D.identity disk.old) (D.moments disk.old) }
+    requires place { GoesOnIn geometry.now at }
 
     ensures left { IfOk result (λ left. (d : JournaledDisk) → IsAtRestOn d at tags.now (D.moments disk.old)
-        → HasNow (λ c. LeavesRecovered d left (given_tags tags.now c) c) (D.moments disk.new)) }
+        → LeavesOn d tags.now (D.moments disk.new) left) }
 
     ensures emptied { IfOk result (λ left. left.used ≡ false) }
     ensures idle { at.used ≡ false → (result ≡ Ok at) × (disk.new ≡ disk.old) }
@@ -50,7 +47,7 @@ pub fn empty<D: Disk>(
     ensures identity { D.identity disk.new ≡ D.identity disk.old }
 
     ensures cuts { (d : JournaledDisk) → IsAtRestOn d at tags.now (D.moments disk.old)
-        → EachMoment (D.moments disk.old) (D.moments disk.new) (EachImage (IsCutOf d [])) }
+        → LeavesCutsOf d (D.moments disk.old) (D.moments disk.new) }
     ensures moments { EachSince (OnlyAdds (IsOfEmptyJournal geometry.now)) (D.moments disk.old) (D.moments disk.new) }
 {
     if !at.used {

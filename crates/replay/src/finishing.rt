@@ -1,18 +1,16 @@
 //! What follows once all entries are in their places: a journal at rest goes on, and any other is erased.
-ghost use Rattle.std.specs.Prelude.{◌≡◌, ◌↔◌, ◌⊎◌, false, ℕ, ◌*◌, ◌<◌, ◌≤◌, [], length, get_or, slice_index_or, IfOk, OnOk};
+ghost use Rattle.std.specs.Prelude.{◌≡◌, ◌↔◌, ◌⊎◌, false, ℕ, ◌<◌, ◌≤◌, get_or, slice_index_or, IfOk, OnOk};
 ghost use Rattle.disk_model.specs.Causes.{HasCause};
-ghost use Rattle.disk_model.specs.Disk.{EachImage, HasNothingPending, OnlyAdds};
-ghost use Rattle.disk_model.specs.Moments.{EachMoment, EachSince, HasNow};
-ghost use Rattle.image_model.specs.Geometry.{journal_sectors};
+ghost use Rattle.disk_model.specs.Disk.{OnlyAdds};
+ghost use Rattle.disk_model.specs.Moments.{EachSince};
 ghost use Rattle.image_model.specs.Walk.{sections_of};
 ghost use Rattle.image_model.specs.declared.journal_plan.State.TheVariants.{Erasing, Mixed, Rest};
 ghost use Rattle.journal_erasure.specs.Erasing.{IsErasureFor, IsErasureOf};
-ghost use Rattle.journal_model.specs.JournaledDisk.{IsCutOf, JournaledDisk};
-ghost use Rattle.journal_reading.specs.Journal.{FitsJournal};
-ghost use Rattle.place_writer.specs.Cells.{HasCells};
-ghost use Rattle.tag_store.specs.Store.{IsStore, given_tags};
+ghost use Rattle.tag_store.specs.Store.{IsStore};
 ghost use Rattle.place_model.specs.Opened.{next_by};
-ghost use Rattle.replay.specs.Recovery.{GoesOnIn, IsReplayed, LeavesRecovered};
+ghost use Rattle.replay.specs.Calls.{LeavesCutsOfEach, LeavesEach, LeavesErased, LeavesReplayed};
+ghost use Rattle.replay.specs.Recovery.{GoesOnIn, IsReplayed};
+ghost use Rattle.replay.specs.Replaying.{HasScratch, IsReplaying};
 ghost use Rattle.replay.specs.Writes.{IsOfEmptyJournal};
 
 use crate::recovered::Recovered;
@@ -41,14 +39,11 @@ pub(crate) fn erase_journal<D: Disk>(
     erasure: &Erasure,
     scratch: &mut [u8],
 ) -> Result<Recovered, Failed>
-    requires geometry { geometry.now ≡ tags.now.geometry }
+    requires scratch { HasScratch geometry.now scratch.old tags.now (D.identity disk.old) (D.moments disk.old) }
     requires erasure { IsErasureFor geometry.now erasure.now }
-    requires scratch { length scratch.old ≡ 512 * journal_sectors geometry.now }
-    requires store { IsStore tags.now (D.identity disk.old) (D.moments disk.old) }
 
-    ensures left { IfOk result (λ at. (d : JournaledDisk) → IsErasureOf geometry.now erasure.now d
-        → d.placed ≡ length d.entries → HasCells d tags.now (D.moments disk.old)
-        → HasNow (λ c. LeavesRecovered d at (given_tags tags.now c) c) (D.moments disk.new)) }
+    ensures left { IfOk result (LeavesErased geometry.now erasure.now tags.now
+        (D.moments disk.old) (D.moments disk.new)) }
 
     ensures next { IfOk result (λ at. at.next ≡ 0) }
     ensures place { IfOk result (GoesOnIn geometry.now) }
@@ -58,9 +53,8 @@ pub(crate) fn erase_journal<D: Disk>(
     ensures store { OnOk result (IsStore tags.now (D.identity disk.new) (D.moments disk.new)) }
     ensures identity { D.identity disk.new ≡ D.identity disk.old }
 
-    ensures cuts { (d : JournaledDisk) → IsErasureOf geometry.now erasure.now d
-        → HasCells d tags.now (D.moments disk.old)
-        → EachMoment (D.moments disk.old) (D.moments disk.new) (EachImage (IsCutOf d [])) }
+    ensures cuts { LeavesCutsOfEach (IsErasureOf geometry.now erasure.now) tags.now
+        (D.moments disk.old) (D.moments disk.new) }
     ensures moments { EachSince (OnlyAdds (IsOfEmptyJournal geometry.now)) (D.moments disk.old) (D.moments disk.new) }
 {
     erase(disk, geometry, erasure, scratch)?;
@@ -104,15 +98,12 @@ fn erase_scanned<D: Disk>(
     newest: u8,
     scratch: &mut [u8],
 ) -> Result<Recovered, Failed>
-    requires geometry { geometry.now ≡ tags.now.geometry }
-    requires scratch { length scratch.old ≡ 512 * journal_sectors geometry.now }
-    requires fits { FitsJournal geometry.now journal.now }
+    requires replaying { IsReplaying geometry.now scratch.old journal.now tags.now
+        (D.identity disk.old) (D.moments disk.old) }
     requires newest { (journal.now.plan.state ≡ Mixed newest) ⊎ (journal.now.plan.state ≡ Erasing newest) }
-    requires store { IsStore tags.now (D.identity disk.old) (D.moments disk.old) }
 
-    ensures left { IfOk result (λ at. (d : JournaledDisk) → IsReplayed d geometry.now journal.now
-        → HasCells d tags.now (D.moments disk.old)
-        → HasNow (λ c. LeavesRecovered d at (given_tags tags.now c) c) (D.moments disk.new)) }
+    ensures left { IfOk result (LeavesEach (λ d. IsReplayed d geometry.now journal.now) tags.now
+        (D.moments disk.old) (D.moments disk.new)) }
 
     ensures next { IfOk result (λ at. at.next ≡ 0) }
     ensures place { IfOk result (GoesOnIn geometry.now) }
@@ -122,9 +113,8 @@ fn erase_scanned<D: Disk>(
     ensures store { OnOk result (IsStore tags.now (D.identity disk.new) (D.moments disk.new)) }
     ensures identity { D.identity disk.new ≡ D.identity disk.old }
 
-    ensures cuts { (d : JournaledDisk) → IsReplayed d geometry.now journal.now
-        → HasCells d tags.now (D.moments disk.old)
-        → EachMoment (D.moments disk.old) (D.moments disk.new) (EachImage (IsCutOf d [])) }
+    ensures cuts { LeavesCutsOfEach (λ d. IsReplayed d geometry.now journal.now) tags.now
+        (D.moments disk.old) (D.moments disk.new) }
     ensures moments { EachSince (OnlyAdds (IsOfEmptyJournal geometry.now)) (D.moments disk.old) (D.moments disk.new) }
 {
     let first = first_counted(&journal.plan.walk, geometry.sections());
@@ -152,14 +142,11 @@ pub(crate) fn finish<D: Disk>(
     journal: &JudgedJournal,
     scratch: &mut [u8],
 ) -> Result<Recovered, Failed>
-    requires geometry { geometry.now ≡ tags.now.geometry }
-    requires scratch { length scratch.old ≡ 512 * journal_sectors geometry.now }
-    requires fits { FitsJournal geometry.now journal.now }
-    requires store { IsStore tags.now (D.identity disk.old) (D.moments disk.old) }
+    requires replaying { IsReplaying geometry.now scratch.old journal.now tags.now
+        (D.identity disk.old) (D.moments disk.old) }
 
-    ensures left { IfOk result (λ at. (d : JournaledDisk) → IsReplayed d geometry.now journal.now
-        → HasCells d tags.now (D.moments disk.old) → HasNow HasNothingPending (D.moments disk.old)
-        → HasNow (λ c. LeavesRecovered d at (given_tags tags.now c) c) (D.moments disk.new)) }
+    ensures left { IfOk result (LeavesReplayed geometry.now journal.now tags.now
+        (D.moments disk.old) (D.moments disk.new)) }
 
     ensures next { IfOk result (λ at. at.next ≡ next_by journal.now.plan.state) }
     ensures rest { (next number : ℕ) → journal.now.plan.state ≡ Rest next number
@@ -171,9 +158,8 @@ pub(crate) fn finish<D: Disk>(
     ensures store { OnOk result (IsStore tags.now (D.identity disk.new) (D.moments disk.new)) }
     ensures identity { D.identity disk.new ≡ D.identity disk.old }
 
-    ensures cuts { (d : JournaledDisk) → IsReplayed d geometry.now journal.now
-        → HasCells d tags.now (D.moments disk.old)
-        → EachMoment (D.moments disk.old) (D.moments disk.new) (EachImage (IsCutOf d [])) }
+    ensures cuts { LeavesCutsOfEach (λ d. IsReplayed d geometry.now journal.now) tags.now
+        (D.moments disk.old) (D.moments disk.new) }
     ensures moments { EachSince (OnlyAdds (IsOfEmptyJournal geometry.now)) (D.moments disk.old) (D.moments disk.new) }
 {
     match journal.plan.state {

@@ -3,7 +3,7 @@
 //! A journal often holds blocks in their order. So where the place that is asked for is the one behind the last, it and
 //! those behind it are read by one call, of twice as many sectors as the last time. Any other is read alone. No place
 //! is read ahead but of a block that has an entry: it is read anyway, so that no sector more can fail.
-ghost use Rattle.std.specs.Prelude.{◌≡◌, ◌↔◌, ◌+◌, ◌-◌, ◌*◌, ◌<◌, ◌≤◌, ◌^◌, [], drop, length, min, take, IfOk, IsSome, IsTrue, OnErr, OnOk, ℕ};
+ghost use Rattle.std.specs.Prelude.{◌≡◌, ◌↔◌, ◌+◌, ◌-◌, ◌*◌, ◌<◌, ◌≤◌, ◌^◌, [], drop, length, min, take, IfOk, IsSome, IsTrue, OnOk, ℕ};
 ghost use Rattle.disk_model.specs.Causes.{HasCause};
 ghost use Rattle.disk_model.specs.Disk.{Reads};
 ghost use Rattle.disk_model.specs.Identity.{IsBound};

@@ -1,20 +1,12 @@
 //! Placing the entries of a journal by its bytes.
-ghost use Rattle.std.specs.Prelude.{◌≡◌, ◌+◌, ◌*◌, ◌<◌, ◌↔◌, ℕ, length, IsTrue, OnOk, Some};
-ghost use Rattle.std.specs.List.{Contains};
-ghost use Rattle.buffer_cache.specs.Cached.{HasNoMark};
+ghost use Rattle.std.specs.Prelude.{◌≡◌, ◌*◌, ◌<◌, ◌↔◌, length, IsTrue, OnOk, Some};
 ghost use Rattle.disk_model.specs.Causes.{HasCause};
-ghost use Rattle.disk_model.specs.Disk.{OnlyAdds, last_image};
-ghost use Rattle.disk_model.specs.Moments.{EachMoment, EachSince, HasNow};
-ghost use Rattle.image_model.specs.Cells.{replayed_entries};
-ghost use Rattle.journal_model.specs.JournaledDisk.{JournaledDisk, StandsFor};
-ghost use Rattle.journal_reading.specs.Journal.{journal_image};
 ghost use Rattle.journal_reading.specs.Newest.{newest_in};
 ghost use Rattle.journal_reading.specs.Places.{places_of};
-ghost use Rattle.place_writer.specs.Cells.{HasCells};
-ghost use Rattle.tag_store.specs.Store.{IsStore, given_tags};
+ghost use Rattle.replay.specs.Placing.{IsStillRead, PlacesRead, StandsReading, StandsTurning, TurnsEntry};
 ghost use Rattle.replay.specs.ReadPlaces.{ShowsPlaces};
-ghost use Rattle.replay.specs.Replaying.{AreInPlace, HasTurned, IsReadOn, IsReplaying, IsStill, IsToReplay, all_placed, entries_on};
-ghost use Rattle.replay.specs.Writes.{IsOfPlacing};
+ghost use Rattle.replay.specs.Replaying.{IsReplaying, KeepsStoreOn};
+ghost use Rattle.replay.specs.Writes.{AddsRead};
 
 use crate::place_run::PlaceRun;
 use crate::writing::place_view;
@@ -52,26 +44,18 @@ pub(crate) fn place_all<D: Disk>(
 ) -> Result<(), Failed>
     requires { IsReplaying geometry.now bytes.now journal.now tags.old (D.identity disk.old) (D.moments disk.old) }
 
-    ensures placed { OnOk result ((d : JournaledDisk) → IsToReplay d geometry.now d.journal
-        → IsReadOn geometry.now bytes.now journal.now d.journal → HasCells d tags.old (D.moments disk.old)
-        → HasCells (all_placed d) tags.new (D.moments disk.new)) }
+    ensures placed { OnOk result (PlacesRead geometry.now bytes.now journal.now tags.old tags.new
+        (D.moments disk.old) (D.moments disk.new)) }
 
     ensures cause { HasCause (D.faults disk.old) (D.faults disk.new) result }
 
-    ensures store { IsStore tags.new (D.identity disk.new) (D.moments disk.new) }
-    ensures geometry { tags.new.geometry ≡ tags.old.geometry }
-    ensures identity { D.identity disk.new ≡ D.identity disk.old }
+    ensures keeps { KeepsStoreOn tags.old tags.new (D.identity disk.old) (D.identity disk.new) (D.moments disk.new) }
 
-    ensures stands { (d : JournaledDisk) → IsToReplay d geometry.now d.journal
-        → IsReadOn geometry.now bytes.now journal.now d.journal → HasCells d tags.old (D.moments disk.old)
-        → EachMoment (D.moments disk.old) (D.moments disk.new) (StandsFor (all_placed d)) }
-    ensures moments { EachSince (OnlyAdds (IsOfPlacing geometry.now (Contains
-        (entries_on geometry.now (journal_image bytes.now) journal.now.plan.walk))))
+    ensures stands { StandsReading geometry.now bytes.now journal.now tags.old
         (D.moments disk.old) (D.moments disk.new) }
-    ensures still { HasNoMark tags.old.sectors → HasNow (λ c.
-        IsReadOn geometry.now bytes.now journal.now (last_image c)
-        → AreInPlace geometry.now (replayed_entries geometry.now (last_image c)) (given_tags tags.old c) c
-        → IsStill tags.old tags.new (D.moments disk.old) (D.moments disk.new)) (D.moments disk.old) }
+    ensures moments { AddsRead geometry.now bytes.now journal.now (D.moments disk.old) (D.moments disk.new) }
+    ensures still { IsStillRead geometry.now bytes.now journal.now tags.old tags.new
+        (D.moments disk.old) (D.moments disk.new) }
 {
     let size = SECTOR_SIZE * geometry.shape().spb as usize;
     let mut buffer = [0; LARGEST_BLOCK];
@@ -108,30 +92,20 @@ fn place_entry<D: Disk>(
     requires block { length block.old ≡ 512 * read.now.geometry.now.shape.spb }
     requires run { ShowsPlaces tags.old.geometry run.old (D.moments disk.old) }
 
-    ensures placed { OnOk result ((d : JournaledDisk) → IsToReplay d read.now.geometry.now d.journal
-        → IsReadOn read.now.geometry.now read.now.bytes.now read.now.journal.now d.journal
-        → HasTurned d (newest_in read.now.journal.now.newest) number tags.old (D.moments disk.old)
-        → HasTurned d (newest_in read.now.journal.now.newest) (number + 1) tags.new (D.moments disk.new)) }
+    ensures placed { OnOk result (TurnsEntry read.now.geometry.now read.now.bytes.now read.now.journal.now number
+        tags.old tags.new D.moments disk.old disk.new) }
 
     ensures cause { HasCause (D.faults disk.old) (D.faults disk.new) result }
 
     ensures run { OnOk result (ShowsPlaces tags.new.geometry run.new (D.moments disk.new)) }
-    ensures store { IsStore tags.new (D.identity disk.new) (D.moments disk.new) }
-    ensures geometry { tags.new.geometry ≡ tags.old.geometry }
-    ensures identity { D.identity disk.new ≡ D.identity disk.old }
+    ensures keeps { KeepsStoreOn tags.old tags.new (D.identity disk.old) (D.identity disk.new) (D.moments disk.new) }
 
-    ensures stands { (d : JournaledDisk) → IsToReplay d read.now.geometry.now d.journal
-        → IsReadOn read.now.geometry.now read.now.bytes.now read.now.journal.now d.journal
-        → HasTurned d (newest_in read.now.journal.now.newest) number tags.old (D.moments disk.old)
-        → EachMoment (D.moments disk.old) (D.moments disk.new) (StandsFor (all_placed d)) }
-    ensures moments { EachSince (OnlyAdds (IsOfPlacing read.now.geometry.now (Contains
-        (entries_on read.now.geometry.now (journal_image read.now.bytes.now) read.now.journal.now.plan.walk))))
+    ensures stands { StandsTurning read.now.geometry.now read.now.bytes.now read.now.journal.now number tags.old
         (D.moments disk.old) (D.moments disk.new) }
-    ensures still { HasNoMark tags.old.sectors → HasNow (λ c.
-        IsReadOn read.now.geometry.now read.now.bytes.now read.now.journal.now (last_image c)
-        → AreInPlace read.now.geometry.now (replayed_entries read.now.geometry.now (last_image c))
-        (given_tags tags.old c) c
-        → IsStill tags.old tags.new (D.moments disk.old) (D.moments disk.new)) (D.moments disk.old) }
+    ensures moments { AddsRead read.now.geometry.now read.now.bytes.now read.now.journal.now
+        (D.moments disk.old) (D.moments disk.new) }
+    ensures still { IsStillRead read.now.geometry.now read.now.bytes.now read.now.journal.now tags.old tags.new
+        (D.moments disk.old) (D.moments disk.new) }
 {
     let place = entry_place(read.geometry, &read.journal.plan.walk, number);
     let Some(view) = read_entry(read.geometry, read.bytes, place, block) else {

@@ -82,7 +82,7 @@ impl LineReader {
     ///
     /// # Errors
     ///
-    /// - `Failed`: the source failed. What was taken stands in the line.
+    /// - `Failed`: the source failed. What was taken stands in the line, and all that was read is taken.
     pub fn next_line<S: Source>(&mut self, script: &mut S) -> Result<NextLine, Failed>
         ensures found { IfOk result (λ next. ForSome (S.left script.old) (λ left. IsSomeAnd (S.left script.new)
             (λ later. FindsLine next self.old self.new (self.old.unread ++ left) (self.new.unread ++ later)))) }
@@ -92,6 +92,9 @@ impl LineReader {
         ensures cause { HasCause (S.faults script.old) (S.faults script.new) result }
         ensures err { OnErr result (ForSome (S.left script.old) (λ left. IsSomeAnd (S.left script.new)
             (λ later. BeginsLine self.old self.new (self.old.unread ++ left) (self.new.unread ++ later)))) }
+        // Any call of the source may fail. So it is called only where all that was read is taken, and no newline is in
+        // that: no line that has come whole waits for what comes behind it.
+        ensures asked { OnErr result (self.new.unread ≡ []) }
 
         ensures bytes { ForSome (S.left script.old) (λ left. IsSomeAnd (S.left script.new)
             (λ later. TakesLine self.old self.new (self.old.unread ++ left) (self.new.unread ++ later))) }
@@ -122,6 +125,7 @@ impl LineReader {
 
         ensures cause { HasCause (S.faults script.old) (S.faults script.new) result }
         ensures err { OnErr result ((self.new ≡ self.old) × (S.left script.new ≡ S.left script.old)) }
+        ensures asked { OnErr result (self.new.unread ≡ []) }
 
         ensures same { self.new ≡ record self.old { unread = self.new.unread } }
         ensures within { IsWithin self.new }

@@ -4,6 +4,7 @@ pub mod FaultLemmas
 pub mod RunLemmas
 pub mod RunsLemmas
 pub mod SinglesLemmas
+pub mod LaneLemmas
 pub mod ReadLemmas
 pub mod TextLemmas
 pub mod DecideLemmas

@@ -28,7 +28,8 @@ pub fn put_number(text: &mut Vec<u8>, n: u64)
     put_bytes(text, buffer.format(n).as_bytes());
 }
 
-const DIGITS: [u8; 16] = *b"0123456789abcdef";
+/// The hexadecimal digits.
+pub(crate) const DIGITS: [u8; 16] = *b"0123456789abcdef";
 
 /// The two hexadecimal digits of a byte. They are looked up, since a text may have millions.
 pub fn digits_of(byte: u8) -> [u8; 2]

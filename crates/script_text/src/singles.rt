@@ -1,55 +1,46 @@
-//! Runs of one byte, of which bytes that differ one from the next make many. Each is looked up, and many go into the
-//! text at once.
-ghost use Rattle.std.specs.Prelude.{◌≡◌, ◌≢◌, ℕ, ◌+◌, ◌*◌, ◌<◌, ◌≤◌, ◌++◌, length, slice_index, vec_len, vec_capacity, IsTrue};
+//! Runs of one byte, of which bytes that differ one from the next make many. Eight are compared, looked up and put into
+//! the text at once, by vectors.
+ghost use Rattle.std.specs.Prelude.{◌≡◌, ◌≢◌, ℕ, ◌+◌, ◌*◌, ◌<◌, ◌≤◌, ◌==◌, ◌++◌, length, take, drop, slice_index, vec_len, vec_capacity, IsTrue};
 ghost use Rattle.std.specs.List.{flat_map};
+ghost use Rattle.std.specs.Simd.Lanes.{mask_l, zip2};
+ghost use Rattle.hex.specs.Hex.{encode_lower};
 ghost use Rattle.script_text.specs.Singles.{single_text};
 
-use crate::pieces::put_bytes;
+use crate::pieces::{DIGITS, digits_of, put_bytes};
+use std::simd::prelude::*;
 
 /// How many go into the text at once.
 pub(crate) const AT_ONCE: usize = 8;
 
-/// The runs of the sixteen bytes whose first digit is this one, each with a comma.
-macro_rules! singles_from {
-    ($high:literal) => {
-        [
-            [$high, b'0', b'*', b'1', b','], [$high, b'1', b'*', b'1', b','],
-            [$high, b'2', b'*', b'1', b','], [$high, b'3', b'*', b'1', b','],
-            [$high, b'4', b'*', b'1', b','], [$high, b'5', b'*', b'1', b','],
-            [$high, b'6', b'*', b'1', b','], [$high, b'7', b'*', b'1', b','],
-            [$high, b'8', b'*', b'1', b','], [$high, b'9', b'*', b'1', b','],
-            [$high, b'a', b'*', b'1', b','], [$high, b'b', b'*', b'1', b','],
-            [$high, b'c', b'*', b'1', b','], [$high, b'd', b'*', b'1', b','],
-            [$high, b'e', b'*', b'1', b','], [$high, b'f', b'*', b'1', b','],
-        ]
-    };
-}
+/// What stands behind the digits of each run.
+const MARKS: [u8; 16] = *b"*1,*1,*1,*1,*1,*";
 
-/// The run of each byte, with a comma, by its first and its second digit.
-static SINGLES: [[[u8; 5]; 16]; 16] = [
-    singles_from!(b'0'),
-    singles_from!(b'1'),
-    singles_from!(b'2'),
-    singles_from!(b'3'),
-    singles_from!(b'4'),
-    singles_from!(b'5'),
-    singles_from!(b'6'),
-    singles_from!(b'7'),
-    singles_from!(b'8'),
-    singles_from!(b'9'),
-    singles_from!(b'a'),
-    singles_from!(b'b'),
-    singles_from!(b'c'),
-    singles_from!(b'd'),
-    singles_from!(b'e'),
-    singles_from!(b'f'),
+/// Where the text of eight runs is taken from: the two digits of each, of which there are sixteen, and then the first
+/// three marks. The places behind the forty are not used.
+const PLACES: [usize; 64] = [
+    0, 1, 16, 17, 18, 2, 3, 16, 17, 18, 4, 5, 16, 17, 18, 6, 7, 16, 17, 18, 8, 9, 16, 17, 18, 10,
+    11, 16, 17, 18, 12, 13, 16, 17, 18, 14, 15, 16, 17, 18, 0, 0, 0, 0, 0, 0, 0, 0, 0, 0, 0, 0, 0,
+    0, 0, 0, 0, 0, 0, 0, 0, 0, 0, 0,
 ];
 
 /// The run of one byte, and the comma behind it.
 fn single_of(byte: u8) -> [u8; 5]
     ensures { result ≡ single_text byte }
 {
-    SINGLES.as_flattened()[byte as usize]
+    let [high, low] = digits_of(byte);
+    [high, low, b'*', b'1', b',']
+}
+
+/// A bit for each of the first eight bytes, set where the next byte is the same. All are compared at once, since most
+/// blocks have no such byte.
+fn equal_to_next(bytes: &[u8]) -> u64
+    requires more { 8 < length bytes.now }
+
+    ensures { result ≡ mask_l (zip2 (λ x y. x == y) (take 8 bytes.now) (take 8 (drop 1 bytes.now))) }
+{
+    let eight = u8x8::from_slice(bytes);
+    let next = u8x8::from_slice(&bytes[1..]);
+    eight.simd_eq(next).to_bitmask()
 }
 
 /// Whether each of the first eight bytes is a run by itself, and others follow.
@@ -57,7 +48,7 @@ pub(crate) fn begins_with_singles(bytes: &[u8]) -> bool
     ensures more { IsTrue result → 8 < length bytes.now }
     ensures singles { IsTrue result → (k : ℕ) → k < 8 → slice_index bytes.now k ≢ slice_index bytes.now (k + 1) }
 {
-    bytes.len() > AT_ONCE && (0..AT_ONCE).all(|k| bytes[k] != bytes[k + 1])
+    bytes.len() > AT_ONCE && equal_to_next(bytes) == 0
 }
 
 /// Appends a run of one byte and a comma.
@@ -70,6 +61,16 @@ pub(crate) fn put_single(text: &mut Vec<u8>, byte: u8)
     put_bytes(text, &single_of(byte));
 }
 
+/// The two digits of each of eight bytes. They are looked up all at once.
+fn digits_of_eight(bytes: u8x8) -> u8x16
+    ensures { result ≡ encode_lower bytes }
+{
+    let high = bytes >> u8x8::splat(4);
+    let low = bytes & u8x8::splat(15);
+    let places = high.shuffle(low, [0, 8, 1, 9, 2, 10, 3, 11, 4, 12, 5, 13, 6, 14, 7, 15]);
+    u8x16::from_array(DIGITS).swizzle_dyn(places)
+}
+
 /// Appends the runs of eight bytes, each with a comma.
 pub(crate) fn put_singles(text: &mut Vec<u8>, bytes: &[u8; AT_ONCE])
     requires room { vec_len text.old + 5 * 8 ≤ vec_capacity text.old }
@@ -77,8 +78,10 @@ pub(crate) fn put_singles(text: &mut Vec<u8>, bytes: &[u8; AT_ONCE])
     ensures written { text.new.items ≡ text.old.items ++ flat_map single_text bytes.now }
     ensures capacity { vec_capacity text.old ≤ vec_capacity text.new }
 {
-    let [a, b, c, d, e, f, g, h] = *bytes;
-    let front = [single_of(a), single_of(b), single_of(c), single_of(d)];
-    let back = [single_of(e), single_of(f), single_of(g), single_of(h)];
-    put_bytes(text, [front, back].as_flattened().as_flattened());
+    let digits = digits_of_eight(u8x8::from_array(*bytes));
+    let runs: u8x64 = digits.shuffle(u8x16::from_array(MARKS), PLACES);
+    // A vector is stored whole, where `to_array` takes its lanes one by one.
+    let mut lanes = [0; 64];
+    runs.copy_to_slice(&mut lanes);
+    put_bytes(text, &lanes[..5 * AT_ONCE]);
 }

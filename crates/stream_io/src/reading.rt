@@ -3,6 +3,7 @@ ghost use Rattle.std.specs.Prelude.{◌≡◌, ◌≤◌, ◌+◌, length, take,
 ghost use Rattle.std.specs.Option.{ForSome, option_map};
 ghost use Rattle.disk_model.specs.Causes.{HasCause, Rose};
 ghost use Rattle.disk_model.specs.Identity.{IsBound, IsBoundTo};
+ghost use Rattle.stream_io.specs.Stream.{TakesAtMost};
 
 use crate::NamedSource;
 use sector_disk::Failed;
@@ -37,6 +38,9 @@ pub fn read_named<S: NamedSource>(
     ensures rest { OnOk result (ForSome (S.named source.old name.now) (λ all.
         S.left source.new ≡ Some (drop most all))) }
     ensures bound { OnOk result (IsBoundTo name.now (S.binding source.new)) }
+    // No more of it is taken, whatever the answer is.
+    ensures taken { ForSome (S.named source.old name.now) (λ all.
+        TakesAtMost most (Some all) (S.named source.new name.now)) }
 
     ensures failed { result ≡ Err ReadFault.Failed → Rose (S.faults source.old) (S.faults source.new) }
     ensures memory { result ≡ Err ReadFault.Memory → source.new ≡ source.old }
@@ -65,6 +69,8 @@ fn fill_from<S: NamedSource>(source: &mut S, name: &str, buffer: &mut [u8]) -> R
         S.left source.new ≡ Some (drop (length buffer.new) all))) }
     ensures within { IfOk result (λ n. n ≤ length buffer.new) }
     ensures bound { OnOk result (IsBoundTo name.now (S.binding source.new)) }
+    ensures taken { ForSome (S.named source.old name.now) (λ all.
+        TakesAtMost (length buffer.new) (Some all) (S.named source.new name.now)) }
 
     ensures cause { HasCause (S.faults source.old) (S.faults source.new) result }
 {
@@ -81,6 +87,7 @@ fn fill<S: NamedSource>(source: &mut S, buffer: &mut [u8]) -> Result<usize, Fail
     ensures rest { OnOk result (S.left source.new
         ≡ option_map (drop (length buffer.new)) (S.left source.old)) }
     ensures within { IfOk result (λ n. n ≤ length buffer.new) }
+    ensures taken { TakesAtMost (length buffer.new) (S.left source.old) (S.left source.new) }
 
     ensures cause { HasCause (S.faults source.old) (S.faults source.new) result }
 

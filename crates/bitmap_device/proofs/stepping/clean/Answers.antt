@@ -71,7 +71,7 @@ pub returns-clause-goes_on : goal.returns-clause-goes_on
 returns-clause-goes_on g c = λ did.
     clean_fewer c.args.regions.now c.clean.new.self c.in-Some.region
     (chosen_rests c.args.regions.now (is_held c.held_spans-held.result) c.in-Some.region c.least_to_clean.result c.least_to_clean.ensures c.in-Some.is)
-    c.clean.ensures.rest.0 c.in_ok-clean.ensures.counts
+    c.clean.ensures.stays.geometry c.in_ok-clean.ensures.counts
 
 pub returns-clause-tags : goal.returns-clause-tags
 returns-clause-tags g c =

@@ -53,7 +53,7 @@ returns-in-Some-clause-next g c =
 pub returns-in-Some-clause-goes_on : goal.returns-in-Some-clause-goes_on
 returns-in-Some-clause-goes_on g c = λ did.
     let states = c.args.regions.now in
-    recalc_fewer states c.recalculate.new.self c.in-Some.field-0 (sym c.in_ok-recalculate.ensures.least ∙ c.in-Some.is) c.recalculate.ensures.geometry.1
+    recalc_fewer states c.recalculate.new.self c.in-Some.field-0 (sym c.in_ok-recalculate.ensures.least ∙ c.in-Some.is) c.recalculate.ensures.stays.regions_
     (subst (λ (o : Option ℕ). IfSome o (λ region. HasCounts c.recalculate.new.self states.geometry (recalculated_region region (counts_of states)))) c.in-Some.is
     c.in_ok-recalculate.ensures.counts)
 

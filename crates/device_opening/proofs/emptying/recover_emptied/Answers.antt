@@ -2,6 +2,7 @@ use Rattle.std.proofs.Common.{◌*◌, sym, ap, ◌∙◌, subst}
 use Rattle.disk_model.specs.Disk.{OnlyAdds, last_image}
 use Rattle.disk_model.specs.Moments.{EachSince}
 use Rattle.image_model.specs.Geometry.{Geometry, journal_sectors}
+use Rattle.replay.specs.Recovery.{GoesOnIn}
 use Rattle.replay.specs.Writes.{IsOfEmptyJournal}
 use Rattle.disk_model.proofs.MomentsLemmas.{EachMoment-then}
 use Rattle.device_opening.specs.Judged.{judged_format}
@@ -11,8 +12,16 @@ use Rattle.device_opening.proofs.MomentsLemmas.{now_told}
 use Rattle.device_opening.proofs.EmptyingLemmas.{at_rest, cells_while_emptied, emptying_adds, emptying_keeps, leaves_then, resting_keeps, stays_unused}
 use Rattle.device_opening.proofs.emptying.recover_emptied.Goals as goal
 
-pub empty-requires-clause-pool : goal.empty-requires-clause-pool
-empty-requires-clause-pool g c = c.recover_image.ensures.pool ∙ c.requires.pool ∙ ap (λ (x : Geometry). 512 * journal_sectors x) (sym c.geometry-geometry.ensures)
+pub empty-requires-clause-scratch : goal.empty-requires-clause-scratch
+empty-requires-clause-scratch g c = record {
+  geometry = c.geometry-geometry.ensures ∙ sym c.in_ok-recovered.ensures.made.geometry;
+  size = c.recover_image.ensures.pool ∙ c.requires.pool ∙ ap (λ (x : Geometry). 512 * journal_sectors x) (sym c.geometry-geometry.ensures);
+  store_is = c.in_ok-recovered.ensures.made.store;
+}
+
+pub empty-requires-clause-place : goal.empty-requires-clause-place
+empty-requires-clause-place g c =
+    subst (λ (x : Geometry). GoesOnIn x c.in_ok-recovered.recovered.at) (sym c.geometry-geometry.ensures) c.in_ok-recovered.ensures.place
 
 pub returns-clause-emptied : goal.returns-clause-emptied
 returns-clause-emptied g c =
@@ -101,14 +110,3 @@ returns-in_err-at-clause-keeps g c =
 pub returns-in_err-recovered-clause-keeps : goal.returns-in_err-recovered-clause-keeps
 returns-in_err-recovered-clause-keeps g c =
     resting_keeps c.args.image.format.geometry (g.D.Disk.identity c.args.disk.now).sectors c.requires.judged.format.accepted.geometry c.recover_image.ensures.rest.rest
-
-pub empty-requires-clause-geometry : goal.empty-requires-clause-geometry
-empty-requires-clause-geometry g c = c.geometry-geometry.ensures ∙ sym c.in_ok-recovered.ensures.made.geometry
-
-pub empty-requires-clause-store : goal.empty-requires-clause-store
-empty-requires-clause-store g c = c.in_ok-recovered.ensures.made.store
-
-pub returns-clause-made : goal.returns-clause-made
-returns-clause-made g c =
-    let made = c.in_ok-recovered.ensures.made in
-    record { store = c.in_ok-at.ensures.store; geometry = made.geometry; maker = made.maker }

@@ -109,6 +109,6 @@ returns-in_err-tags-clause-rest g c = record {
 pub returns-clause-made : goal.returns-clause-made
 returns-clause-made g c = record {
   store = c.in_ok-at.ensures.store;
-  geometry = c.recover.ensures.geometry ∙ ap (λ (s : Store). s.geometry) c.in_ok-tags.ensures.made;
+  geometry = c.recover.ensures.keeps.geometry ∙ ap (λ (s : Store). s.geometry) c.in_ok-tags.ensures.made;
   maker = refl;
 }

@@ -2,6 +2,7 @@ use Rattle.std.proofs.Common.{◌∙◌, arith}
 use Rattle.std.proofs.lemmas.Result.{on_ok_weaker}
 use Rattle.image_model.proofs.GeometryLemmas.{data_at-inside}
 use Rattle.image_formatting.proofs.FillingLemmas.{fill_head, fill_journal, fill_all, fill_stays, filled_now}
+use Rattle.image_formatting.proofs.WrittenLemmas.{fill_written, head_written, journal_written}
 use Rattle.image_formatting.proofs.filling.fill.Goals as goal
 
 pub write_zeros-requires-clause-zeros : goal.write_zeros-requires-clause-zeros
@@ -31,3 +32,13 @@ returns-clause-filled g c = on_ok_weaker c.fill_blocks.result (λ blocks.
 pub returns-clause-stays : goal.returns-clause-stays
 returns-clause-stays g c = on_ok_weaker c.fill_blocks.result (λ stays.
     fill_stays _ _ _ _ c.args.wipe c.args.format.now.geometry _ c.requires.format.geometry c.write_zeros.ensures.moments c.fill_journal.ensures.moments c.fill_blocks.ensures.moments stays) c.fill_blocks.ensures.stays
+
+pub returns-in_err-write_zeros-clause-writes : goal.returns-in_err-write_zeros-clause-writes
+returns-in_err-write_zeros-clause-writes g c = head_written c.args.wipe c.args.format.now c.write_zeros.ensures.writes
+
+pub returns-in_err-fill_journal-clause-writes : goal.returns-in_err-fill_journal-clause-writes
+returns-in_err-fill_journal-clause-writes g c = journal_written c.args.wipe c.args.format.now c.write_zeros.ensures.writes c.fill_journal.ensures.moments
+
+pub returns-clause-writes : goal.returns-clause-writes
+returns-clause-writes g c =
+    fill_written c.args.wipe c.args.format.now _ c.requires.format.geometry c.write_zeros.ensures.moments c.write_zeros.ensures.writes c.fill_journal.ensures.moments c.fill_blocks.ensures.writes

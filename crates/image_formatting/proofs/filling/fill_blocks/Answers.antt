@@ -12,3 +12,6 @@ returns-in-Kept-clause-stays g c = keep_none _ _
 
 pub returns-in-Wiped-clause-stays : goal.returns-in-Wiped-clause-stays
 returns-in-Wiped-clause-stays g c = rw c.in-Wiped.is c.wipe_blocks.ensures.stays
+
+pub returns-in-Wiped-clause-writes : goal.returns-in-Wiped-clause-writes
+returns-in-Wiped-clause-writes g c = rw c.in-Wiped.is c.wipe_blocks.ensures.writes

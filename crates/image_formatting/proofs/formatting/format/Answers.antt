@@ -4,6 +4,7 @@ use Rattle.image_model.specs.Geometry.{Shape}
 use Rattle.image_format.specs.declared.reading.ImageFormat.{ImageFormat}
 use Rattle.image_formatting.specs.Room.{HasRoom}
 use Rattle.image_formatting.proofs.WholeLemmas.{left_by, made_by, planned_is, synced_by}
+use Rattle.image_formatting.proofs.WrittenLemmas.{new_written}
 use Rattle.image_formatting.proofs.formatting.format.Goals as goal
 
 pub write_image-requires-clause-size : goal.write_image-requires-clause-size
@@ -38,3 +39,13 @@ pub returns-clause-synced : goal.returns-clause-synced
 returns-clause-synced g c =
     let is = planned_is _ c.args.new c.in_ok-format.format c.in_ok-format.ensures.format c.in_ok-format.ensures.fields in
     synced_by (key_of c.args.hash) _ c.args.new c.in_ok-format.format c.new-maker.result (rw c.sectors.ensures at c.in_ok-format.ensures.provided) is c.new-maker.ensures c.in_ok-write_image.ensures.synced
+
+pub returns-in_err-write_image-clause-writes : goal.returns-in_err-write_image-clause-writes
+returns-in_err-write_image-clause-writes g c =
+    let is = planned_is _ c.args.new c.in_ok-format.format c.in_ok-format.ensures.format c.in_ok-format.ensures.fields in
+    new_written _ c.args.new c.in_ok-format.format (rw c.sectors.ensures at c.in_ok-format.ensures.provided) is c.write_image.ensures.writes
+
+pub returns-clause-writes : goal.returns-clause-writes
+returns-clause-writes g c =
+    let is = planned_is _ c.args.new c.in_ok-format.format c.in_ok-format.ensures.format c.in_ok-format.ensures.fields in
+    new_written _ c.args.new c.in_ok-format.format (rw c.sectors.ensures at c.in_ok-format.ensures.provided) is c.write_image.ensures.writes

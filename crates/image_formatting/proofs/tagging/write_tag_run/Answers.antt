@@ -2,11 +2,15 @@ use Rattle.std.proofs.Common.{◌≡◌, ℕ, ◌*◌, ◌/◌, ◌∙◌, ap, s
 use Rattle.std.proofs.lemmas.List.{length-replicate, length-take-le}
 use Rattle.std.proofs.lemmas.Result.{on_ok_weaker}
 use Rattle.commit_id.proofs.ShapeLemmas.{shape_holds}
+use Rattle.disk_model.specs.Disk.{IsOfRun}
+use Rattle.disk_model.proofs.MomentsLemmas.{adds_told, write_adds}
 use Rattle.image_model.specs.Geometry.{quotient_up}
 use Rattle.journal_section.specs.Entries.{IsWithin}
 use Rattle.image_formatting.proofs.RunsLemmas.{part_of_zeros, write_changes}
 use Rattle.image_formatting.proofs.TaggingLemmas.{sectors_are, tag_run_written}
 use Rattle.image_formatting.proofs.StaysLemmas.{behind_keeps}
+use Rattle.image_formatting.specs.Written.{IsOfTagRun}
+use Rattle.image_formatting.proofs.WrittenLemmas.{run_written}
 use Rattle.image_formatting.proofs.tagging.write_tag_run.Goals as goal
 
 pub slice_bounds-put_tags-end : goal.slice_bounds-put_tags-end
@@ -46,3 +50,15 @@ returns-clause-stays g c =
     on_ok_weaker c.write_run.result (λ written. behind_keeps _ _ c.args.at size c.put_tags.new.bytes
     (λ p high low start told. c.put_tags.ensures.behind p high ∙ c.in_ok-read_behind.ensures.behind p high (omega (arith, low, c.put_tags.ensures.len, c.read_behind.ensures.len)) start told)
     (omega (arith, long)) (rw c.read_behind.ensures.kept at written)) c.write_run.ensures.written
+
+pub returns-clause-writes : goal.returns-clause-writes
+returns-clause-writes g c =
+    let multiple = c.next_multiple_of.ensures in
+    let whole = sectors_are (c.args.count * c.args.shape.tag) c.next_multiple_of.result (c.args.shape.tag * (512 / c.args.shape.tag)) multiple.lower_bound multiple.upper_bound (omega (arith, multiple.multiple)) (omega (arith, c.requires.fits, c.requires.makes.room)) in
+    let long : length c.put_tags.new.bytes ≡ 512 * quotient_up (c.args.count * c.args.shape.tag) 512 =
+    c.put_tags.ensures.len ∙ c.read_behind.ensures.len ∙ length-take-le c.next_multiple_of.result c.args.tags.now (omega (arith, whole.1, c.requires.makes.room)) ∙ whole.0 in
+    let size = c.args.count * c.args.shape.tag in
+    adds_told (IsOfTagRun c.args.at size) (IsOfRun c.args.at c.put_tags.new.bytes)
+    (run_written _ c.args.at size c.put_tags.new.bytes
+    (λ p high low start told. c.put_tags.ensures.behind p high ∙ c.in_ok-read_behind.ensures.behind p high (omega (arith, low, c.put_tags.ensures.len, c.read_behind.ensures.len)) start told) long)
+    (rw c.read_behind.ensures.kept at (write_adds (IsOfRun c.args.at c.put_tags.new.bytes) c.args.at c.put_tags.new.bytes c.write_run.ensures.moments (λ s x of. of)))

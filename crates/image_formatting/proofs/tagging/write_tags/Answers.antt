@@ -10,6 +10,8 @@ use Rattle.image_formatting.proofs.RunsLemmas.{changes_then, changes_wider}
 use Rattle.image_formatting.proofs.TaggingLemmas.{group_fits, group_whole, next_run_inside, tags_next, whole_tags}
 use Rattle.image_formatting.specs.Stays.{IsRunByte, ReadsKeep}
 use Rattle.image_formatting.proofs.StaysLemmas.{keep_then, keep_wider}
+use Rattle.image_formatting.specs.Written.{IsOfTagRun}
+use Rattle.image_formatting.proofs.WrittenLemmas.{tag_run_next, writes_then}
 use Rattle.image_formatting.proofs.tagging.write_tags.Goals as goal
 
 pub overflow_add-next : goal.overflow_add-next
@@ -38,6 +40,14 @@ returns-in_err-write_tag_run-clause-moments g c =
     changes_then (IsWithin c.args.at (quotient_up (c.args.count * c.args.shape.tag) 512)) c.loop-done.invariant.moments
     (changes_wider _ (IsWithin c.args.at (quotient_up (c.args.count * c.args.shape.tag) 512)) (λ s of. (omega (arith, of.0), omega (arith, of.1, inside))) c.write_tag_run.ensures.moments)
 
+pub returns-in_err-write_tag_run-clause-writes : goal.returns-in_err-write_tag_run-clause-writes
+returns-in_err-write_tag_run-clause-writes g c =
+    let begins : c.loop-done.done % 512 ≡ 0 = ⊎_elim (λ e. e) (λ e. absurd (omega (arith, e, c.loop-done-test.true))) c.loop-done.invariant.whole in
+    let whole = whole_tags c.loop-done.done c.args.shape.tag begins in
+    writes_then (IsOfTagRun c.args.at (c.args.count * c.args.shape.tag)) (IsOfTagRun (c.args.at + c.loop-done.done * c.args.shape.tag / 512) (c.min-part.result * c.args.shape.tag))
+    c.loop-done.invariant.writes c.write_tag_run.ensures.writes
+    (tag_run_next _ _ c.args.at c.loop-done.done c.min-part.result c.args.count c.args.shape.tag whole (omega (arith, c.min-part.ensures, c.loop-done-test.true)) c.loop-done.invariant.stays)
+
 pub loop-done-preserved : goal.loop-done-preserved
 loop-done-preserved g c =
     let begins : c.loop-done.done % 512 ≡ 0 = ⊎_elim (λ e. e) (λ e. absurd (omega (arith, e, c.loop-done-test.true))) c.loop-done.invariant.whole in
@@ -58,6 +68,9 @@ loop-done-preserved g c =
       faults = search rules;
       moments = changes_then (IsWithin c.args.at (quotient_up (c.args.count * c.args.shape.tag) 512)) c.loop-done.invariant.moments
           (changes_wider _ (IsWithin c.args.at (quotient_up (c.args.count * c.args.shape.tag) 512)) (λ s of. (omega (arith, of.0), omega (arith, of.1, inside))) c.write_tag_run.ensures.moments);
+      writes = writes_then (IsOfTagRun c.args.at (c.args.count * c.args.shape.tag)) (IsOfTagRun (c.args.at + c.loop-done.done * c.args.shape.tag / 512) (c.min-part.result * c.args.shape.tag))
+          c.loop-done.invariant.writes c.write_tag_run.ensures.writes
+          (tag_run_next _ _ c.args.at c.loop-done.done c.min-part.result c.args.count c.args.shape.tag whole (omega (arith, c.min-part.ensures, c.loop-done-test.true)) c.loop-done.invariant.stays);
     }
 
 pub returns-clause-tags : goal.returns-clause-tags

@@ -1,5 +1,5 @@
 use Rattle.std.proofs.Common.{◌≡◌, ◌⊎◌, ◌-◌, ◌*◌, ◌%◌, ◌≤◌, length}
-use Rattle.disk_model.specs.Disk.{last_image}
+use Rattle.disk_model.specs.Disk.{OnlyAdds, last_image}
 use Rattle.disk_model.specs.Moments.{EachMoment, FromStart, HasNow}
 use Rattle.image_model.specs.Geometry.{quotient_up}
 use Rattle.journal_section.specs.Entries.{IsWithin}
@@ -7,6 +7,7 @@ use Rattle.image_formatting.specs.Blocks.{HasTagRun}
 use Rattle.image_formatting.specs.Room.{tags_at_once}
 use Rattle.image_formatting.specs.Runs.{ChangesOnly}
 use Rattle.image_formatting.specs.Stays.{IsRunByte, ReadsKeep}
+use Rattle.image_formatting.specs.Written.{IsOfTagRun}
 use Rattle.image_formatting.proofs.tagging.write_tags.Given as goal
 
 abbrev pub invariant-loop-done : goal.invariant-loop-done
@@ -21,6 +22,7 @@ invariant-loop-done g l =
       identity : g.D.Disk.identity l.disk ≡ g.D.Disk.identity l.fn.disk;
       faults : g.D.Counted.faults l.disk ≡ g.D.Counted.faults l.fn.disk;
       moments : EachMoment (moments_of l.fn.disk) (moments_of l.disk) (FromStart (moments_of l.fn.disk) (ChangesOnly (IsWithin l.at (quotient_up (l.count * l.shape.tag) 512))));
+      writes : EachMoment (moments_of l.fn.disk) (moments_of l.disk) (FromStart (moments_of l.fn.disk) (λ start. OnlyAdds (IsOfTagRun l.at (l.count * l.shape.tag) start) start));
     }
 
 abbrev pub decreases-loop-done : goal.decreases-loop-done

@@ -1,5 +1,6 @@
 use Rattle.std.proofs.Common.{◌≡◌, ℕ, ◌*◌, ap, arith}
 use Rattle.std.proofs.lemmas.Result.{on_ok_weaker}
+use Rattle.disk_model.specs.Disk.{Content}
 use Rattle.disk_model.specs.Identity.{DiskIdentity}
 use Rattle.image_model.specs.Geometry.{Shape}
 use Rattle.journal_section.specs.Entries.{IsWithin}
@@ -8,6 +9,8 @@ use Rattle.image_formatting.proofs.RunsLemmas.{changes_then}
 use Rattle.image_formatting.proofs.WipingLemmas.{area_data, area_now, area_tags, blocks_few, data_inside, tags_before_data}
 use Rattle.image_formatting.specs.Stays.{IsBlockByte, IsRunByte}
 use Rattle.image_formatting.proofs.StaysLemmas.{data_byte_of, keep_changes, keep_then, keep_wider, tag_byte_of}
+use Rattle.image_formatting.specs.Written.{IsOfBlocks, IsOfTagRun, IsZeroWithin}
+use Rattle.image_formatting.proofs.WrittenLemmas.{data_written, tags_written, writes_then, writes_wider}
 use Rattle.image_formatting.proofs.wiping.wipe_area.Goals as goal
 
 pub write_tags-requires-clause-run : goal.write_tags-requires-clause-run
@@ -69,3 +72,23 @@ returns-clause-stays g c =
     (keep_wider _ _ (IsRunByte c.tag_at-tags_at.result.0 (c.args.count * c.shape-shape.result.tag)) _ (λ s j low of. tag_byte_of geometry _ c.args.first c.args.count _ _ s j c.requires.geometry c.requires.run at size low of) c.in_ok-write_tags.ensures.stays)
     (keep_changes _ _ (IsWithin c.data_at-data_at.result (c.args.count * c.shape-shape.result.spb)) _ (λ s j of. data_byte_of geometry _ c.args.first c.args.count _ _ s j c.requires.geometry c.requires.run c.data_at-data_at.ensures spb of) c.write_zeros.ensures.moments))
     c.write_zeros.ensures.written
+
+pub returns-in_err-write_tags-clause-writes : goal.returns-in_err-write_tags-clause-writes
+returns-in_err-write_tags-clause-writes g c =
+    let geometry = c.args.geometry.now in
+    let size = ap (λ (x : Shape). x.tag_size) c.shape-shape.ensures.shape in
+    writes_wider (IsOfTagRun c.tag_at-tags_at.result.0 (c.args.count * c.shape-shape.result.tag)) (IsOfBlocks geometry c.args.first c.args.count)
+    (λ start told. tags_written geometry _ c.args.first c.args.count c.tag_at-tags_at.result.0 c.shape-shape.result.tag c.requires.geometry c.requires.run (ap (λ (x : ℕ × ℕ). x.0) c.tag_at-tags_at.ensures) size start) c.write_tags.ensures.writes
+
+pub returns-clause-writes : goal.returns-clause-writes
+returns-clause-writes g c =
+    let geometry = c.args.geometry.now in
+    let size = ap (λ (x : Shape). x.tag_size) c.shape-shape.ensures.shape in
+    let spb = ap (λ (x : Shape). x.spb) c.shape-shape.ensures.shape in
+    let blocks = IsOfBlocks geometry c.args.first c.args.count in
+    let zeros = IsZeroWithin c.data_at-data_at.result (c.args.count * c.shape-shape.result.spb) in
+    writes_then blocks (λ (start : Content). zeros)
+    (writes_wider (IsOfTagRun c.tag_at-tags_at.result.0 (c.args.count * c.shape-shape.result.tag)) blocks
+    (λ start told. tags_written geometry _ c.args.first c.args.count c.tag_at-tags_at.result.0 c.shape-shape.result.tag c.requires.geometry c.requires.run (ap (λ (x : ℕ × ℕ). x.0) c.tag_at-tags_at.ensures) size start) c.write_tags.ensures.writes)
+    c.write_zeros.ensures.writes
+    (λ start middle told told_middle. data_written geometry _ c.args.first c.args.count c.data_at-data_at.result c.shape-shape.result.spb c.requires.geometry c.requires.run c.data_at-data_at.ensures spb start)

@@ -6,6 +6,8 @@ use Rattle.image_formatting.proofs.RunsLemmas.{changes_then, changes_wider}
 use Rattle.image_formatting.proofs.WipingLemmas.{area_sector, area_shift, areas_next, next_area}
 use Rattle.image_formatting.specs.Stays.{IsBlockByte, ReadsKeep}
 use Rattle.image_formatting.proofs.StaysLemmas.{block_byte_of, keep_then, keep_wider}
+use Rattle.image_formatting.specs.Written.{IsOfBlocks}
+use Rattle.image_formatting.proofs.WrittenLemmas.{blocks_next, writes_then}
 use Rattle.image_formatting.proofs.wiping.wipe_blocks.Goals as goal
 
 pub wipe_area-requires-clause-run : goal.wipe_area-requires-clause-run
@@ -20,6 +22,14 @@ returns-in_err-wipe_area-clause-moments g c =
     c.loop-first.invariant.whole (rw c.blocks-blocks.ensures.blocks at c.min-count.ensures) in
     changes_then (IsSectorOf geometry 0 geometry.blocks) c.loop-first.invariant.moments
     (changes_wider (IsSectorOf geometry c.loop-first.first c.min-count.result) (IsSectorOf geometry 0 geometry.blocks) (λ s of. area_sector geometry c.loop-first.first c.min-count.result s next.0.inside of) c.wipe_area.ensures.moments)
+
+pub returns-in_err-wipe_area-clause-writes : goal.returns-in_err-wipe_area-clause-writes
+returns-in_err-wipe_area-clause-writes g c =
+    let geometry = c.args.format.now.geometry in
+    let next = next_area geometry _ c.loop-first.first c.min-count.result _ c.requires.format.geometry (area_shift _ c.args.format.now c.requires.format) (omega (arith, c.loop-first-test.true, c.blocks-blocks.ensures.blocks))
+    c.loop-first.invariant.whole (rw c.blocks-blocks.ensures.blocks at c.min-count.ensures) in
+    writes_then (IsOfBlocks geometry 0 geometry.blocks) (IsOfBlocks geometry c.loop-first.first c.min-count.result) c.loop-first.invariant.writes c.wipe_area.ensures.writes
+    (blocks_next _ _ geometry c.loop-first.first c.min-count.result next.0.inside c.loop-first.invariant.stays)
 
 pub loop-first-smaller : goal.loop-first-smaller
 loop-first-smaller g c =
@@ -45,6 +55,8 @@ loop-first-preserved g c =
       faults = search rules;
       moments = changes_then (IsSectorOf geometry 0 geometry.blocks) c.loop-first.invariant.moments
           (changes_wider (IsSectorOf geometry c.loop-first.first c.min-count.result) (IsSectorOf geometry 0 geometry.blocks) (λ s of. area_sector geometry c.loop-first.first c.min-count.result s next.0.inside of) c.wipe_area.ensures.moments);
+      writes = writes_then (IsOfBlocks geometry 0 geometry.blocks) (IsOfBlocks geometry c.loop-first.first c.min-count.result) c.loop-first.invariant.writes c.wipe_area.ensures.writes
+          (blocks_next _ _ geometry c.loop-first.first c.min-count.result next.0.inside c.loop-first.invariant.stays);
     }
 
 pub returns-clause-wiped : goal.returns-clause-wiped

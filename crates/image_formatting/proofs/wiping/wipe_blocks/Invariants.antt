@@ -1,10 +1,11 @@
 use Rattle.std.proofs.Common.{◌≡◌, ◌⊎◌, ◌-◌, ◌/◌, ◌%◌, ◌≤◌, length}
-use Rattle.disk_model.specs.Disk.{last_image}
+use Rattle.disk_model.specs.Disk.{OnlyAdds, last_image}
 use Rattle.disk_model.specs.Moments.{EachMoment, FromStart, HasNow}
 use Rattle.image_formatting.specs.Blocks.{HasZeroBlocks, IsSectorOf}
 use Rattle.image_formatting.specs.Room.{tags_at_once}
 use Rattle.image_formatting.specs.Runs.{ChangesOnly}
 use Rattle.image_formatting.specs.Stays.{IsBlockByte, ReadsKeep}
+use Rattle.image_formatting.specs.Written.{IsOfBlocks}
 use Rattle.image_formatting.proofs.wiping.wipe_blocks.Given as goal
 
 abbrev pub invariant-loop-first : goal.invariant-loop-first
@@ -20,6 +21,7 @@ invariant-loop-first g l =
       identity : g.D.Disk.identity l.disk ≡ g.D.Disk.identity l.fn.disk;
       faults : g.D.Counted.faults l.disk ≡ g.D.Counted.faults l.fn.disk;
       moments : EachMoment (moments_of l.fn.disk) (moments_of l.disk) (FromStart (moments_of l.fn.disk) (ChangesOnly (IsSectorOf geometry 0 geometry.blocks)));
+      writes : EachMoment (moments_of l.fn.disk) (moments_of l.disk) (FromStart (moments_of l.fn.disk) (λ start. OnlyAdds (IsOfBlocks geometry 0 geometry.blocks start) start));
     }
 
 abbrev pub decreases-loop-first : goal.decreases-loop-first

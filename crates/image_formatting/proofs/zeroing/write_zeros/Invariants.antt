@@ -1,8 +1,9 @@
 use Rattle.std.proofs.Common.{◌≡◌, ◌-◌, ◌≤◌}
-use Rattle.disk_model.specs.Disk.{last_image}
+use Rattle.disk_model.specs.Disk.{OnlyAdds, last_image}
 use Rattle.disk_model.specs.Moments.{EachMoment, FromStart, HasNow}
 use Rattle.journal_section.specs.Entries.{IsWithin}
 use Rattle.image_formatting.specs.Runs.{ChangesOnly, HasZeros}
+use Rattle.image_formatting.specs.Written.{IsZeroWithin}
 use Rattle.image_formatting.proofs.zeroing.write_zeros.Given as goal
 
 abbrev pub invariant-loop-done : goal.invariant-loop-done
@@ -14,6 +15,7 @@ invariant-loop-done g l =
       identity : g.D.Disk.identity l.disk ≡ g.D.Disk.identity l.fn.disk;
       faults : g.D.Counted.faults l.disk ≡ g.D.Counted.faults l.fn.disk;
       moments : EachMoment (moments_of l.fn.disk) (moments_of l.disk) (FromStart (moments_of l.fn.disk) (ChangesOnly (IsWithin l.at l.count)));
+      writes : EachMoment (moments_of l.fn.disk) (moments_of l.disk) (FromStart (moments_of l.fn.disk) (OnlyAdds (IsZeroWithin l.at l.count)));
     }
 
 abbrev pub decreases-loop-done : goal.decreases-loop-done

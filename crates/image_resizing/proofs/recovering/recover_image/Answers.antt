@@ -25,24 +25,25 @@ use Rattle.disk_model.proofs.MomentsLemmas.{EachMoment-then}
 use Rattle.image_resizing.proofs.WritingLemmas.{since_told, sync_recovers}
 use Rattle.image_resizing.proofs.recovering.recover_image.Goals as goal
 
-pub recover-requires-clause-geometry : goal.recover-requires-clause-geometry
-recover-requires-clause-geometry g c = sym (ap (λ (s : Store). s.geometry) c.new-tags.ensures)
-
 pub recover-requires-clause-journal : goal.recover-requires-clause-journal
 recover-requires-clause-journal g c x told =
     let first = changed_now newest_only (content_now (g.D.Disk.moments c.args.disk.now)) (content_now (g.D.Disk.moments c.sync.new.self)) c.in_ok-sync.ensures.synced x told in
     subst (λ (y : Content). IsJournalOn c.args.plan.now.present.geometry (last_image y) c.args.journal.now) (sym first.2) (c.requires.journal first.0 first.1)
 
-pub recover-requires-clause-pool : goal.recover-requires-clause-pool
-recover-requires-clause-pool g c = ap length c.whole.ensures.bytes ∙ c.requires.room.region
-
-pub recover-requires-clause-store : goal.recover-requires-clause-store
-recover-requires-clause-store g c =
+pub recover-requires-clause-replaying : goal.recover-requires-clause-replaying
+recover-requires-clause-replaying g c =
     let plan = c.args.plan.now in
     let fresh : c.new-tags.result ≡ (let s : Store = record { geometry = plan.present.geometry; sectors = no_sectors HELD_SECTORS } in s) =
     c.new-tags.ensures ∙ ap (λ (held : HeldSectors). let s : Store = record { geometry = plan.present.geometry; sectors = held } in s) c.requires.room.cache in
-    subst (λ (i : DiskIdentity). IsStore c.new-tags.result i (g.D.Disk.moments c.sync.new.self)) (sym c.sync.ensures.identity)
-    (subst (λ (s : Store). IsStore s (g.D.Disk.identity c.args.disk.now) (g.D.Disk.moments c.sync.new.self)) (sym fresh) (fresh_law plan.present.geometry (g.D.Disk.identity c.args.disk.now) (g.D.Disk.moments c.sync.new.self) HELD_SECTORS c.requires.bound c.requires.plan.present.geometry).0)
+    record {
+      scratch = record {
+        geometry = sym (ap (λ (s : Store). s.geometry) c.new-tags.ensures);
+        size = ap length c.whole.ensures.bytes ∙ c.requires.room.region;
+        store_is = subst (λ (i : DiskIdentity). IsStore c.new-tags.result i (g.D.Disk.moments c.sync.new.self)) (sym c.sync.ensures.identity)
+            (subst (λ (s : Store). IsStore s (g.D.Disk.identity c.args.disk.now) (g.D.Disk.moments c.sync.new.self)) (sym fresh) (fresh_law plan.present.geometry (g.D.Disk.identity c.args.disk.now) (g.D.Disk.moments c.sync.new.self) HELD_SECTORS c.requires.bound c.requires.plan.present.geometry).0);
+      };
+      fits = c.requires.fits;
+    }
 
 pub returns-in_err-sync-clause-moments : goal.returns-in_err-sync-clause-moments
 returns-in_err-sync-clause-moments g c = record { synced = (g.D.Disk.moments c.sync.new.self); earlier = c.sync.ensures.moments; later = no_moment (g.D.Disk.moments c.sync.new.self) _ }

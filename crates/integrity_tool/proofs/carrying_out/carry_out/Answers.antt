@@ -1,4 +1,4 @@
-use Rattle.std.proofs.Common.{◌≡◌, Result, IfErr, refl, sym, ap, ◌∙◌, subst}
+use Rattle.std.proofs.Common.{◌≡◌, ◌<◌, Result, IfErr, refl, sym, ap, ◌∙◌, subst}
 use Rattle.disk_model.specs.Causes.{Rose}
 use Rattle.disk_model.specs.Disk.{last_image}
 use Rattle.disk_model.proofs.MomentsLemmas.{EachMoment-kept}
@@ -86,7 +86,8 @@ pub returns-in-Dump-clause-ahead : goal.returns-in-Dump-clause-ahead
 returns-in-Dump-clause-ahead g c left told start told_start =
     let key = key_of c.args.hash in
     let sectors = (g.D.Disk.identity c.args.disk.now).sectors in
-    subst (λ (t : Task). HasReadIn (outset_at t key sectors (last_image start)) left (g.S.Source.left c.args.script.now) (g.O.Sink.held c.args.out.now) (g.O.Sink.held c.print_image.new.out))
+    subst (λ (t : Task). HasReadIn (outset_at t key sectors (last_image start)) left (g.S.Source.left c.args.script.now) (g.O.Sink.held c.args.out.now) (g.O.Sink.held c.print_image.new.out)
+    (g.S.Counted.faults c.args.script.now < g.S.Counted.faults c.args.script.now))
     (sym c.in-Dump.is)
     (read_no_script (outset_at Tasks.Dump key sectors (last_image start)) start left _ _ _ _ _ told (c.print_image.ensures.runs left start told_start))
 
@@ -127,7 +128,8 @@ pub returns-in-Check-clause-ahead : goal.returns-in-Check-clause-ahead
 returns-in-Check-clause-ahead g c left told start told_start =
     let key = key_of c.args.hash in
     let sectors = (g.D.Disk.identity c.args.disk.now).sectors in
-    subst (λ (t : Task). HasReadIn (outset_at t key sectors (last_image start)) left (g.S.Source.left c.args.script.now) (g.O.Sink.held c.args.out.now) (g.O.Sink.held c.print_check.new.out))
+    subst (λ (t : Task). HasReadIn (outset_at t key sectors (last_image start)) left (g.S.Source.left c.args.script.now) (g.O.Sink.held c.args.out.now) (g.O.Sink.held c.print_check.new.out)
+    (g.S.Counted.faults c.args.script.now < g.S.Counted.faults c.args.script.now))
     (sym c.in-Check.is)
     (read_no_script (outset_at (Tasks.Check c.in-Check.what) key sectors (last_image start)) start left _ _ _ _ _ told (c.print_check.ensures.runs left start told_start))
 
@@ -167,9 +169,62 @@ pub returns-in-Salvage-clause-ahead : goal.returns-in-Salvage-clause-ahead
 returns-in-Salvage-clause-ahead g c left told start told_start =
     let key = key_of c.args.hash in
     let sectors = (g.D.Disk.identity c.args.disk.now).sectors in
-    subst (λ (t : Task). HasReadIn (outset_at t key sectors (last_image start)) left (g.S.Source.left c.args.script.now) (g.O.Sink.held c.args.out.now) (g.O.Sink.held c.print_salvage.new.out))
+    subst (λ (t : Task). HasReadIn (outset_at t key sectors (last_image start)) left (g.S.Source.left c.args.script.now) (g.O.Sink.held c.args.out.now) (g.O.Sink.held c.print_salvage.new.out)
+    (g.S.Counted.faults c.args.script.now < g.S.Counted.faults c.args.script.now))
     (sym c.in-Salvage.is)
     (read_no_script (outset_at Tasks.Salvage key sectors (last_image start)) start left _ _ _ _ _ told (c.print_salvage.ensures.runs left start told_start))
+
+pub returns-in-Resize-clause-runs : goal.returns-in-Resize-clause-runs
+returns-in-Resize-clause-runs g c left told start told_start =
+    let key = key_of c.args.hash in
+    let sectors = (g.D.Disk.identity c.args.disk.now).sectors in
+    let before = g.D.Disk.moments c.args.disk.now in
+    let after = g.D.Disk.moments c.resize_image.new.disk in
+    subst (λ (t : Task). HasRunOn (outset_at t key sectors (last_image start)) start left (ending_by c.done-in-Resize.result) after (g.O.Sink.held c.args.out.now) (g.O.Sink.held c.resize_image.new.out)
+    × HasMomentsAt t key sectors start left before after) (sym c.in-Resize.is) (
+      subst (λ (e : Ending). HasRunOn (outset_at Tasks.Resize key sectors (last_image start)) start left e after (g.O.Sink.held c.args.out.now) (g.O.Sink.held c.resize_image.new.out))
+          (sym (ap ending_by c.done-in-Resize.ensures ∙ ending_found c.resize_image.result)) (c.resize_image.ensures.runs left start told_start),
+      c.resize_image.ensures.moments left start told_start,
+    )
+
+pub returns-in-Resize-clause-closed : goal.returns-in-Resize-clause-closed
+returns-in-Resize-clause-closed g c = rw c.in-Resize.is (ok_holds _ (λ bytes told start told_start later told_later. tt) c.done-in-Resize.result)
+
+pub returns-in-Resize-clause-ends : goal.returns-in-Resize-clause-ends
+returns-in-Resize-clause-ends g c =
+    subst (λ (r : Result TagsFound Ended). IfErr r EndsImage) (sym c.done-in-Resize.ensures) (ends_found c.resize_image.result c.resize_image.ensures.ends)
+
+pub returns-in-Resize-clause-cause : goal.returns-in-Resize-clause-cause
+returns-in-Resize-clause-cause g c =
+    subst (λ (r : Result TagsFound Ended). IfErr r (HasEndCause (Rose (g.D.Counted.faults c.args.disk.now) (g.D.Counted.faults c.resize_image.new.disk))
+    (Rose (g.S.Counted.faults c.args.script.now) (g.S.Counted.faults c.args.script.now))
+    (Rose (g.O.Counted.faults c.args.out.now) (g.O.Counted.faults c.resize_image.new.out)))) (sym c.done-in-Resize.ensures)
+    (cause_found _ _ _ c.resize_image.result c.resize_image.ensures.cause)
+
+pub returns-in-Resize-clause-counted : goal.returns-in-Resize-clause-counted
+returns-in-Resize-clause-counted g c = (
+  subst (λ (r : Result TagsFound Ended). IsCounted Endings.Disk (g.D.Counted.faults c.args.disk.now) (g.D.Counted.faults c.resize_image.new.disk) r)
+      (sym c.done-in-Resize.ensures) (counted_found Endings.Disk _ _ c.resize_image.result c.resize_image.ensures.counted.0),
+  uncounted Endings.Script _ c.done-in-Resize.result,
+  subst (λ (r : Result TagsFound Ended). IsCounted Endings.Sink (g.O.Counted.faults c.args.out.now) (g.O.Counted.faults c.resize_image.new.out) r)
+      (sym c.done-in-Resize.ensures) (counted_found Endings.Sink _ _ c.resize_image.result c.resize_image.ensures.counted.1),
+)
+
+pub returns-in-Resize-clause-unread : goal.returns-in-Resize-clause-unread
+returns-in-Resize-clause-unread g c =
+    (whatever_ended (λ ended. IsBeforeScript ended → c.args.script.now ≡ c.args.script.now) (λ ended before. refl) c.done-in-Resize.result, λ none. refl)
+
+pub returns-in-Resize-clause-taken : goal.returns-in-Resize-clause-taken
+returns-in-Resize-clause-taken g c = none_taken _ _ refl
+
+pub returns-in-Resize-clause-ahead : goal.returns-in-Resize-clause-ahead
+returns-in-Resize-clause-ahead g c left told start told_start =
+    let key = key_of c.args.hash in
+    let sectors = (g.D.Disk.identity c.args.disk.now).sectors in
+    subst (λ (t : Task). HasReadIn (outset_at t key sectors (last_image start)) left (g.S.Source.left c.args.script.now) (g.O.Sink.held c.args.out.now) (g.O.Sink.held c.resize_image.new.out)
+    (g.S.Counted.faults c.args.script.now < g.S.Counted.faults c.args.script.now))
+    (sym c.in-Resize.is)
+    (read_no_script (outset_at Tasks.Resize key sectors (last_image start)) start left _ _ _ _ _ told (c.resize_image.ensures.runs left start told_start))
 
 pub returns-in-Format-clause-runs : goal.returns-in-Format-clause-runs
 returns-in-Format-clause-runs g c left told start told_start =
@@ -219,7 +274,8 @@ pub returns-in-Format-clause-ahead : goal.returns-in-Format-clause-ahead
 returns-in-Format-clause-ahead g c left told start told_start =
     let key = key_of c.args.hash in
     let sectors = (g.D.Disk.identity c.args.disk.now).sectors in
-    subst (λ (t : Task). HasReadIn (outset_at t key sectors (last_image start)) left (g.S.Source.left c.args.script.now) (g.O.Sink.held c.args.out.now) (g.O.Sink.held c.make_image.new.out))
+    subst (λ (t : Task). HasReadIn (outset_at t key sectors (last_image start)) left (g.S.Source.left c.args.script.now) (g.O.Sink.held c.args.out.now) (g.O.Sink.held c.make_image.new.out)
+    (g.S.Counted.faults c.args.script.now < g.S.Counted.faults c.args.script.now))
     (sym c.in-Format.is)
     (read_no_script (outset_at (Tasks.Format c.in-Format.new) key sectors (last_image start)) start left _ _ _ _ _ told (c.make_image.ensures.runs left start told_start))
 
@@ -260,6 +316,7 @@ pub returns-in-Exercise-clause-ahead : goal.returns-in-Exercise-clause-ahead
 returns-in-Exercise-clause-ahead g c left told start told_start =
     let key = key_of c.args.hash in
     let sectors = (g.D.Disk.identity c.args.disk.now).sectors in
-    subst (λ (t : Task). HasReadIn (outset_at t key sectors (last_image start)) left (g.S.Source.left c.args.script.now) (g.O.Sink.held c.args.out.now) (g.O.Sink.held c.exercise_image.new.out))
+    subst (λ (t : Task). HasReadIn (outset_at t key sectors (last_image start)) left (g.S.Source.left c.args.script.now) (g.O.Sink.held c.args.out.now) (g.O.Sink.held c.exercise_image.new.out)
+    (g.S.Counted.faults c.args.script.now < g.S.Counted.faults c.args.script.now))
     (sym c.in-Exercise.is)
     (read_no_script (outset_at (Tasks.Exercise c.in-Exercise.seed c.in-Exercise.count) key sectors (last_image start)) start left _ _ _ _ _ told (c.exercise_image.ensures.runs left start told_start))

@@ -6,13 +6,14 @@ use Rattle.device_model.specs.Mode.{Journal}
 use Rattle.image_model.specs.declared.geom_fault.GeomFault.{GeomFault}
 use Rattle.image_formatting.specs.declared.format_fault.FormatFault.TheVariants as FormatFaults
 use Rattle.image_formatting.specs.declared.new_image.NewImage.{NewImage}
-use Rattle.image_formatting.specs.Formatted.{HasMade, IsLeftInOrder}
+use Rattle.image_formatting.specs.Formatted.{HasMade}
 use Rattle.image_formatting.specs.NewImage.{provided_of}
 use Rattle.direct_mode.proofs.StoreCalls.{reads_whole}
 use Rattle.command_ending.specs.Ended.{ending_of}
 use Rattle.command_ending.specs.declared.ended.Ended.{Ended}
 use Rattle.integrity_tool.specs.Exercised.{IsExercisedTo}
 use Rattle.integrity_tool.specs.Exercising.{exercise_outset}
+use Rattle.integrity_tool.specs.Making.{IsMadeInOrder}
 use Rattle.integrity_tool.specs.Opening.{HasRunOn}
 use Rattle.integrity_tool.proofs.ExercisingLemmas.{exercise_whole, not_made_for, unmade_moments}
 use Rattle.integrity_tool.proofs.exercising.exercise_image.Goals as goal
@@ -20,7 +21,7 @@ use Rattle.integrity_tool.proofs.exercising.exercise_image.Goals as goal
 pub returns-in-Err-clause-runs : goal.returns-in-Err-clause-runs
 returns-in-Err-clause-runs g c script start told =
     let sectors = (g.D.Disk.identity c.args.disk.now).sectors in
-    let order = subst (λ (n : NewImage). IsLeftInOrder None sectors n (g.D.Disk.moments c.args.disk.now) (g.D.Disk.moments c.format.new.disk)) c.image.ensures c.format.ensures.moments in
+    let order = subst (λ (n : NewImage). IsMadeInOrder None sectors n (g.D.Disk.moments c.args.disk.now) (g.D.Disk.moments c.format.new.disk)) c.image.ensures (record { order = c.format.ensures.moments; writes = c.format.ensures.writes }) in
     let geom = subst (λ (n : NewImage). (f : GeomFault) → (c.format.result ≡ Err (FormatFaults.Geom f)) ↔ (provided_of n sectors ≡ Err f)) c.image.ensures c.format.ensures.geom in
     let held = g.O.Sink.held c.args.out.now in
     subst (λ (e : Ended). HasRunOn (exercise_outset sectors c.args.count c.args.seed) start script (ending_of e) (g.D.Disk.moments c.format.new.disk) held held)
@@ -32,7 +33,7 @@ returns-in-Err-clause-runs g c script start told =
 pub returns-in-Err-clause-moments : goal.returns-in-Err-clause-moments
 returns-in-Err-clause-moments g c script start told =
     let sectors = (g.D.Disk.identity c.args.disk.now).sectors in
-    let order = subst (λ (n : NewImage). IsLeftInOrder None sectors n (g.D.Disk.moments c.args.disk.now) (g.D.Disk.moments c.format.new.disk)) c.image.ensures c.format.ensures.moments in
+    let order = subst (λ (n : NewImage). IsMadeInOrder None sectors n (g.D.Disk.moments c.args.disk.now) (g.D.Disk.moments c.format.new.disk)) c.image.ensures (record { order = c.format.ensures.moments; writes = c.format.ensures.writes }) in
     let geom = subst (λ (n : NewImage). (f : GeomFault) → (c.format.result ≡ Err (FormatFaults.Geom f)) ↔ (provided_of n sectors ≡ Err f)) c.image.ensures c.format.ensures.geom in
     unmade_moments sectors c.args.count c.args.seed start script told order
     (not_made_for sectors c.args.count c.args.seed start script told order c.in-Err.fault (g.O.Sink.held c.args.out.now)
@@ -45,7 +46,7 @@ returns-in-Ok-clause-runs g c script start told =
     let before = g.D.Disk.moments c.args.disk.now in
     let after = g.D.Disk.moments c.format.new.disk in
     let same = ap (λ (d : DiskIdentity). d.sectors) c.format.ensures.identity in
-    let order = subst (λ (n : NewImage). IsLeftInOrder None sectors n before after) c.image.ensures c.format.ensures.moments in
+    let order = subst (λ (n : NewImage). IsMadeInOrder None sectors n before after) c.image.ensures (record { order = c.format.ensures.moments; writes = c.format.ensures.writes }) in
     let made = subst (λ (n : NewImage). HasMade None sectors n c.in-Ok.field-0 before after) c.image.ensures c.in-Ok.ensures.made in
     (exercise_whole c.new_image_opens.ensures.opens sectors c.args.count c.args.seed start script told
     order c.in-Ok.field-0 made
@@ -62,7 +63,7 @@ returns-in-Ok-clause-moments g c script start told =
     let before = g.D.Disk.moments c.args.disk.now in
     let after = g.D.Disk.moments c.format.new.disk in
     let same = ap (λ (d : DiskIdentity). d.sectors) c.format.ensures.identity in
-    let order = subst (λ (n : NewImage). IsLeftInOrder None sectors n before after) c.image.ensures c.format.ensures.moments in
+    let order = subst (λ (n : NewImage). IsMadeInOrder None sectors n before after) c.image.ensures (record { order = c.format.ensures.moments; writes = c.format.ensures.writes }) in
     let made = subst (λ (n : NewImage). HasMade None sectors n c.in-Ok.field-0 before after) c.image.ensures c.in-Ok.ensures.made in
     (exercise_whole c.new_image_opens.ensures.opens sectors c.args.count c.args.seed start script told
     order c.in-Ok.field-0 made

@@ -1,4 +1,4 @@
-use Rattle.std.proofs.Common.{◌≡◌, List, ℕ, refl, ◌++◌}
+use Rattle.std.proofs.Common.{◌≡◌, List, ℕ, refl, subst, ◌++◌}
 use Rattle.script_reader.specs.Lines.{FindsLongLine}
 use Rattle.script_reader.specs.Reading.{BeginsLine}
 use Rattle.command_ending.specs.declared.ended.Ended.TheVariants as Endings
@@ -26,11 +26,15 @@ returns-in-Ok-LongScript-clause-advanced g c = rw c.in-Ok-LongScript.field-0-is 
 
 pub returns-in-Err-clause-advanced : goal.returns-in-Err-clause-advanced
 returns-in-Err-clause-advanced g c left is =
-    and_weaker {X = List ℕ}
-    (λ (later : List ℕ). BeginsLine c.args.reader.now c.next_line.new.self
-    (c.args.reader.now.unread ++ left) (c.next_line.new.self.unread ++ later))
-    (λ (later : List ℕ). Endings.Script ≡ Endings.Script)
-    (g.S.Source.left c.next_line.new.script) (λ later begins. refl) (c.in-Err.ensures.err left is)
+    let old = c.args.reader.now in
+    let new = c.next_line.new.self in
+    let before = old.unread ++ left in
+    and_weaker {X = List ℕ} (λ (later : List ℕ). BeginsLine old new before (new.unread ++ later))
+    (λ (later : List ℕ). (Endings.Script ≡ Endings.Script) × BeginsLine old new before later)
+    (g.S.Source.left c.next_line.new.script)
+    (λ later begins.
+    (refl, subst (λ (unread : List ℕ). BeginsLine old new before (unread ++ later)) c.in-Err.ensures.asked begins))
+    (c.in-Err.ensures.err left is)
 
 pub returns-in-Ok-Line-clause-read : goal.returns-in-Ok-Line-clause-read
 returns-in-Ok-Line-clause-read g c = taken_is_read c.args.reader.now c.next_line.new.self _ _ c.next_line.ensures.bytes

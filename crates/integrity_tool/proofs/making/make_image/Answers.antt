@@ -3,8 +3,7 @@ use Rattle.disk_model.specs.Disk.{last_image}
 use Rattle.hmac_tag.specs.TagMaker.{key_of}
 use Rattle.command_ending.specs.Ended.{ending_of}
 use Rattle.command_ending.specs.declared.ended.Ended.{Ended}
-use Rattle.image_formatting.proofs.WholeLemmas.{left_in_order}
-use Rattle.integrity_tool.specs.Making.{format_outset}
+use Rattle.integrity_tool.specs.Making.{IsMadeInOrder, format_outset}
 use Rattle.integrity_tool.specs.Opening.{HasRunOn}
 use Rattle.integrity_tool.specs.Outset.{geometry_on}
 use Rattle.integrity_tool.proofs.MakingLemmas.{made, made_through, made_untold, not_made}
@@ -25,9 +24,10 @@ returns-in-Err-clause-runs g c script start told =
     let key = key_of c.args.hash in
     let sectors = (g.D.Disk.identity c.args.disk.now).sectors in
     let held = g.O.Sink.held c.args.out.now in
+    let order : IsMadeInOrder key sectors c.args.new (g.D.Disk.moments c.args.disk.now) (g.D.Disk.moments c.format.new.disk) = record { order = c.format.ensures.moments; writes = c.format.ensures.writes } in
     subst (λ (e : Ended). HasRunOn (format_outset key sectors c.args.new) start script (ending_of e) (g.D.Disk.moments c.format.new.disk) held held)
     (sym c.ended_by_format.ensures)
-    (not_made key sectors c.args.new start script told (geometry_on sectors (last_image start)) (left_in_order key sectors c.args.new c.format.ensures.moments) c.in-Err.fault held
+    (not_made key sectors c.args.new start script told (geometry_on sectors (last_image start)) order c.in-Err.fault held
     (λ f. (λ is. (c.format.ensures.geom f).0 (cc (c.in-Err.is, is)), λ is. cc (c.in-Err.is, (c.format.ensures.geom f).1 is)))
     c.in-Err.ensures.untouched).0
 
@@ -35,29 +35,30 @@ pub returns-in-Ok-put_provided-clause-moments : goal.returns-in-Ok-put_provided-
 returns-in-Ok-put_provided-clause-moments g c script start told =
     let key = key_of c.args.hash in
     let sectors = (g.D.Disk.identity c.args.disk.now).sectors in
-    let since = left_in_order key sectors c.args.new c.format.ensures.moments in
+    let order : IsMadeInOrder key sectors c.args.new (g.D.Disk.moments c.args.disk.now) (g.D.Disk.moments c.format.new.disk) = record { order = c.format.ensures.moments; writes = c.format.ensures.writes } in
     record {
-      each = made_through key sectors c.args.new start script told (geometry_on sectors (last_image start)) since c.in-Ok.provided c.in-Ok.ensures.made;
-      order = c.format.ensures.moments;
+      each = made_through key sectors c.args.new start script told (geometry_on sectors (last_image start)) order c.in-Ok.provided c.in-Ok.ensures.made;
+      order = order;
     }
 
 pub returns-in-Err-put_provided-clause-moments : goal.returns-in-Err-put_provided-clause-moments
 returns-in-Err-put_provided-clause-moments g c script start told =
     let key = key_of c.args.hash in
     let sectors = (g.D.Disk.identity c.args.disk.now).sectors in
-    let since = left_in_order key sectors c.args.new c.format.ensures.moments in
+    let order : IsMadeInOrder key sectors c.args.new (g.D.Disk.moments c.args.disk.now) (g.D.Disk.moments c.format.new.disk) = record { order = c.format.ensures.moments; writes = c.format.ensures.writes } in
     record {
-      each = made_through key sectors c.args.new start script told (geometry_on sectors (last_image start)) since c.in-Ok.provided c.in-Ok.ensures.made;
-      order = c.format.ensures.moments;
+      each = made_through key sectors c.args.new start script told (geometry_on sectors (last_image start)) order c.in-Ok.provided c.in-Ok.ensures.made;
+      order = order;
     }
 
 pub returns-in-Err-clause-moments : goal.returns-in-Err-clause-moments
 returns-in-Err-clause-moments g c script start told =
     let key = key_of c.args.hash in
     let sectors = (g.D.Disk.identity c.args.disk.now).sectors in
+    let order : IsMadeInOrder key sectors c.args.new (g.D.Disk.moments c.args.disk.now) (g.D.Disk.moments c.format.new.disk) = record { order = c.format.ensures.moments; writes = c.format.ensures.writes } in
     record {
-      each = (not_made key sectors c.args.new start script told (geometry_on sectors (last_image start)) (left_in_order key sectors c.args.new c.format.ensures.moments) c.in-Err.fault (g.O.Sink.held c.args.out.now)
+      each = (not_made key sectors c.args.new start script told (geometry_on sectors (last_image start)) order c.in-Err.fault (g.O.Sink.held c.args.out.now)
           (λ f. (λ is. (c.format.ensures.geom f).0 (cc (c.in-Err.is, is)), λ is. cc (c.in-Err.is, (c.format.ensures.geom f).1 is)))
           c.in-Err.ensures.untouched).1;
-      order = c.format.ensures.moments;
+      order = order;
     }

@@ -3,13 +3,14 @@ use Rattle.disk_model.specs.Disk.{last_image}
 use Rattle.device_model.specs.Ending.{Ending}
 use Rattle.hmac_tag.specs.TagMaker.{key_of}
 use Rattle.device.specs.Opening.{asked_mode}
+use Rattle.place_model.specs.Format.{format_on}
 use Rattle.place_model.specs.Kind.{kind_in}
 use Rattle.device_parts.specs.Device.{opened_standing}
 use Rattle.script_text.proofs.TotalLemmas.{has_run}
 use Rattle.command_ending.specs.Ended.{ending_of}
 use Rattle.integrity_tool.specs.Closing.{close_ending}
 use Rattle.integrity_tool.specs.Opening.{EndsImage, HasRunOn}
-use Rattle.integrity_tool.specs.Outset.{geometry_on, outset_on}
+use Rattle.integrity_tool.specs.Outset.{outset_on}
 use Rattle.integrity_tool.specs.Refusing.{ended_by_opening}
 use Rattle.integrity_tool.specs.Running.{ending_by}
 use Rattle.integrity_tool.proofs.OpeningLemmas.{given_back, opening_moments, ran_on, read_on_image, refused_by_opening, still_opened}
@@ -150,5 +151,5 @@ returns-in-Ok-run_lines-clause-closed g c =
     let w = opened_standing (asked_mode mode) key disk.sectors (last_image start) in
     let run = has_run w.format w.state left in
     let at = c.in-Ok-run_lines.ensures.lines w left run.0 (opened.device start told_start) told run.1 in
-    closed_behind kind (last_image start) (geometry_on disk.sectors (last_image start)) left w at.here _ _ _ refl refl refl
+    closed_behind kind (last_image start) (format_on key disk.sectors (last_image start)) left w at.here _ _ _ refl refl refl
     at.device (rests at.here at.device) at.comes) c.close-closed.ensures.rests

@@ -1,9 +1,10 @@
 use Rattle.std.proofs.Common.{Ok, ap, refl, ◌∙◌, arith}
 use Rattle.std.proofs.lemmas.Result.{err_from_is_err_and}
 use Rattle.disk_model.specs.Causes.{Rose}
-use Rattle.integrity_tool.proofs.LoopLemmas.{at_most, at_start, none_in_flight, not_ended, source_cause, turn_done}
+use Rattle.integrity_tool.proofs.LoopLemmas.{at_most, at_start, none_in_flight, not_ended, not_risen, source_cause}
 use Rattle.integrity_tool.proofs.TakenLemmas.{read_at_start, read_on, read_within}
-use Rattle.integrity_tool.proofs.LoopLemmas.{holds_same, turn_ended, turn_held, turn_read, turn_stopped, turn_stopped_in_line}
+use Rattle.integrity_tool.proofs.LoopLemmas.{holds_same, turn_done, turn_ended, turn_held, turn_read, turn_stopped}
+use Rattle.integrity_tool.proofs.LoopLemmas.{turn_stopped_in_line, turn_unread}
 use Rattle.integrity_tool.proofs.running.run_lines.Goals as goal
 
 pub loop-tickets-init : goal.loop-tickets-init
@@ -103,10 +104,13 @@ returns-in_err-advance-clause-taken g c = (
       (read_on left c.loop-tickets.reader c.advance.new.reader _ _ (c.loop-tickets.invariant.read left told)
       c.advance.ensures.read),
   λ w left run is told is_run.
-      turn_read w run left _ _ c.loop-tickets.number c.loop-tickets.found c.loop-tickets.reader
+      turn_unread w run left _ _ c.loop-tickets.number c.loop-tickets.found c.loop-tickets.reader
       c.advance.new.reader c.loop-tickets.device.parts _ _ (g.S.Source.left c.loop-tickets.script) _ _
-      (c.loop-tickets.invariant.way w left run is told is_run) c.advance.ensures.line
-      c.advance.ensures.within (holds_same refl),
+      c.in_err-advance.field-0.0
+      (c.loop-tickets.invariant.way w left run is told is_run) c.in_err-advance.ensures.advanced c.advance.ensures.line
+      c.advance.ensures.within
+      (λ other. not_risen (c.in_err-advance.ensures.counted.passed (λ same. other (cc))
+      ∙ c.loop-tickets.invariant.script_same)),
 )
 
 pub returns-in_err-told-clause-taken : goal.returns-in_err-told-clause-taken
@@ -118,12 +122,14 @@ returns-in_err-told-clause-taken g c = (
   λ w left run is told is_run.
       let at = c.loop-tickets.invariant.way w left run is told is_run in
       turn_read w run left _ _ c.loop-tickets.number c.loop-tickets.found c.loop-tickets.reader
-      c.advance.new.reader c.loop-tickets.device.parts _ _ (g.S.Source.left c.loop-tickets.script) _ _ at
+      c.advance.new.reader c.loop-tickets.device.parts _ _ (g.S.Source.left c.loop-tickets.script) _ _ _ at
       c.advance.ensures.line c.advance.ensures.within
       (turn_held w run left _ _ c.loop-tickets.number c.loop-tickets.found c.loop-tickets.reader
       c.advance.new.reader c.loop-tickets.device.parts _ _ (g.S.Source.left c.loop-tickets.script)
       (g.S.Source.left c.advance.new.script) c.in_ok-advance.field-0 c.line.result.now _ _ c.in_err-told.field-0.0
-      at c.in_ok-advance.ensures.advanced c.if-branch.true c.line.ensures c.in_err-told.ensures.stopped),
+      at c.in_ok-advance.ensures.advanced c.if-branch.true c.line.ensures c.in_err-told.ensures.stopped)
+      (not_risen (c.advance.ensures.counted.passed (not_ended _ _ c.in_ok-advance.was)
+      ∙ c.loop-tickets.invariant.script_same)),
 )
 
 pub returns-clause-taken : goal.returns-clause-taken
@@ -134,7 +140,9 @@ returns-clause-taken g c = (
       c.advance.ensures.read),
   λ w left run is told is_run.
       turn_read w run left _ _ c.loop-tickets.number c.loop-tickets.found c.loop-tickets.reader
-      c.advance.new.reader c.loop-tickets.device.parts _ _ (g.S.Source.left c.loop-tickets.script) _ _
+      c.advance.new.reader c.loop-tickets.device.parts _ _ (g.S.Source.left c.loop-tickets.script) _ _ _
       (c.loop-tickets.invariant.way w left run is told is_run) c.advance.ensures.line
-      c.advance.ensures.within (holds_same refl),
+      c.advance.ensures.within (holds_same refl)
+      (not_risen (c.advance.ensures.counted.passed (not_ended _ _ c.in_ok-advance.was)
+      ∙ c.loop-tickets.invariant.script_same)),
 )

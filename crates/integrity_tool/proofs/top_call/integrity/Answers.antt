@@ -1,9 +1,7 @@
 use Rattle.std.specs.String.{string_bytes}
-use Rattle.script_session.specs.declared.tags_found.TagsFound.{TagsFound}
-use Rattle.command_ending.specs.declared.ended.Ended.{Ended}
 use Rattle.integrity_tool.specs.Words.{asked_of, key_file_of_asked}
-use Rattle.integrity_tool.proofs.KeyLemmas.{read_as}
-use Rattle.std.proofs.Common.{inl, inr, ℕ, ◌≤◌, Result, IsOk, map, refl, ◌∙◌, sym, subst, arith}
+use Rattle.integrity_tool.proofs.KeyLemmas.{read_as, was_read}
+use Rattle.std.proofs.Common.{inl, inr, ℕ, ◌≤◌, map, refl, ◌∙◌, sym, subst, arith}
 use Rattle.std.proofs.lemmas.Result.{on_err_weaker}
 use Rattle.disk_model.specs.Causes.{Rose}
 use Rattle.script_session.specs.Told.{finds_fault}
@@ -102,13 +100,16 @@ returns-in-Err-clause-ahead g c given is =
 
 pub returns-in-Ok-clause-key : goal.returns-in-Ok-clause-key
 returns-in-Ok-clause-key g c =
-    read_as _ (key_file_of_asked (asked_of (map string_bytes c.args.words.now))) _ _ _ _ _ refl
-    (λ low. subst (λ (r : Result TagsFound Ended). IsOk r) (sym c.in-Ok.is) refl) c.run.ensures.key
+    read_as _ (key_file_of_asked (asked_of (map string_bytes c.args.words.now))) _ _ _ _ _ _ refl
+    (λ read. tt) c.in-Ok.ensures.key
 
 pub returns-in-Err-clause-key : goal.returns-in-Err-clause-key
 returns-in-Err-clause-key g c =
-    read_as _ (key_file_of_asked (asked_of (map string_bytes c.args.words.now))) _ _ _ _ _ refl
-    (λ low. absurd (omega (arith, low, c.status.ensures, ended_is_high c.in-Err.ended))) c.run.ensures.key
+    read_as _ (key_file_of_asked (asked_of (map string_bytes c.args.words.now))) _ _ _ _ _ _ refl
+    (λ read. was_read c.in-Err.ended (
+      λ is. read.0 (c.status.ensures ∙ is),
+      λ is. read.1 (c.status.ensures ∙ is),
+    )) c.in-Err.ensures.key
 
 pub returns-in-Ok-clause-closed : goal.returns-in-Ok-clause-closed
 returns-in-Ok-clause-closed g c low = c.in-Ok.ensures.closed

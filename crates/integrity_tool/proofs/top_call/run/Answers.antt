@@ -1,15 +1,14 @@
 use Rattle.std.proofs.Common.{refl}
 use Rattle.std.proofs.Common.{◌≡◌, ℕ, List, Err, sym, ap, ◌∙◌, subst, map}
 use Rattle.std.specs.Option.{ForSome}
-use Rattle.std.proofs.lemmas.Bool.{true≢false}
-use Rattle.integrity_tool.proofs.KeyLemmas.{not_read}
+use Rattle.integrity_tool.proofs.KeyLemmas.{ok_no_err, read_as, words_unread}
 use Rattle.std.specs.String.{string_bytes}
 use Rattle.std.proofs.lemmas.Result.{err_from_is_err_and, on_ok_weaker}
 use Rattle.disk_model.specs.Identity.{DiskIdentity, IsBoundTo, IsThere, NamedDisk}
 use Rattle.disk_model.specs.Moments.{content_now}
 use Rattle.device_model.specs.Ending.{DiskFailed}
 use Rattle.hmac_tag.specs.TagMaker.{key_of}
-use Rattle.integrity_tool.specs.Words.{HasNoScript, asked_of, image_name, image_of, key_file_of_asked}
+use Rattle.integrity_tool.specs.Words.{HasNoScript, asked_of, image_name, image_of, key_file_of, key_file_of_asked}
 use Rattle.integrity_tool.specs.Running.{ending_by}
 use Rattle.integrity_tool.proofs.StartLemmas.{closed_given, not_refused_by_key, outside_first, ran_given, read_given, read_none, stopped_at_key, stopped_at_words}
 use Rattle.integrity_tool.proofs.TopLemmas.{told_there}
@@ -87,8 +86,8 @@ returns-clause-sectors g c content told =
 pub returns-in_err-asked-clause-key : goal.returns-in_err-asked-clause-key
 returns-in_err-asked-clause-key g c =
     let p = err_from_is_err_and c.from_residual.result c.from_residual.ensures.1 in
-    not_read (key_file_of_asked (asked_of (map string_bytes c.args.words.now))) _ _ _ _ refl
-    (λ ok. true≢false (sym (rw p.1 at ok)))
+    rw (p.1, p.2) (words_unread (map string_bytes c.args.words.now) g.K.NamedSource.named g.K.NamedSource.left c.args.key.now _
+    c.in_err-asked.ensures.errors (λ e. c.in_err-asked.ensures.words (ap (λ x. Err x) e)))
 
 pub returns-in_err-asked-clause-taken : goal.returns-in_err-asked-clause-taken
 returns-in_err-asked-clause-taken g c = none_taken _ _ refl
@@ -133,16 +132,22 @@ returns-clause-unread g c = (
 )
 
 pub returns-in_err-bind_image-clause-key_first : goal.returns-in_err-bind_image-clause-key_first
-returns-in_err-bind_image-clause-key_first g c given is refused =
-    let words = map string_bytes c.args.words.now in
-    absurd (not_refused_by_key given words (g.K.NamedSource.named c.args.key.now) (g.D.Disk.named c.args.disk.now (image_name words)) (g.S.Source.left c.args.script.now) is (g.O.Sink.held c.args.out.now)
-    c.in_ok-asked.asked c.in_ok-asked.ensures.asked (key_of c.in_ok-hash.hash) c.in_ok-hash.ensures.hash refused)
+returns-in_err-bind_image-clause-key_first g c = (
+  λ given is refused.
+      let words = map string_bytes c.args.words.now in
+      absurd (not_refused_by_key given words (g.K.NamedSource.named c.args.key.now) (g.D.Disk.named c.args.disk.now (image_name words)) (g.S.Source.left c.args.script.now) is (g.O.Sink.held c.args.out.now)
+      c.in_ok-asked.asked c.in_ok-asked.ensures.asked (key_of c.in_ok-hash.hash) c.in_ok-hash.ensures.hash refused),
+  λ rose. absurd (rose (c.in_ok-hash.ensures.counted.passed (λ is. ok_no_err _ _ _ refl is))),
+)
 
 pub returns-clause-key_first : goal.returns-clause-key_first
-returns-clause-key_first g c given is refused =
-    let words = map string_bytes c.args.words.now in
-    absurd (not_refused_by_key given words (g.K.NamedSource.named c.args.key.now) (g.D.Disk.named c.args.disk.now (image_name words)) (g.S.Source.left c.args.script.now) is (g.O.Sink.held c.args.out.now)
-    c.in_ok-asked.asked c.in_ok-asked.ensures.asked (key_of c.in_ok-hash.hash) c.in_ok-hash.ensures.hash refused)
+returns-clause-key_first g c = (
+  λ given is refused.
+      let words = map string_bytes c.args.words.now in
+      absurd (not_refused_by_key given words (g.K.NamedSource.named c.args.key.now) (g.D.Disk.named c.args.disk.now (image_name words)) (g.S.Source.left c.args.script.now) is (g.O.Sink.held c.args.out.now)
+      c.in_ok-asked.asked c.in_ok-asked.ensures.asked (key_of c.in_ok-hash.hash) c.in_ok-hash.ensures.hash refused),
+  λ rose. absurd (rose (c.in_ok-hash.ensures.counted.passed (λ is. ok_no_err _ _ _ refl is))),
+)
 
 pub returns-clause-closed : goal.returns-clause-closed
 returns-clause-closed g c =
@@ -161,3 +166,9 @@ returns-clause-closed g c =
     (key_of c.in_ok-hash.hash) c.in_ok-hash.ensures.hash (g.D.Disk.identity mid).sectors (g.D.Disk.moments mid) (g.D.Disk.moments c.carry_out.new.disk)
     (g.D.Disk.named c.carry_out.new.disk (image_name words)) there (ap (λ (n : NamedDisk). n.moments) ends)
     (closes given.script is.script_is given.content (told_there there is.content))) c.carry_out.ensures.closed
+
+pub returns-clause-key : goal.returns-clause-key
+returns-clause-key g c =
+    read_as (key_file_of c.in_ok-asked.asked.hash) (key_file_of_asked (asked_of (map string_bytes c.args.words.now)))
+    g.K.NamedSource.named g.K.NamedSource.left c.args.key.now _ _ _ (ap key_file_of_asked c.in_ok-asked.ensures.asked) (λ read. tt)
+    c.in_ok-hash.ensures.read

@@ -1,7 +1,6 @@
-use Rattle.std.proofs.Common.{◌≡◌, ◌+◌, ◌++◌, ◌∷◌, [], ℕ, List, length, sym, subst, ap, ◌∙◌, arith, vec_len}
+use Rattle.std.proofs.Common.{sym, subst, ap, ◌∙◌, arith}
 use Rattle.disk_model.specs.Moments.{content_now}
 use Rattle.image_model.specs.Geometry.{section_sectors}
-use Rattle.image_model.specs.Scan.{SectorCell}
 use Rattle.journal_reading.specs.Cells.{AreFirstCells}
 use Rattle.journal_reading.proofs.CellsLemmas.{HasCommitNumbers-more, first_cells-next, journal_inside}
 use Rattle.journal_reading.proofs.grid.read_cell.Goals as goal

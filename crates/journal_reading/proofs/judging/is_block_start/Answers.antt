@@ -1,4 +1,4 @@
-use Rattle.std.proofs.Common.{◌*◌, ◌^◌, ◌≤◌, ◌≡◌, ap, arith}
+use Rattle.std.proofs.Common.{◌^◌, ◌≤◌, ◌≡◌, ap, arith}
 use Rattle.std.proofs.Math.Nat.{mul-le-mul_left}
 use Rattle.image_model.specs.Geometry.{Shape}
 use Rattle.image_model.proofs.Regions.{blocks-low}

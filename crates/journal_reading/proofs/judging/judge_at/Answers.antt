@@ -1,15 +1,9 @@
-use Rattle.std.proofs.Common.{◌≡◌, ◌≢◌, ◌+◌, ◌<◌, ◌≤◌, ℕ, List, Err, Option, Some, refl, sym, ap, subst, ◌∙◌, arith, option_and_then}
-use Rattle.std.proofs.lemmas.Result.{IfOk-weaker, err_from_is_err_and}
+use Rattle.std.proofs.Common.{ap, ◌∙◌, arith}
 use Rattle.disk_model.specs.Disk.{last_image}
 use Rattle.disk_model.specs.Moments.{content_now}
-use Rattle.image_model.specs.Cells.{entry_of}
 use Rattle.image_model.specs.Geometry.{section_sectors}
-use Rattle.image_model.specs.Section.{Entry, entry_at}
-use Rattle.image_model.specs.Openable.{entry_fault}
-use Rattle.image_model.proofs.GeometryLemmas.{section_at-lt}
-use Rattle.journal_reading.specs.Places.{places_of}
+use Rattle.image_model.specs.Section.{entry_at}
 use Rattle.journal_reading.specs.Newest.{newest_in}
-use Rattle.journal_reading.specs.Judging.{entry_on, fault_on}
 use Rattle.journal_reading.proofs.CellsLemmas.{section_bounds, section_inside}
 use Rattle.journal_reading.proofs.JudgingLemmas.{judged_at, stays_inside_ok}
 use Rattle.journal_reading.proofs.PlacesLemmas.{place-inside}

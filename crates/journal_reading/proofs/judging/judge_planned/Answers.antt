@@ -1,7 +1,7 @@
-use Rattle.std.proofs.Common.{◌≡◌, ◌≢◌, ◌+◌, ◌<◌, ℕ, List, Err, Ok, Some, None, length, get_or, refl, sym, ap, subst, ◌∙◌, arith}
+use Rattle.std.proofs.Common.{Err, Ok, get_or, refl, sym, ap, subst, ◌∙◌, arith}
 use Rattle.std.proofs.lemmas.Option.{none-some, slice_get-get_or}
 use Rattle.std.proofs.lemmas.Result.{err_from_is_err_and}
-use Rattle.disk_model.specs.Disk.{Content, last_image}
+use Rattle.disk_model.specs.Disk.{last_image}
 use Rattle.disk_model.specs.Identity.{DiskIdentity, IsBound}
 use Rattle.disk_model.specs.Moments.{content_now}
 use Rattle.image_model.specs.Geometry.{IsGeometry, section_sectors}
@@ -10,7 +10,6 @@ use Rattle.sector_window.proofs.WindowLemmas.{fresh_window}
 use Rattle.journal_reading.specs.Newest.{newest_in}
 use Rattle.journal_reading.specs.Places.{places_of}
 use Rattle.journal_reading.specs.declared.reading.JudgedJournal.{JudgedJournal}
-use Rattle.journal_reading.proofs.CellsLemmas.{section_bounds}
 use Rattle.journal_reading.proofs.JudgingLemmas.{judged-all, judged-next, judged-none, judged-refused}
 use Rattle.journal_reading.proofs.PlacesLemmas.{IsWalk-fits}
 use Rattle.journal_reading.proofs.judging.judge_planned.Goals as goal
@@ -63,8 +62,8 @@ loop-k-preserved g c =
           c.requires.geometry.spb.0 refl (c.in_ok-used.ensures.judged content (ap content_now c.loop-k.invariant.kept ∙ told)) (c.loop-k.invariant.judged content told);
       window = c.judge_at.ensures.window;
       faults = c.in_ok-used.ensures.cause.passed (λ e. cc) ∙ c.loop-k.invariant.faults;
-      identity = c.judge_at.ensures.identity ∙ c.loop-k.invariant.identity;
-      kept = c.judge_at.ensures.kept ∙ c.loop-k.invariant.kept;
+      identity = c.judge_at.ensures.leaves.identity ∙ c.loop-k.invariant.identity;
+      kept = c.judge_at.ensures.leaves.kept ∙ c.loop-k.invariant.kept;
     }
 
 pub returns-clause-fits : goal.returns-clause-fits

@@ -1,6 +1,5 @@
 use Rattle.std.proofs.Common.{◌≡◌, ℕ, true, false, sym, ap, ◌∙◌, arith}
 use Rattle.std.proofs.lemmas.Bool.{false≢true}
-use Rattle.image_model.specs.Openable.{is_block_start}
 use Rattle.image_model.specs.Tag.{tag_of}
 use Rattle.journal_reading.specs.Entries.{entry_with}
 use Rattle.journal_reading.proofs.JudgingLemmas.{entry_fault-block, entry_fault-right, entry_fault-tag}

@@ -1,7 +1,6 @@
-use Rattle.std.proofs.Common.{◌≡◌, ◌+◌, ◌*◌, ◌-◌, ◌≤◌, ◌^◌, ℕ, get_or, length, ap, sym, ◌∙◌, arith}
+use Rattle.std.proofs.Common.{◌≡◌, ◌+◌, ◌*◌, ◌-◌, ◌≤◌, ◌^◌, ℕ, get_or, ap, sym, ◌∙◌, arith}
 use Rattle.std.proofs.Math.Nat.{mul-le-mul_right}
 use Rattle.image_model.specs.Geometry.{section_entries}
-use Rattle.image_model.specs.Walk.{sections_of}
 use Rattle.journal_reading.proofs.PlacesLemmas.{entries_few, length-places, tells_walk}
 use Rattle.journal_reading.proofs.places.entry_count.Goals as goal
 

@@ -1,4 +1,4 @@
-use Rattle.std.proofs.Common.{◌≡◌, ◌+◌, ◌*◌, ◌-◌, ◌/◌, ◌%◌, ◌<◌, ◌≤◌, ◌^◌, ℕ, Some, List, get_or, length, ap, sym, ◌∙◌, arith}
+use Rattle.std.proofs.Common.{◌≡◌, ◌/◌, ◌%◌, ◌<◌, ◌^◌, ℕ, Some, List, get_or, length, ap, sym, ◌∙◌, arith}
 use Rattle.std.proofs.lemmas.Nat.{div_below}
 use Rattle.image_model.specs.Geometry.{Geometry, section_entries}
 use Rattle.image_model.specs.Walk.{sections_of}

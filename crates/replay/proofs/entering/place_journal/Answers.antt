@@ -34,7 +34,7 @@ returns-clause-stands g c start told d to has =
 pub returns-clause-moments : goal.returns-clause-moments
 returns-clause-moments g c =
     replay_adds c.args.geometry.now (2 ^ 48) c.read_journal.new.bytes c.args.journal.now
-    (geometry_of c.args.geometry.now c.args.tags.now (g.D.Disk.identity c.args.disk.now) (g.D.Disk.moments c.args.disk.now) c.requires.geometry c.requires.store)
+    (geometry_of c.args.geometry.now c.args.tags.now (g.D.Disk.identity c.args.disk.now) (g.D.Disk.moments c.args.disk.now) c.requires.replaying.geometry c.requires.replaying.store_is)
     (λ start told. record { on = c.requires.journal start told; read = c.in_ok-read_journal.ensures.read start told })
     (subst (λ (m : List Content). EachSince (OnlyAdds (IsOfPlacing c.args.geometry.now (Contains (entries_on c.args.geometry.now (journal_image c.read_journal.new.bytes) c.args.journal.now.plan.walk)))) m (g.D.Disk.moments c.place_all.new.disk))
     c.read_journal.ensures.kept c.place_all.ensures.moments)

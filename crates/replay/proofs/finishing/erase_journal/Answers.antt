@@ -13,7 +13,7 @@ use Rattle.replay.proofs.finishing.erase_journal.Goals as goal
 
 pub erase-requires-clause-geometry : goal.erase-requires-clause-geometry
 erase-requires-clause-geometry g c =
-    subst (λ (x : Geometry). IsGeometry x (g.D.Disk.identity c.args.disk.now).sectors) (sym c.requires.geometry) c.requires.store.geometry
+    subst (λ (x : Geometry). IsGeometry x (g.D.Disk.identity c.args.disk.now).sectors) (sym c.requires.scratch.geometry) c.requires.scratch.store_is.geometry
 
 pub returns-in_err-erase-clause-cuts : goal.returns-in_err-erase-clause-cuts
 returns-in_err-erase-clause-cuts g c d of has = c.erase.ensures.cuts d of (λ x told. (has.now x told).stands)
@@ -26,13 +26,13 @@ returns-clause-left g c d of placed has =
     let after = g.D.Disk.moments c.erase.new.disk in
     let empty = c.erase.new.scratch in
     let number = c.args.erasure.now.number in
-    let size : length empty ≡ 512 * journal_sectors store.geometry = c.erase.ensures.empty.size ∙ ap (λ (y : Geometry). 512 * journal_sectors y) c.requires.geometry in
-    let written = subst (λ (y : Geometry). IsChangedBy (with_empty_journal y empty) before after) c.requires.geometry c.in_ok-erase.ensures.written in
-    let erased = subst (λ (y : Geometry). HasNow (IsErased d number (empty_image y empty)) after) c.requires.geometry (c.in_ok-erase.ensures.erased d of (λ x told. (has.now x told).stands)) in
+    let size : length empty ≡ 512 * journal_sectors store.geometry = c.erase.ensures.empty.size ∙ ap (λ (y : Geometry). 512 * journal_sectors y) c.requires.scratch.geometry in
+    let written = subst (λ (y : Geometry). IsChangedBy (with_empty_journal y empty) before after) c.requires.scratch.geometry c.in_ok-erase.ensures.written in
+    let erased = subst (λ (y : Geometry). HasNow (IsErased d number (empty_image y empty)) after) c.requires.scratch.geometry (c.in_ok-erase.ensures.erased d of (λ x told. (has.now x told).stands)) in
     let whole = reads_whole disk before (g.met.D.Disk.reads_an_image c.args.disk.now) (g.met.D.Disk.whole_sectors c.args.disk.now) in
     let whole_now = subst (λ (i : DiskIdentity). ReadsWhole i after) c.erase.ensures.identity
     (reads_whole (g.D.Disk.identity c.erase.new.disk) after (g.met.D.Disk.reads_an_image c.erase.new.disk) (g.met.D.Disk.whole_sectors c.erase.new.disk)) in
-    erased_recovered store disk before after c.requires.store empty size written d number _ whole whole_now has erased of.settled placed refl refl refl
+    erased_recovered store disk before after c.requires.scratch.store_is empty size written d number _ whole whole_now has erased of.settled placed refl refl refl
 
 pub returns-clause-store : goal.returns-clause-store
 returns-clause-store g c =
@@ -41,9 +41,9 @@ returns-clause-store g c =
     let before = g.D.Disk.moments c.args.disk.now in
     let after = g.D.Disk.moments c.erase.new.disk in
     let empty = c.erase.new.scratch in
-    let size : length empty ≡ 512 * journal_sectors store.geometry = c.erase.ensures.empty.size ∙ ap (λ (y : Geometry). 512 * journal_sectors y) c.requires.geometry in
-    let written = subst (λ (y : Geometry). IsChangedBy (with_empty_journal y empty) before after) c.requires.geometry c.in_ok-erase.ensures.written in
-    subst (λ (i : DiskIdentity). IsStore store i after) (sym c.erase.ensures.identity) (store_erased store disk before after c.requires.store empty size written)
+    let size : length empty ≡ 512 * journal_sectors store.geometry = c.erase.ensures.empty.size ∙ ap (λ (y : Geometry). 512 * journal_sectors y) c.requires.scratch.geometry in
+    let written = subst (λ (y : Geometry). IsChangedBy (with_empty_journal y empty) before after) c.requires.scratch.geometry c.in_ok-erase.ensures.written in
+    subst (λ (i : DiskIdentity). IsStore store i after) (sym c.erase.ensures.identity) (store_erased store disk before after c.requires.scratch.store_is empty size written)
 
 pub returns-clause-cuts : goal.returns-clause-cuts
 returns-clause-cuts g c d of has = c.erase.ensures.cuts d of (λ x told. (has.now x told).stands)

@@ -7,8 +7,8 @@ use Rattle.replay.proofs.ReplayingLemmas.{geometry_of}
 use Rattle.replay.proofs.finishing.finish.Goals as goal
 
 pub returns-in-Rest-clause-left : goal.returns-in-Rest-clause-left
-returns-in-Rest-clause-left g c d replayed has pending now told =
-    let geometry = geometry_of c.args.geometry.now c.args.tags.now (g.D.Disk.identity c.args.disk.now) (g.D.Disk.moments c.args.disk.now) c.requires.geometry c.requires.store in
+returns-in-Rest-clause-left g c pending d replayed has now told =
+    let geometry = geometry_of c.args.geometry.now c.args.tags.now (g.D.Disk.identity c.args.disk.now) (g.D.Disk.moments c.args.disk.now) c.requires.replaying.geometry c.requires.replaying.store_is in
     rest_left d c.args.geometry.now (2 ^ 48) c.args.journal.now c.in-Rest.next c.in-Rest.number _ _ now geometry
     replayed c.in-Rest.is refl refl c.is_used.ensures (has.now now told) (pending now told)
 
@@ -19,13 +19,13 @@ pub erase_scanned-requires-clause-newest : goal.erase_scanned-requires-clause-ne
 erase_scanned-requires-clause-newest g c = inl c.in-Mixed.is
 
 pub returns-in-Mixed-clause-left : goal.returns-in-Mixed-clause-left
-returns-in-Mixed-clause-left g c = IfOk-weaker c.erase_scanned.result _ _ (λ at left d replayed has pending. left d replayed has) c.erase_scanned.ensures.left
+returns-in-Mixed-clause-left g c = IfOk-weaker c.erase_scanned.result _ _ (λ at left pending. left) c.erase_scanned.ensures.left
 
 pub unreachable-requires : goal.unreachable-requires
-unreachable-requires g c = not_blank c.args.geometry.now c.args.journal.now c.in-Blank.number c.requires.fits c.in-Blank.is
+unreachable-requires g c = not_blank c.args.geometry.now c.args.journal.now c.in-Blank.number c.requires.replaying.fits c.in-Blank.is
 
 pub returns-in-Erasing-clause-left : goal.returns-in-Erasing-clause-left
-returns-in-Erasing-clause-left g c = IfOk-weaker c.erase_scanned-in-Erasing.result _ _ (λ at left d replayed has pending. left d replayed has) c.erase_scanned-in-Erasing.ensures.left
+returns-in-Erasing-clause-left g c = IfOk-weaker c.erase_scanned-in-Erasing.result _ _ (λ at left pending. left) c.erase_scanned-in-Erasing.ensures.left
 
 pub returns-in-Rest-clause-moments : goal.returns-in-Rest-clause-moments
 returns-in-Rest-clause-moments g c = no_moment (g.D.Disk.moments c.args.disk.now) _
@@ -34,7 +34,7 @@ pub returns-in-Rest-clause-next : goal.returns-in-Rest-clause-next
 returns-in-Rest-clause-next g c = sym (ap next_by c.in-Rest.is)
 
 pub returns-in-Rest-clause-place : goal.returns-in-Rest-clause-place
-returns-in-Rest-clause-place g c = rest_place c.args.geometry.now c.args.journal.now c.in-Rest.next c.in-Rest.number _ c.requires.fits c.in-Rest.is
+returns-in-Rest-clause-place g c = rest_place c.args.geometry.now c.args.journal.now c.in-Rest.next c.in-Rest.number _ c.requires.replaying.fits c.in-Rest.is
 
 pub returns-in-Mixed-clause-next : goal.returns-in-Mixed-clause-next
 returns-in-Mixed-clause-next g c = IfOk-weaker c.erase_scanned.result _ _ (λ at first. first ∙ sym (ap next_by c.in-Mixed.is)) c.erase_scanned.ensures.next

@@ -27,17 +27,17 @@ loop-k-init g c = record {
   still = λ none start told read are. still_none c.args.tags.now (g.D.Disk.moments c.args.disk.now) none;
   faults = refl;
   run = shows_none c.args.tags.now.geometry c.new-run.result (g.D.Disk.moments c.args.disk.now) c.new-run.ensures;
-  store = c.requires.store_is;
-  geometry = refl;
-  identity = refl;
+  keeps = record { store = c.requires.store_is; geometry = refl; identity = refl };
 }
 
 pub place_entry-requires-clause-replaying : goal.place_entry-requires-clause-replaying
 place_entry-requires-clause-replaying g c = record {
-  geometry = c.requires.geometry ∙ sym c.loop-k.invariant.geometry;
-  size = c.requires.size;
+  scratch = record {
+    geometry = c.requires.geometry ∙ sym c.loop-k.invariant.keeps.geometry;
+    size = c.requires.size;
+    store_is = c.loop-k.invariant.keeps.store;
+  };
   fits = c.requires.fits;
-  store_is = c.loop-k.invariant.store;
 }
 
 pub returns-in_err-place_entry-clause-stands : goal.returns-in_err-place_entry-clause-stands
@@ -66,9 +66,11 @@ loop-k-preserved g c = record {
       (in_place_still c.args.geometry.now _ (given_tags c.args.tags.now start) (given_tags c.loop-k.tags start) start (first.same start told) are));
   faults = c.in_ok-place_entry.ensures.cause.passed ∙ c.loop-k.invariant.faults;
   run = c.in_ok-place_entry.ensures.run;
-  store = c.place_entry.ensures.store;
-  geometry = c.place_entry.ensures.geometry ∙ c.loop-k.invariant.geometry;
-  identity = c.place_entry.ensures.identity ∙ c.loop-k.invariant.identity;
+  keeps = record {
+    store = c.place_entry.ensures.keeps.store;
+    geometry = c.place_entry.ensures.keeps.geometry ∙ c.loop-k.invariant.keeps.geometry;
+    identity = c.place_entry.ensures.keeps.identity ∙ c.loop-k.invariant.keeps.identity;
+  };
 }
 
 pub returns-clause-placed : goal.returns-clause-placed

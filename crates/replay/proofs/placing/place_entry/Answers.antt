@@ -58,23 +58,19 @@ read_entry-requires-clause-entry g c =
 pub place_view-requires-clause-block : goal.place_view-requires-clause-block
 place_view-requires-clause-block g c =
     let G = c.args.read.now.geometry.now in
-    let B = c.args.read.now.bytes.now in
-    let journal = c.args.read.now.journal.now in
     let replaying = c.requires.replaying in
-    let geometry = geometry_of G c.args.tags.now (g.D.Disk.identity c.args.disk.now) (g.D.Disk.moments c.args.disk.now) replaying.geometry replaying.store_is in
-    let entry = entry_with c.read_entry.new.block c.in-Some.view in
     let spb : c.shape.result.spb ≡ G.shape.spb = ap (λ (x : Shape). x.spb) c.shape.ensures.shape in
     let sector = c.in-Some.view.sector in
     let own = sector / c.shape.result.spb in
     let own_is : own ≡ sector / G.shape.spb = ap (λ (n : ℕ). sector / n) spb in
     let low : own < G.blocks = replaying.fits.inside own c.args.number (c.is_newest.ensures.0 c.if-is_newest.true) in
-    subst (λ (x : Geometry). sector / x.shape.spb < x.blocks) replaying.geometry (subst (λ (n : ℕ). n < G.blocks) own_is low)
-
-pub place_view-requires-clause-bytes : goal.place_view-requires-clause-bytes
-place_view-requires-clause-bytes g c = c.read_entry.auto.block ∙ c.requires.block ∙ ap (λ (x : Geometry). 512 * x.shape.spb) c.requires.replaying.geometry
-
-pub place_view-requires-clause-tag : goal.place_view-requires-clause-tag
-place_view-requires-clause-tag g c = c.in-Some.ensures.tag ∙ ap (λ (x : Geometry). x.shape.tag_size) c.requires.replaying.geometry
+    record {
+      block_ = record {
+        low = subst (λ (x : Geometry). sector / x.shape.spb < x.blocks) replaying.geometry (subst (λ (n : ℕ). n < G.blocks) own_is low);
+        size = c.read_entry.auto.block ∙ c.requires.block ∙ ap (λ (x : Geometry). 512 * x.shape.spb) replaying.geometry;
+      };
+      tag_size = c.in-Some.ensures.tag ∙ ap (λ (x : Geometry). x.shape.tag_size) replaying.geometry;
+    }
 
 pub returns-in_err-place_view-clause-stands : goal.returns-in_err-place_view-clause-stands
 returns-in_err-place_view-clause-stands g c d to read has =
@@ -93,7 +89,7 @@ returns-in_err-place_view-clause-stands g c d to read has =
     let used : Some entry ≡ numbered_entry G d.journal c.args.number = c.in-Some.ensures.entry ∙ numbered_read G (2 ^ 48) B journal d.journal geometry read c.args.number place c.entry_place-place.ensures inside.0 in
     let cell = newest_cell d G (newest_in journal.newest) to read.on.newest_ c.args.number entry own used own_is (c.is_newest.ensures.0 c.if-is_newest.true) in
     let there : last_cell d (sector / c.args.tags.now.geometry.shape.spb) ≡ cell_of entry = ap (λ (x : Geometry). last_cell d (sector / x.shape.spb)) (sym replaying.geometry) ∙ ap (last_cell d) (sym own_is) ∙ cell in
-    c.place_view.ensures.stands d has.ahead there has.amid
+    c.place_view.ensures.stands d has.ahead has.ahead there has.amid
 
 pub returns-in_ok-place_view-clause-stands : goal.returns-in_ok-place_view-clause-stands
 returns-in_ok-place_view-clause-stands g c d to read has =
@@ -112,7 +108,7 @@ returns-in_ok-place_view-clause-stands g c d to read has =
     let used : Some entry ≡ numbered_entry G d.journal c.args.number = c.in-Some.ensures.entry ∙ numbered_read G (2 ^ 48) B journal d.journal geometry read c.args.number place c.entry_place-place.ensures inside.0 in
     let cell = newest_cell d G (newest_in journal.newest) to read.on.newest_ c.args.number entry own used own_is (c.is_newest.ensures.0 c.if-is_newest.true) in
     let there : last_cell d (sector / c.args.tags.now.geometry.shape.spb) ≡ cell_of entry = ap (λ (x : Geometry). last_cell d (sector / x.shape.spb)) (sym replaying.geometry) ∙ ap (last_cell d) (sym own_is) ∙ cell in
-    c.place_view.ensures.stands d has.ahead there has.amid
+    c.place_view.ensures.stands d has.ahead has.ahead there has.amid
 
 pub returns-in_ok-place_view-clause-placed : goal.returns-in_ok-place_view-clause-placed
 returns-in_ok-place_view-clause-placed g c d to read has =
@@ -135,7 +131,7 @@ returns-in_ok-place_view-clause-placed g c d to read has =
     let moments = g.D.Disk.moments c.place_view.new.disk in
     let same : own ≡ sector / c.args.tags.now.geometry.shape.spb = own_is ∙ ap (λ (x : Geometry). sector / x.shape.spb) replaying.geometry in
     turned_one d G (newest_in journal.newest) to read.on.newest_ c.args.number entry own used own_is c.args.tags.now new (g.D.Disk.moments c.args.disk.now) moments has
-    (subst (λ (n : ℕ). HasAmid d (without n has.ahead) (without n has.ahead) new moments) (sym same) (c.in_ok-place_view.ensures.placed d has.ahead there has.amid))
+    (subst (λ (n : ℕ). HasAmid d (without n has.ahead) (without n has.ahead) new moments) (sym same) (c.in_ok-place_view.ensures.placed d has.ahead has.ahead there has.amid))
 
 pub returns-else-is_newest-clause-placed : goal.returns-else-is_newest-clause-placed
 returns-else-is_newest-clause-placed g c d to read has =

@@ -14,28 +14,34 @@ use Rattle.replay.proofs.RestingLemmas.{placing_rests, recovery_rests, state_at_
 use Rattle.replay.proofs.WritesLemmas.{recovery_adds, replay_only}
 use Rattle.replay.proofs.recovery.recover.Goals as goal
 
-pub finish-requires-clause-geometry : goal.finish-requires-clause-geometry
-finish-requires-clause-geometry g c = c.requires.geometry ∙ sym c.replay_journal.ensures.geometry
-
-pub finish-requires-clause-scratch : goal.finish-requires-clause-scratch
-finish-requires-clause-scratch g c = c.replay_journal.auto.bytes ∙ ap length c.bytes_mut-bytes.ensures.bytes ∙ c.requires.pool
+pub finish-requires : goal.finish-requires
+finish-requires g c = record {
+  replaying = record {
+    scratch = record {
+      geometry = c.requires.replaying.geometry ∙ sym c.replay_journal.ensures.keeps.geometry;
+      size = c.replay_journal.auto.bytes ∙ ap length c.bytes_mut-bytes.ensures.bytes ∙ c.requires.replaying.size;
+      store_is = c.replay_journal.ensures.keeps.store;
+    };
+    fits = c.requires.replaying.fits;
+  };
+}
 
 pub returns-clause-cuts : goal.returns-clause-cuts
 returns-clause-cuts g c f start told enters =
     EachMoment-then (c.replay_journal.ensures.cuts f start told enters)
     (cells_stay_erased f (last_image start) enters.no_bitmap
     (c.finish.ensures.cuts (after_settle (all_placed (opened_disk f (last_image start))))
-    (replayed_after f c.args.geometry.now (g.D.Disk.identity c.args.disk.now) c.args.tags.now (g.D.Disk.moments c.args.disk.now) start c.requires.geometry told
+    (replayed_after f c.args.geometry.now (g.D.Disk.identity c.args.disk.now) c.args.tags.now (g.D.Disk.moments c.args.disk.now) start c.requires.replaying.geometry told
     (reads_whole (g.D.Disk.identity c.args.disk.now) (g.D.Disk.moments c.args.disk.now) (g.met.D.Disk.reads_an_image c.args.disk.now) (g.met.D.Disk.whole_sectors c.args.disk.now) start told) enters c.args.journal.now (c.requires.journal start told))
     (c.in_ok-replay_journal.ensures.settled f start told enters)))
 
 pub returns-clause-left : goal.returns-clause-left
 returns-clause-left g c = IfOk-weaker c.finish.result _ _ (λ at left f start told enters now told_now.
     leaves_same (opened_disk f (last_image start)) at _ now
-    (left (after_settle (all_placed (opened_disk f (last_image start))))
-    (replayed_after f c.args.geometry.now (g.D.Disk.identity c.args.disk.now) c.args.tags.now (g.D.Disk.moments c.args.disk.now) start c.requires.geometry told
+    (left c.in_ok-replay_journal.ensures.pending (after_settle (all_placed (opened_disk f (last_image start))))
+    (replayed_after f c.args.geometry.now (g.D.Disk.identity c.args.disk.now) c.args.tags.now (g.D.Disk.moments c.args.disk.now) start c.requires.replaying.geometry told
     (reads_whole (g.D.Disk.identity c.args.disk.now) (g.D.Disk.moments c.args.disk.now) (g.met.D.Disk.reads_an_image c.args.disk.now) (g.met.D.Disk.whole_sectors c.args.disk.now) start told) enters c.args.journal.now (c.requires.journal start told))
-    (c.in_ok-replay_journal.ensures.settled f start told enters) c.in_ok-replay_journal.ensures.pending now told_now)) c.finish.ensures.left
+    (c.in_ok-replay_journal.ensures.settled f start told enters) now told_now)) c.finish.ensures.left
 
 pub returns-in_err-replay_journal-clause-moments : goal.returns-in_err-replay_journal-clause-moments
 returns-in_err-replay_journal-clause-moments g c = replay_only c.args.geometry.now c.replay_journal.ensures.moments
@@ -48,7 +54,7 @@ returns-clause-next g c = IfOk-weaker c.finish.result _ _ (λ at next start told
 
 pub returns-clause-rest : goal.returns-clause-rest
 returns-clause-rest g c =
-    let geometry = geometry_of c.args.geometry.now c.args.tags.now (g.D.Disk.identity c.args.disk.now) (g.D.Disk.moments c.args.disk.now) c.requires.geometry c.requires.store in
+    let geometry = geometry_of c.args.geometry.now c.args.tags.now (g.D.Disk.identity c.args.disk.now) (g.D.Disk.moments c.args.disk.now) c.requires.replaying.geometry c.requires.replaying.store_is in
     recovery_rests c.args.geometry.now c.replay_journal.ensures.moments (2 ^ 48) c.args.journal.now.plan geometry (λ start told. (c.requires.journal start told).plan_)
     c.finish.ensures.rest c.finish.ensures.moments
 
@@ -61,7 +67,7 @@ returns-in_err-replay_journal-clause-in_place g c none start told already = c.re
 pub returns-clause-in_place : goal.returns-clause-in_place
 returns-clause-in_place g c none start told already =
     let G = c.args.geometry.now in
-    let geometry = geometry_of G c.args.tags.now (g.D.Disk.identity c.args.disk.now) (g.D.Disk.moments c.args.disk.now) c.requires.geometry c.requires.store in
+    let geometry = geometry_of G c.args.tags.now (g.D.Disk.identity c.args.disk.now) (g.D.Disk.moments c.args.disk.now) c.requires.replaying.geometry c.requires.replaying.store_is in
     let at = state_at_rest G (2 ^ 48) (last_image start) c.args.journal.now.plan geometry (c.requires.journal start told).plan_ already.rests in
     subst (λ (m : List Content). OnlySyncs (g.D.Disk.moments c.args.disk.now) m) (sym (c.finish.ensures.rest already.rests.next already.rests.number at))
     (c.replay_journal.ensures.in_place none start told already.in_place)

@@ -1,32 +1,29 @@
 -- Eight runs of five bytes are forty.
-use Rattle.std.proofs.Common.{◌≡◌, ℕ, ◌+◌, List, [], ◌∷◌, ◌++◌, ◌∙◌, ap, arith, length, drop, get_or, suc, zero, sym}
+use Rattle.std.proofs.Common.{◌≡◌, ℕ, List, ◌++◌, ◌∙◌, ap, take, refl, sym}
+use Rattle.std.specs.Fmt.{digits}
 use Rattle.std.specs.List.{flat_map}
-use Rattle.std.proofs.Math.ListN.{drop_of_length-le}
-use Rattle.std.proofs.Math.Seq.{drop-cons}
+use Rattle.std.specs.Simd.Lanes.{pick_l}
+use Rattle.hex.specs.Hex.{encode_with, encode_lower}
 use Rattle.script_text.specs.Singles.{single_text}
+use Rattle.script_text.proofs.LaneLemmas.{bytes_from, bytes_from-whole}
+use Rattle.script_text.specs.declared.singles.TheConstants.{PLACES, MARKS}
 use Rattle.script_text.proofs.singles.put_singles.Goals as goal
 
--- So many bytes from the k-th on.
-abbrev bytes_from : List ℕ → ℕ → ℕ → List ℕ
-bytes_from bytes k zero = []
-bytes_from bytes k (suc n) = get_or bytes k 0 ∷ bytes_from bytes (suc k) n
+-- The text that is taken from these digits and the marks.
+abbrev runs_of : List ℕ → List ℕ
+runs_of text = take 40 (pick_l 0 (text ++ MARKS) PLACES)
 
-bytes_from-rest : (bytes : List ℕ) (k n : ℕ) → k + n ≡ length bytes → drop k bytes ≡ bytes_from bytes k n
-bytes_from-rest bytes k zero all = drop_of_length-le bytes (omega (arith, all))
-bytes_from-rest bytes k (suc n) all =
-    drop-cons bytes k 0 (omega (arith, all)) ∙ ap (λ (rest : List ℕ). get_or bytes k 0 ∷ rest) (bytes_from-rest bytes (suc k) n (omega (arith, all)))
-
-pub put_bytes-requires : goal.put_bytes-requires
-put_bytes-requires c =
-    let each = c.as_flattened.ensures.len in
-    let all = c.as_flattened-2.ensures.len in
-    record { room = omega (arith, each, all, c.requires.room) }
+runs_of_eight : (bytes : List ℕ) → runs_of (encode_lower (bytes_from bytes 0 8)) ≡ flat_map single_text (bytes_from bytes 0 8)
+unfolding digits encode_with
+runs_of_eight bytes = refl
 
 pub returns-clause-written : goal.returns-clause-written
 returns-clause-written c =
     let bytes = c.args.bytes.now in
-    let all = bytes_from-rest bytes 0 8 (omega (arith, c.told-bytes)) in
-    rw (c.put_bytes.ensures.written, c.as_flattened-2.ensures.value, c.as_flattened.ensures.value)
-    (rw (c.single_of.ensures, c.single_of-2.ensures, c.single_of-3.ensures, c.single_of-4.ensures)
-    (rw (c.single_of-5.ensures, c.single_of-6.ensures, c.single_of-7.ensures, c.single_of-8.ensures)
-    (ap (λ (xs : List ℕ). c.args.text.now.items ++ flat_map single_text xs) (sym all))))
+    let text = c.args.text.now.items in
+    let all = bytes_from-whole bytes 8 c.told-bytes in
+    c.put_bytes.ensures.written
+    ∙ ap (λ (put : List ℕ). text ++ runs_of put) c.digits_of_eight-digits.ensures
+    ∙ ap (λ (xs : List ℕ). text ++ runs_of (encode_lower xs)) all
+    ∙ ap (λ (put : List ℕ). text ++ put) (runs_of_eight bytes)
+    ∙ ap (λ (xs : List ℕ). text ++ flat_map single_text xs) (sym all)

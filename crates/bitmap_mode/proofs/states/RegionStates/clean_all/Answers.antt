@@ -59,7 +59,7 @@ regions-smaller g c =
     let next = next_there c.regions.self c.regions.self c.regions.from c.in-Some.region c.next_to_clean.result refl c.next_to_clean.ensures c.in-Some.is in
     let inside = next.inside in
     let above = next.above in
-    let same = ap (λ (y : Geometry). regions y) c.clean.ensures.rest.0 in
+    let same = ap (λ (y : Geometry). regions y) c.clean.ensures.stays.geometry in
     omega (arith, inside, above, same)
 
 pub regions-preserved : goal.regions-preserved
@@ -81,13 +81,13 @@ regions-preserved g c =
     let cleared = cleared_next (counts_of s) s.geometry (counts_of now) c.regions.from inv.bits awaits rests region next idle (with_region region false (bits_of now.bits)) (λ r low. refl) in
     record {
       low = let inside = next.inside in omega (arith, inside);
-      geometry = c.clean.ensures.rest.0 ∙ inv.geometry;
-      awaiting = c.clean.ensures.rest.1 ∙ inv.awaiting;
-      fresh = c.clean.ensures.rest.2 ∙ inv.fresh;
+      geometry = c.clean.ensures.stays.geometry ∙ inv.geometry;
+      awaiting = c.clean.ensures.stays.awaiting ∙ inv.awaiting;
+      fresh = c.clean.ensures.stays.fresh ∙ inv.fresh;
       bits = λ r low. bits r low ∙ cleared r low;
       faults = c.in_ok-clean.ensures.cause.passed ∙ inv.faults;
-      store = c.clean.ensures.store;
-      identity = c.clean.ensures.identity ∙ inv.identity;
+      store = c.clean.ensures.stays.store_;
+      identity = c.clean.ensures.stays.identity ∙ inv.identity;
       keeps = λ d marked rested stands.
           (close_turn d marked (counts_of s) s.geometry (stands.geometry ∙ c.requires.same) stands.regions_ rested tags before (counts_of now) c.regions.from region inv.bits awaits rests next idle
           (inv.keeps d marked rested stands) tags after clears).1;

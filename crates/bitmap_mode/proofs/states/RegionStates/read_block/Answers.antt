@@ -34,11 +34,11 @@ returns-clause-read g c = on_ok_weaker c.read_cell.result (λ reads.
     let now = c.args.self.now in
     let before = g.D.Disk.moments c.args.disk.now in
     let middle = g.D.Disk.moments c.take_to_read.new.disk in
-    let there = c.take_to_read.ensures.geometry.0 ∙ c.requires.same in
+    let there = c.take_to_read.ensures.stays.tags ∙ c.requires.fits.same in
     let out = c.read_cell.new.out in
     let size : length out ≡ 512 * now.geometry.shape.spb = c.read_cell.auto.out ∙ c.requires.block.size in
     read_before now.geometry (g.D.Disk.identity c.args.disk.now).sectors c.args.block out
-    (subst (λ (y : Geometry). IsGeometry y (g.D.Disk.identity c.args.disk.now).sectors) c.requires.same c.requires.store.geometry) c.requires.block.low size before middle c.in_ok-take_to_read.ensures.taken.others
+    (subst (λ (y : Geometry). IsGeometry y (g.D.Disk.identity c.args.disk.now).sectors) c.requires.fits.same c.requires.fits.store_.geometry) c.requires.block.low size before middle c.in_ok-take_to_read.ensures.taken.others
     (λ x told. end_told x c.take_to_read.ensures.moments told)
     (subst (λ (y : Geometry). HasNow (Reads (data_at y c.args.block) out) middle) there reads)) c.read_cell.ensures.read
 
@@ -69,7 +69,7 @@ returns-clause-through g c d marked stands =
     let after = g.D.Disk.moments c.read_cell.new.disk in
     let then_ = c.take_to_read.new.tags in
     let is = c.region_of-region.ensures ∙ ap (λ (x : States). region_of x.geometry c.args.block) c.self.view_is in
-    let first = read_first d marked c.region_of-region.result c.args.block now c.take_to_read.new.self then_ middle (stands.stands.geometry ∙ c.requires.same) is
+    let first = read_first d marked c.region_of-region.result c.args.block now c.take_to_read.new.self then_ middle (stands.stands.geometry ∙ c.requires.fits.same) is
     (c.in_ok-take_to_read.ensures.stands d marked stands) in
     let kept = tags_kept_law (after_read d c.args.block) then_.geometry marked (given_tags then_) (given_tags c.read_cell.new.tags) middle after first.geometry first.now c.read_cell.ensures.back in
     inr (turns_at d (after_read d c.args.block) marked (c.take_to_read.ensures.through d marked stands) kept.0)
@@ -84,7 +84,7 @@ returns-clause-cell g c =
     let block = c.args.block in
     let out = c.read_cell.new.out in
     let back = c.read_cell.ensures.back in
-    let there = c.take_to_read.ensures.geometry.0 ∙ c.requires.same in
+    let there = c.take_to_read.ensures.stays.tags ∙ c.requires.fits.same in
     let is = c.region_of-region.ensures ∙ ap (λ (x : States). region_of x.geometry block) c.self.view_is in
     let low = subst (λ (y : Geometry). block < y.blocks) (sym there) c.requires.block.low in
     let size = subst (λ (y : Geometry). length out ≡ 512 * y.shape.spb) (sym there) (c.read_cell.auto.out ∙ c.requires.block.size) in
@@ -92,14 +92,14 @@ returns-clause-cell g c =
     (λ tag. (d : BitmapDisk) (marked : ℕ → Bool) → StandsWith d marked c.args.maker.now now c.args.tags.now before
     → HasRead d marked block out tag c.take_to_read.new.self c.read_cell.new.tags before after)
     (λ tag reads tag_is d marked stands.
-    let first = read_first d marked c.region_of-region.result block now c.take_to_read.new.self then_ middle (stands.stands.geometry ∙ c.requires.same) is
+    let first = read_first d marked c.region_of-region.result block now c.take_to_read.new.self then_ middle (stands.stands.geometry ∙ c.requires.fits.same) is
     (c.in_ok-take_to_read.ensures.stands d marked stands) in
     let kept = tags_kept_law (after_read d block) then_.geometry marked (given_tags then_) (given_tags c.read_cell.new.tags) middle after first.geometry first.now back in
     record {
       through = turns_at d (after_read d block) marked (c.take_to_read.ensures.through d marked stands) kept.0;
       stands = record { geometry = first.geometry ∙ sym c.read_cell.ensures.geometry; regions_ = first.regions_; now = kept.1 };
-      reads = subst (λ (y : Geometry). HasNow (Reads (data_at y block) out) after) (c.take_to_read.ensures.geometry.0 ∙ sym stands.stands.geometry)
-          (read_after then_.geometry (g.D.Disk.identity c.take_to_read.new.disk).sectors block out c.take_to_read.ensures.store.geometry low size middle after back.others
+      reads = subst (λ (y : Geometry). HasNow (Reads (data_at y block) out) after) (c.take_to_read.ensures.stays.tags ∙ sym stands.stands.geometry)
+          (read_after then_.geometry (g.D.Disk.identity c.take_to_read.new.disk).sectors block out c.take_to_read.ensures.stays.store_.geometry low size middle after back.others
           (λ x told. tags_told then_.geometry (given_tags then_) (given_tags then_) x back.adds told) reads);
       tag_ = λ x told.
           let start = tags_told then_.geometry (given_tags then_) (given_tags then_) x back.adds told in
@@ -119,7 +119,7 @@ returns-clause-moments g c =
     let taken = subst (λ (r : ℕ). TakesToRead rule now r store c.take_to_read.new.tags before middle) is c.in_ok-take_to_read.ensures.taken in
     adds_back_then now.geometry (given_tags store) (tags_to_read rule now (region_of now.geometry c.args.block) store) then_
     (subst (λ (r : ℕ). AddsToRead rule now r store before middle) is c.take_to_read.ensures.moments) taken.gives
-    (subst (λ (y : Geometry). AddsTags y then_ then_ middle after) (c.take_to_read.ensures.geometry.0 ∙ c.requires.same) c.read_cell.ensures.back.adds)
+    (subst (λ (y : Geometry). AddsTags y then_ then_ middle after) (c.take_to_read.ensures.stays.tags ∙ c.requires.fits.same) c.read_cell.ensures.back.adds)
 
 pub returns-clause-rest : goal.returns-clause-rest
 returns-clause-rest g c =

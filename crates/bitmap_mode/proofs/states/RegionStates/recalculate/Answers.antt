@@ -42,22 +42,22 @@ pub returns-in_err-take-clause-through : goal.returns-in_err-take-clause-through
 returns-in_err-take-clause-through g c d marked stands =
     let s : States = record { geometry = c.self.inside.geometry; bits = c.self.inside.bits; awaiting = c.self.inside.awaiting; fresh = c.self.inside.fresh } in
     let least = least_is s c.args.self.now c.next.result c.in-Some.region c.in-Some.is c.next.ensures c.self.invariant.awaiting_geometry c.self.view_is in
-    take_through d marked c.args.maker.now c.args.self.now c.args.tags.now stands c.requires.same c.in-Some.region
+    take_through d marked c.args.maker.now c.args.self.now c.args.tags.now stands c.requires.fits.same c.in-Some.region
     least.0 least.1 c.take.ensures.moments
 
 pub returns-clause-through : goal.returns-clause-through
 returns-clause-through g c d marked stands =
     let s : States = record { geometry = c.self.inside.geometry; bits = c.self.inside.bits; awaiting = c.self.inside.awaiting; fresh = c.self.inside.fresh } in
     let least = least_is s c.args.self.now c.next.result c.in-Some.region c.in-Some.is c.next.ensures c.self.invariant.awaiting_geometry c.self.view_is in
-    take_through d marked c.args.maker.now c.args.self.now c.args.tags.now stands c.requires.same c.in-Some.region
+    take_through d marked c.args.maker.now c.args.self.now c.args.tags.now stands c.requires.fits.same c.in-Some.region
     least.0 least.1 c.take.ensures.moments
 
 pub returns-clause-taken : goal.returns-clause-taken
 returns-clause-taken g c d marked stands =
     let s : States = record { geometry = c.self.inside.geometry; bits = c.self.inside.bits; awaiting = c.self.inside.awaiting; fresh = c.self.inside.fresh } in
     let least = least_is s c.args.self.now c.next.result c.in-Some.region c.in-Some.is c.next.ensures c.self.invariant.awaiting_geometry c.self.view_is in
-    is_taken d marked c.args.maker.now c.args.self.now c.args.tags.now stands c.requires.same c.in-Some.region
-    least.0 least.1 c.take.new.self c.take.new.tags c.take.ensures.geometry.0 c.in_ok-take.ensures.counts c.in_ok-take.ensures.taken
+    is_taken d marked c.args.maker.now c.args.self.now c.args.tags.now stands c.requires.fits.same c.in-Some.region
+    least.0 least.1 c.take.new.self c.take.new.tags c.take.ensures.stays.tags c.in_ok-take.ensures.counts c.in_ok-take.ensures.taken
 
 pub returns-in_err-take-clause-moments : goal.returns-in_err-take-clause-moments
 returns-in_err-take-clause-moments g c =

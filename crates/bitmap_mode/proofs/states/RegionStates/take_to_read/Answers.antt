@@ -13,15 +13,15 @@ returns-then-awaits-clause-stands g c =
     let s = c.args.self.now in
     let waits : awaiting_of s.awaiting c.args.region ≡ true = ap (λ (x : States). awaiting_of x.awaiting c.args.region) (sym c.self.view_is) ∙ sym c.awaits.ensures ∙ c.if-awaits.true in
     on_ok_both c.take.result (λ counts taken d marked stands.
-    is_taken_first d marked c.args.maker.now s c.args.tags.now stands c.requires.same c.args.region c.requires.region waits c.take.new.self c.take.new.tags
-    (is_taken d marked c.args.maker.now s c.args.tags.now stands c.requires.same c.args.region c.requires.region waits c.take.new.self c.take.new.tags c.take.ensures.geometry.0 counts taken))
+    is_taken_first d marked c.args.maker.now s c.args.tags.now stands c.requires.fits.same c.args.region c.requires.region waits c.take.new.self c.take.new.tags
+    (is_taken d marked c.args.maker.now s c.args.tags.now stands c.requires.fits.same c.args.region c.requires.region waits c.take.new.self c.take.new.tags c.take.ensures.stays.tags counts taken))
     c.take.ensures.counts c.take.ensures.taken
 
 pub returns-then-awaits-clause-through : goal.returns-then-awaits-clause-through
 returns-then-awaits-clause-through g c d marked stands =
     let s = c.args.self.now in
     let waits : awaiting_of s.awaiting c.args.region ≡ true = ap (λ (x : States). awaiting_of x.awaiting c.args.region) (sym c.self.view_is) ∙ sym c.awaits.ensures ∙ c.if-awaits.true in
-    take_through d marked c.args.maker.now s c.args.tags.now stands c.requires.same c.args.region c.requires.region waits c.take.ensures.moments
+    take_through d marked c.args.maker.now s c.args.tags.now stands c.requires.fits.same c.args.region c.requires.region waits c.take.ensures.moments
 
 pub returns-then-awaits-clause-moments : goal.returns-then-awaits-clause-moments
 returns-then-awaits-clause-moments g c =

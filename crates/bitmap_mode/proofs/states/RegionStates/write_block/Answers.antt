@@ -27,7 +27,7 @@ returns-then-is_flushed-clause-through g c d ticket marked takes =
 
 pub returns-then-is_flushed-clause-moments : goal.returns-then-is_flushed-clause-moments
 returns-then-is_flushed-clause-moments g c =
-    marked_flushed c.args.self.now c.write_marked.new.tags c.args.block c.args.bytes.now (c.write_marked.ensures.geometry.0 ∙ c.requires.same) c.write_marked.ensures.moments c.flush.ensures.moments
+    marked_flushed c.args.self.now c.write_marked.new.tags c.args.block c.args.bytes.now (c.write_marked.ensures.stays.tags ∙ c.requires.same) c.write_marked.ensures.moments c.flush.ensures.moments
 
 pub returns-clause-written : goal.returns-clause-written
 returns-clause-written g c d ticket marked takes =

@@ -1,4 +1,4 @@
-use Rattle.std.proofs.Common.{◌≡◌, ◌^◌, [], ap, subst, sym, refl, arith}
+use Rattle.std.proofs.Common.{◌≡◌, ◌^◌, [], subst, sym, refl, arith}
 use Rattle.image_model.proofs.Regions.{journal_sectors-some}
 use Rattle.sector_window.specs.Window.{Window}
 use Rattle.journal_reading.specs.Grids.{HasGridRoom}
