@@ -12,9 +12,10 @@ BASES = (0x1111111111111111, 0x2222222222222222, 0x3333333333333333, 0x444444444
 
 
 class Tally:
-    """Counts what is judged, and tells what fails."""
+    """Counts what is judged by a check, and prints what fails."""
 
-    def __init__(self):
+    def __init__(self, check="journal"):
+        self.check = check
         self.passed = self.failed = 0
         self.lock = threading.Lock()
 
@@ -25,7 +26,7 @@ class Tally:
                 return
             self.failed += 1
             if self.failed <= 20:
-                print(f"journal: {name}: {told}"[:2000], flush=True)
+                print(f"{self.check}: {name}: {told}"[:2000], flush=True)
 
 
 class Shape:
