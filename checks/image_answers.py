@@ -45,6 +45,8 @@ class Fields:
     """The superblock of a disk, or the first fault of it."""
 
     def __init__(self, disk):
+        if not disk.sectors:
+            raise Refused("magic")
         (magic, self.version, self.log2_interleave, self.tag_size, self.sections, self.provided, self.flags, self.log2_spb,
          self.log2_region, self.recalculate, self.salt) = struct.unpack_from("<8sBBHIQIBB2xQ8x16s", disk.read(0))
         faults = (
@@ -225,8 +227,6 @@ class Answers:
 
     def answered(self, told):
         """What is told of it, or that it is refused."""
-        if not self.disk.sectors:
-            return 4, "fault disk\n"
         try:
             return told(Geometry(self.disk))
         except Refused as why:
