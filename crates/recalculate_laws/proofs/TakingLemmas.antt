@@ -27,7 +27,7 @@ take_none d region tags start = OnlyAdds-none (IsOfTags d.geometry (tags start) 
 -- ---- in journal mode
 
 -- Tags that are the same for each block are as good.
-awaiting_given : (d : JournaledDisk) (awaiting : ℕ → Bool) (tags now : ℕ → List ℕ) (c : Content) → ((b : ℕ) → b < d.geometry.blocks → now b ≡ tags b) → KeepsAwaiting d awaiting tags c → KeepsAwaiting d awaiting now c
+pub awaiting_given : (d : JournaledDisk) (awaiting : ℕ → Bool) (tags now : ℕ → List ℕ) (c : Content) → ((b : ℕ) → b < d.geometry.blocks → now b ≡ tags b) → KeepsAwaiting d awaiting tags c → KeepsAwaiting d awaiting now c
 awaiting_given d awaiting tags now c same keeps = record {
   keeps = record {
     stands = keeps.keeps.stands;
@@ -51,7 +51,7 @@ taken_law d region awaiting tags now a b keeps taken c told =
 
 -- ---- in direct mode
 
-cells_given : (d : DirectDisk) (awaiting : ℕ → Bool) (tags now : ℕ → List ℕ) (c : Content) → ((b : ℕ) → b < d.geometry.blocks → now b ≡ tags b) → KeepsCells d awaiting tags c → KeepsCells d awaiting now c
+pub cells_given : (d : DirectDisk) (awaiting : ℕ → Bool) (tags now : ℕ → List ℕ) (c : Content) → ((b : ℕ) → b < d.geometry.blocks → now b ≡ tags b) → KeepsCells d awaiting tags c → KeepsCells d awaiting now c
 cells_given d awaiting tags now c same keeps = record { stands = keeps.stands; reads = keeps.reads; tags_are = λ b low rests. same b low ∙ keeps.tags_are b low rests }
 
 pub direct_taking_law : DirectTakingLaw

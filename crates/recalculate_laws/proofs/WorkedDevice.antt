@@ -58,13 +58,13 @@ use Rattle.recalculate_laws.proofs.StepLemmas.{recalc_moments_law, recalc_done_l
 -- ---- the disk
 
 -- The flag is set, and the position is sector 5, in the second region.
-abbrev fields : Superblock
+abbrev pub fields : Superblock
 fields = record journal_format.superblock { flags = 0xa; log2_region = 2; recalc_sector = 5 }
 
 abbrev pub format : DiskFormat
 format = record journal_format { superblock = fields; geometry = layout_of fields }
 
-abbrev head : List ℕ
+abbrev pub head : List ℕ
 head =
     0x69 ∷ 0x6e ∷ 0x74 ∷ 0x65 ∷ 0x67 ∷ 0x72 ∷ 0x74 ∷ 0x00 ∷ 0x04 ∷ 0x03 ∷ 0x20 ∷ 0x00 ∷ 0x01 ∷ 0x00 ∷ 0x00 ∷ 0x00
     ∷ 0x08 ∷ 0x00 ∷ 0x00 ∷ 0x00 ∷ 0x00 ∷ 0x00 ∷ 0x00 ∷ 0x00 ∷ 0x0a ∷ 0x00 ∷ 0x00 ∷ 0x00 ∷ 0x00 ∷ 0x02 ∷ 0x00 ∷ 0x00
@@ -73,7 +73,7 @@ head =
 abbrev pub image : Image
 image sector = if sector == 0 then head else fresh_journal sector
 
-HasWholeSectors-image : HasWholeSectors format image
+pub HasWholeSectors-image : HasWholeSectors format image
 HasWholeSectors-image sector low = by_bool (sector == 0) (fresh_journal sector) (HasWholeSectors-journal sector low)
   where
     by_bool : (t : Bool) (x : List ℕ) → length x ≡ 512 → length (if t then head else x) ≡ 512
@@ -88,14 +88,14 @@ walk_of-image : walk_of format.geometry image ≡ Ok (record { state = Rest 0 1;
 unfolding walk_of_grid plan_of grid_with blank_bound bitmap_sectors_for regions_for fitting_log2_region is_used number_of id_in entry_size entries_per_sector section_entries section_sectors
 walk_of-image = refl
 
-replayed_entries-image : replayed_entries format.geometry image ≡ []
+pub replayed_entries-image : replayed_entries format.geometry image ≡ []
 unfolding entries_in entry_at is_used entry_size entries_per_sector section_entries section_sectors
 replayed_entries-image = replayed_entries-plan format.geometry image (record { state = Rest 0 1; walk = (0, 0) ∷ (0, 1) ∷ [] }) walk_of-image
 
-abbrev content : Content
+abbrev pub content : Content
 content sector = image sector ∷ []
 
-abbrev tags : ℕ → List ℕ
+abbrev pub tags : ℕ → List ℕ
 tags b = (placed_cells_of format.geometry image b).tag
 
 -- Its second region awaits, and behind that the flag goes and the position is the end.
@@ -103,7 +103,7 @@ pub least-direct : least_region (regions format.geometry) (awaiting_on Direct fo
 unfolding region_awaits awaits regions_for
 least-direct = refl
 
-least-journal : least_region (regions format.geometry) (awaiting_on Journal format image) ≡ Some 1
+pub least-journal : least_region (regions format.geometry) (awaiting_on Journal format image) ≡ Some 1
 unfolding region_awaits awaits regions_for
 least-journal = refl
 
@@ -150,7 +150,7 @@ module _ (region : ℕ) (c : Content) (same : last_image c ≡ image) where
 -- ---- once the flag is known
 
 module _ (known : superblock_of head ≡ Ok fields) where
-  opens : OpensAs format image
+  pub opens : OpensAs format image
   opens = record {
     openable = record {
       readable = record { superblock = fields; geometry = format.geometry; has_superblock = known; has_geometry = geometry_of-fields };
@@ -161,7 +161,7 @@ module _ (known : superblock_of head ≡ Ok fields) where
     geometry = refl;
   }
 
-  position : HasPosition fields
+  pub position : HasPosition fields
   position = record {
     accepted = subst IsAccepted opens.superblock (IsReadable-accepted 112 image opens.openable.readable);
     fits = record { sections = omega arith; flags = omega arith; log2_region = omega arith; recalc_sector = omega arith; salt = refl };
@@ -169,7 +169,7 @@ module _ (known : superblock_of head ≡ Ok fields) where
   }
 
   -- Reads of the image give the tags in place,
-  ReadsTags-image : (c : Content) → last_image c ≡ image → ReadsTags format.geometry tags c
+  pub ReadsTags-image : (c : Content) → last_image c ≡ image → ReadsTags format.geometry tags c
   ReadsTags-image c same = record {
     each = λ b i low i_low.
         ap (λ (read : Image). slice_index (read (tag_byte_at format.geometry b i).0) (tag_byte_at format.geometry b i).1) same
@@ -177,7 +177,7 @@ module _ (known : superblock_of head ≡ Ok fields) where
   }
 
   -- so those of a region are written back as they are.
-  HasRegionTags-image : (region : ℕ) (c : Content) → last_image c ≡ image → IsImage c (last_image c) → HasRegionTags format region tags c c
+  pub HasRegionTags-image : (region : ℕ) (c : Content) → last_image c ≡ image → IsImage c (last_image c) → HasRegionTags format region tags c c
   HasRegionTags-image region c same reads = record {
     adds = OnlyAdds-none _ c;
     others = record { each = λ sector none. refl };
@@ -225,7 +225,7 @@ module _ (known : superblock_of head ≡ Ok fields) where
       (ap blocks_of (sym (format_on-is format image opens))) (OnlyAdds-none _ (newest_only (newest_only content)))).2
 
   -- In journal mode, as writing goes on in its journal,
-  abbrev journaled : JournaledDisk
+  abbrev pub journaled : JournaledDisk
   journaled = record (opened_disk format image) { number = 1 }
 
   StandsFor-journaled : StandsFor journaled content
@@ -278,7 +278,7 @@ module _ (known : superblock_of head ≡ Ok fields) where
     position = position;
   }
 
-  abbrev at_start : DeviceState
+  abbrev pub at_start : DeviceState
   at_start = opened_with (awaiting_on Journal format image)
 
   pub EntersRecalc-image : EntersRecalc (device_format Journal format) at_start journaled (empty_ring format.geometry 0 1) 1 tags content

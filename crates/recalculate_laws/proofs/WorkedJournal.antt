@@ -1,7 +1,8 @@
 -- A fresh disk of eight blocks with a journal: what awaits stays so while an entry of block 5 is committed and placed, and its
 -- recovered journal changes to a bitmap. So no law of these speaks of nothing.
-use Rattle.std.proofs.Common.{◌≡◌, ℕ, Bool, false, refl, sym, ◌∙◌, ap, arith, List, [], ◌∷◌, ◌++◌, ◌*◌, replicate, slice_get}
+use Rattle.std.proofs.Common.{◌≡◌, ℕ, Bool, false, refl, sym, ◌∙◌, ap, subst, arith, List, [], ◌∷◌, ◌++◌, ◌*◌, replicate, slice_get}
 use Rattle.std.proofs.lemmas.Bool.{true≢false}
+use Rattle.std.proofs.lemmas.Option.{same_Some}
 use Rattle.sha2.specs.Sha256.{sha256, first_words, schedule, rounds, compress, hash_after, digest_bytes}
 use Rattle.disk_model.specs.Disk.{Content, newest_only, with_run}
 use Rattle.disk_model.proofs.DiskLemmas.{OnlyAdds-none, newest_only-last}
@@ -13,16 +14,19 @@ use Rattle.place_model.specs.Journal.{entries_in}
 use Rattle.place_model.specs.Tags.{with_block_tag}
 use Rattle.place_model.proofs.WorkedDisk.{journal_format, fresh_journal, replayed_entries-fresh}
 use Rattle.journal_model.specs.JournaledDisk.{JournaledDisk, Rests}
-use Rattle.journal_model.specs.Steps.{IsBatch, IsNextEntry, batch_entries, after_commit, after_place, after_settle}
-use Rattle.journal_model.proofs.WorkedDisk.{fresh, Rests-fresh, IsBatch-one}
+use Rattle.journal_model.specs.Steps.{IsBatch, IsNextEntry, KeepsCells, batch_entries, after_commit, after_place, after_settle}
+use Rattle.journal_model.proofs.WorkedDisk.{fresh, Rests-fresh, IsBatch-one, StandsFor-fresh}
 use Rattle.bitmap_laws.proofs.CallLemmas.{run_image}
 use Rattle.change_model.specs.Opened.{IsEmptiedOf}
 use Rattle.change_model.proofs.WorkedDisk.{content, tags, IsEmptiedOf-fresh, IsEmptyJournal-fresh}
 use Rattle.change_model.proofs.WorkedErasure.{KeepsCells-fresh, IsRecovered-fresh}
 use Rattle.recalculate_laws.specs.JournalDisk.{with_fields}
+use Rattle.recalculate_laws.specs.Placing.{GivesPlaced}
 use Rattle.recalculate_laws.specs.Recalculating.{KeepsAwaiting}
+use Rattle.recalculate_laws.specs.Taking.{KeepsAwaitingNow}
 use Rattle.recalculate_laws.proofs.ChangingLemmas.{recovered_changes}
 use Rattle.recalculate_laws.proofs.JournalDiskLemmas.{moved_rests}
+use Rattle.recalculate_laws.proofs.PlacingLemmas.{places_none_law, places_one_law, places_then_law, placing_law, same_cells_law}
 use Rattle.recalculate_laws.proofs.RecalculatingLemmas.{awaiting_committed, awaiting_placed, awaiting_back, awaiting_settled, awaiting_synced}
 
 -- Nothing is to be recalculated, so no region awaits.
@@ -83,6 +87,33 @@ placing = with_run (data_at journal_format.geometry 5) entry.bytes (newest_only 
 
 pub KeepsAwaiting-placed : KeepsAwaiting (after_place committed) none (with_block_tag 5 entry.tag tags) placing
 KeepsAwaiting-placed = awaiting_placed committed none 5 entry tags (newest_only committing) placing KeepsAwaiting-committed IsNextEntry-first (OnlyAdds-none _ placing) (record { each = λ sector off. refl })
+
+-- So it is by what the calls tell: a commit leaves the tags of the store, and then it gives the one that is placed.
+abbrev tags_before : Content → ℕ → List ℕ
+tags_before c = tags
+
+abbrev tags_after : Content → ℕ → List ℕ
+tags_after c = with_block_tag 5 entry.tag tags
+
+abbrev after_batch : List Content
+after_batch = newest_only committing ∷ content ∷ []
+
+abbrev after_entry : List Content
+after_entry = placing ∷ newest_only committing ∷ content ∷ []
+
+GivesPlaced-committed : GivesPlaced fresh committed tags_before tags_before (content ∷ []) after_batch
+GivesPlaced-committed = places_none_law fresh committed tags_before tags_before (content ∷ []) after_batch
+    (λ b low. (same_cells_law fresh 1 batch b StandsFor-fresh.sound.formed).0) (λ c told. (content, refl)) (λ s told c told_c b low. refl)
+
+GivesPlaced-placed : GivesPlaced committed (after_place committed) tags_before tags_after after_batch after_entry
+GivesPlaced-placed = places_one_law committed 5 entry tags_before tags_after after_batch after_entry KeepsAwaiting-committed.keeps.stands.sound.formed IsNextEntry-first
+    (λ c told. (newest_only committing, refl)) (λ s told c told_c b low. refl)
+
+pub KeepsAwaitingNow-placed : KeepsAwaitingNow (after_place committed) none tags_after after_entry
+KeepsAwaitingNow-placed = placing_law fresh (after_place committed) none tags_before tags_after (content ∷ []) after_entry refl
+    (λ c told. subst (KeepsAwaiting fresh none tags) (same_Some content c told) KeepsAwaiting-fresh)
+    (places_then_law fresh committed (after_place committed) tags_before tags_before tags_after (content ∷ []) after_batch after_entry refl GivesPlaced-committed GivesPlaced-placed)
+    (λ c told. subst (KeepsCells (after_place committed) (with_block_tag 5 entry.tag tags)) (same_Some placing c told) KeepsAwaiting-placed.keeps)
 
 -- No tag is marked, so none is written back, and then all is synced.
 pub KeepsAwaiting-back : KeepsAwaiting (after_place committed) none (with_block_tag 5 entry.tag tags) placing
