@@ -1,0 +1,10 @@
+pub mod AskLemmas
+pub mod CauseLemmas
+pub mod DeedLemmas
+pub mod FlightLemmas
+pub mod MeasureLemmas
+pub mod ReplyLemmas
+pub mod RoundLemmas
+pub mod ServiceLemmas
+pub mod StaysLemmas
+pub mod UntilLemmas
