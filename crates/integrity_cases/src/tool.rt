@@ -2,7 +2,7 @@
 use case_disks::{WatchedFile, WatchedSink, WatchedSource};
 use case_running::Command;
 use cut_disk::CutDisk;
-use integrity_tool::integrity;
+use integrity_tool::Outside;
 use std::alloc::Global;
 
 /// The program's one call.
@@ -18,6 +18,12 @@ impl Command for Tool {
         script: &mut WatchedSource<'_>,
         out: &mut WatchedSink,
     ) -> u8 {
-        integrity(alloc, words, disk, key, script, out)
+        let mut outside = Outside {
+            disk,
+            key,
+            script,
+            out,
+        };
+        outside.integrity(alloc, words)
     }
 }

@@ -6,7 +6,7 @@
 
 use file_disk::{FileDisk, StdFolder};
 use file_stream::{FileSource, LineSink, OpenSource, StdInput, StdInputs, StdOutput};
-use integrity_tool::{end_without_memory, integrity};
+use integrity_tool::{Outside, end_without_memory};
 use std::io::ErrorKind;
 use std::process::ExitCode;
 use std::rt::Env;
@@ -30,13 +30,11 @@ fn main(rt: HostRuntime) -> ExitCode {
         // One of them is no text. So they are no command, as no words are none.
         Err(_) => Vec::new(rt.alloc()),
     };
-    let status = integrity(
-        rt.alloc(),
-        &words,
-        &mut disk,
-        &mut key,
-        &mut script,
-        &mut out,
-    );
-    ExitCode::from(status)
+    let mut outside = Outside {
+        disk: &mut disk,
+        key: &mut key,
+        script: &mut script,
+        out: &mut out,
+    };
+    ExitCode::from(outside.integrity(rt.alloc(), &words))
 }

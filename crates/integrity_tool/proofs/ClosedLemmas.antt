@@ -1,7 +1,7 @@
 -- What the close of a run leaves.
 use Rattle.std.proofs.Common.{Option, Result, Ok, Err, OnOk, is_err, ◌≡◌, ℕ, false, List, [], sym, subst}
 use Rattle.std.proofs.lemmas.Result.{on_ok_weaker}
-use Rattle.disk_model.specs.Disk.{Content, Image, last_image}
+use Rattle.disk_model.specs.Disk.{Content, Image}
 use Rattle.disk_model.specs.Identity.{DiskIdentity}
 use Rattle.disk_model.specs.Moments.{HasNow}
 use Rattle.device_model.specs.Device.{DeviceKind}
@@ -36,27 +36,27 @@ rests_closed (Ok done) not condition parts a b rests = rests
 rests_closed (Err fault) not condition parts a b rests = absurd (cc)
 
 -- What a close leaves in a device's state it leaves in the state behind all lines of a script, which leads there.
-left_behind : (there here : Standing) (m : Modes.Mode) (b : List Content) → m ≡ here.format.mode
-    → HasNow (IsClosedIn m here.on here.format.blocks.tag here.state) b → (script : List ℕ) (comes : ComesTo there script here [])
+left_behind : (there here : Standing) (b : List Content) → HasNow (IsClosedIn here.format.mode here.on here.format.blocks.tag here.state) b
+    → (script : List ℕ) (comes : ComesTo there script here [])
     → HasNow (IsClosedIn there.format.mode there.on there.format.blocks.tag (state_behind there.format there.state comes.all)) b
-left_behind there here m b is left script comes =
+left_behind there here b left script comes =
     subst (λ (s : DeviceState). HasNow (IsClosedIn there.format.mode there.on there.format.blocks.tag s) b) comes.comes
-    (subst (λ (w : Standing). HasNow (IsClosedIn w.format.mode w.on w.format.blocks.tag here.state) b) comes.same
-    (subst (λ (x : Modes.Mode). HasNow (IsClosedIn x here.on here.format.blocks.tag here.state) b) is left))
+    (subst (λ (w : Standing). HasNow (IsClosedIn w.format.mode w.on w.format.blocks.tag here.state) b) comes.same left)
 
--- A close leaves each image as the mode has it, behind all lines of a script.
-closed_in : (mode : Mode) (there here : Standing) (common : Parts) (a b : List Content) → IsDeviceIn mode here Working common a
-    → IsAtRest mode here b → (script : List ℕ) (comes : ComesTo there script here [])
-    → HasNow (IsClosedIn there.format.mode there.on there.format.blocks.tag (state_behind there.format there.state comes.all)) b
-closed_in Direct there here common a b is rests script comes =
-    left_behind there here Modes.Direct b (own_direct here Working common a is) (λ c told. tt) script comes
-closed_in (Journal journal) there here common a b is rests script comes =
-    left_behind there here Modes.Journal b (plain_journal.own here Working _ a is)
-    (subst (λ (d : DiskFormat). HasNow (HasAllPlaced d here.format.blocks.tag here.state) b) rests.format rests.placed) script comes
-closed_in (Bitmap regions) there here common a b is rests script comes =
-    left_behind there here Modes.Bitmap b (plain_bitmap.own here Working _ a is) rests script comes
-closed_in Recovery there here common a b is rests script comes =
-    left_behind there here Modes.Recovery b (plain_recovery.own here Working common a is) (λ c told. tt) script comes
+-- A close leaves each image as the mode has it.
+module _ (here : Standing) (common : Parts) (a b : List Content) where
+  in_mode : (m : Modes.Mode) → m ≡ here.format.mode → HasNow (IsClosedIn m here.on here.format.blocks.tag here.state) b
+      → HasNow (IsClosedIn here.format.mode here.on here.format.blocks.tag here.state) b
+  in_mode m is left = subst (λ (x : Modes.Mode). HasNow (IsClosedIn x here.on here.format.blocks.tag here.state) b) is left
+
+  pub closed_here : (mode : Mode) → IsDeviceIn mode here Working common a → IsAtRest mode here b
+      → HasNow (IsClosedIn here.format.mode here.on here.format.blocks.tag here.state) b
+  closed_here Direct is rests = in_mode Modes.Direct (own_direct here Working common a is) (λ c told. tt)
+  closed_here (Journal journal) is rests =
+      in_mode Modes.Journal (plain_journal.own here Working _ a is)
+      (subst (λ (d : DiskFormat). HasNow (HasAllPlaced d here.format.blocks.tag here.state) b) rests.format rests.placed)
+  closed_here (Bitmap regions) is rests = in_mode Modes.Bitmap (plain_bitmap.own here Working _ a is) rests
+  closed_here Recovery is rests = in_mode Modes.Recovery (plain_recovery.own here Working common a is) (λ c told. tt)
 
 -- So is the device of a run that came to its close, where it was opened on an image.
 pub closed_behind : (kind : DeviceKind) (image : Image) (d : DiskFormat) (script : List ℕ) (w here : Standing) (parts : DeviceParts)
@@ -69,7 +69,7 @@ closed_behind kind image d script w here parts a b format state on is rests come
   closed = subst (λ (f : DeviceFormat). IsClosedIn f.mode d f.blocks.tag (state_behind f (kind.opened image) comes.all) c) format
       (subst (λ (s : DeviceState). IsClosedIn w.format.mode d w.format.blocks.tag (state_behind w.format s comes.all) c) state
       (subst (λ (y : DiskFormat). IsClosedIn w.format.mode y w.format.blocks.tag (state_behind w.format w.state comes.all) c) on
-      (closed_in parts.mode w here parts.common a b is rests script comes c told)));
+      (left_behind w here b (closed_here here parts.common a b parts.mode is rests) script comes c told)));
 }
 
 -- What holds behind a close that answers well holds behind a run that it ends.
@@ -90,6 +90,6 @@ pub closes_kept : {T E D S : Type 0} (identity : D → DiskIdentity) (moments : 
     → ClosesTask identity moments left task key result first last script
 closes_kept identity moments left task key result first mid last script closes same =
     on_ok_weaker result
-    (λ closed bytes told c now. subst (λ (m : List Content). HasNow (IsClosedAt task key (identity first).sectors (last_image c) bytes) m)
+    (λ closed bytes told c now. subst (λ (m : List Content). HasNow (IsClosedAt task key (identity first).sectors c bytes) m)
     (sym same) (closed bytes told c now))
     closes

@@ -1,5 +1,5 @@
 -- An exercise on a device with the close behind it; the same on a new image; and all of it behind the making.
-use Rattle.std.proofs.Common.{◌≡◌, ◌≢◌, ◌⊎◌, ◌↔◌, inl, inr, ℕ, ◌<◌, Bool, List, [], ◌++◌, codes, length, length-append, length-take, take, append-nil, arith, refl, sym, ◌∙◌, ap, subst, Option, Some, None, Result, Ok, Err, IfErr}
+use Rattle.std.proofs.Common.{◌≡◌, ◌≢◌, ◌⊎◌, ◌↔◌, inl, inr, ℕ, ◌<◌, Bool, List, [], ◌++◌, codes, length, length-append, length-take, take, append-nil, arith, refl, sym, ◌∙◌, ap, subst, Option, Some, None, Result, Ok, Err, IfErr, OnOk}
 use Rattle.std.proofs.lemmas.List.{take_all}
 use Rattle.std.proofs.lemmas.List.Sums.{fold-append}
 use Rattle.std.proofs.lemmas.Option.{none-some}
@@ -56,6 +56,7 @@ use Rattle.command_model.specs.Exercise.{Tally, exercise_lines, exercise_step, e
 use Rattle.command_model.proofs.ExerciseLemmas.{after_events-script, changes_of-script}
 use Rattle.integrity_tool.specs.declared.asked.Task.TheVariants.{Exercise}
 use Rattle.integrity_tool.specs.Exercised.{HasCounted, IsCountTold, IsExercised, IsExercisedOn, IsExercisedTo, IsMomentOfNew, IsTallyTold, ended_count, exercise_changes, new_run, new_standing}
+use Rattle.integrity_tool.specs.Closed.{IsClosedIn, IsClosedNew}
 use Rattle.integrity_tool.specs.Exercising.{exercise_image, exercise_outset, exercising_of, outset_by_exercise}
 use Rattle.integrity_tool.specs.Making.{IsLeftByMaking, IsMadeInOrder, ended_by_format}
 use Rattle.integrity_tool.specs.Opening.{HasRunOn, IsMomentOf, IsOpenedTo, IsWrittenByRun}
@@ -64,6 +65,7 @@ use Rattle.integrity_tool.specs.Outset.{geometry_on}
 use Rattle.integrity_tool.specs.Refusing.{ended_by_opening}
 use Rattle.integrity_tool.specs.Running.{ending_by}
 use Rattle.integrity_tool.proofs.ClosingLemmas.{failed_close, since_event}
+use Rattle.integrity_tool.proofs.KeyLemmas.{ok_no_err}
 use Rattle.integrity_tool.proofs.MakingLemmas.{left_since}
 use Rattle.integrity_tool.proofs.OpeningLemmas.{at_told, written_in}
 use Rattle.integrity_tool.proofs.RunningLemmas.{now_of, told_nothing}
@@ -138,6 +140,7 @@ module _ (w : Standing) (count seed : ℕ) where
           opens = λ c told. absurd (none-some c (sym none ∙ told));
           left = λ c told. absurd (none-some c (sym none ∙ told));
         };
+        closed = tt;
       }
       by (Some later) told =
           let left = cut later told in
@@ -147,6 +150,7 @@ module _ (w : Standing) (count seed : ℕ) where
             since = since;
             others = others;
             now = record { opens = now_of _ b later told left.opens; left = now_of _ b later told left.left };
+            closed = tt;
           }
 
   module _ (parts : DeviceParts) (a m b : List Content) (run : HasRun w events parts a m)
@@ -158,8 +162,9 @@ module _ (w : Standing) (count seed : ℕ) where
 
     -- Its requests are done and the device is closed,
     pub exercise_closed : (tally : Tally) → tally ≡ exercise_tally w.format w.state count seed
-        → HasEnded any_mode there Close Model.IsClosed m b → IsExercised w count seed (Ok tally) a b
-    exercise_closed tally counted ended = record {
+        → HasEnded any_mode there Close Model.IsClosed m b
+        → HasNow (IsClosedIn there.format.mode there.on there.format.blocks.tag there.state) b → IsExercised w count seed (Ok tally) a b
+    exercise_closed tally counted ended rests = record {
       changes = all;
       is_counted = (counted, refl);
       since = EachMoment-then (EachMoment-weaker within_first run.since)
@@ -170,6 +175,8 @@ module _ (w : Standing) (count seed : ℕ) where
           (ap (with_changes last) history ∙ sym (fold-append with_change w.state.history first last)
           ∙ ap (λ (l : List Change). with_changes l w.state.history) (sym all_is))
           ended.left;
+      closed = subst (λ (s : DeviceState). HasNow (IsClosedIn w.format.mode w.on w.format.blocks.tag s) b)
+          (after_events-script w.format w.state lines) rests;
     }
 
     -- or the disk failed in that.
@@ -291,6 +298,7 @@ module _ (law : OpensLaw) (disk now : DiskIdentity) (count seed : ℕ) (a b : Li
     ends = early;
     each = opening_each;
     now = left_opening;
+    closed = tt;
   }
 
   no_fault : (fault : OpeningFault) → IsRefused OpenModes.Journal None disk fault a b → fault ≢ OpeningFaults.Disk
@@ -354,8 +362,14 @@ module _ (law : OpensLaw) (disk now : DiskIdentity) (count seed : ℕ) (a b : Li
             opens = both.0.opens;
           }) through);
       now = λ x told_x. inr (record { opens = exercised.now.opens x told_x; left = exercised.now.left x told_x });
+      closed = closed_same _ counted exercised.closed;
     }
       where
+        closed_same : (P : Type 0) (r : Result Tally Stop) → OnOk r P → OnOk (ended_count r) P
+        closed_same P (Ok tally) closed = closed
+        closed_same P (Err Stops.Disk) closed = tt
+        closed_same P (Err Stops.Memory) closed = tt
+
         counted_same : (r : Result Tally Stop)
             → HasCounted (new_standing disk.sectors made) count seed r exercised.changes
             → HasCounted (new_standing disk.sectors made) count seed (ended_count r) exercised.changes
@@ -640,10 +654,29 @@ module _ (law : NewOpensLaw) (sectors count seed : ℕ) (start : Content) (scrip
   -- An image that was made is exercised, and this is told and left.
   pub exercise_whole : HasRunOn (exercise_outset sectors count seed) start script (ending_by result) b held_before held
       × HasMomentsAt (Exercise seed count) None sectors start script a b
+      × OnOk result (HasNow (IsClosedNew sectors count seed start) b)
   exercise_whole =
       let at = told_at_end start told (left_since None sectors exercise_image start told order) in
       let can = new_can_open law sectors provided start at.0 all.is_provided (all.is_written start told at.0 at.1) (whole at.0 at.1) in
       let to = exercised at.0 at.1 can in (
         exercise_ran sectors count seed start script told order provided all at.0 at.1 to.counted b to.exercised held_before held result to.told,
         exercise_moments sectors count seed start script told order provided all at.0 at.1 to.counted b to.exercised,
+        told_closed result to.counted to.told (λ c here closed. record {
+          provided = provided;
+          is_provided = all.is_provided;
+          made = at.0;
+          is_made = all.is_written start told at.0 at.1;
+          closed = closed;
+        }) to.exercised.closed,
       )
+    where
+      told_closed : {P Q : Content → Type 0} (r : Result TagsFound Ended) (counted : Result Tally Ended) → IsCountTold counted held_before held r
+          → ((c : Content) → content_now b ≡ Some c → P c → Q c) → OnOk counted (HasNow P b) → OnOk r (HasNow Q b)
+      told_closed (Err ended) counted put wider closed = tt
+      told_closed (Ok found) (Ok tally) put wider closed = λ c here. wider c here (closed c here)
+      told_closed (Ok found) (Err ended) put wider closed = absurd (ok_no_err _ found ended refl put.0)
+
+-- What holds of each content that is told holds where all went well.
+pub ok_each : {T E : Type 0} (a : List Content) (P : Content → Type 0) (r : Result T E) → ((c : Content) → content_now a ≡ Some c → OnOk r (P c)) → OnOk r (HasNow P a)
+ok_each a P (Ok told) each = each
+ok_each a P (Err fault) each = tt

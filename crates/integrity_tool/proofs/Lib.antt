@@ -8,6 +8,7 @@ pub mod RunningLemmas
 pub mod StartLemmas
 pub mod TakenLemmas
 pub mod TopLemmas
+pub mod WorldLemmas
 pub mod TextsLemmas
 pub mod CheckingLemmas
 pub mod SalvagingLemmas

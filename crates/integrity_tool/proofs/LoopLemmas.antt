@@ -476,6 +476,14 @@ module _ (there : Standing) (run : ScriptRun) (start : List Content) (held_start
 pub not_ended : {T : Type 0} {result : Result T Ended} (told : T) (ended : Ended) → result ≡ Ok told → result ≡ Err ended → ⊥
 not_ended told ended is other = absurd (cc)
 
+-- Two of them are the same where their results are.
+abbrev ended_or : {T : Type 0} → (other : Ended) → Result T Ended → Ended
+ended_or other (Ok told) = other
+ended_or other (Err ended) = ended
+
+pub same_ended : {T : Type 0} (ended other : Ended) (r : Result T Ended) → r ≡ Err ended → r ≡ Err other → ended ≡ other
+same_ended ended other r is is_other = ap (ended_or ended) (sym is ∙ is_other)
+
 -- A count that is as it was has not risen.
 pub not_risen : {before after : ℕ} → after ≡ before → before < after → ⊥
 not_risen same rose = omega (arith, same, rose)
@@ -623,3 +631,11 @@ module _ (w : Standing) (run : ScriptRun) (script : List ℕ) (start : List Cont
       (advanced left refl)
       (subst (λ (l : List ℕ). IsStoppedByBytes at.here number l ended now now_b held held_b) same
       (stopped at.here at.device))
+
+-- The next line of a script that is told is not taken for want of memory.
+pub no_memory_for_line : (P : List ℕ → Type 0) (number : ℕ) (old new : Reading) (left later : Option (List ℕ)) (ended : Ended)
+    → IsSomeAnd left P → ForSome left (λ l. IsSomeAnd later (λ m. HasAdvanced number old new l m (Err ended))) → ended ≡ Endings.Memory → ⊥
+no_memory_for_line P number old new None later ended some advanced memory = some
+no_memory_for_line P number old new (Some l) None ended some advanced memory = advanced l refl
+no_memory_for_line P number old new (Some l) (Some m) ended some advanced memory =
+    let script = (subst (λ (e : Ended). HasAdvanced number old new l m (Err e)) memory (advanced l refl)).0 in cc

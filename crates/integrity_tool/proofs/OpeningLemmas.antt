@@ -1,5 +1,6 @@
 -- The opening of a run: what it leaves and writes, whether a device is open then or not; and the run behind it.
-use Rattle.std.proofs.Common.{◌≡◌, ◌≢◌, inl, inr, ℕ, List, refl, sym, ◌∙◌, ap, subst, Option, Some, None, Err}
+use Rattle.std.proofs.Common.{◌≡◌, ◌≢◌, inl, inr, ℕ, ◌<◌, List, length, refl, sym, ◌∙◌, ap, subst, arith, Option, Some, None, Result, Ok, Err, IfErr}
+use Rattle.std.specs.Option.{IsSomeAnd}
 use Rattle.std.proofs.lemmas.Option.{same_Some}
 use Rattle.disk_model.specs.Disk.{Content, Image, last_image}
 use Rattle.disk_model.specs.Identity.{DiskIdentity}
@@ -33,10 +34,19 @@ use Rattle.device.proofs.TagsLemmas.{still_then, tags_fewer}
 use Rattle.device.proofs.RunLemmas.{EachMoment-both}
 use Rattle.command_ending.specs.Ended.{ending_of}
 use Rattle.command_model.specs.CommandRun.{Outset, RunsOn, IsLeftAfter, IsRunAt, MayBeLeftAt}
+use Rattle.command_ending.specs.declared.ended.Ended.{Ended}
+use Rattle.command_ending.specs.declared.ended.Ended.TheVariants as Endings
+use Rattle.script_session.specs.declared.tags_found.TagsFound.{TagsFound}
+use Rattle.integrity_tool.specs.declared.asked.Task.TheVariants as Tasks
+use Rattle.integrity_tool.specs.declared.closing.CloseFault.{CloseFault}
+use Rattle.integrity_tool.specs.declared.closing.CloseFault.TheVariants as CloseFaults
+use Rattle.integrity_tool.specs.Calls.{LeavesUnread}
+use Rattle.integrity_tool.specs.Closing.{ended_close}
+use Rattle.integrity_tool.specs.Ends.{IsBeforeScript}
 use Rattle.integrity_tool.specs.Opening.{HasReadIn, HasRunOn, IsMomentOn, IsOfOpeningIn, IsOpenedTo, KeepsClearTags, WritesOnlyBy}
 use Rattle.integrity_tool.specs.Outset.{begun_on, geometry_on, outset_by, outset_on}
 use Rattle.integrity_tool.specs.Refusing.{ended_by_opening, ending_by_refusal}
-use Rattle.integrity_tool.specs.Running.{HasReadTo, IsStopped}
+use Rattle.integrity_tool.specs.Running.{EndsScript, HasReadTo, IsStopped}
 use Rattle.integrity_tool.proofs.StartLemmas.{IsAsBefore, as_same, before_may_be_left, fine_on, nothing_run, of_run, refused_run, some_run, untouched_now, untouched_through}
 
 -- ---- modes that take writes, and recovery mode
@@ -342,3 +352,54 @@ pub given_back : (mode : OpenMode) (key : Option (List ℕ)) (sectors : ℕ) (st
 given_back mode key sectors start script ending first held_before held all same =
     subst (λ (m : List Content). HasRunOn (outset_on mode key sectors (last_image start)) start script ending m held_before
     held × EachMoment first m (IsMomentOn mode key sectors start script) × KeepsStill (asked_mode mode) first m) (sym same) all
+
+-- ---- what is left unread, and unopened
+
+-- What refused an opening for want of memory is no disk.
+pub refused_by_memory : (fault told : OpeningFault) (ended : Ended) → ended ≡ ended_by_opening told → told ≡ fault → ended ≡ Endings.Memory
+    → fault ≢ OpeningFaults.Disk
+refused_by_memory fault told ended is same memory disk =
+    let other : Endings.Memory ≡ Endings.Disk = sym memory ∙ is ∙ ap ended_by_opening (same ∙ disk) in absurd (cc)
+
+-- A script is read, and a close takes no memory.
+pub read_at_close : (P : Type 0) (closed : Result TagsFound CloseFault) (ended : Result TagsFound Ended) → ended ≡ ended_close closed
+    → IfErr ended (λ e. IsBeforeScript e → P)
+read_at_close P closed ended is = subst (λ (r : Result TagsFound Ended). IfErr r (λ e. IsBeforeScript e → P)) (sym is) (by closed)
+  where
+    by : (c : Result TagsFound CloseFault) → IfErr (ended_close c) (λ e. IsBeforeScript e → P)
+    by (Ok found) = tt
+    by (Err CloseFaults.Disk) = λ before. absurd before
+    by (Err CloseFaults.Sink) = λ before. absurd before
+
+pub no_memory_at_close : (closed : Result TagsFound CloseFault) (ended : Result TagsFound Ended) → ended ≡ ended_close closed → ended ≡ Err Endings.Memory → ⊥
+no_memory_at_close (Ok found) ended is memory = absurd (cc)
+no_memory_at_close (Err CloseFaults.Disk) ended is memory = absurd (cc)
+no_memory_at_close (Err CloseFaults.Sink) ended is memory = absurd (cc)
+
+-- What ends the lines of a script comes behind its begin.
+pub read_at_lines : (ended : Ended) → EndsScript ended → IsBeforeScript ended → ⊥
+read_at_lines Endings.Words ends before = ends
+read_at_lines (Endings.Key refusal) ends before = ends
+read_at_lines (Endings.Line number refusal) ends before = before
+read_at_lines Endings.Length ends before = before
+read_at_lines (Endings.Image fault) ends before = ends
+read_at_lines Endings.Disk ends before = before
+read_at_lines Endings.KeySource ends before = ends
+read_at_lines Endings.Script ends before = before
+read_at_lines Endings.Sink ends before = before
+read_at_lines Endings.Memory ends before = before
+
+-- A script of which something was taken is not as it was.
+pub taken_is_less : (left : List ℕ) (later : Option (List ℕ)) → later ≡ Some left → IsSomeAnd later (λ more. length more < length left) → ⊥
+taken_is_less left later same some =
+    let less = subst (λ (o : Option (List ℕ)). IsSomeAnd o (λ more. length more < length left)) same some in omega (arith, less)
+
+-- What is left unread where a disk came back with the same moments.
+pub unread_kept : {T D S : Type 0} {moments : D → List Content} {left : S → Option (List ℕ)} {mode : OpenMode} {result : Result T Ended} {first mid last : D} {script read : S}
+    → LeavesUnread moments left (Tasks.Run mode) result first mid script read → moments last ≡ moments mid
+    → LeavesUnread moments left (Tasks.Run mode) result first last script read
+unread_kept unread same = record {
+  before = unread.before;
+  none = unread.none;
+  unopened = λ memory bytes told as_before. same ∙ unread.unopened memory bytes told as_before;
+}

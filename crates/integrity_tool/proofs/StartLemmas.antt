@@ -58,7 +58,8 @@ use Rattle.integrity_tool.specs.Making.{IsLeftByMaking, IsMadeInOrder, format_ou
 use Rattle.integrity_tool.specs.Resizing.{Recovers, resizing_outset}
 use Rattle.integrity_tool.specs.Words.{asked_of, key_file_of, key_file_of_asked}
 use Rattle.integrity_tool.specs.KeyFile.{HasFile, HasHash, IsKeyRefused, IsKeyed}
-use Rattle.integrity_tool.specs.Top.{Given, HasMomentsIn, IsGiven, IsKeyRefusal, IsRefusedByKey, outset_in}
+use Rattle.integrity_tool.specs.Top.{Given, HasMomentsIn, IsGiven, IsLeftClosed, image_in, outset_in}
+use Rattle.integrity_tool.specs.World.{World}
 use Rattle.script_reader.specs.Reading.{most_piece}
 use Rattle.command_model.specs.CommandRun.{Exercising, Making, Outset, RefusedBy, RunsOn, Prints, Makes, Exercises, ReadsOn, Changes, Changing, IsLeftOfChanging, IsComplete, IsFromOutside, IsEndedShort, IsLeftAt, IsLeftOfExercise, IsLeftOfMaking, IsRunAt, IsUntouched, MayBeLeftAt, only_prints}
 use Rattle.integrity_tool.specs.Opening.{HasReadIn, HasRunOn, IsMomentOf}
@@ -554,65 +555,6 @@ pub read_in_further : (outset : Outset) (script : List ℕ) (left held_before he
 read_in_further outset script left held_before held read more =
     record { run = read.run; is_run = read.is_run; read = read_further read.run script left held_before held read.read more }
 
--- ---- a key is taken
-
-no_key_refused : (refusal : ImageFault) → IsKeyRefusal (ending_by_refusal refusal) → ⊥
-no_key_refused (faults.ByFormat OpenFaults.Memory) is = is
-no_key_refused (faults.ByFormat OpenFaults.Disk) is = is
-no_key_refused (faults.ByFormat (OpenFaults.Super fault)) is = is
-no_key_refused (faults.ByFormat (OpenFaults.Geom fault)) is = is
-no_key_refused (faults.ByFormat (OpenFaults.Mode flags)) is = is
-no_key_refused (faults.ByConsent flags) is = is
-no_key_refused (faults.ByJournal fault) is = is
-
-no_key_begun : (mode : OpenMode) (kind : DeviceKind) (image : Image) → IsRefusedByKey (begun_on mode kind image) → ⊥
-no_key_begun Direct kind image is = is
-no_key_begun Journal kind image is = is
-no_key_begun (Bitmap consent) kind image is = is
-no_key_begun Recovery kind image is = is
-
-no_key_by : (mode : OpenMode) (key : Option (List ℕ)) (sectors : ℕ) (image : Image) (refusal : Option ImageFault) → IsRefusedByKey (outset_by mode key sectors image refusal) → ⊥
-no_key_by mode key sectors image None is = no_key_begun mode (kind_in (asked_mode mode) key sectors) image is
-no_key_by mode key sectors image (Some refusal) is = no_key_refused refusal is
-
-no_key_shown : (told : Result Dump DumpFault) → IsRefusedByKey (outset_by_dump told) → ⊥
-no_key_shown (Ok dump) is = is
-no_key_shown (Err DumpFaults.Memory) is = is
-no_key_shown (Err DumpFaults.Disk) is = is
-no_key_shown (Err (DumpFaults.Super fault)) is = is
-no_key_shown (Err (DumpFaults.Geom fault)) is = is
-no_key_shown (Err (DumpFaults.Scan fault)) is = is
-
-no_key_made : (key : Option (List ℕ)) (sectors : ℕ) (new : NewImage) (told : Result ℕ GeomFault) → IsRefusedByKey (outset_by_format key sectors new told) → ⊥
-no_key_made key sectors new (Ok provided) is = is
-no_key_made key sectors new (Err fault) is = is
-
-no_key_exercised : (sectors count seed : ℕ) (told : Result ℕ GeomFault) → IsRefusedByKey (outset_by_exercise sectors count seed told) → ⊥
-no_key_exercised sectors count seed (Ok provided) is = is
-no_key_exercised sectors count seed (Err fault) is = is
-
-no_key_checked : (what : What) (d : DiskFormat) (image : Image) (refusal : Option ImageFault) → IsRefusedByKey (outset_by_check what d image refusal) → ⊥
-no_key_checked what d image None is = is
-no_key_checked what d image (Some refusal) is = no_key_refused refusal is
-
-no_key_salvaged : (d : DiskFormat) (image : Image) (refusal : Option Refusals.ImageFault) → IsRefusedByKey (outset_by_salvage d image refusal) → ⊥
-no_key_salvaged d image None is = is
-no_key_salvaged d image (Some refusal) is = is
-
-no_key_resized : (key : Option (List ℕ)) (sectors : ℕ) (image : Image) (refusal : Option Refusals.ImageFault)
-    → IsRefusedByKey (outset_by_resize (Recovers key sectors image) key sectors image refusal) → ⊥
-no_key_resized key sectors image None is = is
-no_key_resized key sectors image (Some refusal) is = is
-
-no_key_at : (task : Task) (key : Option (List ℕ)) (sectors : ℕ) (image : Image) → IsRefusedByKey (outset_at task key sectors image) → ⊥
-no_key_at (Tasks.Run mode) key sectors image is = no_key_by mode key sectors image (fault_in_mode mode key sectors image) is
-no_key_at Tasks.Dump key sectors image is = no_key_shown (dump_of sectors image) is
-no_key_at (Tasks.Check what) key sectors image is = no_key_checked what (format_on key sectors image) image (fault_for what key sectors image) is
-no_key_at Tasks.Salvage key sectors image is = no_key_salvaged (format_on key sectors image) image (read_fault_of sectors image) is
-no_key_at Tasks.Resize key sectors image is = no_key_resized key sectors image (resize_fault_of key sectors image) is
-no_key_at (Tasks.Format new) key sectors image is = no_key_made key sectors new (provided_of new sectors) is
-no_key_at (Tasks.Exercise seed count) key sectors image is = no_key_exercised sectors count seed (provided_of exercise_image sectors) is
-
 -- ---- the order
 
 -- A disk that is not written is no further than at the start of a resize, whatever the image is.
@@ -646,59 +588,58 @@ kept_for (Some asked) key_bytes sectors same = kept_under asked.task (key_by (ke
 
 -- ---- by what a command is given
 
-module _ (given : Given) (words : List (List ℕ)) (keys : List ℕ → Option (List ℕ)) (image : NamedDisk) (script : Option (List ℕ)) (is : IsGiven words keys image script given)
-    (held : Option (List ℕ)) where
+module _ (given : Given) (words : List (List ℕ)) (world : World) (is : IsGiven words world given) (held : Option (List ℕ)) where
   outset_asked : (asked : Option Asked) → asked_of words ≡ asked → outset_in given ≡ outset_for asked given.key_bytes given.sectors (last_image given.content)
   outset_asked asked asks = ap (λ (o : Option Asked). outset_for o given.key_bytes given.sectors (last_image given.content)) (ap asked_of is.words_are ∙ asks)
 
   fine_given : IsFine (outset_in given)
   fine_given = fine_for (asked_of given.words) given.key_bytes given.sectors (last_image given.content)
 
-  nothing_changed : (later : NamedDisk) → later.moments ≡ image.moments → HasMomentsIn given image.moments later.moments
+  nothing_changed : (later : NamedDisk) → later.moments ≡ (image_in words world).moments → HasMomentsIn given (image_in words world).moments later.moments
   nothing_changed later same = record { each = EachMoment-kept _ same; order = kept_for (asked_of given.words) given.key_bytes given.sectors same }
 
-  pub outside_first : (ending : Ending) → IsEarly ending → (later : NamedDisk) → later.moments ≡ image.moments
+  pub outside_first : (ending : Ending) → IsEarly ending → (later : NamedDisk) → later.moments ≡ (image_in words world).moments
       → HasRunOn (outset_in given) given.content given.script ending later.moments held held
-      × HasMomentsIn given image.moments later.moments
+      × HasMomentsIn given (image_in words world).moments later.moments
   outside_first ending outside later same = (
     nothing_run (outset_in given) fine_given given.content given.script ending outside later.moments (before_kept (outset_in given) given.content is.content same) held held refl,
     nothing_changed later same,
   )
 
   refused_first : (ending : Ending) → outset_in given ≡ RefusedBy ending
-      → HasRunOn (outset_in given) given.content given.script ending image.moments held held
-      × HasMomentsIn given image.moments image.moments
+      → HasRunOn (outset_in given) given.content given.script ending (image_in words world).moments held held
+      × HasMomentsIn given (image_in words world).moments (image_in words world).moments
   refused_first ending refused = (
-    refused_run (outset_in given) given.content given.script ending refused image.moments (untouched_kept given.content is.content refl) held held refl,
-    nothing_changed image refl,
+    refused_run (outset_in given) given.content given.script ending refused (image_in words world).moments (untouched_kept given.content is.content refl) held held refl,
+    nothing_changed (image_in words world) refl,
   )
 
   -- The words ask for nothing.
   pub words_first : asked_of words ≡ None
-      → HasRunOn (outset_in given) given.content given.script RefusedWords image.moments held held
-      × HasMomentsIn given image.moments image.moments
+      → HasRunOn (outset_in given) given.content given.script RefusedWords (image_in words world).moments held held
+      × HasMomentsIn given (image_in words world).moments (image_in words world).moments
   words_first none = refused_first RefusedWords (outset_asked None none)
 
   pub stopped_at_words : (ended : Ended) → (ended ≡ Endings.Words) ⊎ (ended ≡ Endings.Memory) → (ended ≡ Endings.Words → asked_of words ≡ None)
-      → HasRunOn (outset_in given) given.content given.script (ending_of ended) image.moments held held
-      × HasMomentsIn given image.moments image.moments
+      → HasRunOn (outset_in given) given.content given.script (ending_of ended) (image_in words world).moments held held
+      × HasMomentsIn given (image_in words world).moments (image_in words world).moments
   stopped_at_words ended ends none = elim ends [
     | inl words_end ↦
-        subst (λ (e : Ended). HasRunOn (outset_in given) given.content given.script (ending_of e) image.moments held held
-        × HasMomentsIn given image.moments image.moments) (sym words_end) (words_first (none words_end))
+        subst (λ (e : Ended). HasRunOn (outset_in given) given.content given.script (ending_of e) (image_in words world).moments held held
+        × HasMomentsIn given (image_in words world).moments (image_in words world).moments) (sym words_end) (words_first (none words_end))
     | inr memory ↦
-        subst (λ (e : Ended). HasRunOn (outset_in given) given.content given.script (ending_of e) image.moments held held
-        × HasMomentsIn given image.moments image.moments) (sym memory) (outside_first NoMemory tt image refl)
+        subst (λ (e : Ended). HasRunOn (outset_in given) given.content given.script (ending_of e) (image_in words world).moments held held
+        × HasMomentsIn given (image_in words world).moments (image_in words world).moments) (sym memory) (outside_first NoMemory tt (image_in words world) refl)
   ]
 
   module _ (asked : Asked) (asks : asked_of words ≡ Some asked) where
-    has_key : HasFile (key_file_of asked.hash) keys given.key_bytes
-    has_key = subst (λ (o : Option Asked). HasFile (key_file_of_asked o) keys given.key_bytes) asks is.key
+    has_key : HasFile (key_file_of asked.hash) world.keys given.key_bytes
+    has_key = subst (λ (o : Option Asked). HasFile (key_file_of_asked o) world.keys given.key_bytes) asks is.key
 
     -- The key file, or its source, ended it.
-    pub stopped_at_key : (faults_before faults : ℕ) (ended : Ended) → IsKeyRefused (key_file_of asked.hash) keys faults_before faults ended
-        → HasRunOn (outset_in given) given.content given.script (ending_of ended) image.moments held held
-        × HasMomentsIn given image.moments image.moments
+    pub stopped_at_key : (faults_before faults : ℕ) (ended : Ended) → IsKeyRefused (key_file_of asked.hash) world.keys faults_before faults ended
+        → HasRunOn (outset_in given) given.content given.script (ending_of ended) (image_in words world).moments held held
+        × HasMomentsIn given (image_in words world).moments (image_in words world).moments
     stopped_at_key faults_before faults Endings.Words refused = absurd refused
     stopped_at_key faults_before faults (Endings.Key refusal) refused =
         refused_first (RefusedKey (key_refusal_of refusal))
@@ -708,18 +649,18 @@ module _ (given : Given) (words : List (List ℕ)) (keys : List ℕ → Option (
     stopped_at_key faults_before faults Endings.Length refused = absurd refused
     stopped_at_key faults_before faults (Endings.Image fault) refused = absurd refused
     stopped_at_key faults_before faults Endings.Disk refused = absurd refused
-    stopped_at_key faults_before faults Endings.KeySource refused = outside_first KeyFailed tt image refl
+    stopped_at_key faults_before faults Endings.KeySource refused = outside_first KeyFailed tt (image_in words world) refl
     stopped_at_key faults_before faults Endings.Script refused = absurd refused
     stopped_at_key faults_before faults Endings.Sink refused = absurd refused
-    stopped_at_key faults_before faults Endings.Memory refused = outside_first NoMemory tt image refl
+    stopped_at_key faults_before faults Endings.Memory refused = outside_first NoMemory tt (image_in words world) refl
 
     -- What is asked was done on the image, with this key.
-    pub ran_given : (key : Option (List ℕ)) → IsKeyed (key_file_of asked.hash) keys (HasHash key) → (sectors : ℕ) (mid after : List Content) (later : NamedDisk)
-        → image ≡ record { sectors = sectors; moments = mid } → later.moments ≡ after → (ending : Ending) (held_after : Option (List ℕ))
+    pub ran_given : (key : Option (List ℕ)) → IsKeyed (key_file_of asked.hash) world.keys (HasHash key) → (sectors : ℕ) (mid after : List Content) (later : NamedDisk)
+        → image_in words world ≡ record { sectors = sectors; moments = mid } → later.moments ≡ after → (ending : Ending) (held_after : Option (List ℕ))
         → HasRunOn (outset_at asked.task key sectors (last_image given.content)) given.content given.script ending after held held_after
         × HasMomentsAt asked.task key sectors given.content given.script mid after
         → HasRunOn (outset_in given) given.content given.script ending later.moments held held_after
-        × HasMomentsIn given image.moments later.moments
+        × HasMomentsIn given (image_in words world).moments later.moments
     ran_given key keyed sectors mid after later there at_end ending held_after runs =
         let entry : Image = last_image given.content in
         let same_sectors : given.sectors ≡ sectors = is.sectors ∙ ap (λ (n : NamedDisk). n.sectors) there in
@@ -728,7 +669,7 @@ module _ (given : Given) (words : List (List ℕ)) (keys : List ℕ → Option (
         ∙ ap (λ (told : Result (Option (List ℕ)) KeyRefusal). outset_under asked.task told given.sectors entry)
         (keyed given.key_bytes has_key)
         ∙ ap (λ (n : ℕ). outset_at asked.task key n entry) same_sectors in
-        let same_moments : image.moments ≡ mid = ap (λ (n : NamedDisk). n.moments) there in
+        let same_moments : (image_in words world).moments ≡ mid = ap (λ (n : NamedDisk). n.moments) there in
         let At = λ (o : Outset) (n : ℕ). IsMomentOf o (geometry_on n entry) given.content given.script in (
           subst (λ (o : Outset). HasRunOn o given.content given.script ending later.moments held held_after)
               (sym same_outset)
@@ -736,28 +677,28 @@ module _ (given : Given) (words : List (List ℕ)) (keys : List ℕ → Option (
               HasRunOn (outset_at asked.task key sectors entry) given.content given.script ending m held held_after)
               (sym at_end) runs.0),
           record {
-            each = subst (λ (o : Outset). EachMoment image.moments later.moments (At o given.sectors)) (sym same_outset)
-                (subst (λ (n : ℕ). EachMoment image.moments later.moments (At (outset_at asked.task key sectors entry) n))
+            each = subst (λ (o : Outset). EachMoment (image_in words world).moments later.moments (At o given.sectors)) (sym same_outset)
+                (subst (λ (n : ℕ). EachMoment (image_in words world).moments later.moments (At (outset_at asked.task key sectors entry) n))
                 (sym same_sectors)
                 (subst (λ (m : List Content). EachMoment m later.moments (At (outset_at asked.task key sectors entry) sectors))
                 (sym same_moments)
                 (subst (λ (m : List Content). EachMoment mid m (At (outset_at asked.task key sectors entry) sectors))
                 (sym at_end) runs.1.each)));
-            order = subst (λ (o : Option Asked). IsInOrderFor o given.key_bytes given.sectors image.moments later.moments) (sym (ap asked_of is.words_are ∙ asks))
-                (subst (λ (told : Result (Option (List ℕ)) KeyRefusal). IsInOrderUnder asked.task told given.sectors image.moments later.moments) (sym (keyed given.key_bytes has_key))
-                (subst (λ (n : ℕ). IsInOrderAt asked.task key n image.moments later.moments) (sym same_sectors)
+            order = subst (λ (o : Option Asked). IsInOrderFor o given.key_bytes given.sectors (image_in words world).moments later.moments) (sym (ap asked_of is.words_are ∙ asks))
+                (subst (λ (told : Result (Option (List ℕ)) KeyRefusal). IsInOrderUnder asked.task told given.sectors (image_in words world).moments later.moments) (sym (keyed given.key_bytes has_key))
+                (subst (λ (n : ℕ). IsInOrderAt asked.task key n (image_in words world).moments later.moments) (sym same_sectors)
                 (subst (λ (m : List Content). IsInOrderAt asked.task key sectors m later.moments) (sym same_moments)
                 (subst (λ (m : List Content). IsInOrderAt asked.task key sectors mid m) (sym at_end) runs.1.order))));
           },
         )
 
     -- What its close leaves is so of the command's.
-    pub closed_given : (key : Option (List ℕ)) → IsKeyed (key_file_of asked.hash) keys (HasHash key) → (sectors : ℕ)
-        (mid after : List Content) (later : NamedDisk) → image ≡ record { sectors = sectors; moments = mid } → later.moments ≡ after
-        → HasNow (IsClosedAt asked.task key sectors (last_image given.content) given.script) after
-        → HasNow (IsClosedFor (asked_of given.words) given.key_bytes given.sectors (last_image given.content) given.script) later.moments
+    pub closed_given : (key : Option (List ℕ)) → IsKeyed (key_file_of asked.hash) world.keys (HasHash key) → (sectors : ℕ)
+        (mid after : List Content) (later : NamedDisk) → image_in words world ≡ record { sectors = sectors; moments = mid } → later.moments ≡ after
+        → HasNow (IsClosedAt asked.task key sectors given.content given.script) after
+        → IsLeftClosed given later.moments
     closed_given key keyed sectors mid after later there at_end closed =
-        let entry : Image = last_image given.content in
+        let entry : Content = given.content in
         subst (λ (o : Option Asked). HasNow (IsClosedFor o given.key_bytes given.sectors entry given.script) later.moments) (sym (ap asked_of is.words_are ∙ asks))
         (subst (λ (told : Result (Option (List ℕ)) KeyRefusal). HasNow (IsClosedUnder asked.task told given.sectors entry given.script) later.moments)
         (sym (keyed given.key_bytes has_key))
@@ -766,8 +707,8 @@ module _ (given : Given) (words : List (List ℕ)) (keys : List ℕ → Option (
         (subst (λ (m : List Content). HasNow (IsClosedAt asked.task key sectors entry given.script) m) (sym at_end) closed)))
 
     -- What is taken of its script is so of the command's.
-    pub read_given : (key : Option (List ℕ)) → IsKeyed (key_file_of asked.hash) keys (HasHash key) → (sectors : ℕ)
-        (mid : List Content) → image ≡ record { sectors = sectors; moments = mid }
+    pub read_given : (key : Option (List ℕ)) → IsKeyed (key_file_of asked.hash) world.keys (HasHash key) → (sectors : ℕ)
+        (mid : List Content) → image_in words world ≡ record { sectors = sectors; moments = mid }
         → (left held_after : Option (List ℕ)) {failed : Type 0}
         → HasReadIn (outset_at asked.task key sectors (last_image given.content)) given.script left held held_after
         failed
@@ -779,10 +720,3 @@ module _ (given : Given) (words : List (List ℕ)) (keys : List ℕ → Option (
         ∙ ap (λ (told : Result (Option (List ℕ)) KeyRefusal). outset_under asked.task told given.sectors entry)
         (keyed given.key_bytes has_key)
         ∙ ap (λ (n : ℕ). outset_at asked.task key n entry) (is.sectors ∙ ap (λ (n : NamedDisk). n.sectors) there))) read
-
-    -- A key that is taken is not refused.
-    pub not_refused_by_key : (key : Option (List ℕ)) → IsKeyed (key_file_of asked.hash) keys (HasHash key) → IsRefusedByKey (outset_in given) → ⊥
-    not_refused_by_key key keyed refused =
-        no_key_at asked.task key given.sectors (last_image given.content)
-        (subst IsRefusedByKey (outset_asked (Some asked) asks
-        ∙ ap (λ (told : Result (Option (List ℕ)) KeyRefusal). outset_under asked.task told given.sectors (last_image given.content)) (keyed given.key_bytes has_key)) refused)

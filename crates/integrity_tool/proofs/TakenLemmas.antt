@@ -1,5 +1,5 @@
 -- How much of a script's source is taken.
-use Rattle.std.proofs.Common.{◌≡◌, ℕ, ◌+◌, ◌≤◌, List, [], ◌++◌, length, length-append, refl, sym, ◌∙◌, ap, subst, arith, Option, Some, None}
+use Rattle.std.proofs.Common.{◌≡◌, ℕ, ◌+◌, ◌<◌, ◌≤◌, List, [], ◌++◌, length, length-append, refl, sym, ◌∙◌, ap, subst, arith, Option, Some, None}
 use Rattle.std.specs.Option.{ForSome, IsSomeAnd}
 use Rattle.script_reader.specs.Reading.{Reading, TakesLine}
 use Rattle.integrity_tool.specs.Running.{HasRead, HasTaken, most_taken, read_by}
@@ -36,6 +36,12 @@ pub read_within : (left : List ℕ) (reader : Reading) (last : Option (List ℕ)
     → IsSomeAnd last (λ more. length left ≤ length more + most_taken)
 read_within left reader None within read = absurd read
 read_within left reader (Some more) within read = omega (arith, within, read)
+
+-- Where a reader is behind a byte, that is taken.
+pub taken_some : (left : List ℕ) (reader : Reading) (last : Option (List ℕ)) → 0 < reader.taken → IsSomeAnd last (λ more. length left ≡ length more + read_by reader)
+    → IsSomeAnd last (λ more. length more < length left)
+taken_some left reader None some read = absurd read
+taken_some left reader (Some more) some read = omega (arith, some, read)
 
 -- A source that is not called has given nothing.
 pub none_taken : (left later : Option (List ℕ)) → later ≡ left → HasTaken left later

@@ -1,20 +1,25 @@
 -- The last line of a command, its status, and what both tell.
-use Rattle.std.proofs.Common.{◌≡◌, inl, inr, ℕ, ◌≤◌, Bool, true, false, List, [], ◌∷◌, ◌++◌, take, refl, sym, ◌∙◌, ap, subst, arith, append_assoc, append-nil, Option, Some, None, Result, Ok, Err, OnOk, OnErr}
+use Rattle.std.proofs.Common.{◌≡◌, ◌≢◌, ◌⊎◌, inl, inr, ℕ, ◌<◌, ◌≤◌, Bool, true, false, List, [], ◌∷◌, ◌++◌, length, take, refl, sym, ◌∙◌, ap, subst, arith, append_assoc, append-nil, Option, Some, None, Result, Ok, Err, IfErr, OnOk, OnErr}
 use Rattle.std.specs.Option.{option_map, IsSomeAnd}
-use Rattle.disk_model.specs.Causes.{Rose}
+use Rattle.std.proofs.lemmas.List.{length-take}
+use Rattle.disk_model.specs.Causes.{HasCause, Rose}
 use Rattle.disk_model.specs.Disk.{Content}
 use Rattle.disk_model.specs.Identity.{NamedDisk}
 use Rattle.disk_model.specs.Moments.{content_now, EachMoment}
-use Rattle.device_model.specs.Ending.{Ending, Complete, fault_text, status_of}
+use Rattle.device_model.specs.Ending.{Ending, Complete, DiskFailed, KeyFailed, NoMemory, RefusedImage, RefusedKey, RefusedLength, RefusedLine, RefusedWords, ScriptFailed, SinkFailed, fault_text, status_of}
 use Rattle.stream_io.specs.Stream.{with_bytes, AddsPrefix}
 use Rattle.script_session.specs.LineRun.{held_with}
 use Rattle.command_ending.specs.Ended.{ending_of}
 use Rattle.command_ending.specs.declared.ended.Ended.{Ended}
 use Rattle.command_ending.specs.declared.ended.Ended.TheVariants as Endings
-use Rattle.command_model.specs.CommandRun.{Outset, Faults, HasCauseIn, IsLastLine, Tells}
-use Rattle.integrity_tool.specs.Opening.{HasRunOn}
-use Rattle.integrity_tool.specs.Running.{HoldsText, IsCounted}
-use Rattle.integrity_tool.specs.Top.{HasCommandCause, HasStatus, IsBeforeScript}
+use Rattle.command_model.specs.CommandRun.{Faults, HasCauseIn, IsLastLine}
+use Rattle.integrity_tool.specs.Ends.{IsBeforeScript}
+use Rattle.integrity_tool.specs.KeyFile.{IsKeyRefused}
+use Rattle.integrity_tool.specs.Opening.{EndsImage, HasRunOn}
+use Rattle.integrity_tool.specs.Running.{HasEndCause, HoldsText}
+use Rattle.integrity_tool.specs.Top.{Given, HasStatus, IsCountedBy, TellsRun, outset_in}
+use Rattle.integrity_tool.specs.World.{Counts, rises}
+use Rattle.integrity_tool.proofs.LoopLemmas.{same_ended}
 
 -- ---- the disk
 
@@ -36,203 +41,238 @@ pub rose_earlier : (a b c : ℕ) → a ≤ b → Rose b c → Rose a c
 rose_earlier a b c later rose = omega (arith, rose, later)
 
 -- The sink's count may rise further, with the last line.
-pub cause_later : (disk key script one other : Type 0) → (one → other) → (ended : Ended) → HasCommandCause disk key script one ended → HasCommandCause disk key script other ended
-cause_later disk key script one other later Endings.Words cause = tt
-cause_later disk key script one other later (Endings.Key refusal) cause = tt
-cause_later disk key script one other later (Endings.Line number refusal) cause = tt
-cause_later disk key script one other later Endings.Length cause = tt
-cause_later disk key script one other later (Endings.Image fault) cause = tt
-cause_later disk key script one other later Endings.Disk cause = cause
-cause_later disk key script one other later Endings.KeySource cause = cause
-cause_later disk key script one other later Endings.Script cause = cause
-cause_later disk key script one other later Endings.Sink cause = later cause
-cause_later disk key script one other later Endings.Memory cause = tt
+pub cause_later : (first mid : Counts) (sink : ℕ) → mid.sink ≤ sink → (ending : Ending) → HasCauseIn (rises first mid) ending
+    → HasCauseIn (rises first (record mid { sink = sink })) ending
+cause_later first mid sink later (Complete found_fault) cause = tt
+cause_later first mid sink later RefusedWords cause = tt
+cause_later first mid sink later (RefusedKey refusal) cause = tt
+cause_later first mid sink later (RefusedLine number fault) cause = tt
+cause_later first mid sink later RefusedLength cause = tt
+cause_later first mid sink later (RefusedImage fault) cause = tt
+cause_later first mid sink later DiskFailed cause = cause
+cause_later first mid sink later KeyFailed cause = cause
+cause_later first mid sink later ScriptFailed cause = cause
+cause_later first mid sink later SinkFailed cause = rose_later _ _ _ cause later
+cause_later first mid sink later NoMemory cause = tt
 
-pub cause_in : (faults : Faults) (ended : Ended) → HasCommandCause faults.disk faults.key faults.script faults.sink ended → HasCauseIn faults (ending_of ended)
-cause_in faults Endings.Words cause = tt
-cause_in faults (Endings.Key refusal) cause = tt
-cause_in faults (Endings.Line number refusal) cause = tt
-cause_in faults Endings.Length cause = tt
-cause_in faults (Endings.Image fault) cause = tt
-cause_in faults Endings.Disk cause = cause
-cause_in faults Endings.KeySource cause = cause
-cause_in faults Endings.Script cause = cause
-cause_in faults Endings.Sink cause = cause
-cause_in faults Endings.Memory cause = tt
+-- Words, or want of memory, rest on no fault.
+pub cause_at_words : (faults : Faults) (ended : Ended) → (ended ≡ Endings.Words) ⊎ (ended ≡ Endings.Memory) → HasCauseIn faults (ending_of ended)
+cause_at_words faults ended ends = elim ends [
+  | inl words ↦ subst (λ (e : Ended). HasCauseIn faults (ending_of e)) (sym words) tt
+  | inr memory ↦ subst (λ (e : Ended). HasCauseIn faults (ending_of e)) (sym memory) tt
+]
+
+-- Of what a key is refused by, its source alone does.
+pub cause_at_key : (faults : Faults) (file : Option (List ℕ)) (named : List ℕ → Option (List ℕ)) (before after : ℕ) → (Rose before after → faults.key)
+    → (ended : Ended) → IsKeyRefused file named before after ended → HasCauseIn faults (ending_of ended)
+cause_at_key faults file named before after rose Endings.Words refused = tt
+cause_at_key faults file named before after rose (Endings.Key refusal) refused = tt
+cause_at_key faults file named before after rose (Endings.Line number refusal) refused = tt
+cause_at_key faults file named before after rose Endings.Length refused = tt
+cause_at_key faults file named before after rose (Endings.Image fault) refused = tt
+cause_at_key faults file named before after rose Endings.Disk refused = absurd refused
+cause_at_key faults file named before after rose Endings.KeySource refused = rose refused
+cause_at_key faults file named before after rose Endings.Script refused = absurd refused
+cause_at_key faults file named before after rose Endings.Sink refused = absurd refused
+cause_at_key faults file named before after rose Endings.Memory refused = tt
+
+-- What ends a run on an image is no source of keys.
+pub cause_on_image : (faults : Faults) (ended : Ended) → EndsImage ended → HasEndCause faults.disk faults.script faults.sink ended → HasCauseIn faults (ending_of ended)
+cause_on_image faults Endings.Words ends cause = tt
+cause_on_image faults (Endings.Key refusal) ends cause = tt
+cause_on_image faults (Endings.Line number refusal) ends cause = tt
+cause_on_image faults Endings.Length ends cause = tt
+cause_on_image faults (Endings.Image fault) ends cause = tt
+cause_on_image faults Endings.Disk ends cause = cause
+cause_on_image faults Endings.KeySource ends cause = absurd ends
+cause_on_image faults Endings.Script ends cause = cause
+cause_on_image faults Endings.Sink ends cause = cause
+cause_on_image faults Endings.Memory ends cause = tt
+
+pub causes_on_image : {T : Type 0} (faults : Faults) (r : Result T Ended) → IfErr r EndsImage → IfErr r (HasEndCause faults.disk faults.script faults.sink)
+    → IfErr r (λ ended. HasCauseIn faults (ending_of ended))
+causes_on_image faults (Ok x) ends cause = tt
+causes_on_image faults (Err ended) ends cause = cause_on_image faults ended ends cause
 
 -- ---- statuses
 
--- The counts before and after a command.
-pub record Counts : Type 0 where
-  pub disk_before : ℕ
-  pub disk : ℕ
-  pub key_before : ℕ
-  pub key : ℕ
-  pub script_before : ℕ
-  pub script : ℕ
-  pub sink_before : ℕ
-  pub sink : ℕ
-
-abbrev pub HasStatusIn : Counts → ℕ → Type 0
-HasStatusIn n status = HasStatus n.disk_before n.disk n.key_before n.key n.script_before n.script n.sink_before n.sink status
-
 -- Where a command came to its end no count rose.
-pub status_complete : (n : Counts) (status : ℕ) → status ≤ 1 → n.disk ≡ n.disk_before → n.key ≡ n.key_before
-    → n.script ≡ n.script_before → n.sink ≡ n.sink_before → HasStatusIn n status
-status_complete n status low disk key script sink = record {
+pub status_complete : {T : Type 0} (first last : Counts) (status : ℕ) → status ≤ 1 → (found : T) (result : Result T Ended) → result ≡ Ok found
+    → IsCountedBy result first last → HasStatus first last status
+status_complete first last status low found result is counted = record {
   low = omega (arith, low);
-  of_disk = λ is. absurd (omega (arith, low, is));
-  of_sources = λ is. absurd (omega (arith, low, is));
-  of_sink = λ is. absurd (omega (arith, low, is));
-  disk_passed = λ other. disk;
-  sources_passed = λ other. (key, script);
-  sink_passed = λ is. sink;
+  of_disk = λ told. absurd (omega (arith, low, told));
+  of_sources = λ told. absurd (omega (arith, low, told));
+  of_sink = λ told. absurd (omega (arith, low, told));
+  disk_passed = λ other. counted.disk.passed (λ ended. absurd (cc));
+  sources_passed = λ other. (counted.key.passed (λ ended. absurd (cc)), counted.script.passed (λ ended. absurd (cc)));
+  sink_passed = λ told. counted.sink.passed (λ ended. absurd (cc));
 }
 
-module _ {T : Type 0} (n : Counts) where
-  pub status_ended : (ended : Ended)
-      → HasCommandCause (Rose n.disk_before n.disk) (Rose n.key_before n.key) (Rose n.script_before n.script) (Rose n.sink_before n.sink) ended
-      → IsCounted {T = T} Endings.Disk n.disk_before n.disk (Err ended) → IsCounted {T = T} Endings.KeySource n.key_before n.key (Err ended)
-      → IsCounted {T = T} Endings.Script n.script_before n.script (Err ended) → HasStatusIn n (status_of (ending_of ended))
-  status_ended Endings.Words cause disk key script = record {
+-- Where its last line is printed, the sink's count may have risen since.
+module _ {T : Type 0} (first mid : Counts) (sink : ℕ) where
+  pub status_ended : (ended : Ended) → HasCauseIn (rises first (record mid { sink = sink })) (ending_of ended)
+      → IsCountedBy {R = T} (Err ended) first mid → HasStatus first (record mid { sink = sink }) (status_of (ending_of ended))
+  status_ended Endings.Words cause counted = record {
     low = omega arith;
     of_disk = λ is. absurd (omega (arith, is));
     of_sources = λ is. absurd (omega (arith, is));
     of_sink = λ is. absurd (omega (arith, is));
-    disk_passed = λ other. disk.passed (λ same. absurd (cc));
-    sources_passed = λ other. (key.passed (λ same. absurd (cc)), script.passed (λ same. absurd (cc)));
+    disk_passed = λ other. counted.disk.passed (λ same. absurd (cc));
+    sources_passed = λ other. (counted.key.passed (λ same. absurd (cc)), counted.script.passed (λ same. absurd (cc)));
     sink_passed = λ is. absurd (omega (arith, is));
   }
-  status_ended (Endings.Key refusal) cause disk key script = record {
+  status_ended (Endings.Key refusal) cause counted = record {
     low = omega arith;
     of_disk = λ is. absurd (omega (arith, is));
     of_sources = λ is. absurd (omega (arith, is));
     of_sink = λ is. absurd (omega (arith, is));
-    disk_passed = λ other. disk.passed (λ same. absurd (cc));
-    sources_passed = λ other. (key.passed (λ same. absurd (cc)), script.passed (λ same. absurd (cc)));
+    disk_passed = λ other. counted.disk.passed (λ same. absurd (cc));
+    sources_passed = λ other. (counted.key.passed (λ same. absurd (cc)), counted.script.passed (λ same. absurd (cc)));
     sink_passed = λ is. absurd (omega (arith, is));
   }
-  status_ended (Endings.Line number refusal) cause disk key script = record {
+  status_ended (Endings.Line number refusal) cause counted = record {
     low = omega arith;
     of_disk = λ is. absurd (omega (arith, is));
     of_sources = λ is. absurd (omega (arith, is));
     of_sink = λ is. absurd (omega (arith, is));
-    disk_passed = λ other. disk.passed (λ same. absurd (cc));
-    sources_passed = λ other. (key.passed (λ same. absurd (cc)), script.passed (λ same. absurd (cc)));
+    disk_passed = λ other. counted.disk.passed (λ same. absurd (cc));
+    sources_passed = λ other. (counted.key.passed (λ same. absurd (cc)), counted.script.passed (λ same. absurd (cc)));
     sink_passed = λ is. absurd (omega (arith, is));
   }
-  status_ended Endings.Length cause disk key script = record {
+  status_ended Endings.Length cause counted = record {
     low = omega arith;
     of_disk = λ is. absurd (omega (arith, is));
     of_sources = λ is. absurd (omega (arith, is));
     of_sink = λ is. absurd (omega (arith, is));
-    disk_passed = λ other. disk.passed (λ same. absurd (cc));
-    sources_passed = λ other. (key.passed (λ same. absurd (cc)), script.passed (λ same. absurd (cc)));
+    disk_passed = λ other. counted.disk.passed (λ same. absurd (cc));
+    sources_passed = λ other. (counted.key.passed (λ same. absurd (cc)), counted.script.passed (λ same. absurd (cc)));
     sink_passed = λ is. absurd (omega (arith, is));
   }
-  status_ended (Endings.Image fault) cause disk key script = record {
+  status_ended (Endings.Image fault) cause counted = record {
     low = omega arith;
     of_disk = λ is. absurd (omega (arith, is));
     of_sources = λ is. absurd (omega (arith, is));
     of_sink = λ is. absurd (omega (arith, is));
-    disk_passed = λ other. disk.passed (λ same. absurd (cc));
-    sources_passed = λ other. (key.passed (λ same. absurd (cc)), script.passed (λ same. absurd (cc)));
+    disk_passed = λ other. counted.disk.passed (λ same. absurd (cc));
+    sources_passed = λ other. (counted.key.passed (λ same. absurd (cc)), counted.script.passed (λ same. absurd (cc)));
     sink_passed = λ is. absurd (omega (arith, is));
   }
-  status_ended Endings.Disk cause disk key script = record {
+  status_ended Endings.Disk cause counted = record {
     low = omega arith;
     of_disk = λ is. cause;
     of_sources = λ is. absurd (omega (arith, is));
     of_sink = λ is. absurd (omega (arith, is));
     disk_passed = λ other. absurd (other refl);
-    sources_passed = λ other. (key.passed (λ same. absurd (cc)), script.passed (λ same. absurd (cc)));
+    sources_passed = λ other. (counted.key.passed (λ same. absurd (cc)), counted.script.passed (λ same. absurd (cc)));
     sink_passed = λ is. absurd (omega (arith, is));
   }
-  status_ended Endings.KeySource cause disk key script = record {
+  status_ended Endings.KeySource cause counted = record {
     low = omega arith;
     of_disk = λ is. absurd (omega (arith, is));
     of_sources = λ is. inl cause;
     of_sink = λ is. absurd (omega (arith, is));
-    disk_passed = λ other. disk.passed (λ same. absurd (cc));
+    disk_passed = λ other. counted.disk.passed (λ same. absurd (cc));
     sources_passed = λ other. absurd (other refl);
     sink_passed = λ is. absurd (omega (arith, is));
   }
-  status_ended Endings.Script cause disk key script = record {
+  status_ended Endings.Script cause counted = record {
     low = omega arith;
     of_disk = λ is. absurd (omega (arith, is));
     of_sources = λ is. inr cause;
     of_sink = λ is. absurd (omega (arith, is));
-    disk_passed = λ other. disk.passed (λ same. absurd (cc));
+    disk_passed = λ other. counted.disk.passed (λ same. absurd (cc));
     sources_passed = λ other. absurd (other refl);
     sink_passed = λ is. absurd (omega (arith, is));
   }
-  status_ended Endings.Sink cause disk key script = record {
+  status_ended Endings.Sink cause counted = record {
     low = omega arith;
     of_disk = λ is. absurd (omega (arith, is));
     of_sources = λ is. absurd (omega (arith, is));
     of_sink = λ is. cause;
-    disk_passed = λ other. disk.passed (λ same. absurd (cc));
-    sources_passed = λ other. (key.passed (λ same. absurd (cc)), script.passed (λ same. absurd (cc)));
+    disk_passed = λ other. counted.disk.passed (λ same. absurd (cc));
+    sources_passed = λ other. (counted.key.passed (λ same. absurd (cc)), counted.script.passed (λ same. absurd (cc)));
     sink_passed = λ is. absurd (omega (arith, is));
   }
-  status_ended Endings.Memory cause disk key script = record {
+  status_ended Endings.Memory cause counted = record {
     low = omega arith;
     of_disk = λ is. absurd (omega (arith, is));
     of_sources = λ is. absurd (omega (arith, is));
     of_sink = λ is. absurd (omega (arith, is));
-    disk_passed = λ other. disk.passed (λ same. absurd (cc));
-    sources_passed = λ other. (key.passed (λ same. absurd (cc)), script.passed (λ same. absurd (cc)));
+    disk_passed = λ other. counted.disk.passed (λ same. absurd (cc));
+    sources_passed = λ other. (counted.key.passed (λ same. absurd (cc)), counted.script.passed (λ same. absurd (cc)));
     sink_passed = λ is. absurd (omega (arith, is));
   }
 
+-- What ended a command by the sink has status 6.
+sink_status : {T : Type 0} (ended : Ended) (r : Result T Ended) → r ≡ Err ended → r ≡ Err Endings.Sink → status_of (ending_of ended) ≡ 6
+sink_status ended r is is_sink = ap (λ (e : Ended). status_of (ending_of e)) (same_ended ended Endings.Sink r is is_sink)
+
 -- ---- the last line
 
-tells_line : (outset : Outset) (start : Content) (script : List ℕ) (ending : Ending) (moments : List Content) (held_before held after : Option (List ℕ)) (before : List ℕ)
-    (d : Content) (status : ℕ) (faults : Faults) (line : List ℕ) → HasRunOn outset start script ending moments held_before held → held_before ≡ Some before
-    → content_now moments ≡ Some d → status ≡ status_of ending → HasCauseIn faults ending → IsLastLine faults.sink ending line → after ≡ option_map (with_bytes line) held
-    → IsSomeAnd after (λ text. IsSomeAnd (content_now moments) (Tells outset start script before text status faults))
-tells_line outset start script ending moments held_before held after before d status faults line run is_before told is_status cause last is_after =
-    let all : after ≡ Some ((before ++ run.text) ++ line) =
-    is_after ∙ ap (option_map (with_bytes line)) run.told ∙ ap (λ (o : Option (List ℕ)). option_map (with_bytes line) (held_with run.text o)) is_before in
-    subst (λ (o : Option (List ℕ)). IsSomeAnd o (λ text. IsSomeAnd (content_now moments) (Tells outset start script before text status faults))) (sym all)
-    (subst (λ (o : Option Content). IsSomeAnd o (Tells outset start script before ((before ++ run.text) ++ line) status faults)) (sym told) (record {
-      run = run.run;
-      is_run = run.is_run;
-      text = run.text;
-      changes = run.changes;
-      ending = ending;
-      ended = run.ended;
-      cause = cause;
-      is_status = is_status;
-      line = line;
-      last = last;
-      printed = append_assoc before run.text line;
-      left = run.left d told;
-    }))
+-- The run came so far, and this line stands behind its text.
+module _ (given : Given) (ending : Ending) (moments : List Content) (held_before held : Option (List ℕ)) (status : ℕ) (before : List ℕ) (d : Content)
+    (run : HasRunOn (outset_in given) given.content given.script ending moments held_before held) (is_before : held_before ≡ Some before)
+    (told : content_now moments ≡ Some d) (is_status : status ≡ status_of ending) where
+  tells_line : (after : Option (List ℕ)) (first last : Counts) (line : List ℕ) → HasCauseIn (rises first last) ending
+      → IsLastLine (Rose first.sink last.sink) ending line → (status ≢ 6 → line ≡ fault_text ending → last.sink ≡ first.sink)
+      → after ≡ option_map (with_bytes line) held
+      → IsSomeAnd after (λ text. IsSomeAnd (content_now moments) (TellsRun given status first last before text))
+  tells_line after first last line cause end passed is_after =
+      let all : after ≡ Some ((before ++ run.text) ++ line) =
+      is_after ∙ ap (option_map (with_bytes line)) run.told ∙ ap (λ (o : Option (List ℕ)). option_map (with_bytes line) (held_with run.text o)) is_before in
+      subst (λ (o : Option (List ℕ)). IsSomeAnd o (λ text. IsSomeAnd (content_now moments) (TellsRun given status first last before text))) (sym all)
+      (subst (λ (o : Option Content). IsSomeAnd o (TellsRun given status first last before ((before ++ run.text) ++ line))) (sym told) (record {
+        told = record {
+          run = run.run;
+          is_run = run.is_run;
+          text = run.text;
+          changes = run.changes;
+          ending = ending;
+          ended = run.ended;
+          cause = cause;
+          is_status = is_status;
+          line = line;
+          last = end;
+          printed = append_assoc before run.text line;
+          left = run.left d told;
+        };
+        sink_passed = passed;
+      }))
 
 no_line : (held : Option (List ℕ)) → held ≡ option_map (with_bytes []) held
 no_line None = refl
 no_line (Some bytes) = ap (λ (x : List ℕ). Some x) (sym (append-nil bytes))
 
 -- A run that came to its end has no last line.
-pub tells_complete : (outset : Outset) (start : Content) (script : List ℕ) (found : Bool) (moments : List Content) (held_before held : Option (List ℕ)) (before : List ℕ)
-    (d : Content) (status : ℕ) (faults : Faults) → HasRunOn outset start script (Complete found) moments held_before held → held_before ≡ Some before
-    → content_now moments ≡ Some d → status ≡ status_of (Complete found)
-    → IsSomeAnd held (λ text. IsSomeAnd (content_now moments) (Tells outset start script before text status faults))
-tells_complete outset start script found moments held_before held before d status faults run is_before told is_status =
-    tells_line outset start script (Complete found) moments held_before held held before d status faults [] run is_before told is_status tt (inl refl) (no_line held)
+pub tells_complete : (given : Given) (found : Bool) (moments : List Content) (held_before held : Option (List ℕ)) (status : ℕ) (before : List ℕ) (d : Content)
+    → HasRunOn (outset_in given) given.content given.script (Complete found) moments held_before held → held_before ≡ Some before
+    → content_now moments ≡ Some d → status ≡ status_of (Complete found) → (first last : Counts) → last.sink ≡ first.sink
+    → IsSomeAnd held (λ text. IsSomeAnd (content_now moments) (TellsRun given status first last before text))
+tells_complete given found moments held_before held status before d run is_before told is_status first last same =
+    tells_line given (Complete found) moments held_before held status before d run is_before told is_status
+    held first last [] tt (inl refl) (λ other whole. same) (no_line held)
+
+-- What is less than all of a line is not that line.
+not_whole : (count : ℕ) (line : List ℕ) → count < length line → take count line ≡ line → ⊥
+not_whole count line short is = omega (arith, short, length-take count line, ap length is)
 
 -- One that was ended early has one, or where the sink failed a part of it.
-pub tells_early : (outset : Outset) (start : Content) (script : List ℕ) (ending : Ending) (moments : List Content) (held_before held after : Option (List ℕ)) (before : List ℕ)
-    (d : Content) (status : ℕ) (faults : Faults) {T E : Type 0} (result : Result T E) → HasRunOn outset start script ending moments held_before held → held_before ≡ Some before
-    → content_now moments ≡ Some d → status ≡ status_of ending → HasCauseIn faults ending
-    → OnOk result (after ≡ option_map (with_bytes (fault_text ending)) held) → OnErr result faults.sink → OnErr result (AddsPrefix (fault_text ending) held after)
-    → IsSomeAnd after (λ text. IsSomeAnd (content_now moments) (Tells outset start script before text status faults))
-tells_early outset start script ending moments held_before held after before d status faults (Ok x) run is_before told is_status cause written rose err =
-    tells_line outset start script ending moments held_before held after before d status faults (fault_text ending) run is_before told is_status cause (inl refl) written
-tells_early outset start script ending moments held_before held after before d status faults (Err e) run is_before told is_status cause written rose err =
-    tells_line outset start script ending moments held_before held after before d status faults (take err.count (fault_text ending)) run is_before told is_status cause
-    (inr (rose, err.count, err.short, refl)) err.held
+pub tells_early : (given : Given) (ended : Ended) (moments : List Content) (held_before held : Option (List ℕ)) (status : ℕ) (before : List ℕ) (d : Content)
+    → HasRunOn (outset_in given) given.content given.script (ending_of ended) moments held_before held → held_before ≡ Some before
+    → content_now moments ≡ Some d → status ≡ status_of (ending_of ended) → {T E R : Type 0} (result : Result T E) (after : Option (List ℕ)) (first mid : Counts) (sink : ℕ)
+    → HasCauseIn (rises first mid) (ending_of ended) → IsCountedBy {R = R} (Err ended) first mid → HasCause mid.sink sink result
+    → OnOk result (after ≡ option_map (with_bytes (fault_text (ending_of ended))) held) → OnErr result (AddsPrefix (fault_text (ending_of ended)) held after)
+    → IsSomeAnd after (λ text. IsSomeAnd (content_now moments) (TellsRun given status first (record mid { sink = sink }) before text))
+tells_early given ended moments held_before held status before d run is_before told is_status (Ok x) after first mid sink cause counted put written err =
+    tells_line given (ending_of ended) moments held_before held status before d run is_before told is_status
+    after first (record mid { sink = sink }) (fault_text (ending_of ended)) (cause_later first mid sink put.later (ending_of ended) cause) (inl refl)
+    (λ other whole. put.passed ∙ counted.sink.passed (λ is. other (is_status ∙ sink_status ended _ refl is))) written
+tells_early given ended moments held_before held status before d run is_before told is_status (Err e) after first mid sink cause counted put written err =
+    tells_line given (ending_of ended) moments held_before held status before d run is_before told is_status
+    after first (record mid { sink = sink }) (take err.count (fault_text (ending_of ended))) (cause_later first mid sink put.later (ending_of ended) cause)
+    (inr (rose_earlier _ _ _ counted.sink.later put.failed, err.count, err.short, refl))
+    (λ other whole. absurd (not_whole err.count _ err.short whole)) err.held
 
 -- What was put of the last line stands behind what the sink held.
 pub last_line_holds : {T E : Type 0} (result : Result T E) (line : List ℕ) (held after : Option (List ℕ))
@@ -246,6 +286,8 @@ last_line_holds (Err e) line held after written err = record { more = take err.c
 pub told_there : {first : NamedDisk} {sectors : ℕ} {before : List Content} {content : Content} → first ≡ record { sectors = sectors; moments = before }
     → content_now first.moments ≡ Some content → content_now before ≡ Some content
 told_there is told = sym (ap (λ (n : NamedDisk). content_now n.moments) is) ∙ told
+
+-- ---- what a status tells
 
 -- The status of an image that is refused comes of that alone,
 pub image_refused : (ended : Ended) → status_of (ending_of ended) ≡ 3 → IsBeforeScript ended
@@ -277,3 +319,24 @@ ended_is_high Endings.KeySource = omega arith
 ended_is_high Endings.Script = omega arith
 ended_is_high Endings.Sink = omega arith
 ended_is_high Endings.Memory = omega arith
+
+-- That of want of memory does too.
+pub memory_ended : (ended : Ended) → status_of (ending_of ended) ≡ 7 → ended ≡ Endings.Memory
+memory_ended Endings.Words is = absurd (omega (arith, is))
+memory_ended (Endings.Key refusal) is = absurd (omega (arith, is))
+memory_ended (Endings.Line number refusal) is = absurd (omega (arith, is))
+memory_ended Endings.Length is = absurd (omega (arith, is))
+memory_ended (Endings.Image fault) is = absurd (omega (arith, is))
+memory_ended Endings.Disk is = absurd (omega (arith, is))
+memory_ended Endings.KeySource is = absurd (omega (arith, is))
+memory_ended Endings.Script is = absurd (omega (arith, is))
+memory_ended Endings.Sink is = absurd (omega (arith, is))
+memory_ended Endings.Memory is = refl
+
+-- Where words, or want of memory, ended it, its status tells.
+pub words_status : {T : Type 0} (ended : Ended) (r : Result T Ended) → r ≡ Err ended → (r ≡ Err Endings.Words) ⊎ (r ≡ Err Endings.Memory)
+    → (status_of (ending_of ended) ≡ 2) ⊎ (status_of (ending_of ended) ≡ 7)
+words_status ended r is ends = elim ends [
+  | inl words ↦ inl (ap (λ (e : Ended). status_of (ending_of e)) (same_ended ended Endings.Words r is words))
+  | inr memory ↦ inr (ap (λ (e : Ended). status_of (ending_of e)) (same_ended ended Endings.Memory r is memory))
+]

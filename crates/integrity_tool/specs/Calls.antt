@@ -1,5 +1,5 @@
 -- What the calls of a command tell, over the disk, the source of the script and the sink that they are given.
-use Rattle.std.specs.Prelude.{◌≡◌, ℕ, ◌<◌, ◌++◌, List, [], Option, Some, Result, IfErr, IfOk}
+use Rattle.std.specs.Prelude.{◌≡◌, ℕ, ◌<◌, ◌++◌, List, [], Option, Some, Result, Err, IfErr, IfOk}
 use Rattle.std.specs.Option.{ForSome, IsSomeAnd}
 use Rattle.disk_model.specs.Causes.{Rose}
 use Rattle.disk_model.specs.Disk.{Content, Image, last_image}
@@ -26,8 +26,10 @@ use Rattle.integrity_tool.specs.Lines.{HasRunBytes, IsStoppedByBytes}
 use Rattle.integrity_tool.specs.Opening.{HasReadIn, HasRunOn, IsMomentOn}
 use Rattle.integrity_tool.specs.Order.{HasMomentsAt}
 use Rattle.integrity_tool.specs.Outset.{outset_at, outset_on}
-use Rattle.integrity_tool.specs.Running.{HasEndCause, HasReadTo, HasTaken, IsAtClose, IsCounted, IsStopped}
-use Rattle.integrity_tool.specs.Top.{IsBeforeScript}
+use Rattle.integrity_tool.specs.Running.{HasEndCause, HasReadTo, HasTaken, IsAtClose, IsCounted, IsStopped, TakesSome}
+use Rattle.integrity_tool.specs.Ends.{IsBeforeScript}
+use Rattle.integrity_tool.specs.Unopened.{IsUnopenedAt}
+use Rattle.integrity_tool.specs.Words.{IsScriptless}
 
 -- ---- what is outside
 
@@ -103,10 +105,14 @@ ReadsOnlyRun identity moments left held faults outset first script read sink out
     HasReadIn (outset (identity first).sectors (last_image c)) bytes (left read) (held sink) (held out)
     (faults script < faults read)) (moments first)
 
--- The script stays unread where it ended before that, or has none.
-abbrev pub LeavesScript : {T S : Type 0} → Result T Ended → (has_none : Type 0) → (script read : S) → Type 0
-LeavesScript result has_none script read =
-    IfErr result (λ ended. IsBeforeScript ended → read ≡ script) × (has_none → read ≡ script)
+-- The script stays unread where it ended before that, or has none. Where there was no memory and nothing is taken of it, no
+-- device was opened on the image.
+pub record LeavesUnread {T D S : Type 0} (moments : D → List Content) (left : S → Option (List ℕ)) (task : Task)
+    (result : Result T Ended) (first last : D) (script read : S) : Type 0 where
+  pub before : IfErr result (λ ended. IsBeforeScript ended → read ≡ script)
+  pub none : IsScriptless task → read ≡ script
+  pub unopened : result ≡ Err Endings.Memory → ForSome (left script) (λ bytes. left read ≡ Some bytes
+      → IsUnopenedAt task (moments first) (moments last))
 
 -- ---- the lines of a script, on each device that works
 
@@ -151,10 +157,11 @@ StopsLines moments left held result old first last script sink out = IfErr resul
     → IsStopped w run (ending_of ended) (moments first) (moments last) (held sink) (held out))
 
 -- No more of the script is taken than its bound, nor than the run has come to, nor is its source asked for more before
--- that.
-abbrev pub ReadsLines : {D S O : Type 0} → (D → List Content) → (S → Option (List ℕ)) → (O → Option (List ℕ))
-    → (S → ℕ) → DeviceParts → D → (script read : S) → (sink out : O) → Type 0
-ReadsLines moments left held faults old first script read sink out = HasTaken (left script) (left read)
+-- that. Where there was no memory, some of it is taken.
+abbrev pub ReadsLines : {T D S O : Type 0} → (D → List Content) → (S → Option (List ℕ)) → (O → Option (List ℕ))
+    → (S → ℕ) → Result T Ended → DeviceParts → D → (script read : S) → (sink out : O) → Type 0
+ReadsLines moments left held faults result old first script read sink out = HasTaken (left script) (left read)
     × ((w : Standing) (bytes : List ℕ) (run : ScriptRun) → IsDevice w Working old (moments first)
     → left script ≡ Some bytes → IsRunOf w.format w.state bytes run
     → HasReadTo run bytes (left read) (held sink) (held out) (faults script < faults read))
+    × (result ≡ Err Endings.Memory → TakesSome (left script) (left read))

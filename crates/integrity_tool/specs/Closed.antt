@@ -4,6 +4,7 @@ use Rattle.std.specs.List.{AllZip}
 use Rattle.disk_model.specs.Disk.{Content, EachImage, Image, last_image}
 use Rattle.disk_model.specs.Identity.{DiskIdentity}
 use Rattle.disk_model.specs.Moments.{HasNow}
+use Rattle.image_formatting.specs.NewImage.{provided_of}
 use Rattle.image_model.specs.Bitmap.{is_dirty}
 use Rattle.image_model.specs.Geometry.{Geometry, regions}
 use Rattle.device_model.specs.Device.{DeviceKind}
@@ -12,8 +13,9 @@ use Rattle.device_model.specs.Grammar.{ReadLine, IsReadAs, Means, Refused}
 use Rattle.device_model.specs.History.{Tagger, cells_now}
 use Rattle.device_model.specs.Mode.{DeviceFormat, Mode, Bitmap, Journal}
 use Rattle.device_model.specs.Progress.{DeviceState}
-use Rattle.device_model.specs.Script.{line_outcome}
+use Rattle.device_model.specs.Script.{after_script, line_outcome}
 use Rattle.device_model.specs.ScriptBytes.{lines_of}
+use Rattle.command_model.specs.Exercise.{exercise_lines}
 use Rattle.place_model.specs.Format.{DiskFormat, format_on, placed_on}
 use Rattle.place_model.specs.Kind.{kind_in}
 use Rattle.device_parts.specs.Device.{Standing}
@@ -21,6 +23,7 @@ use Rattle.device.specs.Opening.{asked_mode}
 use Rattle.integrity_tool.specs.declared.asked.Asked.{Asked}
 use Rattle.integrity_tool.specs.declared.asked.Task.{Task}
 use Rattle.integrity_tool.specs.declared.asked.Task.TheVariants as Tasks
+use Rattle.integrity_tool.specs.Exercising.{exercise_image, exercising_of}
 use Rattle.integrity_tool.specs.Outset.{key_by}
 use Rattle.integrity_tool.specs.Words.{key_file_of}
 
@@ -69,31 +72,48 @@ pub record IsClosedBehind (kind : DeviceKind) (image : Image) (d : DiskFormat) (
   pub closed : IsClosedIn (kind.format image).mode d (kind.format image).blocks.tag
       (state_behind (kind.format image) (kind.opened image) lines) c
 
--- So it is behind what is done on a disk of so many sectors with this image, under a key, where that is the run of a
--- script.
-abbrev pub IsClosedAt : Task → (key : Option (List ℕ)) → (sectors : ℕ) → Image → (script : List ℕ) → Content → Type 0
-IsClosedAt (Tasks.Run mode) key sectors image script c =
-    IsClosedBehind (kind_in (asked_mode mode) key sectors) image (format_on key sectors image) script c
-IsClosedAt Tasks.Dump key sectors image script c = Unit {0}
-IsClosedAt (Tasks.Check what) key sectors image script c = Unit {0}
-IsClosedAt Tasks.Salvage key sectors image script c = Unit {0}
-IsClosedAt Tasks.Resize key sectors image script c = Unit {0}
-IsClosedAt (Tasks.Format new) key sectors image script c = Unit {0}
-IsClosedAt (Tasks.Exercise seed count) key sectors image script c = Unit {0}
+-- So is it left by the close of the device that opened an image which was made, behind all requests of an exercise.
+abbrev pub IsClosedOn : (sectors count seed : ℕ) → (made c : Content) → Type 0
+IsClosedOn sectors count seed made c =
+    let kind = kind_in Journal None sectors in
+    let f = kind.format (last_image made) in
+    let after = after_script f (kind.opened (last_image made)) (exercise_lines count seed f.blocks.blocks) in
+    IsClosedIn f.mode (format_on None sectors (last_image made)) f.blocks.tag after c
 
-abbrev pub IsClosedUnder : Task → Result (Option (List ℕ)) KeyRefusal → ℕ → Image → List ℕ → Content → Type 0
-IsClosedUnder task (Ok key) sectors image script c = IsClosedAt task key sectors image script c
-IsClosedUnder task (Err refusal) sectors image script c = Unit {0}
+-- The image was made for that.
+pub record IsClosedNew (sectors count seed : ℕ) (start c : Content) : Type 0 where
+  pub provided : ℕ
+  pub is_provided : provided_of exercise_image sectors ≡ Ok provided
+  pub made : Content
+  pub is_made : (exercising_of sectors provided count seed).IsMade start made
+  pub closed : IsClosedOn sectors count seed made c
 
-abbrev pub IsClosedFor : Option Asked → (key_bytes : List ℕ) → (sectors : ℕ) → Image → (script : List ℕ) → Content
+-- So it is behind what is done on a disk of so many sectors with this content, under a key, where that runs a device.
+abbrev pub IsClosedAt : Task → (key : Option (List ℕ)) → (sectors : ℕ) → (start : Content) → (script : List ℕ) → Content
     → Type 0
-IsClosedFor None key_bytes sectors image script c = Unit {0}
-IsClosedFor (Some asked) key_bytes sectors image script c =
-    IsClosedUnder asked.task (key_by (key_file_of asked.hash) key_bytes) sectors image script c
+IsClosedAt (Tasks.Run mode) key sectors start script c =
+    IsClosedBehind (kind_in (asked_mode mode) key sectors) (last_image start) (format_on key sectors (last_image start))
+    script c
+IsClosedAt Tasks.Dump key sectors start script c = Unit {0}
+IsClosedAt (Tasks.Check what) key sectors start script c = Unit {0}
+IsClosedAt Tasks.Salvage key sectors start script c = Unit {0}
+IsClosedAt Tasks.Resize key sectors start script c = Unit {0}
+IsClosedAt (Tasks.Format new) key sectors start script c = Unit {0}
+IsClosedAt (Tasks.Exercise seed count) key sectors start script c = IsClosedNew sectors count seed start c
+
+abbrev pub IsClosedUnder : Task → Result (Option (List ℕ)) KeyRefusal → ℕ → Content → List ℕ → Content → Type 0
+IsClosedUnder task (Ok key) sectors start script c = IsClosedAt task key sectors start script c
+IsClosedUnder task (Err refusal) sectors start script c = Unit {0}
+
+abbrev pub IsClosedFor : Option Asked → (key_bytes : List ℕ) → (sectors : ℕ) → (start : Content) → (script : List ℕ)
+    → Content → Type 0
+IsClosedFor None key_bytes sectors start script c = Unit {0}
+IsClosedFor (Some asked) key_bytes sectors start script c =
+    IsClosedUnder asked.task (key_by (key_file_of asked.hash) key_bytes) sectors start script c
 
 -- A task that came to its end leaves the disk closed so, whatever script its source tells.
 abbrev pub ClosesTask : {T E D S : Type 0} → (D → DiskIdentity) → (D → List Content) → (S → Option (List ℕ)) → Task
     → (key : Option (List ℕ)) → Result T E → (first last : D) → S → Type 0
 ClosesTask identity moments left task key result first last script = OnOk result ((bytes : List ℕ)
     → left script ≡ Some bytes → HasNow (λ c.
-    HasNow (IsClosedAt task key (identity first).sectors (last_image c) bytes) (moments last)) (moments first))
+    HasNow (IsClosedAt task key (identity first).sectors c bytes) (moments last)) (moments first))

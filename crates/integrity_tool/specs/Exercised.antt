@@ -1,10 +1,12 @@
 -- What came of an exercise on a device: what was counted, what is left, and what is printed.
-use Rattle.std.specs.Prelude.{◌≡◌, ◌⊎◌, ℕ, List, take, Option, None, Result, Ok, Err, IfErr}
+use Rattle.std.specs.Prelude.{◌≡◌, ◌⊎◌, ℕ, List, take, Option, None, Result, Ok, Err, IfErr, OnOk}
 use Rattle.disk_model.specs.Disk.{Content, EachImage, last_image}
 use Rattle.disk_model.specs.Identity.{DiskIdentity}
 use Rattle.disk_model.specs.Moments.{EachMoment, HasNow}
 use Rattle.device_model.specs.History.{Change, with_changes}
 use Rattle.device_model.specs.Mode.{Journal}
+use Rattle.device_model.specs.Progress.{DeviceState}
+use Rattle.device_model.specs.Script.{after_script}
 use Rattle.device_model.specs.ScriptRun.{ScriptRun}
 use Rattle.place_model.specs.Kind.{CanOpenIn, kind_in}
 use Rattle.direct_laws.specs.MomentLaws.{IsLeftNow}
@@ -23,7 +25,8 @@ use Rattle.script_session.specs.Told.{finds_fault}
 use Rattle.command_ending.specs.declared.ended.Ended.{Ended}
 use Rattle.command_ending.specs.declared.ended.Ended.TheVariants as Endings
 use Rattle.command_model.specs.CommandRun.{IsLeftOfRun}
-use Rattle.command_model.specs.Exercise.{Tally, exercise_run, exercise_step, exercise_tally, exercise_text, finds_faults}
+use Rattle.command_model.specs.Exercise.{Tally, exercise_lines, exercise_run, exercise_step, exercise_tally, exercise_text, finds_faults}
+use Rattle.integrity_tool.specs.Closed.{IsClosedIn, IsClosedNew, IsClosedOn}
 use Rattle.integrity_tool.specs.Opening.{IsWrittenByRun}
 use Rattle.integrity_tool.specs.Outset.{geometry_on}
 
@@ -33,6 +36,10 @@ use Rattle.integrity_tool.specs.Outset.{geometry_on}
 abbrev pub exercise_changes : Standing → (count seed : ℕ) → List Change
 exercise_changes w count seed = (exercise_step w.format w.state count seed).changes
 
+-- The state that its requests leave it in.
+abbrev pub exercised_state : Standing → (count seed : ℕ) → DeviceState
+exercised_state w count seed = after_script w.format w.state (exercise_lines count seed w.format.blocks.blocks)
+
 -- All of it was done and counted, or some of the first.
 abbrev pub HasCounted : {E : Type 0} → Standing → (count seed : ℕ) → Result Tally E → List Change → Type 0
 HasCounted w count seed (Ok tally) changes =
@@ -40,7 +47,7 @@ HasCounted w count seed (Ok tally) changes =
 HasCounted w count seed (Err ended) changes = (made : ℕ) × (changes ≡ take made (exercise_changes w count seed))
 
 -- An exercise on a device came so far, and so it is left; at each moment some of its first changes are made, and no
--- sector is written but those that it may write.
+-- sector is written but those that it may write. Where it was counted, the device was closed.
 pub record IsExercised (w : Standing) (count seed : ℕ) (counted : Result Tally Stop) (before after : List Content)
     : Type 0 where
   pub changes : List Change
@@ -49,6 +56,7 @@ pub record IsExercised (w : Standing) (count seed : ℕ) (counted : Result Tally
       (IsLeftWithin (kind_of w) w.entry w.state.history (exercise_changes w count seed))
   pub others : Leaves w (exercise_changes w count seed) before after
   pub now : IsLeftNow (kind_of w) w.entry (with_changes changes w.state.history) after
+  pub closed : OnOk counted (HasNow (IsClosedIn w.format.mode w.on w.format.blocks.tag (exercised_state w count seed)) after)
 
 -- What was counted, or what ends a command whose exercise is stopped.
 abbrev pub ended_count : Result Tally Stop → Result Tally Ended
@@ -86,6 +94,7 @@ pub record IsExercisedOn (sectors count seed : ℕ) (made : Content) (counted : 
   pub ends : IfErr counted (λ ended. (ended ≡ Endings.Disk) ⊎ (ended ≡ Endings.Memory))
   pub each : EachMoment before after (IsMomentOfNew sectors count seed made)
   pub now : HasNow (IsLeftOfRun (kind_in Journal None sectors) (last_image made) made changes) after
+  pub closed : OnOk counted (HasNow (IsClosedOn sectors count seed made) after)
 
 -- What ends it behind the making: the disk, or want of memory. Where the disk does not tell its content, it may be any
 -- end of an opening.
@@ -145,3 +154,9 @@ TellsExercise identity moments held seed count result first last sink out = HasN
     CanOpenIn Journal None (identity first).sectors (last_image c)
     → IsExercisedTo (identity first).sectors count seed c result (moments first) (moments last) (held sink)
     (held out)) (moments first)
+
+-- Where it came to its end, the close of its device leaves this.
+abbrev pub ClosesExercise : {T E D : Type 0} → (D → DiskIdentity) → (D → List Content) → (seed count : ℕ) → Result T E
+    → (first last : D) → Type 0
+ClosesExercise identity moments seed count result first last = OnOk result (HasNow (λ start.
+    HasNow (IsClosedNew (identity first).sectors count seed start) (moments last)) (moments first))

@@ -7,7 +7,9 @@ use Rattle.stream_io.specs.Stream.{TakesAtMost}
 use Rattle.command_ending.specs.Ended.{key_refusal_of}
 use Rattle.command_ending.specs.declared.ended.Ended.{Ended}
 use Rattle.command_ending.specs.declared.ended.Ended.TheVariants as Endings
+use Rattle.integrity_tool.specs.declared.top_call.Outside.{Outside}
 use Rattle.integrity_tool.specs.Outset.{key_by}
+use Rattle.integrity_tool.specs.World.{World}
 
 -- The key file has these bytes, where there is one.
 abbrev pub HasFile : Option (List ℕ) → (named : List ℕ → Option (List ℕ)) → List ℕ → Type 0
@@ -46,6 +48,14 @@ abbrev pub ReadsKey : {K : Type 0} → Option (List ℕ) → (K → List ℕ →
 ReadsKey None named left key used is_read = used ≡ key
 ReadsKey (Some file) named left key used is_read = ForSome (named key file) (λ bytes.
     TakesAtMost most_read (Some bytes) (named used file) × (is_read → left used ≡ Some (drop most_read bytes)))
+
+-- The same, of all that lies outside.
+abbrev pub ReadsKeyFile : {D K S O : Type 0} → Option (List ℕ) → (Outside D K S O → World)
+    → (first last : Outside D K S O) → (is_read : Type 0) → Type 0
+ReadsKeyFile None world first last is_read = last.key.now ≡ first.key.now
+ReadsKeyFile (Some file) world first last is_read = ForSome ((world first).keys file) (λ bytes.
+    TakesAtMost most_read (Some bytes) ((world last).keys file)
+    × (is_read → (world last).key ≡ Some (drop most_read bytes)))
 
 -- Why there is no key: its bytes are none, its source failed, or there is no memory.
 abbrev pub IsKeyRefused : Option (List ℕ) → (named : List ℕ → Option (List ℕ)) → (faults_before faults : ℕ)

@@ -7,6 +7,9 @@ pub mod Order
 pub mod Outset
 pub mod Closed
 pub mod Running
+pub mod World
+pub mod Ends
+pub mod Unopened
 pub mod Top
 pub mod Calls
 pub mod Refusing

@@ -1,5 +1,5 @@
 -- The run of a script on a device that stands somewhere in it: what stops it, and what leads there.
-use Rattle.std.specs.Prelude.{◌≡◌, ◌≢◌, ℕ, ◌+◌, ◌==◌, if◌then◌else◌, ltb, Bool, List, [], ◌∷◌, ◌++◌, length, take, Option, Some, Result, Ok, Err, ◌≤◌}
+use Rattle.std.specs.Prelude.{◌≡◌, ◌≢◌, ℕ, ◌+◌, ◌<◌, ◌==◌, if◌then◌else◌, ltb, Bool, List, [], ◌∷◌, ◌++◌, length, take, Option, Some, Result, Ok, Err, ◌≤◌}
 use Rattle.std.specs.List.{AllZip}
 use Rattle.std.specs.Option.{ForSome, IsSomeAnd}
 use Rattle.disk_model.specs.Disk.{Content}
@@ -157,6 +157,10 @@ most_taken = 16777217
 
 abbrev pub HasTaken : (left later : Option (List ℕ)) → Type 0
 HasTaken left later = ForSome left (λ bytes. IsSomeAnd later (λ more. length bytes ≤ length more + most_taken))
+
+-- A byte of it at least was taken.
+abbrev pub TakesSome : (left later : Option (List ℕ)) → Type 0
+TakesSome left later = ForSome left (λ bytes. IsSomeAnd later (λ more. length more < length bytes))
 
 -- The sink holds this text behind what it held, and maybe more.
 pub record HoldsText (text : List ℕ) (held_before held : Option (List ℕ)) : Type 0 where

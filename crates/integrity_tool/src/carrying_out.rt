@@ -2,13 +2,13 @@
 ghost use Rattle.std.specs.Prelude.{◌≡◌, IfErr};
 ghost use Rattle.disk_model.specs.Identity.{IsBound};
 ghost use Rattle.hmac_tag.specs.TagMaker.{key_of};
-ghost use Rattle.integrity_tool.specs.Calls.{HasCauseOfRun, IsCountedInRun, LeavesScript, ReadsOnlyRun, RunsAsked};
+ghost use Rattle.integrity_tool.specs.Calls.{HasCauseOfRun, IsCountedInRun, LeavesUnread, ReadsOnlyRun, RunsAsked};
 ghost use Rattle.integrity_tool.specs.Closed.{ClosesTask};
 ghost use Rattle.integrity_tool.specs.Opening.{EndsImage};
 ghost use Rattle.integrity_tool.specs.Outset.{outset_at};
 ghost use Rattle.integrity_tool.specs.Running.{HasTaken, ending_by};
 ghost use Rattle.integrity_tool.specs.Tasks.{found_by};
-ghost use Rattle.integrity_tool.specs.Words.{IsScriptless, IsTask};
+ghost use Rattle.integrity_tool.specs.Words.{IsTask};
 
 use crate::asked::Task;
 use crate::checking::print_check;
@@ -55,7 +55,7 @@ pub(crate) fn carry_out<D: Disk, S: Source, O: Sink>(
     ensures counted { IsCountedInRun D.faults S.faults O.faults result
         disk.old disk.new script.old script.new out.old out.new }
 
-    ensures unread { LeavesScript result (IsScriptless task) script.old script.new }
+    ensures unread { LeavesUnread D.moments S.left task result disk.old disk.new script.old script.new }
     ensures taken { HasTaken (S.left script.old) (S.left script.new) }
     ensures ahead { ReadsOnlyRun D.identity D.moments S.left O.held S.faults (outset_at task (key_of hash))
         disk.old script.old script.new out.old out.new }

@@ -8,7 +8,7 @@ ghost use Rattle.script_session.specs.Told.{finds_fault};
 ghost use Rattle.command_model.specs.Exercise.{finds_faults};
 ghost use Rattle.integrity_tool.specs.declared.asked.Task.TheVariants.{Exercise};
 ghost use Rattle.integrity_tool.specs.Calls.{HasCauseOfTask, IsCountedInTask, PassesMoments, RunsTask};
-ghost use Rattle.integrity_tool.specs.Exercised.{EndsExercise, ExercisesDevice, ExercisesNew, IsTallyTold, TellsExercise, ended_count};
+ghost use Rattle.integrity_tool.specs.Exercised.{ClosesExercise, EndsExercise, ExercisesDevice, ExercisesNew, IsTallyTold, TellsExercise, ended_count};
 ghost use Rattle.integrity_tool.specs.Exercising as Exercising;
 ghost use Rattle.integrity_tool.specs.Running.{HasEndCause, IsCounted, ending_by};
 ghost use Rattle.integrity_tool.specs.Tasks.{EndsTask};
@@ -53,6 +53,7 @@ pub(crate) fn exercise_image<D: Disk, O: Sink>(
     ensures runs { RunsTask D.identity D.moments O.held (Exercise seed count) None (ending_by result)
         disk.old disk.new out.old out.new }
     ensures moments { PassesMoments D.identity D.moments (Exercise seed count) None disk.old disk.new }
+    ensures closed { ClosesExercise D.identity D.moments seed count result disk.old disk.new }
 
     ensures ends { IfErr result EndsTask }
     ensures cause { HasCauseOfTask D.faults O.faults result disk.old disk.new out.old out.new }

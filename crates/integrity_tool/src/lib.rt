@@ -1,7 +1,7 @@
 //! The program as one call: what it does with its words, its disk, its key, its script and its output.
 //!
-//! `integrity` is the call, and its contract is the promise. `command_model`'s `CommandRun.antt` is the file to
-//! read first.
+//! `integrity` of `Outside` is the call, and its contract is the promise. `specs/Top.antt` is the file to read first,
+//! behind `command_model`'s `CommandRun.antt`.
 #![tactic(auto)]
 
 mod asked;
@@ -24,4 +24,4 @@ mod verdict_lines;
 
 pub use command_ending::end_without_memory;
 pub use reopening::reopened_images_begin_with_what_a_cut_left;
-pub use top_call::integrity;
+pub use top_call::{AsWorld, Outside};

@@ -2,14 +2,13 @@
 ghost use Rattle.std.specs.Prelude.{◌≡◌, [], IfErr};
 ghost use Rattle.disk_model.specs.Identity.{IsBound};
 ghost use Rattle.hmac_tag.specs.TagMaker.{key_of};
-ghost use Rattle.integrity_tool.specs.Calls.{HasCauseOfRun, IsCountedInRun, ReadsOnlyRun, RunsScript};
+ghost use Rattle.integrity_tool.specs.Calls.{HasCauseOfRun, IsCountedInRun, LeavesUnread, ReadsOnlyRun, RunsScript};
 ghost use Rattle.integrity_tool.specs.declared.asked.Task.TheVariants.{Run};
 ghost use Rattle.integrity_tool.specs.Closed.{ClosesTask};
 ghost use Rattle.integrity_tool.specs.Closing.{ended_close};
 ghost use Rattle.integrity_tool.specs.Opening.{EndsImage};
 ghost use Rattle.integrity_tool.specs.Outset.{outset_on};
 ghost use Rattle.integrity_tool.specs.Running.{HasTaken, ending_by};
-ghost use Rattle.integrity_tool.specs.Top.{IsBeforeScript};
 
 use crate::closing::{CloseFault, close};
 use crate::refusing::ended_by_opening;
@@ -55,7 +54,7 @@ pub(crate) fn run_image<D: Disk, S: Source, O: Sink>(
     ensures counted { IsCountedInRun D.faults S.faults O.faults result
         disk.old disk.new script.old script.new out.old out.new }
 
-    ensures unread { IfErr result (λ ended. IsBeforeScript ended → script.new ≡ script.old) }
+    ensures unread { LeavesUnread D.moments S.left (Run mode) result disk.old disk.new script.old script.new }
     ensures taken { HasTaken (S.left script.old) (S.left script.new) }
     ensures ahead { ReadsOnlyRun D.identity D.moments S.left O.held S.faults (outset_on mode (key_of hash))
         disk.old script.old script.new out.old out.new }
@@ -114,7 +113,7 @@ fn run_device<'d, D: Disk, S: Source, O: Sink>(
     ensures counted { IsCountedInRun D.faults S.faults O.faults ended.new
         disk.old result.now script.old script.new out.old out.new }
 
-    ensures unread { IfErr ended.new (λ ended. IsBeforeScript ended → script.new ≡ script.old) }
+    ensures unread { LeavesUnread D.moments S.left (Run mode) ended.new disk.old result.now script.old script.new }
     ensures taken { HasTaken (S.left script.old) (S.left script.new) }
     ensures ahead { ReadsOnlyRun D.identity D.moments S.left O.held S.faults (outset_on mode (key_of hash))
         disk.old script.old script.new out.old out.new }

@@ -46,7 +46,7 @@ pub(crate) fn run_lines<'d, 'p, D: Disk, S: Source, O: Sink>(
     ensures counted { IsCountedInRun D.faults S.faults O.faults result
         device.old.disk.now device.new.disk.now script.old script.new out.old out.new }
 
-    ensures taken { ReadsLines D.moments S.left O.held S.faults device.old.parts device.old.disk.now
+    ensures taken { ReadsLines D.moments S.left O.held S.faults result device.old.parts device.old.disk.now
         script.old script.new out.old out.new }
     ensures works { OnOk result (device.new.condition ≡ Working) }
     ensures ready { IsReady device.new.condition device.new.parts

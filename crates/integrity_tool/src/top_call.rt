@@ -1,18 +1,15 @@
-//! The top call: from the words to the status.
-ghost use Rattle.std.specs.Prelude.{◌≡◌, ◌≢◌, ◌⊎◌, ◌≤◌, IfErr, OnOk, map};
+//! The top call: from the words to the status, on what lies outside the program.
+ghost use Rattle.std.specs.Prelude.{◌≡◌, IfErr, OnOk};
 ghost use Rattle.std.specs.Option.{ForSome};
-ghost use Rattle.std.specs.String.{string_bytes};
 ghost use Rattle.disk_model.specs.Causes.{HasCause, Rose};
 ghost use Rattle.disk_model.specs.Identity.{IsBoundTo, IsThere};
 ghost use Rattle.disk_model.specs.Moments.{content_now};
 ghost use Rattle.device_model.specs.Ending.{Complete, status_of};
 ghost use Rattle.script_session.specs.Told.{finds_fault};
-ghost use Rattle.integrity_tool.specs.Words.{HasNoScript, asked_of, image_name, key_file_of_asked};
-ghost use Rattle.integrity_tool.specs.KeyFile.{HasKeyRead, ReadsKey};
-ghost use Rattle.integrity_tool.specs.Calls.{LeavesScript};
-ghost use Rattle.integrity_tool.specs.Running.{HasTaken, IsCounted, ending_by};
-ghost use Rattle.integrity_tool.specs.Top.{ClosesGiven, EndsWithWords, HasCauseOfCommand, HasStatusBy, IsCountedInCommand};
-ghost use Rattle.integrity_tool.specs.Top.{JudgesKeyFirst, KeepsSectors, PassesGiven, ReadsGiven, RunsGiven, TellsGiven, TouchesNothing};
+ghost use Rattle.integrity_tool.specs.Ends.{ends_by, ends_with};
+ghost use Rattle.integrity_tool.specs.Running.{IsCounted};
+ghost use Rattle.integrity_tool.specs.Top.{CallsOnly, HasCauseOfCommand, HasStatusIn, IsCountedInCommand, IsOnImage, KeepsGiven, ReadsOnly, RunsGiven, texts};
+ghost use Rattle.integrity_tool.specs.World.{World};
 
 use crate::asked::{Task, words_asked};
 use crate::carrying_out::carry_out;
@@ -20,78 +17,108 @@ use crate::keyed::hash_of;
 use command_ending::Ended;
 use device::OpenMode;
 use script_session::TagsFound;
-use sector_disk::{Disk, Failed};
+use sector_disk::{Counted, Disk, Failed};
 use std::alloc::Global;
 use stream_io::{NamedSource, Sink, Source};
 
-/// Does what the words say, and answers the status. The words are the program's name and then those of a command.
-///
-/// The commands are `format IMAGE`, `dump IMAGE`, `check IMAGE`, `salvage IMAGE`, `resize IMAGE`, `run IMAGE` in a
-/// mode, and `exercise IMAGE SEED COUNT`. The key is bound and read, at most 4097 bytes of it, before the image is
-/// bound, and the script of a run only once the device is open.
-///
-/// # Statuses
-///
-/// - 0: the command came to its end: the image is made or resized, its lines are printed, or the script or the exercise
-///   was run to its end and the device closed.
-/// - 1: it came to its end, and a reply that was taken, or a line of a check or a salvage, names a block whose stored
-///   tag differs.
-/// - 2: the words are no command, the bytes of the key file no key, or the script is refused.
-/// - 3: the image is refused.
-/// - 4, 5, 6: the disk, the source of the key or of the script, or the sink failed.
-/// - 7: there was no memory.
-pub fn integrity<D: Disk, K: NamedSource, S: Source, O: Sink>(
-    alloc: Global,
-    words: &[String],
-    disk: &mut D,
-    key: &mut K,
-    script: &mut S,
-    out: &mut O,
-) -> u8
-    // The status, the text and what is left, by what the command is given.
-    ensures tells { TellsGiven (map string_bytes words.now) D.named K.named S.left O.held
-        D.faults K.faults S.faults O.faults result
-        disk.old disk.new key.old key.new script.old script.new out.old out.new }
-    // What is left at each moment, what is written, and in which order an image is made.
-    ensures moments { PassesGiven (map string_bytes words.now) D.named K.named S.left
-        disk.old disk.new key.old script.old }
-    // What the close of a device leaves: in journal mode all blocks in their places, in bitmap mode which bits.
-    ensures closed { result ≤ 1 → ClosesGiven (map string_bytes words.now) D.named K.named S.left
-        disk.old disk.new key.old script.old }
+/// What lies outside the program.
+#[derive(Drop)]
+pub struct Outside<'o, D, K, S, O> {
+    /// The disk.
+    pub disk: &'o mut D,
+    /// The source of keys.
+    pub key: &'o mut K,
+    /// The source of the script.
+    pub script: &'o mut S,
+    /// The sink of what is printed.
+    pub out: &'o mut O,
+}
 
-    // What each status but 0 to 3 comes from, and that no fault is passed over, whether the disk and the streams tell
-    // what they hold or not.
-    ensures status { HasStatusBy D.faults K.faults S.faults O.faults result
-        disk.old disk.new key.old key.new script.old script.new out.old out.new }
+/// What contracts see as a `World`.
+pub trait AsWorld {
+    /// What it is at one time.
+    ghost world: { Self → World };
+}
 
-    // Words that are no command touch nothing.
-    ensures words { TouchesNothing (map string_bytes words.now) ((result ≡ 2) ⊎ (result ≡ 7))
-        disk.old disk.new key.old key.new script.old script.new }
-    // A key that is refused is so before the disk is called and the script is read, and one whose source fails.
-    ensures key_first { JudgesKeyFirst (map string_bytes words.now) D.named K.named S.left K.faults
-        disk.old disk.new key.old key.new script.old script.new }
-    // No key file is read but the one that the words name, and of that at most 4097 bytes, whatever the status is.
-    ensures key { ReadsKey (key_file_of_asked (asked_of (map string_bytes words.now))) K.named K.left key.old key.new
-        ((result ≢ 5) × (result ≢ 7)) }
-    // The script is not read where the image is refused or the command has none, and never more than one byte beyond
-    // its bound. The disk is bound to the image, and has as many sectors as before.
-    ensures unread { (result ≡ 3) ⊎ HasNoScript (asked_of (map string_bytes words.now))
-        → script.new ≡ script.old }
-    ensures taken { HasTaken (S.left script.old) (S.left script.new) }
-    // A line is run before more than one piece behind it is taken, and where it has come whole, before the source is
-    // asked for more: a call of the source that fails finds each such line run.
-    ensures ahead { ReadsGiven (map string_bytes words.now) D.named K.named S.left O.held S.faults
-        disk.old key.old script.old script.new out.old out.new }
-    ensures bound { result ≤ 1
-        → IsBoundTo (image_name (map string_bytes words.now)) (D.identity disk.new).name }
-    ensures sectors { KeepsSectors (image_name (map string_bytes words.now)) (D.named disk.old) (D.named disk.new) }
-{
-    match run(alloc, words, disk, key, script, out) {
-        Ok(found) => complete_status(found),
-        Err(ended) => {
-            let _ = ended.put_last_line(out);
-            ended.status()
+impl<D: Disk, K: NamedSource, S: Source, O: Sink> AsWorld for Outside<'_, D, K, S, O> {
+    ghost world = { λ outside. record {
+      named = D.named outside.disk.now;
+      bound = (D.identity outside.disk.now).name;
+      keys = K.named outside.key.now;
+      key = K.left outside.key.now;
+      script = S.left outside.script.now;
+      held = O.held outside.out.now;
+      faults = record {
+        disk = D.faults outside.disk.now;
+        key = K.faults outside.key.now;
+        script = S.faults outside.script.now;
+        sink = O.faults outside.out.now;
+      };
+    } };
+}
+
+impl<D: Disk, K: NamedSource, S: Source, O: Sink> Outside<'_, D, K, S, O> {
+    /// Does what the words say, and answers the status. The words are the program's name and then those of a command.
+    ///
+    /// The commands are `format IMAGE`, `dump IMAGE`, `check IMAGE`, `salvage IMAGE`, `resize IMAGE`, `run IMAGE` in a
+    /// mode, and `exercise IMAGE SEED COUNT`. The key is bound and read, at most 4097 bytes of it, before the image is
+    /// bound, and the script of a run only once the device is open.
+    ///
+    /// # Statuses
+    ///
+    /// - 0: the command came to its end: the image is made or resized, its lines are printed, or the script or the
+    ///   exercise was run to its end and the device closed.
+    /// - 1: it came to its end, and a reply that was taken, or a line of a check or a salvage, names a block whose stored
+    ///   tag differs.
+    /// - 2: the words are no command, the bytes of the key file no key, or the script is refused.
+    /// - 3: the image is refused.
+    /// - 4, 5, 6: the disk, the source of the key or of the script, or the sink failed.
+    /// - 7: there was no memory.
+    pub fn integrity(&mut self, alloc: Global, words: &[String]) -> u8
+        // By what the command is given: the status, the text and what is left; what stands at each moment, and in which
+        // order; what the close of a device leaves; and how much of the script is taken before a line of it is run.
+        ensures given { KeepsGiven ⟦<Self as AsWorld>⟧.world (texts words.now) result self.old self.new }
+
+        // What each status but 0 to 3 comes from, and that no fault is passed over, whether the disk and the streams tell
+        // what they hold or not.
+        ensures status { HasStatusIn ⟦<Self as AsWorld>⟧.world result self.old self.new }
+
+        // What is called: nothing where the words are no command, and the key's source before all else.
+        ensures calls { CallsOnly ⟦<Self as AsWorld>⟧.world (texts words.now) (ends_with result) self.old self.new }
+        // What is read: of one key file its first bytes, and of the script no more than its bound and a byte.
+        ensures read { ReadsOnly ⟦<Self as AsWorld>⟧.world (texts words.now) (ends_with result) self.old self.new }
+        // Which image it is on, and that this keeps its size.
+        ensures image { IsOnImage ⟦<Self as AsWorld>⟧.world (texts words.now) (ends_with result) self.old self.new }
+    {
+        match self.run(alloc, words) {
+            Ok(found) => complete_status(found),
+            Err(ended) => {
+                let _ = ended.put_last_line(self.out);
+                ended.status()
+            }
         }
+    }
+
+    /// Does what the words say, up to the end or to what ends it. It tells whether a line told a block whose stored tag
+    /// differs.
+    ///
+    /// # Errors
+    ///
+    /// What ends it, in this order: the words, the key, the image, the script.
+    fn run(&mut self, alloc: Global, words: &[String]) -> Result<TagsFound, Ended>
+        ensures given { RunsGiven ⟦<Self as AsWorld>⟧.world (texts words.now) result self.old self.new }
+
+        ensures cause { HasCauseOfCommand ⟦<Self as AsWorld>⟧.world result self.old self.new }
+        ensures counted { IsCountedInCommand ⟦<Self as AsWorld>⟧.world result self.old self.new }
+
+        ensures calls { CallsOnly ⟦<Self as AsWorld>⟧.world (texts words.now) (ends_by result) self.old self.new }
+        ensures read { ReadsOnly ⟦<Self as AsWorld>⟧.world (texts words.now) (ends_by result) self.old self.new }
+        ensures image { IsOnImage ⟦<Self as AsWorld>⟧.world (texts words.now) (ends_by result) self.old self.new }
+    {
+        let asked = words_asked(alloc, words)?;
+        let hash = hash_of(alloc, self.key, &asked.hash)?;
+        bind_image(self.disk, asked.image.as_str(), &asked.task)?;
+        carry_out(alloc, self.disk, hash, asked.task, self.script, self.out)
     }
 }
 
@@ -103,51 +130,6 @@ fn complete_status(found: TagsFound) -> u8
         TagsFound::Matching => 0,
         TagsFound::Differing => 1,
     }
-}
-
-/// Does what the words say, up to the end or to what ends it. It tells whether a line told a block whose stored tag
-/// differs.
-///
-/// # Errors
-///
-/// What ends it, in this order: the words, the key, the image, the script.
-fn run<D: Disk, K: NamedSource, S: Source, O: Sink>(
-    alloc: Global,
-    words: &[String],
-    disk: &mut D,
-    key: &mut K,
-    script: &mut S,
-    out: &mut O,
-) -> Result<TagsFound, Ended>
-    ensures runs { RunsGiven (map string_bytes words.now) D.named K.named S.left O.held (ending_by result)
-        disk.old disk.new key.old script.old out.old out.new }
-    ensures closed { OnOk result (ClosesGiven (map string_bytes words.now) D.named K.named S.left
-        disk.old disk.new key.old script.old) }
-
-    ensures cause { HasCauseOfCommand D.faults K.faults S.faults O.faults result
-        disk.old disk.new key.old key.new script.old script.new out.old out.new }
-    ensures counted { IsCountedInCommand D.faults K.faults S.faults O.faults result
-        disk.old disk.new key.old key.new script.old script.new out.old out.new }
-
-    ensures words { TouchesNothing (map string_bytes words.now) (EndsWithWords result)
-        disk.old disk.new key.old key.new script.old script.new }
-    ensures key_first { JudgesKeyFirst (map string_bytes words.now) D.named K.named S.left K.faults
-        disk.old disk.new key.old key.new script.old script.new }
-    ensures key { ReadsKey (key_file_of_asked (asked_of (map string_bytes words.now))) K.named K.left key.old key.new
-        (IfErr result HasKeyRead) }
-    ensures unread { LeavesScript result (HasNoScript (asked_of (map string_bytes words.now)))
-        script.old script.new }
-    ensures taken { HasTaken (S.left script.old) (S.left script.new) }
-    ensures ahead { ReadsGiven (map string_bytes words.now) D.named K.named S.left O.held S.faults
-        disk.old key.old script.old script.new out.old out.new }
-    ensures bound { OnOk result (IsBoundTo (image_name (map string_bytes words.now))
-        (D.identity disk.new).name) }
-    ensures sectors { KeepsSectors (image_name (map string_bytes words.now)) (D.named disk.old) (D.named disk.new) }
-{
-    let asked = words_asked(alloc, words)?;
-    let hash = hash_of(alloc, key, &asked.hash)?;
-    bind_image(disk, asked.image.as_str(), &asked.task)?;
-    carry_out(alloc, disk, hash, asked.task, script, out)
 }
 
 /// Binds the disk to the name of an image, as the task wants it.

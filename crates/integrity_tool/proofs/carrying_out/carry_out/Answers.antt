@@ -1,4 +1,5 @@
 use Rattle.std.proofs.Common.{◌≡◌, ◌<◌, Result, IfErr, refl, sym, ap, ◌∙◌, subst}
+use Rattle.std.proofs.lemmas.Result.{on_ok_weaker}
 use Rattle.disk_model.specs.Causes.{Rose}
 use Rattle.disk_model.specs.Disk.{last_image}
 use Rattle.disk_model.proofs.MomentsLemmas.{EachMoment-kept}
@@ -13,8 +14,7 @@ use Rattle.integrity_tool.specs.Opening.{EndsImage, HasReadIn, HasRunOn, IsMomen
 use Rattle.integrity_tool.specs.Order.{HasMomentsAt}
 use Rattle.integrity_tool.specs.Outset.{outset_at}
 use Rattle.integrity_tool.specs.Running.{HasEndCause, IsCounted, ending_by}
-use Rattle.integrity_tool.specs.Top.{IsBeforeScript}
-use Rattle.integrity_tool.specs.Words.{IsScriptless}
+use Rattle.integrity_tool.specs.Ends.{IsBeforeScript}
 use Rattle.integrity_tool.proofs.ClosedLemmas.{ok_holds}
 use Rattle.integrity_tool.proofs.TakenLemmas.{none_taken}
 use Rattle.integrity_tool.proofs.TaskLemmas.{cause_found, causes_wider, counted_found, ending_found, ends_found, ends_wider, read_no_script, uncounted, whatever_ended}
@@ -34,7 +34,7 @@ pub returns-in-Run-clause-closed : goal.returns-in-Run-clause-closed
 returns-in-Run-clause-closed g c = rw c.in-Run.is c.run_image.ensures.closed
 
 pub returns-in-Run-clause-unread : goal.returns-in-Run-clause-unread
-returns-in-Run-clause-unread g c = (c.run_image.ensures.unread, λ none. absurd (subst IsScriptless c.in-Run.is none))
+returns-in-Run-clause-unread g c = rw c.in-Run.is c.run_image.ensures.unread
 
 pub returns-in-Run-clause-ahead : goal.returns-in-Run-clause-ahead
 returns-in-Run-clause-ahead g c = rw c.in-Run.is c.run_image.ensures.ahead
@@ -77,7 +77,11 @@ returns-in-Dump-clause-counted g c = (
 
 pub returns-in-Dump-clause-unread : goal.returns-in-Dump-clause-unread
 returns-in-Dump-clause-unread g c =
-    (whatever_ended (λ ended. IsBeforeScript ended → c.args.script.now ≡ c.args.script.now) (λ ended before. refl) c.done.result, λ none. refl)
+    rw c.in-Dump.is (record {
+      before = whatever_ended (λ ended. IsBeforeScript ended → c.args.script.now ≡ c.args.script.now) (λ ended before. refl) c.done.result;
+      none = λ none. refl;
+      unopened = λ memory left told same. tt;
+    })
 
 pub returns-in-Dump-clause-taken : goal.returns-in-Dump-clause-taken
 returns-in-Dump-clause-taken g c = none_taken _ _ refl
@@ -119,7 +123,11 @@ returns-in-Check-clause-counted g c =
 
 pub returns-in-Check-clause-unread : goal.returns-in-Check-clause-unread
 returns-in-Check-clause-unread g c =
-    (whatever_ended (λ ended. IsBeforeScript ended → c.args.script.now ≡ c.args.script.now) (λ ended before. refl) c.print_check.result, λ none. refl)
+    rw c.in-Check.is (record {
+      before = whatever_ended (λ ended. IsBeforeScript ended → c.args.script.now ≡ c.args.script.now) (λ ended before. refl) c.print_check.result;
+      none = λ none. refl;
+      unopened = λ memory left told same. tt;
+    })
 
 pub returns-in-Check-clause-taken : goal.returns-in-Check-clause-taken
 returns-in-Check-clause-taken g c = none_taken _ _ refl
@@ -160,7 +168,11 @@ returns-in-Salvage-clause-counted g c =
 
 pub returns-in-Salvage-clause-unread : goal.returns-in-Salvage-clause-unread
 returns-in-Salvage-clause-unread g c =
-    (whatever_ended (λ ended. IsBeforeScript ended → c.args.script.now ≡ c.args.script.now) (λ ended before. refl) c.print_salvage.result, λ none. refl)
+    rw c.in-Salvage.is (record {
+      before = whatever_ended (λ ended. IsBeforeScript ended → c.args.script.now ≡ c.args.script.now) (λ ended before. refl) c.print_salvage.result;
+      none = λ none. refl;
+      unopened = λ memory left told same. tt;
+    })
 
 pub returns-in-Salvage-clause-taken : goal.returns-in-Salvage-clause-taken
 returns-in-Salvage-clause-taken g c = none_taken _ _ refl
@@ -212,7 +224,11 @@ returns-in-Resize-clause-counted g c = (
 
 pub returns-in-Resize-clause-unread : goal.returns-in-Resize-clause-unread
 returns-in-Resize-clause-unread g c =
-    (whatever_ended (λ ended. IsBeforeScript ended → c.args.script.now ≡ c.args.script.now) (λ ended before. refl) c.done-in-Resize.result, λ none. refl)
+    rw c.in-Resize.is (record {
+      before = whatever_ended (λ ended. IsBeforeScript ended → c.args.script.now ≡ c.args.script.now) (λ ended before. refl) c.done-in-Resize.result;
+      none = λ none. refl;
+      unopened = λ memory left told same. tt;
+    })
 
 pub returns-in-Resize-clause-taken : goal.returns-in-Resize-clause-taken
 returns-in-Resize-clause-taken g c = none_taken _ _ refl
@@ -265,7 +281,11 @@ returns-in-Format-clause-counted g c = (
 
 pub returns-in-Format-clause-unread : goal.returns-in-Format-clause-unread
 returns-in-Format-clause-unread g c =
-    (whatever_ended (λ ended. IsBeforeScript ended → c.args.script.now ≡ c.args.script.now) (λ ended before. refl) c.done-in-Format.result, λ none. refl)
+    rw c.in-Format.is (record {
+      before = whatever_ended (λ ended. IsBeforeScript ended → c.args.script.now ≡ c.args.script.now) (λ ended before. refl) c.done-in-Format.result;
+      none = λ none. refl;
+      unopened = λ memory left told same. tt;
+    })
 
 pub returns-in-Format-clause-taken : goal.returns-in-Format-clause-taken
 returns-in-Format-clause-taken g c = none_taken _ _ refl
@@ -293,7 +313,7 @@ returns-in-Exercise-clause-runs g c left told start told_start =
     )
 
 pub returns-in-Exercise-clause-closed : goal.returns-in-Exercise-clause-closed
-returns-in-Exercise-clause-closed g c = rw c.in-Exercise.is (ok_holds _ (λ bytes told start told_start later told_later. tt) c.exercise_image.result)
+returns-in-Exercise-clause-closed g c = rw c.in-Exercise.is (on_ok_weaker c.exercise_image.result (λ closes bytes told. closes) c.exercise_image.ensures.closed)
 
 pub returns-in-Exercise-clause-ends : goal.returns-in-Exercise-clause-ends
 returns-in-Exercise-clause-ends g c = ends_wider c.exercise_image.result c.exercise_image.ensures.ends
@@ -307,7 +327,11 @@ returns-in-Exercise-clause-counted g c =
 
 pub returns-in-Exercise-clause-unread : goal.returns-in-Exercise-clause-unread
 returns-in-Exercise-clause-unread g c =
-    (whatever_ended (λ ended. IsBeforeScript ended → c.args.script.now ≡ c.args.script.now) (λ ended before. refl) c.exercise_image.result, λ none. refl)
+    rw c.in-Exercise.is (record {
+      before = whatever_ended (λ ended. IsBeforeScript ended → c.args.script.now ≡ c.args.script.now) (λ ended before. refl) c.exercise_image.result;
+      none = λ none. refl;
+      unopened = λ memory left told same. tt;
+    })
 
 pub returns-in-Exercise-clause-taken : goal.returns-in-Exercise-clause-taken
 returns-in-Exercise-clause-taken g c = none_taken _ _ refl

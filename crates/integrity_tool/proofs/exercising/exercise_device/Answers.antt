@@ -3,6 +3,7 @@ use Rattle.disk_model.specs.Disk.{Content}
 use Rattle.disk_model.proofs.MomentsLemmas.{EachMoment-weaker}
 use Rattle.device.proofs.LeavesLemmas.{close_leaves}
 use Rattle.integrity_tool.specs.Exercised.{IsExercised}
+use Rattle.integrity_tool.proofs.ClosedLemmas.{closed_here, rests_closed}
 use Rattle.integrity_tool.proofs.ClosingLemmas.{closed_device, failed_device, in_condition}
 use Rattle.integrity_tool.proofs.ExercisingLemmas.{exercise_closed, exercise_stopped, exercise_unclosed, last, there, within_first, others_first}
 use Rattle.script_session.specs.declared.stop.Stop.TheVariants as Stops
@@ -19,7 +20,10 @@ returns-in-Ok-default-clause-exercised g c w is =
     let others = close_leaves at device.parts.common _ device.parts.mode ran.run.device (last w count seed) (c.close.ensures.writes works) c.close.ensures.tags in
     let ended = closed_device at _ _ c.close.result.0 (ap is_err c.in-Ok-default.is-0)
     (c.close.ensures.closed at (in_condition at _ _ device.parts _ works ran.run.device)) in
+    let rests = rests_closed c.close.result.0 (ap is_err c.in-Ok-default.is-0) _ device.parts _ _ c.close.ensures.rests at
+    (in_condition at _ _ device.parts _ works ran.run.device) in
     exercise_closed w count seed device.parts _ _ _ ran.run others c.in-Ok.tally ran.tally_ ended
+    (closed_here at device.parts.common _ _ device.parts.mode ran.run.device rests)
 
 pub returns-in-Err-default-clause-exercised : goal.returns-in-Err-default-clause-exercised
 returns-in-Err-default-clause-exercised g c w is =

@@ -1,4 +1,4 @@
-use Rattle.std.proofs.Common.{ℕ, ◌≡◌, ◌↔◌, ◌<◌, None, Err, sym, ap, subst}
+use Rattle.std.proofs.Common.{[], ℕ, ◌≡◌, ◌↔◌, ◌<◌, None, Err, sym, ap, subst}
 use Rattle.disk_model.specs.Disk.{last_image}
 use Rattle.disk_model.specs.Identity.{DiskIdentity}
 use Rattle.place_model.specs.Kind.{CanOpenIn}
@@ -15,7 +15,7 @@ use Rattle.integrity_tool.specs.Exercised.{IsExercisedTo}
 use Rattle.integrity_tool.specs.Exercising.{exercise_outset}
 use Rattle.integrity_tool.specs.Making.{IsMadeInOrder}
 use Rattle.integrity_tool.specs.Opening.{HasRunOn}
-use Rattle.integrity_tool.proofs.ExercisingLemmas.{exercise_whole, not_made_for, unmade_moments}
+use Rattle.integrity_tool.proofs.ExercisingLemmas.{exercise_whole, not_made_for, ok_each, unmade_moments}
 use Rattle.integrity_tool.proofs.exercising.exercise_image.Goals as goal
 
 pub returns-in-Err-clause-runs : goal.returns-in-Err-clause-runs
@@ -73,3 +73,23 @@ returns-in-Ok-clause-moments g c script start told =
     (λ x at can. subst (λ (n : ℕ). IsExercisedTo n c.args.count c.args.seed x c.exercise_made.result after (g.D.Disk.moments c.exercise_made.new.disk)
     (g.O.Sink.held c.args.out.now) (g.O.Sink.held c.exercise_made.new.out)) same
     (c.exercise_made.ensures.exercised x at (subst (λ (n : ℕ). CanOpenIn Journal None n (last_image x)) (sym same) can)))).1
+
+pub returns-in-Err-clause-closed : goal.returns-in-Err-clause-closed
+returns-in-Err-clause-closed g c = tt
+
+pub returns-in-Ok-clause-closed : goal.returns-in-Ok-clause-closed
+returns-in-Ok-clause-closed g c = ok_each _ _ c.exercise_made.result (λ start told.
+    let sectors = (g.D.Disk.identity c.args.disk.now).sectors in
+    let before = g.D.Disk.moments c.args.disk.now in
+    let after = g.D.Disk.moments c.format.new.disk in
+    let same = ap (λ (d : DiskIdentity). d.sectors) c.format.ensures.identity in
+    let order = subst (λ (n : NewImage). IsMadeInOrder None sectors n before after) c.image.ensures (record { order = c.format.ensures.moments; writes = c.format.ensures.writes }) in
+    let made = subst (λ (n : NewImage). HasMade None sectors n c.in-Ok.field-0 before after) c.image.ensures c.in-Ok.ensures.made in
+    (exercise_whole c.new_image_opens.ensures.opens sectors c.args.count c.args.seed start [] told
+    order c.in-Ok.field-0 made
+    (λ x at sector less. reads_whole (g.D.Disk.identity c.format.new.disk) after (g.met.D.Disk.reads_an_image c.format.new.disk)
+    (g.met.D.Disk.whole_sectors c.format.new.disk) x at sector (subst (λ (n : ℕ). sector < n) (sym same) less))
+    c.exercise_made.result (g.D.Disk.moments c.exercise_made.new.disk) _ _
+    (λ x at can. subst (λ (n : ℕ). IsExercisedTo n c.args.count c.args.seed x c.exercise_made.result after (g.D.Disk.moments c.exercise_made.new.disk)
+    (g.O.Sink.held c.args.out.now) (g.O.Sink.held c.exercise_made.new.out)) same
+    (c.exercise_made.ensures.exercised x at (subst (λ (n : ℕ). CanOpenIn Journal None n (last_image x)) (sym same) can)))).2)

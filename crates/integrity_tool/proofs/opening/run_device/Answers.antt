@@ -13,12 +13,12 @@ use Rattle.integrity_tool.specs.Opening.{EndsImage, HasRunOn}
 use Rattle.integrity_tool.specs.Outset.{outset_on}
 use Rattle.integrity_tool.specs.Refusing.{ended_by_opening}
 use Rattle.integrity_tool.specs.Running.{ending_by}
-use Rattle.integrity_tool.proofs.OpeningLemmas.{given_back, opening_moments, ran_on, read_on_image, refused_by_opening, still_opened}
+use Rattle.integrity_tool.proofs.OpeningLemmas.{given_back, no_memory_at_close, opening_moments, ran_on, read_at_close, read_at_lines, read_on_image, refused_by_memory, refused_by_opening, still_opened, taken_is_less}
 use Rattle.integrity_tool.proofs.StartLemmas.{read_further, read_none}
 use Rattle.integrity_tool.proofs.TakenLemmas.{none_taken}
 use Rattle.integrity_tool.proofs.ClosedLemmas.{closed_as, closed_behind}
 use Rattle.integrity_tool.proofs.ClosingLemmas.{counted_by_close, ending_at_close, ends_at_close}
-use Rattle.integrity_tool.proofs.LoopLemmas.{not_ended}
+use Rattle.integrity_tool.proofs.LoopLemmas.{not_ended, same_ended}
 use Rattle.script_session.specs.declared.tags_found.TagsFound.{TagsFound}
 use Rattle.command_ending.specs.declared.ended.Ended.{Ended}
 use Rattle.integrity_tool.proofs.opening.run_device.Goals as goal
@@ -153,3 +153,28 @@ returns-in-Ok-run_lines-clause-closed g c =
     let at = c.in-Ok-run_lines.ensures.lines w left run.0 (opened.device start told_start) told run.1 in
     closed_behind kind (last_image start) (format_on key disk.sectors (last_image start)) left w at.here _ _ _ refl refl refl
     at.device (rests at.here at.device) at.comes) c.close-closed.ensures.rests
+
+pub returns-in-Err-clause-unread : goal.returns-in-Err-clause-unread
+returns-in-Err-clause-unread g c = record {
+  before = λ before. refl;
+  none = λ none. refl;
+  unopened = λ memory left told same.
+      ap g.D.Disk.moments c.handed_back-fault.ensures.disk
+      ∙ c.in-Err.ensures.refused.untouched (refused_by_memory _ _ c.ended_by_opening.result c.ended_by_opening.ensures c.handed_back-fault.ensures.fault
+      (same_ended _ _ _ refl memory));
+}
+
+pub returns-in-Ok-run_lines-clause-unread : goal.returns-in-Ok-run_lines-clause-unread
+returns-in-Ok-run_lines-clause-unread g c = record {
+  before = read_at_close _ c.close-closed.result.0 c.ended_by_close.result c.ended_by_close.ensures;
+  none = λ none. absurd none;
+  unopened = λ memory. absurd (no_memory_at_close c.close-closed.result.0 c.ended_by_close.result c.ended_by_close.ensures memory);
+}
+
+pub returns-in-Err-run_lines-clause-unread : goal.returns-in-Err-run_lines-clause-unread
+returns-in-Err-run_lines-clause-unread g c = record {
+  before = λ before. absurd (read_at_lines c.in-Err-run_lines.fault c.in-Err-run_lines.ensures.ends before);
+  none = λ none. absurd none;
+  unopened = λ memory left told same.
+      absurd (taken_is_less left _ same (c.run_lines.ensures.taken.2 (c.in-Err-run_lines.is ∙ memory) left told));
+}

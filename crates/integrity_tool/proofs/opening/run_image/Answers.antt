@@ -10,7 +10,7 @@ use Rattle.integrity_tool.specs.Opening.{IsMomentOn}
 use Rattle.integrity_tool.specs.Outset.{outset_on}
 use Rattle.integrity_tool.specs.Running.{ending_by}
 use Rattle.integrity_tool.proofs.ClosedLemmas.{closes_kept}
-use Rattle.integrity_tool.proofs.OpeningLemmas.{given_back}
+use Rattle.integrity_tool.proofs.OpeningLemmas.{given_back, unread_kept}
 use Rattle.integrity_tool.proofs.StartLemmas.{before_kept, fine_on, nothing_run, read_none}
 use Rattle.integrity_tool.proofs.TakenLemmas.{none_taken}
 use Rattle.integrity_tool.proofs.opening.run_image.Goals as goal
@@ -53,3 +53,10 @@ pub returns-clause-closed : goal.returns-clause-closed
 returns-clause-closed g c =
     closes_kept g.D.Disk.identity g.D.Disk.moments g.S.Source.left (Tasks.Run c.args.mode) (key_of c.args.hash) c.run_device.new.ended
     c.args.disk.now _ _ c.args.script.now c.run_device.ensures.closed (search rules)
+
+pub returns-in_default-clause-unread : goal.returns-in_default-clause-unread
+returns-in_default-clause-unread g c =
+    record { before = λ before. refl; none = λ none. refl; unopened = λ memory left told same. refl }
+
+pub returns-clause-unread : goal.returns-clause-unread
+returns-clause-unread g c = unread_kept c.run_device.ensures.unread (search rules)

@@ -1,8 +1,9 @@
 use Rattle.std.proofs.Common.{Ok, ap, refl, ◌∙◌, arith}
 use Rattle.std.proofs.lemmas.Result.{err_from_is_err_and}
 use Rattle.disk_model.specs.Causes.{Rose}
-use Rattle.integrity_tool.proofs.LoopLemmas.{at_most, at_start, none_in_flight, not_ended, not_risen, source_cause}
-use Rattle.integrity_tool.proofs.TakenLemmas.{read_at_start, read_on, read_within}
+use Rattle.command_ending.specs.declared.ended.Ended.TheVariants as Endings
+use Rattle.integrity_tool.proofs.LoopLemmas.{at_most, at_start, no_memory_for_line, none_in_flight, not_ended, not_risen, same_ended, source_cause}
+use Rattle.integrity_tool.proofs.TakenLemmas.{read_at_start, read_on, read_within, taken_some}
 use Rattle.integrity_tool.proofs.LoopLemmas.{holds_same, turn_done, turn_ended, turn_held, turn_read, turn_stopped}
 use Rattle.integrity_tool.proofs.LoopLemmas.{turn_stopped_in_line, turn_unread}
 use Rattle.integrity_tool.proofs.running.run_lines.Goals as goal
@@ -111,6 +112,11 @@ returns-in_err-advance-clause-taken g c = (
       c.advance.ensures.within
       (λ other. not_risen (c.in_err-advance.ensures.counted.passed (λ same. other (cc))
       ∙ c.loop-tickets.invariant.script_same)),
+  λ memory left told.
+      let p = err_from_is_err_and c.from_residual.result c.from_residual.ensures.1 in
+      absurd (no_memory_for_line _ c.loop-tickets.number c.loop-tickets.reader c.advance.new.reader _ _ c.in_err-advance.field-0.0
+      (c.loop-tickets.invariant.read left told) c.in_err-advance.ensures.advanced
+      (same_ended _ Endings.Memory _ refl (rw (p.1, p.2) at memory))),
 )
 
 pub returns-in_err-told-clause-taken : goal.returns-in_err-told-clause-taken
@@ -130,6 +136,11 @@ returns-in_err-told-clause-taken g c = (
       at c.in_ok-advance.ensures.advanced c.if-branch.true c.line.ensures c.in_err-told.ensures.stopped)
       (not_risen (c.advance.ensures.counted.passed (not_ended _ _ c.in_ok-advance.was)
       ∙ c.loop-tickets.invariant.script_same)),
+  λ memory left told.
+      taken_some left c.advance.new.reader _
+      (let more = c.advance.ensures.taken (c.in_ok-advance.was ∙ ap Ok c.if-branch.true) in omega (arith, more))
+      (read_on left c.loop-tickets.reader c.advance.new.reader _ _ (c.loop-tickets.invariant.read left told)
+      c.advance.ensures.read),
 )
 
 pub returns-clause-taken : goal.returns-clause-taken
@@ -145,4 +156,5 @@ returns-clause-taken g c = (
       c.advance.ensures.within (holds_same refl)
       (not_risen (c.advance.ensures.counted.passed (not_ended _ _ c.in_ok-advance.was)
       ∙ c.loop-tickets.invariant.script_same)),
+  λ memory. absurd (cc),
 )

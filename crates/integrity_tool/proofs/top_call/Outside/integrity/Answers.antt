@@ -1,0 +1,138 @@
+use Rattle.std.proofs.Common.{inl, inr, ℕ, ◌≡◌, ◌⊎◌, ◌≤◌, Err, refl, sym, ◌∙◌, ap, subst, arith}
+use Rattle.script_session.specs.Told.{finds_fault}
+use Rattle.command_ending.specs.declared.ended.Ended.{Ended}
+use Rattle.integrity_tool.specs.Top.{HasStatus, outset_in, texts}
+use Rattle.integrity_tool.specs.Words.{asked_of, key_file_of_asked}
+use Rattle.integrity_tool.specs.World.{Counts}
+use Rattle.integrity_tool.proofs.KeyLemmas.{ok_no_err, was_read}
+use Rattle.integrity_tool.proofs.LoopLemmas.{not_ended}
+use Rattle.integrity_tool.proofs.StartLemmas.{read_in_further}
+use Rattle.integrity_tool.proofs.TopLemmas.{cause_later, complete_is_low, ended_is_high, image_refused, last_line_holds, memory_ended, status_complete, status_ended, tells_complete, tells_early, told_at_end, words_status}
+use Rattle.integrity_tool.proofs.WorldLemmas.{key_file_kept}
+use Rattle.integrity_tool.proofs.top_call.Outside.integrity.Goals as goal
+
+pub returns-in-Ok-clause-given : goal.returns-in-Ok-clause-given
+returns-in-Ok-clause-given g c given is =
+    let runs = c.in-Ok.ensures.given given is in
+    let now = told_at_end given.content is.content runs.moments.each in
+    record {
+      tells = λ before held.
+          tells_complete given (finds_fault c.in-Ok.found) _ _ _ _ before now.0 runs.runs held now.1 c.complete_status.ensures _ _
+          (c.in-Ok.ensures.counted.sink.passed (not_ended _ _ refl));
+      moments = runs.moments;
+      closed = λ low. runs.closed;
+      unopened = λ memory. absurd (omega (arith, memory, c.complete_status.ensures, complete_is_low (finds_fault c.in-Ok.found)));
+      ahead = runs.ahead;
+    }
+
+pub returns-in-Err-clause-given : goal.returns-in-Err-clause-given
+returns-in-Err-clause-given g c given is =
+    let runs = c.in-Err.ensures.given given is in
+    let now = told_at_end given.content is.content runs.moments.each in
+    let old = c.args.self.now in
+    let mid = c.run.new.self in
+    let first : Counts = record {
+      disk = g.D.Counted.faults old.disk.now;
+      key = g.K.Counted.faults old.key.now;
+      script = g.S.Counted.faults old.script.now;
+      sink = g.O.Counted.faults old.out.now;
+    } in
+    let before : Counts = record {
+      disk = g.D.Counted.faults mid.disk.now;
+      key = g.K.Counted.faults mid.key.now;
+      script = g.S.Counted.faults mid.script.now;
+      sink = g.O.Counted.faults mid.out.now;
+    } in
+    record {
+      tells = λ text held.
+          tells_early given c.in-Err.ended _ _ _ _ text now.0 runs.runs held now.1 c.status.ensures
+          c.put_last_line.result _ first before (g.O.Counted.faults c.put_last_line.new.out) c.in-Err.ensures.cause c.in-Err.ensures.counted
+          c.put_last_line.ensures.cause c.put_last_line.ensures.written c.put_last_line.ensures.err;
+      moments = runs.moments;
+      closed = λ low. absurd (omega (arith, low, c.status.ensures, ended_is_high c.in-Err.ended));
+      unopened = λ memory. runs.unopened (ap (λ (e : Ended). Err e) (memory_ended c.in-Err.ended (sym c.status.ensures ∙ memory)));
+      ahead = read_in_further (outset_in given) given.script _ _ _ runs.ahead
+          (last_line_holds c.put_last_line.result _ _ _ c.put_last_line.ensures.written c.put_last_line.ensures.err);
+    }
+
+pub returns-in-Ok-clause-status : goal.returns-in-Ok-clause-status
+returns-in-Ok-clause-status g c =
+    status_complete _ _ _ (subst (λ (n : ℕ). n ≤ 1) (sym c.complete_status.ensures) (complete_is_low (finds_fault c.in-Ok.found)))
+    c.in-Ok.found c.run.result c.in-Ok.is c.run.ensures.counted
+
+pub returns-in-Err-clause-status : goal.returns-in-Err-clause-status
+returns-in-Err-clause-status g c =
+    let old = c.args.self.now in
+    let mid = c.run.new.self in
+    let first : Counts = record {
+      disk = g.D.Counted.faults old.disk.now;
+      key = g.K.Counted.faults old.key.now;
+      script = g.S.Counted.faults old.script.now;
+      sink = g.O.Counted.faults old.out.now;
+    } in
+    let before : Counts = record {
+      disk = g.D.Counted.faults mid.disk.now;
+      key = g.K.Counted.faults mid.key.now;
+      script = g.S.Counted.faults mid.script.now;
+      sink = g.O.Counted.faults mid.out.now;
+    } in
+    let sink = g.O.Counted.faults c.put_last_line.new.out in
+    let after : Counts = record before { sink = sink } in
+    subst (λ (n : ℕ). HasStatus first after n) (sym c.status.ensures)
+    (status_ended first before sink c.in-Err.ended (cause_later first before sink c.put_last_line.ensures.cause.later _ c.in-Err.ensures.cause) c.in-Err.ensures.counted)
+
+pub returns-in-Ok-clause-calls : goal.returns-in-Ok-clause-calls
+returns-in-Ok-clause-calls g c = record {
+  words = λ none. absurd (elim (c.in-Ok.ensures.calls.words none).0 [
+    | inl is ↦ ok_no_err _ _ _ refl is
+    | inr is ↦ ok_no_err _ _ _ refl is
+  ]);
+  key_first = c.in-Ok.ensures.calls.key_first;
+  unread = λ either. elim either [
+    | inl is ↦ absurd (omega (arith, is, c.complete_status.ensures, complete_is_low (finds_fault c.in-Ok.found)))
+    | inr none ↦ c.in-Ok.ensures.calls.unread (inr none)
+  ];
+}
+
+pub returns-in-Err-clause-calls : goal.returns-in-Err-clause-calls
+returns-in-Err-clause-calls g c = record {
+  words = λ none.
+      let touched = c.in-Err.ensures.calls.words none in (
+        subst (λ (n : ℕ). (n ≡ 2) ⊎ (n ≡ 7)) (sym c.status.ensures) (words_status c.in-Err.ended _ refl touched.0),
+        touched.1,
+        touched.2,
+      );
+  key_first = c.in-Err.ensures.calls.key_first;
+  unread = λ either. c.in-Err.ensures.calls.unread (elim either [
+    | inl is ↦ inl (image_refused c.in-Err.ended (sym c.status.ensures ∙ is))
+    | inr none ↦ inr none
+  ]);
+}
+
+pub returns-in-Ok-clause-read : goal.returns-in-Ok-clause-read
+returns-in-Ok-clause-read g c = record {
+  key = key_file_kept _ _ c.run.new.self _ (key_file_of_asked (asked_of (texts c.args.words.now))) (λ read. tt) refl refl refl c.in-Ok.ensures.read.key;
+  taken = c.in-Ok.ensures.read.taken;
+}
+
+pub returns-in-Err-clause-read : goal.returns-in-Err-clause-read
+returns-in-Err-clause-read g c = record {
+  key = key_file_kept _ _ c.run.new.self _ (key_file_of_asked (asked_of (texts c.args.words.now)))
+      (λ read. was_read c.in-Err.ended (
+        λ is. read.0 (c.status.ensures ∙ is),
+        λ is. read.1 (c.status.ensures ∙ is),
+      )) refl refl refl c.in-Err.ensures.read.key;
+  taken = c.in-Err.ensures.read.taken;
+}
+
+pub returns-in-Ok-clause-image : goal.returns-in-Ok-clause-image
+returns-in-Ok-clause-image g c = record {
+  bound = λ low. c.in-Ok.ensures.image.bound refl;
+  sectors = c.in-Ok.ensures.image.sectors;
+}
+
+pub returns-in-Err-clause-image : goal.returns-in-Err-clause-image
+returns-in-Err-clause-image g c = record {
+  bound = λ low. absurd (omega (arith, low, c.status.ensures, ended_is_high c.in-Err.ended));
+  sectors = c.in-Err.ensures.image.sectors;
+}

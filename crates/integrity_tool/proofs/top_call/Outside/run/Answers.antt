@@ -1,0 +1,202 @@
+use Rattle.std.proofs.Common.{◌≡◌, ℕ, List, Err, refl, sym, ap, ◌∙◌, subst, inl, inr}
+use Rattle.std.specs.Option.{ForSome}
+use Rattle.std.proofs.lemmas.Result.{err_from_is_err_and, on_ok_weaker}
+use Rattle.disk_model.specs.Identity.{DiskIdentity, IsBoundTo, IsThere, NamedDisk}
+use Rattle.disk_model.specs.Moments.{content_now}
+use Rattle.device_model.specs.Ending.{DiskFailed}
+use Rattle.hmac_tag.specs.TagMaker.{key_of}
+use Rattle.integrity_tool.specs.Running.{ending_by}
+use Rattle.integrity_tool.specs.Top.{texts}
+use Rattle.integrity_tool.specs.Words.{HasNoScript, image_name, image_of, key_file_of, key_file_of_asked}
+use Rattle.integrity_tool.proofs.KeyLemmas.{ok_no_err, words_unread}
+use Rattle.integrity_tool.proofs.StartLemmas.{closed_given, outside_first, ran_given, read_given, read_none, stopped_at_key, stopped_at_words}
+use Rattle.integrity_tool.proofs.TakenLemmas.{none_taken}
+use Rattle.integrity_tool.proofs.TopLemmas.{told_there}
+use Rattle.integrity_tool.proofs.WorldLemmas.{err_words, key_file_read, no_command, of_error, right_key, unopened_given, unopened_same}
+use Rattle.integrity_tool.proofs.top_call.Outside.run.Goals as goal
+
+-- ---- what it is given
+
+pub returns-in_err-asked-clause-given : goal.returns-in_err-asked-clause-given
+returns-in_err-asked-clause-given g c given is =
+    let p = err_from_is_err_and c.from_residual.result c.from_residual.ensures.1 in
+    let runs = stopped_at_words given _ _ is (g.O.Sink.held c.args.self.now.out.now) c.in_err-asked.field-0.0
+    c.in_err-asked.ensures.errors (λ e. c.in_err-asked.ensures.words (ap (λ x. Err x) e)) in
+    rw (p.1, p.2) (record {
+      runs = runs.0;
+      moments = runs.1;
+      closed = tt;
+      unopened = λ memory same. unopened_same _ _;
+      ahead = read_none _ given.script _ is.script_is;
+    })
+
+pub returns-in_err-hash-clause-given : goal.returns-in_err-hash-clause-given
+returns-in_err-hash-clause-given g c given is =
+    let p = err_from_is_err_and c.from_residual-in_err-hash.result c.from_residual-in_err-hash.ensures.1 in
+    let runs = stopped_at_key given _ _ is (g.O.Sink.held c.args.self.now.out.now) c.in_ok-asked.asked
+    c.in_ok-asked.ensures.asked _ _ c.in_err-hash.field-0.0 c.in_err-hash.ensures.refused in
+    rw (p.1, p.2) (record {
+      runs = runs.0;
+      moments = runs.1;
+      closed = tt;
+      unopened = λ memory same. unopened_same _ _;
+      ahead = read_none _ given.script _ is.script_is;
+    })
+
+pub returns-in_err-bind_image-clause-given : goal.returns-in_err-bind_image-clause-given
+returns-in_err-bind_image-clause-given g c given is =
+    let words = texts c.args.words.now in
+    let old = g.D.Disk.named c.args.self.now.disk.now in
+    let new = g.D.Disk.named c.bind_image.new.disk in
+    let name : image_name words ≡ c.as_str.result.now = ap image_of c.in_ok-asked.ensures.asked ∙ sym c.as_str.ensures in
+    let same : new (image_name words) ≡ old (image_name words) =
+    subst (λ (n : List ℕ). ForSome (content_now (old n).moments) (λ d. new n ≡ old n)) (sym name) c.bind_image.ensures.same given.content is.content in
+    let p = err_from_is_err_and c.from_residual-in_err-bind_image.result c.from_residual-in_err-bind_image.ensures.1 in
+    let runs = outside_first given _ _ is (g.O.Sink.held c.args.self.now.out.now) DiskFailed tt (new (image_name words)) (ap (λ (n : NamedDisk). n.moments) same) in
+    rw (p.1, p.2, c.in_err-bind_image.ensures.disk.0) (record {
+      runs = runs.0;
+      moments = runs.1;
+      closed = tt;
+      unopened = λ memory. absurd (cc);
+      ahead = read_none _ given.script _ is.script_is;
+    })
+
+pub returns-clause-given : goal.returns-clause-given
+returns-clause-given g c given is =
+    let words = texts c.args.words.now in
+    let old = g.D.Disk.named c.args.self.now.disk.now in
+    let mid = c.bind_image.new.disk in
+    let last = c.carry_out.new.disk in
+    let asked = c.in_ok-asked.asked in
+    let asks = c.in_ok-asked.ensures.asked in
+    let name : image_name words ≡ c.as_str.result.now = ap image_of asks ∙ sym c.as_str.ensures in
+    let found = subst (λ (n : List ℕ). IsThere (old n) (g.D.Disk.identity mid).sectors (g.D.Disk.moments mid)) (sym name) c.in_ok-bind_image.ensures.found in
+    let bound = subst (λ (n : List ℕ). IsBoundTo n (g.D.Disk.identity mid).name) (sym name) c.in_ok-bind_image.ensures.bound in
+    let there = found.is given.content is.content in
+    let ends = g.met.D.Disk.named_if_bound last (image_name words) (subst (λ (d : DiskIdentity). IsBoundTo (image_name words) d.name) (sym c.carry_out.ensures.identity) bound) in
+    let at_end = ap (λ (n : NamedDisk). n.moments) ends in
+    let told = told_there there is.content in
+    let held = g.O.Sink.held c.args.self.now.out.now in
+    let runs = ran_given given _ _ is held asked asks (key_of c.in_ok-hash.hash) c.in_ok-hash.ensures.hash (g.D.Disk.identity mid).sectors (g.D.Disk.moments mid) (g.D.Disk.moments last)
+    (g.D.Disk.named last (image_name words)) there at_end (ending_by c.carry_out.result) (g.O.Sink.held c.carry_out.new.out)
+    (c.carry_out.ensures.runs given.script is.script_is given.content told) in
+    record {
+      runs = runs.0;
+      moments = runs.1;
+      closed = on_ok_weaker c.carry_out.result (λ closes.
+          closed_given given _ _ is held asked asks (key_of c.in_ok-hash.hash) c.in_ok-hash.ensures.hash (g.D.Disk.identity mid).sectors (g.D.Disk.moments mid) (g.D.Disk.moments last)
+          (g.D.Disk.named last (image_name words)) there at_end (closes given.script is.script_is given.content told)) c.carry_out.ensures.closed;
+      unopened = λ memory same.
+          unopened_given asked _ asks _ _ _ _ (ap (λ (n : NamedDisk). n.moments) there) at_end
+          (c.carry_out.ensures.unread.unopened memory given.script is.script_is (same ∙ is.script_is));
+      ahead = read_given given _ _ is held asked asks (key_of c.in_ok-hash.hash) c.in_ok-hash.ensures.hash (g.D.Disk.identity mid).sectors (g.D.Disk.moments mid) there _ _
+          (c.carry_out.ensures.ahead given.script is.script_is given.content told);
+    }
+
+-- ---- what it calls
+
+pub returns-in_err-asked-clause-calls : goal.returns-in_err-asked-clause-calls
+returns-in_err-asked-clause-calls g c =
+    let p = err_from_is_err_and c.from_residual.result c.from_residual.ensures.1 in
+    rw (p.1, p.2) (record {
+      words = λ none. (err_words _ c.in_err-asked.field-0.0 refl c.in_err-asked.ensures.errors, refl, (refl, refl));
+      key_first = λ either. (refl, refl);
+      unread = λ either. refl;
+    })
+
+pub returns-in_err-hash-clause-calls : goal.returns-in_err-hash-clause-calls
+returns-in_err-hash-clause-calls g c = record {
+  words = λ none. absurd (no_command (texts c.args.words.now) c.in_ok-asked.asked none c.in_ok-asked.ensures.asked);
+  key_first = λ either. (refl, refl);
+  unread = λ either. refl;
+}
+
+pub returns-in_err-bind_image-clause-calls : goal.returns-in_err-bind_image-clause-calls
+returns-in_err-bind_image-clause-calls g c = record {
+  words = λ none. absurd (no_command (texts c.args.words.now) c.in_ok-asked.asked none c.in_ok-asked.ensures.asked);
+  key_first = λ either. absurd (elim either [
+    | inl wrong ↦ right_key _ _ c.in_ok-asked.asked (key_of c.in_ok-hash.hash) c.in_ok-asked.ensures.asked c.in_ok-hash.ensures.hash wrong
+    | inr rose ↦ rose (c.in_ok-hash.ensures.counted.passed (λ is. ok_no_err _ _ _ refl is))
+  ]);
+  unread = λ either. refl;
+}
+
+pub returns-clause-calls : goal.returns-clause-calls
+returns-clause-calls g c = record {
+  words = λ none. absurd (no_command (texts c.args.words.now) c.in_ok-asked.asked none c.in_ok-asked.ensures.asked);
+  key_first = λ either. absurd (elim either [
+    | inl wrong ↦ right_key _ _ c.in_ok-asked.asked (key_of c.in_ok-hash.hash) c.in_ok-asked.ensures.asked c.in_ok-hash.ensures.hash wrong
+    | inr rose ↦ rose (c.in_ok-hash.ensures.counted.passed (λ is. ok_no_err _ _ _ refl is))
+  ]);
+  unread = λ either. elim either [
+    | inl before ↦ of_error _ _ c.carry_out.result c.carry_out.ensures.unread.before before
+    | inr none ↦ c.carry_out.ensures.unread.none (subst HasNoScript c.in_ok-asked.ensures.asked none)
+  ];
+}
+
+-- ---- what it reads
+
+pub returns-in_err-asked-clause-read : goal.returns-in_err-asked-clause-read
+returns-in_err-asked-clause-read g c =
+    let p = err_from_is_err_and c.from_residual.result c.from_residual.ensures.1 in
+    rw (p.1, p.2) (record {
+      key = key_file_read _ g.K.NamedSource.named g.K.NamedSource.left c.args.self.now c.args.self.now _ _ refl (λ read. read) refl refl refl
+          (words_unread (texts c.args.words.now) g.K.NamedSource.named g.K.NamedSource.left c.args.self.now.key.now _
+          c.in_err-asked.ensures.errors (λ e. c.in_err-asked.ensures.words (ap (λ x. Err x) e)));
+      taken = none_taken _ _ refl;
+    })
+
+pub returns-clause-read : goal.returns-clause-read
+returns-clause-read g c = record {
+  key = key_file_read _ g.K.NamedSource.named g.K.NamedSource.left _ _ (key_file_of c.in_ok-asked.asked.hash) _ (ap key_file_of_asked c.in_ok-asked.ensures.asked)
+      (λ read. tt) refl refl refl c.in_ok-hash.ensures.read;
+  taken = c.carry_out.ensures.taken;
+}
+
+-- ---- its image
+
+pub returns-in_err-bind_image-clause-image : goal.returns-in_err-bind_image-clause-image
+returns-in_err-bind_image-clause-image g c =
+    let words = texts c.args.words.now in
+    let old = g.D.Disk.named c.args.self.now.disk.now in
+    let new = g.D.Disk.named c.bind_image.new.disk in
+    let p = err_from_is_err_and c.from_residual-in_err-bind_image.result c.from_residual-in_err-bind_image.ensures.1 in
+    let name : image_name words ≡ c.as_str.result.now = ap image_of c.in_ok-asked.ensures.asked ∙ sym c.as_str.ensures in
+    rw (p.1, p.2) (record {
+      bound = λ ok. absurd (cc);
+      sectors = λ content told. ap (λ (n : NamedDisk). n.sectors)
+          (subst (λ (n : List ℕ). ForSome (content_now (old n).moments) (λ d. new n ≡ old n)) (sym name) c.bind_image.ensures.same content told);
+    })
+
+pub returns-clause-image : goal.returns-clause-image
+returns-clause-image g c =
+    let words = texts c.args.words.now in
+    let old = g.D.Disk.named c.args.self.now.disk.now in
+    let mid = c.bind_image.new.disk in
+    let name : image_name words ≡ c.as_str.result.now = ap image_of c.in_ok-asked.ensures.asked ∙ sym c.as_str.ensures in
+    let found = subst (λ (n : List ℕ). IsThere (old n) (g.D.Disk.identity mid).sectors (g.D.Disk.moments mid)) (sym name) c.in_ok-bind_image.ensures.found in
+    let bound = subst (λ (n : List ℕ). IsBoundTo n (g.D.Disk.identity mid).name) (sym name) c.in_ok-bind_image.ensures.bound in
+    let still = subst (λ (d : DiskIdentity). IsBoundTo (image_name words) d.name) (sym c.carry_out.ensures.identity) bound in
+    let ends = g.met.D.Disk.named_if_bound c.carry_out.new.disk (image_name words) still in
+    record {
+      bound = λ ok. still;
+      sectors = λ content told.
+          ap (λ (n : NamedDisk). n.sectors) ends ∙ ap (λ (d : DiskIdentity). d.sectors) c.carry_out.ensures.identity
+          ∙ sym (ap (λ (n : NamedDisk). n.sectors) (found.is content told));
+    }
+
+pub returns-in_err-hash-clause-read : goal.returns-in_err-hash-clause-read
+returns-in_err-hash-clause-read g c =
+    let p = err_from_is_err_and c.from_residual-in_err-hash.result c.from_residual-in_err-hash.ensures.1 in
+    rw (p.1, p.2) (record {
+      key = key_file_read _ g.K.NamedSource.named g.K.NamedSource.left _ _ (key_file_of c.in_ok-asked.asked.hash) _ (ap key_file_of_asked c.in_ok-asked.ensures.asked)
+          (λ read. read) refl refl refl c.in_err-hash.ensures.read;
+      taken = none_taken _ _ refl;
+    })
+
+pub returns-in_err-bind_image-clause-read : goal.returns-in_err-bind_image-clause-read
+returns-in_err-bind_image-clause-read g c = record {
+  key = key_file_read _ g.K.NamedSource.named g.K.NamedSource.left _ _ (key_file_of c.in_ok-asked.asked.hash) _ (ap key_file_of_asked c.in_ok-asked.ensures.asked)
+      (λ read. tt) refl refl refl c.in_ok-hash.ensures.read;
+  taken = none_taken _ _ refl;
+}
