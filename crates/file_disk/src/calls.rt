@@ -1,5 +1,5 @@
 //! What the calls of a file of the system have answered.
-ghost use Rattle.std.specs.Prelude.{◌≡◌, ◌≤◌, ◌-◌, ◌^◌, IfOk, IsErrAnd};
+ghost use Rattle.std.specs.Prelude.{◌≡◌, ◌≤◌, ◌-◌, ◌^◌, IfOk, IsErrAnd, None};
 ghost use Rattle.std.specs.IoError.{error_kind};
 ghost use Rattle.disk_model.specs.Causes.{Rose};
 ghost use Rattle.file_disk.specs.Files.{HasFileCause};
@@ -15,20 +15,23 @@ pub struct Calls {
     pub faults: u64,
     /// How often a call can still be interrupted.
     pub interruptions: u64,
+    /// What std has answered to the last call that failed, for a text to the user.
+    pub last: Option<io::Error>,
 }
 
 impl Calls {
     /// Nothing has failed, and calls can be interrupted 2^64 - 1 times.
     pub fn new() -> Calls
-        ensures { result ≡ record { faults = 0; interruptions = 2 ^ 64 - 1 } }
+        ensures { result ≡ record { faults = 0; interruptions = 2 ^ 64 - 1; last = None } }
     {
         Calls {
             faults: 0,
             interruptions: u64::MAX,
+            last: None,
         }
     }
 
-    /// Hands on what std has answered. An error is counted, and its kind is lost.
+    /// Hands on what std has answered. An error is counted, and kept as the last.
     ///
     /// # Errors
     ///
@@ -50,7 +53,10 @@ impl Calls {
                 self.interruptions -= 1;
                 Err(FileFault::Interrupted)
             }
-            Err(_) => Err(self.fail()),
+            Err(e) => {
+                self.last = Some(e);
+                Err(self.fail())
+            }
         }
     }
 

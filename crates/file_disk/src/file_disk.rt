@@ -17,8 +17,8 @@ use sector_disk::{Counted, Disk, Failed, Named};
 /// reads alone; one that is bound for writes serves for reads too.
 #[derive(Drop)]
 pub struct FileDisk<O: Folder + Drop> {
-    folder: O,
-    file: Option<O::File>,
+    pub(crate) folder: O,
+    pub(crate) file: Option<O::File>,
     faults: u64,
 }
 

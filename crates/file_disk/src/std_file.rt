@@ -1,12 +1,14 @@
 //! The files of the system: what is asked of a file, by one call of std each.
 //!
 //! This is what is trusted of the edge: std tells nothing of what a file holds, so these files tell nothing either.
-ghost use Rattle.std.specs.Prelude.{◌≡◌, ◌↔◌, ◌≤◌, ◌*◌, ◌-◌, ◌^◌, ◌<◌, [], length, take, IfOk, IfSome, IsTrue};
+ghost use Rattle.std.specs.Prelude.{◌≡◌, ◌↔◌, ◌≤◌, ◌*◌, ◌-◌, ◌^◌, ◌<◌, [], None, length, take, IfOk, IfSome, IsTrue};
+ghost use Rattle.std.specs.Option.{option_or};
 ghost use Rattle.std.proofs.lemmas.Option.{none-some};
 ghost use Rattle.disk_model.specs.Identity.{BoundTo};
+ghost use Rattle.file_disk.specs.Files.{of_file};
 
 use crate::opening::{open_for_reads, open_for_writes};
-use crate::{Access, Calls, FileFault, Folder, SectorFile};
+use crate::{Access, Calls, FileDisk, FileFault, Folder, SectorFile};
 use std::fs::File;
 use std::io;
 use std::io::{ErrorKind, Seek, SeekFrom};
@@ -156,11 +158,23 @@ pub struct StdFolder<R: Files<File = File> + AllocGlobal + Clone + Drop> {
 impl<R: Files<File = File> + AllocGlobal + Clone + Drop> StdFolder<R> {
     /// The files that the program can reach. It opens none.
     pub fn new(rt: R) -> StdFolder<R>
-        ensures { result.calls ≡ record { faults = 0; interruptions = 2 ^ 64 - 1 } }
+        ensures { result.calls ≡ record { faults = 0; interruptions = 2 ^ 64 - 1; last = None } }
     {
         StdFolder {
             rt,
             calls: Calls::new(),
+        }
+    }
+}
+
+impl<R: Files<File = File> + AllocGlobal + Clone + Drop> FileDisk<StdFolder<R>> {
+    /// What the system has answered to the last call that failed, of the file that is bound, or else of a binding.
+    pub fn last_error(&self) -> Option<io::Error>
+        ensures { result ≡ option_or (of_file None (λ file. file.calls.last) self.now.file) self.now.folder.calls.last }
+    {
+        match &self.file {
+            Some(file) if file.calls.last.is_some() => file.calls.last,
+            _ => self.folder.calls.last,
         }
     }
 }

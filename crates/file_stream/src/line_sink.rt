@@ -50,6 +50,13 @@ impl<F: OutputFile + Drop> LineSink<F> {
         }
     }
 
+    /// The file, as it is after what was written to it so far.
+    pub fn file(&self) -> &F
+        ensures { result.now ≡ self.now.file }
+    {
+        &self.file
+    }
+
     /// Counts a fault that is told.
     fn tell(&mut self) -> Failed
         ensures faults { Rose self.old.faults self.new.faults }

@@ -20,7 +20,7 @@ pub struct StdInput<T: Read + Drop> {
 impl<T: Read + Drop> StdInput<T> {
     /// Takes what is open. It reads nothing.
     pub fn new(reader: T) -> StdInput<T>
-        ensures { result.calls ≡ record { faults = 0; interruptions = 2 ^ 64 - 1 } }
+        ensures { result.calls ≡ record { faults = 0; interruptions = 2 ^ 64 - 1; last = None } }
     {
         StdInput {
             reader,
@@ -54,7 +54,7 @@ pub struct StdInputs<R: Files + Drop> {
 impl<R: Files + Drop> StdInputs<R> {
     /// The files that the program can reach. It opens none.
     pub fn new(rt: R) -> StdInputs<R>
-        ensures { result.calls ≡ record { faults = 0; interruptions = 2 ^ 64 - 1 } }
+        ensures { result.calls ≡ record { faults = 0; interruptions = 2 ^ 64 - 1; last = None } }
     {
         StdInputs {
             rt,
@@ -89,7 +89,7 @@ pub struct StdOutput<R: Print + Drop> {
 impl<R: Print + Drop> StdOutput<R> {
     /// The standard output of a program. It writes nothing.
     pub fn new(rt: R) -> StdOutput<R>
-        ensures { result.calls ≡ record { faults = 0; interruptions = 2 ^ 64 - 1 } }
+        ensures { result.calls ≡ record { faults = 0; interruptions = 2 ^ 64 - 1; last = None } }
     {
         StdOutput {
             rt,

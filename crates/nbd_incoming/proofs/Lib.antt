@@ -1,0 +1,5 @@
+pub mod BeginLemmas
+pub mod ReadLemmas
+pub mod StepLemmas
+pub mod TakeLemmas
+mod Worked
