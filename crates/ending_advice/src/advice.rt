@@ -12,7 +12,8 @@ struct Advice {
 static ADVICE: [Advice; 29] = [
     Advice {
         line: "fault words",
-        text: "these words are no command. The commands are format, dump, check, salvage, resize, run and exercise: `man integrity` has their words, and so has docs/COMMANDS.md",
+        text: "these words are no command. The commands are format, dump, check, salvage, resize, run and exercise: \
+            `man integrity` has their words, and so has docs/COMMANDS.md",
     },
     Advice {
         line: "fault key empty",
@@ -28,27 +29,33 @@ static ADVICE: [Advice; 29] = [
     },
     Advice {
         line: "fault script long",
-        text: "the script has more than 16777216 bytes. The lines within these were run; the device was not closed, and its next opening recovers it",
+        text: "the script has more than 16777216 bytes. The lines within these were run; the device was not closed, \
+            and its next opening recovers it",
     },
     Advice {
         line: "fault script",
-        text: "the script can't be read any further. The lines before were run; the device was not closed, and its next opening recovers it",
+        text: "the script can't be read any further. The lines before were run; the device was not closed, and its \
+            next opening recovers it",
     },
     Advice {
         line: "fault line ",
-        text: "this line of the script is refused; the lines before it were run. `man integrity` has the lines that there are. The device was not closed, and its next opening recovers it",
+        text: "this line of the script is refused; the lines before it were run. `man integrity` has the lines that \
+            there are. The device was not closed, and its next opening recovers it",
     },
     Advice {
         line: "fault disk",
-        text: "a call of the disk failed. Open the image again only once the system holds nothing of it any more (unmount, `blockdev --flushbufs`, a boot): the next opening recovers it",
+        text: "a call of the disk failed. Open the image again only once the system holds nothing of it any more \
+            (unmount, `blockdev --flushbufs`, a boot): the next opening recovers it",
     },
     Advice {
         line: "fault memory",
-        text: "there is not enough memory for this image. A journal in journal mode wants as much memory as it has bytes",
+        text: "there is not enough memory for this image. A journal in journal mode wants as much memory as it has \
+            bytes",
     },
     Advice {
         line: "fault image magic",
-        text: "there is no superblock. The file was never formatted, or a format of it was cut: `integrity format` makes a new image of it",
+        text: "there is no superblock. The file was never formatted, or a format of it was cut: `integrity format` \
+            makes a new image of it",
     },
     Advice {
         line: "fault image version ",
@@ -60,7 +67,8 @@ static ADVICE: [Advice; 29] = [
     },
     Advice {
         line: "fault image inline ",
-        text: "the tags stand in the metadata of the disk's sectors (integritysetup's --integrity-inline), which is not read here",
+        text: "the tags stand in the metadata of the disk's sectors (integritysetup's --integrity-inline), which is \
+            not read here",
     },
     Advice {
         line: "fault image flags ",
@@ -96,23 +104,28 @@ static ADVICE: [Advice; 29] = [
     },
     Advice {
         line: "fault image too small ",
-        text: "the disk has fewer sectors (the first number) than the image wants (the second): it shrank, or it is too small for this format",
+        text: "the disk has fewer sectors (the first number) than the image wants (the second): it shrank, or it is \
+            too small for this format",
     },
     Advice {
         line: "fault image bitmap too large ",
-        text: "the bitmap wants more sectors (the first number) than the journal's place has (the second); larger regions would do (--log2-blocks-per-bit)",
+        text: "the bitmap wants more sectors (the first number) than the journal's place has (the second); larger \
+            regions would do (--log2-blocks-per-bit)",
     },
     Advice {
         line: "fault image mode ",
-        text: "the image is of another mode. One with a bitmap is opened by --mode B, one with a journal by --mode J or D",
+        text: "the image is of another mode. One with a bitmap is opened by --mode B, one with a journal by --mode J \
+            or D",
     },
     Advice {
         line: "fault image consent ",
-        text: "blocks await new tags under a key, whatever they hold now: whoever changed them meanwhile would not be found out. --integrity-legacy-recalculate consents",
+        text: "blocks await new tags under a key, whatever they hold now: whoever changed them meanwhile would not be \
+            found out. --integrity-legacy-recalculate consents",
     },
     Advice {
         line: "fault image number ",
-        text: "a sector of the journal (its section, and its place there) has no commit number: the journal is damaged. `integrity salvage` reads what stands in its place, and `run --mode R` too",
+        text: "a sector of the journal (its section, and its place there) has no commit number: the journal is \
+            damaged. `integrity salvage` reads what stands in its place, and `run --mode R` too",
     },
     Advice {
         line: "fault image four numbers",
@@ -120,11 +133,13 @@ static ADVICE: [Advice; 29] = [
     },
     Advice {
         line: "fault image journal block ",
-        text: "an entry of the journal names a sector that is none of a block: the journal is damaged. `integrity salvage` reads what stands in its place, and `run --mode R` too",
+        text: "an entry of the journal names a sector that is none of a block: the journal is damaged. `integrity \
+            salvage` reads what stands in its place, and `run --mode R` too",
     },
     Advice {
         line: "fault image journal tag ",
-        text: "an entry of the journal has another tag than its data: another hash or key was meant, or the journal is damaged. `integrity salvage` reads what stands in its place, and `run --mode R` too",
+        text: "an entry of the journal has another tag than its data: another hash or key was meant, or the journal \
+            is damaged. `integrity salvage` reads what stands in its place, and `run --mode R` too",
     },
 ];
 

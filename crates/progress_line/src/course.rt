@@ -1,4 +1,6 @@
 //! In which order a command goes over its image, which tells how far it is.
+ghost use Rattle.std.specs.Prelude.{◌≡◌};
+ghost use Rattle.progress_line.specs.Order.{course_of};
 
 use layout::Geometry;
 use superblock::read;
@@ -19,10 +21,14 @@ pub enum Course {
 
 impl Course {
     /// The course of a command, by its first word.
-    pub fn of(command: &str) -> Course {
+    pub fn of(command: &str) -> Course
+        ensures { result ≡ course_of command.now }
+    {
         match command {
-            "check" | "salvage" => Course::Image,
-            "format" | "resize" => Course::Disk,
+            "check" => Course::Image,
+            "salvage" => Course::Image,
+            "format" => Course::Disk,
+            "resize" => Course::Disk,
             _ => Course::Scattered,
         }
     }

@@ -2,7 +2,7 @@
 //!
 //! `Progress` watches the disk of the program (`watched_disk`), and `ClearedOutput` is the standard output, before whose
 //! text that line is wiped away. A contract sees of both that they change nothing: an output of this kind is the one under
-//! it. What is written on the standard error, and when, no clause says.
+//! it. Of what is written on the standard error it says that the place never goes back, and nothing else.
 #![tactic(auto)]
 
 mod cleared_output;

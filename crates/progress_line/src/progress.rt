@@ -1,4 +1,5 @@
 //! What watches a disk, and shows how far the work on it is.
+ghost use Rattle.std.specs.Prelude.{◌≡◌, ◌≤◌, None, false};
 
 use crate::Course;
 use crate::course::end_of_image;
@@ -35,7 +36,11 @@ pub struct Progress<'r, R: Clock + Eprint> {
 
 impl<'r, R: Clock + Eprint> Progress<'r, R> {
     /// Watches work of this course, and shows it if it is to be shown. It writes nothing yet.
-    pub fn new(rt: &'r R, course: Course, is_shown: bool) -> Progress<'r, R> {
+    pub fn new(rt: &'r R, course: Course, is_shown: bool) -> Progress<'r, R>
+        ensures course { result.course ≡ course }
+        ensures begins { result.at ≡ 0 }
+        ensures hidden { is_shown ≡ false → result.pace ≡ None }
+    {
         let pace = if is_shown {
             Instant::now(rt).ok().map(Pace::new)
         } else {
@@ -53,10 +58,13 @@ impl<'r, R: Clock + Eprint> Progress<'r, R> {
         }
     }
 
-    /// Notes that sectors were read or written.
-    fn go_on(&mut self, at: u64, bytes: &[u8]) {
+    /// Notes that sectors were read or written. The tags of an area are read between its data, so the place that is
+    /// shown is the furthest so far: it never goes back.
+    fn go_on(&mut self, at: u64, bytes: &[u8])
+        ensures { self.old.at ≤ self.new.at }
+    {
         let sectors = bytes.len() as u64 / 512;
-        self.at = at.saturating_add(sectors);
+        self.at = self.at.max(at.saturating_add(sectors));
         self.moved = self.moved.saturating_add(sectors);
         self.calls = self.calls.saturating_add(1);
         if self.calls >= CALLS_A_LOOK {
@@ -65,7 +73,9 @@ impl<'r, R: Clock + Eprint> Progress<'r, R> {
     }
 
     /// Looks at the clock, and shows the line where it is time to.
-    fn look(&mut self) {
+    fn look(&mut self)
+        ensures { self.new.at ≡ self.old.at }
+    {
         let Some(mut pace) = self.pace else { return };
         let Ok(now) = Instant::now(self.rt) else {
             return;
@@ -97,13 +107,17 @@ impl<'r, R: Clock + Eprint> Progress<'r, R> {
 }
 
 impl<'r, R: Clock + Eprint> Watcher for Progress<'r, R> {
-    fn has_bound(&mut self, sectors: u64) {
+    fn has_bound(&mut self, sectors: u64)
+        ensures { self.new.at ≡ self.old.at }
+    {
         if self.course == Course::Disk {
             self.end = Some(sectors);
         }
     }
 
-    fn has_read(&mut self, at: u64, bytes: &[u8]) {
+    fn has_read(&mut self, at: u64, bytes: &[u8])
+        ensures { self.old.at ≤ self.new.at }
+    {
         if self.pace.is_none() {
             return;
         }
@@ -113,13 +127,17 @@ impl<'r, R: Clock + Eprint> Watcher for Progress<'r, R> {
         self.go_on(at, bytes);
     }
 
-    fn has_written(&mut self, at: u64, bytes: &[u8]) {
+    fn has_written(&mut self, at: u64, bytes: &[u8])
+        ensures { self.old.at ≤ self.new.at }
+    {
         if self.pace.is_some() {
             self.go_on(at, bytes);
         }
     }
 
-    fn has_synced(&mut self) {
+    fn has_synced(&mut self)
+        ensures { self.new.at ≡ self.old.at }
+    {
         if self.pace.is_some() {
             self.look();
         }
