@@ -1,0 +1,6 @@
+pub mod CourseLemmas
+pub mod StreamLemmas
+pub mod CauseLemmas
+pub mod CloseLemmas
+pub mod DeviceLemmas
+mod Worked
