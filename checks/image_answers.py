@@ -5,7 +5,7 @@ import struct
 
 from journal_program import BASES, SECTOR, runs_of
 
-DIRTY_BITMAP, FIXED_PADDING, FIXED_HMAC = 4, 8, 16
+RECALCULATING, DIRTY_BITMAP, FIXED_PADDING, FIXED_HMAC = 2, 4, 8, 16
 HAVE_JOURNAL_MAC, INLINE = 1, 32
 MOST_SECTORS, MOST_JOURNAL = 1 << 48, 1 << 20
 UNUSED = 0xffffffff
@@ -67,7 +67,7 @@ class Fields:
 
     def unknown(self):
         """The flags that are not accepted."""
-        return self.flags & ~(DIRTY_BITMAP | FIXED_PADDING | FIXED_HMAC)
+        return self.flags & ~(RECALCULATING | DIRTY_BITMAP | FIXED_PADDING | FIXED_HMAC)
 
     def provides_blocks(self):
         """Some whole blocks are provided, and no more than may be."""
@@ -127,6 +127,14 @@ class Geometry:
         """The regions whose bit is set."""
         bits = self.disk.read(8, self.bitmap)
         return {region for region in range(self.region_count()) if bits[region // 8] >> region % 8 & 1}
+
+    def awaiting(self):
+        """The blocks that await their tags: those of the regions whose bit is set, or those from the position on."""
+        f = self.fields
+        if self.has_bitmap:
+            dirty = self.set_regions()
+            return {block for block in range(self.blocks) if block >> f.log2_region in dirty}
+        return set(range(f.recalculate // self.spb, self.blocks)) if f.flags & RECALCULATING else set()
 
 
 def commit_id(section, sector, number):
@@ -243,10 +251,15 @@ class Answers:
         return self.answered(lambda g: self.read(g, blocks))
 
     def cells(self):
-        """The bytes and the tag of each block, as an opening gives them."""
+        """The bytes and the tag of each block, as an opening gives them: one that awaits has the tag of its bytes."""
         geometry = Geometry(self.disk)
-        entries = self.entries(geometry)
-        return [entries.get(block) or geometry.placed(block) for block in range(geometry.blocks)]
+        entries, awaiting = self.entries(geometry), geometry.awaiting()
+        return [self.cell(geometry, block, entries, block in awaiting) for block in range(geometry.blocks)]
+
+    def cell(self, geometry, block, entries, awaits):
+        """The bytes and the tag of a block, of which one that awaits has the tag of its bytes."""
+        content, tag = entries.get(block) or geometry.placed(block)
+        return content, geometry.tag_of(block, content, self.key) if awaits else tag
 
     def entries(self, geometry):
         return {} if geometry.has_bitmap else Journal(geometry).entries(self.key)
@@ -263,29 +276,28 @@ class Answers:
         return 0, "".join(f"{line}\n" for line in lines)
 
     def checked(self, g):
-        entries = self.entries(g)
-        dirty = g.set_regions() if g.has_bitmap else set()
-        lines, awaiting = [], 0
-        for block in range(g.blocks):
-            if block >> g.fields.log2_region in dirty:
-                awaiting += 1
-                continue
+        entries, awaiting = self.entries(g), g.awaiting()
+        lines = []
+        for block in sorted(set(range(g.blocks)) - awaiting):
             content, stored = entries.get(block) or g.placed(block)
             computed = g.tag_of(block, content, self.key)
             if stored != computed:
                 lines.append(f"bad {block} stored {stored.hex()} computed {computed.hex()}\n")
-        lines.append(f"blocks {g.blocks} bad {len(lines)} awaiting {awaiting}\n")
+        lines.append(f"blocks {g.blocks} bad {len(lines)} awaiting {len(awaiting)}\n")
         return int(len(lines) > 1), "".join(lines)
 
     def read(self, g, blocks):
         if g.has_bitmap:
             raise Refused(f"mode 0x{g.fields.flags:x}")
+        awaiting = g.awaiting()
+        if self.key and awaiting:
+            raise Refused(f"consent 0x{g.fields.flags:x}")
         entries = self.entries(g)
         lines, bad = [], 0
         for block in blocks:
             content, stored = entries.get(block) or g.placed(block)
             computed = g.tag_of(block, content, self.key)
-            if stored == computed:
+            if stored == computed or block in awaiting:
                 lines.append(f"ok read {block} 1 {runs_of(content)}\n")
             else:
                 bad = 1

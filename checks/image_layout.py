@@ -6,7 +6,7 @@ import struct
 from journal_program import SECTOR, Shape
 
 BITMAP = 8                      # where a bitmap begins, and how many sectors it has on a small image
-DIRTY_BITMAP, FIXED_PADDING, FIXED_HMAC = 4, 8, 16
+RECALCULATING, DIRTY_BITMAP, FIXED_PADDING, FIXED_HMAC = 2, 4, 8, 16
 
 
 class Layout:
@@ -20,6 +20,7 @@ class Layout:
         pad = 4096 if self.flags & FIXED_PADDING else 131072
         self.tags = -(-self.area * self.tag_size // pad) * pad // SECTOR
         self.first = BITMAP + Shape(image).journal
+        self.position, = struct.unpack_from("<Q", image, 32)
 
     def regions_set(self):
         """The regions of the device whose bit is set."""
@@ -27,16 +28,28 @@ class Layout:
         return [region for region in range(regions) if self.image[BITMAP * SECTOR + region // 8] >> region % 8 & 1]
 
     def awaiting(self):
-        """The blocks of these regions."""
-        return {block for region in self.regions_set()
-                for block in range(region << self.log2_blocks, min(self.blocks, (region + 1) << self.log2_blocks))}
+        """The blocks that await their tags: those of these regions with a bitmap, and else those from the position on."""
+        if self.flags & DIRTY_BITMAP:
+            return {block for region in self.regions_set() for block in self.region(region)}
+        return set(range(self.position // self.spb, self.blocks)) if self.flags & RECALCULATING else set()
+
+    def region(self, region):
+        """The blocks of a region."""
+        return range(region << self.log2_blocks, min(self.blocks, (region + 1) << self.log2_blocks))
+
+    def tag_place(self, block):
+        """The first byte of a block's tag."""
+        area, number = divmod(block, self.area)
+        return (self.first + area * (self.tags + self.area * self.spb)) * SECTOR + number * self.tag_size
+
+    def place(self, block):
+        """The first byte of a block's data."""
+        area, number = divmod(block, self.area)
+        return (self.first + area * (self.tags + self.area * self.spb) + self.tags + number * self.spb) * SECTOR
 
     def stored(self, block):
         """The data of a block, and its tag."""
-        area, number = divmod(block, self.area)
-        at = (self.first + area * (self.tags + self.area * self.spb)) * SECTOR
-        data = at + (self.tags + number * self.spb) * SECTOR
-        tag = at + number * self.tag_size
+        data, tag = self.place(block), self.tag_place(block)
         return self.image[data:data + self.spb * SECTOR], self.image[tag:tag + self.tag_size]
 
     def tag_of(self, block, data, key):

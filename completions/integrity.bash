@@ -6,7 +6,7 @@ _integrity_options() {
     case $1 in
         format)
             echo "$hash --tag-size= --sector-size= --interleave-sectors= --sections= --log2-blocks-per-bit= --salt=" \
-                '--integrity-legacy-padding --mode= --no-wipe' ;;
+                '--integrity-legacy-padding --mode= --no-wipe --recalculate' ;;
         run) echo "--mode= $hash --integrity-legacy-recalculate" ;;
         check) echo "$hash --placed" ;;
         salvage | resize) echo "$hash" ;;

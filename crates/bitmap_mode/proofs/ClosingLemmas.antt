@@ -22,7 +22,7 @@ use Rattle.recalculation.specs.Awaiting.{AwaitingRegions, awaiting_of}
 use Rattle.bitmap_mode.specs.States.{AreSameCounts, States, counts_of, may_be_clean}
 use Rattle.bitmap_mode.specs.Closing.{IsClosedInPart, IsOfCleared, IsOfClose, bits_cleared}
 use Rattle.bitmap_mode.proofs.CleaningLemmas.{clean_parts}
-use Rattle.bitmap_mode.proofs.FindLemmas.{IsNext, next_found, next_none}
+use Rattle.recalculation.proofs.FindLemmas.{IsNext, next_found, next_none}
 
 -- ---- bits
 

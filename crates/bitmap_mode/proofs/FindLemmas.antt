@@ -1,4 +1,4 @@
--- The least region from one on that passes a test.
+-- The least region that may be cleaned, and is not held.
 use Rattle.std.proofs.Common.{◌≡◌, ◌≢◌, inl, inr, ℕ, zero, suc, ◌+◌, ◌-◌, ◌<◌, ◌≤◌, Bool, true, false, not, refl, sym, ◌∙◌, arith, Option, Some, None, find}
 use Rattle.std.specs.List.{range_with_len}
 use Rattle.std.proofs.lemmas.Bool.{and_from, and_left, and_right, cases_Bool, cases_eq, cases_lt, not_from_false, not_from_true}
@@ -7,50 +7,9 @@ use Rattle.device_model.specs.Regions.{RegionCounts, least_region, with_region}
 use Rattle.bitmap_model.proofs.BitLemmas.{with_region-here, with_region-other}
 use Rattle.bitmap_laws.proofs.LeastLemmas.{find_least, find_none}
 use Rattle.dirty_bitmap.proofs.RangeLemmas.{find_none_is, find_some_is}
+use Rattle.recalculation.proofs.FindLemmas.{IsNext, next_none}
 use Rattle.bitmap_mode.specs.Cleaning.{may_be_cleaned}
 use Rattle.bitmap_mode.specs.States.{may_be_clean}
-
--- What is found is not below the first.
-find-from : (p : ℕ → Bool) (from count r : ℕ) → find p (range_with_len from count) ≡ Some r → from ≤ r
-find-from p from zero r e = absurd (none-some r e)
-find-from p from (suc count) r e = elim (cases_Bool (p from)) [
-  | inl passes ↦ let same : from ≡ r = same_Some from r (rw passes at e) in omega arith
-  | inr fails ↦ let rest = find-from p (from + 1) count r (rw fails at e) in omega arith
-]
-
--- It is one of so many, passes, and none before it does.
-pub record IsNext (p : ℕ → Bool) (size from r : ℕ) : Type 0 where
-  pub above : from ≤ r
-  pub inside : r < size
-  pub passes : p r ≡ true
-  pub before : (i : ℕ) → from ≤ i → i < r → p i ≡ false
-
-pub next_found : (p : ℕ → Bool) (size from r : ℕ) (o : Option ℕ) → o ≡ find p (range_with_len from (size - from)) → o ≡ Some r → IsNext p size from r
-next_found p size from r o is found =
-    let told = sym is ∙ found in
-    let least = find_least p from (size - from) r told in
-    let above = find-from p from (size - from) r told in
-    let low = least.0 in
-    record { above = above; inside = omega (arith, low, above); passes = least.1; before = least.2 }
-
--- Where none is found, none of so many passes.
-pub next_none : (p : ℕ → Bool) (size from : ℕ) (o : Option ℕ) → o ≡ find p (range_with_len from (size - from)) → o ≡ None → (i : ℕ) → from ≤ i → i < size → p i ≡ false
-next_none p size from o is none i above inside = find_none p from (size - from) (sym is ∙ none) i above (omega arith)
-
--- Two tests that agree on so many find the same.
-pub find_same : (one other : ℕ → Bool) (size from : ℕ) → ((r : ℕ) → r < size → one r ≡ other r) → find one (range_with_len from (size - from)) ≡ find other (range_with_len from (size - from))
-find_same one other size from same = by_found (find other (range_with_len from (size - from))) refl
-  where
-    by_found : (o : Option ℕ) → o ≡ find other (range_with_len from (size - from)) → find one (range_with_len from (size - from)) ≡ o
-    by_found None is = find_none_is one from (size - from) (λ i above inside. same i (omega arith) ∙ next_none other size from None is refl i above (omega arith))
-    by_found (Some r) is =
-        let next = next_found other size from r (Some r) is refl in
-        let high = next.above in
-        let low = next.inside in
-        find_some_is one from (size - from) r next.above (omega (arith, high, low)) (same r next.inside ∙ next.passes)
-        (λ i above under. same i (omega (arith, under, low)) ∙ next.before i above under)
-
--- ---- the least region that may be cleaned, and is not held
 
 module _ (c : RegionCounts) (is_held : ℕ → Bool) (size : ℕ) where
   -- One that is not held is that, where none before it is,

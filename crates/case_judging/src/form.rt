@@ -134,7 +134,8 @@ pub(crate) fn form_with(bytes: &[u8], flags: u64) -> Form {
     }
 }
 
-/// Whether bytes begin as the superblock of an image does that has these flags and a journal.
+/// Whether bytes begin as the superblock of an image does that has these flags and a journal. Its tags may be to be made
+/// anew.
 fn is_image(bytes: &[u8], flags: u64) -> bool {
     let version = number_in(bytes, 8, 1);
     let interleave = number_in(bytes, 9, 1);
@@ -148,7 +149,7 @@ fn is_image(bytes: &[u8], flags: u64) -> bool {
         && tag_size <= 32
         && number_in(bytes, 12, 4) >= 1
         && number_in(bytes, 28, 1) <= 3
-        && flags & !0x18 == 0
+        && flags & !0x1a == 0
 }
 
 impl Form {

@@ -109,7 +109,7 @@ fn awaiting_behind(
 }
 
 /// The first block that a line reads, and how many: up to one whose tag is not that of its data.
-fn read_by(line: &str, reply: &str) -> Option<(u64, u64)> {
+pub(crate) fn read_by(line: &str, reply: &str) -> Option<(u64, u64)> {
     let (first, count) = line.strip_prefix("read ")?.split_once(' ')?;
     let (Ok(first), Ok(count)) = (first.parse::<u64>(), count.parse::<u64>()) else {
         return None;

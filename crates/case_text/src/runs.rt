@@ -6,7 +6,7 @@ use std::alloc::Global;
 const MOST: u64 = 4096;
 
 /// The bytes of runs that are joined by commas: bytes in hexadecimal; `aa*24`, a byte that comes so often; `7+64`, so
-/// many numbers of 8 bytes, the lowest byte first, each one more than the one before.
+/// many numbers of 8 bytes, the lowest byte first, each one more than the one before; `7^64`, one that comes so often.
 pub fn bytes_of_runs(alloc: Global, text: &str) -> Result<Vec<u8>> {
     let mut bytes = Vec::new(alloc);
     for run in text.split(',') {
@@ -16,15 +16,24 @@ pub fn bytes_of_runs(alloc: Global, text: &str) -> Result<Vec<u8>> {
                 bytes.push(byte)?;
             }
         } else if let Some((first, count)) = run.split_once('+') {
-            let first = first.parse::<u64>()?;
-            for k in 0..count.parse::<u64>()?.min(MOST) {
-                bytes.extend_from_slice(&first.wrapping_add(k).to_le_bytes())?;
-            }
+            push_numbers(&mut bytes, first.parse::<u64>()?, 1, count.parse::<u64>()?)?;
+        } else if let Some((number, count)) = run.split_once('^') {
+            push_numbers(&mut bytes, number.parse::<u64>()?, 0, count.parse::<u64>()?)?;
         } else {
             push_hex(alloc, &mut bytes, run)?;
         }
     }
     Ok(bytes)
+}
+
+/// Adds so many numbers of 8 bytes, the lowest byte first, each so much more than the one before.
+fn push_numbers(bytes: &mut Vec<u8>, first: u64, by: u64, count: u64) -> Result<()> {
+    let mut number = first;
+    for _ in 0..count.min(MOST) {
+        bytes.extend_from_slice(&number.to_le_bytes())?;
+        number = number.wrapping_add(by);
+    }
+    Ok(())
 }
 
 /// Adds bytes that stand in hexadecimal.

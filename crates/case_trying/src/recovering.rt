@@ -4,8 +4,8 @@ use crate::reads::Reads;
 use crate::trying::Counts;
 use anyhow::{Result, bail};
 use case_judging::{
-    Form, Images, Known, Writes, form_of, has_empty_journal, is_same_outside_journal, judge_left,
-    with_journal_placed,
+    Form, Images, Known, Reading, Writes, form_of, has_empty_journal, is_recalculating,
+    is_same_outside_journal, judge_left, judge_position, with_journal_placed, with_tags_made,
 };
 use case_running::{Command, Ended, is_journaled};
 use case_text::Case;
@@ -17,6 +17,9 @@ pub struct Recovered {
     /// The image that each run begins with, with its journal's entries in their places, and its tags.
     base: Known,
     judged: Judged,
+    script: String,
+    /// Which reads recalculate, where tags of it are to be made anew.
+    position: Option<Reading>,
     /// Reads of all blocks, in journal mode and in direct mode.
     journaled: Reads,
     direct: Reads,
@@ -34,7 +37,7 @@ enum Judged {
 }
 
 /// What runs of a case recover whose undisturbed run has printed a text, if the journal plays a part: the case is in
-/// journal mode, or runs on an image with a journal that is not empty.
+/// journal mode, or runs on an image with a journal that is not empty, or with tags that are to be made anew.
 pub fn recovered_by<C: Command>(
     alloc: Global,
     command: &C,
@@ -45,12 +48,14 @@ pub fn recovered_by<C: Command>(
 ) -> Result<Option<Recovered>> {
     let form = form_of(base);
     let is_direct = !is_journaled(case);
-    if form.blocks == 0 || (is_direct && has_empty_journal(alloc, &form, base)?) {
+    let is_plain = is_direct && !is_recalculating(base);
+    if form.blocks == 0 || (is_plain && has_empty_journal(alloc, &form, base)?) {
         return Ok(None);
     }
     let journaled = Reads::in_mode(alloc, &form, "J")?;
     let opened = journaled.run_alone(alloc, command, base)?;
-    let base = with_journal_placed(alloc, &form, base)?;
+    let position = reading_on(base, is_direct);
+    let base = with_all_placed(alloc, &form, base, position)?;
     let judged = if is_refused(&opened) {
         Judged::Refused
     } else {
@@ -59,9 +64,35 @@ pub fn recovered_by<C: Command>(
     Ok(Some(Recovered {
         base: Known::new(alloc, form, base)?,
         judged,
+        script: script.to_string(alloc)?,
+        position,
         journaled,
         direct: Reads::in_mode(alloc, &form, "D")?,
     }))
+}
+
+/// Which reads of a run recalculate, where tags of the image that it begins with are to be made anew.
+fn reading_on(base: &[u8], is_direct: bool) -> Option<Reading> {
+    match is_recalculating(base) {
+        true if is_direct => Some(Reading::All),
+        true => Some(Reading::Placed),
+        false => None,
+    }
+}
+
+/// An image with the entries of its journal in their places, and where tags are to be made anew with those made that
+/// its position still names.
+fn with_all_placed(
+    alloc: Global,
+    form: &Form,
+    image: &[u8],
+    position: Option<Reading>,
+) -> Result<Vec<u8>> {
+    let placed = with_journal_placed(alloc, form, image)?;
+    if position.is_none() {
+        return Ok(placed);
+    }
+    Ok(with_tags_made(alloc, &placed)?)
 }
 
 /// What the blocks are judged by that are left of a script.
@@ -98,7 +129,8 @@ pub fn judge_recovered<C: Command>(
     left: &[u8],
     text: &str,
 ) -> Result<()> {
-    let blocks = with_journal_placed(alloc, &recovered.base.form, left)?;
+    let form = &recovered.base.form;
+    let blocks = with_all_placed(alloc, form, left, recovered.position)?;
     match &recovered.judged {
         Judged::Refused => {
             return judge_refused(alloc, command, counts, recovered, base, left);
@@ -107,6 +139,9 @@ pub fn judge_recovered<C: Command>(
             writes.judge(alloc, recovered.base.bytes(), &blocks, text)?;
         }
         Judged::Direct(images) => judge_left(alloc, images, &blocks, text)?,
+    }
+    if let Some(reading) = recovered.position {
+        judge_position(alloc, base, left, recovered.script.as_str(), text, reading)?;
     }
     if counts.images % 4 != 0 {
         let reads = &recovered.journaled;
@@ -155,7 +190,8 @@ fn judge_refused<C: Command>(
     Ok(())
 }
 
-/// Reads all blocks of what is left, and gives the run that does. The blocks are in their places behind it.
+/// Reads all blocks of what is left, and gives the run that does. The blocks are in their places behind it, and no tag
+/// of them is to be made anew.
 fn read_again<C: Command>(
     alloc: Global,
     command: &C,
@@ -167,7 +203,16 @@ fn read_again<C: Command>(
 ) -> Result<Ended> {
     counts.runs = counts.runs.saturating_add(1);
     let again = reads.judge(alloc, command, &recovered.base, image, blocks)?;
-    if !is_same_outside_journal(&recovered.base.form, again.disk.bytes(), blocks) {
+    let after = again.disk.bytes();
+    if is_recalculating(after) {
+        bail!("tags are to be made anew behind a run that has read all blocks");
+    }
+    let form = &recovered.base.form;
+    let is_same = match recovered.position {
+        Some(_) => is_same_outside_journal(form, &with_tags_made(alloc, after)?, blocks),
+        None => is_same_outside_journal(form, after, blocks),
+    };
+    if !is_same {
         bail!("a run on what is left does not bring it to its places");
     }
     Ok(again)

@@ -7,7 +7,7 @@ use std::test::Fail;
 /// Words that are a command, parted by `|`, and a part of what is shown of it.
 ///
 /// Source: what clap 4 makes of such words without settings of its own, and the ends of the values.
-static TAKEN: [(&str, &str); 38] = [
+static TAKEN: [(&str, &str); 40] = [
     (
         "run|I|--mode|D",
         "Run(Run { image: FileName { name: \"I\" }, mode: Direct, hash: Sha256, consent: Withheld })",
@@ -115,13 +115,21 @@ static TAKEN: [(&str, &str); 38] = [
     ("format|I|--mode=J", "mode: Journal, wipe: Zeros"),
     ("format|--mode|B|I|--no-wipe", "mode: Bitmap, wipe: Nothing"),
     (
+        "format|--recalculate|I",
+        "mode: Journal, wipe: Recalculated",
+    ),
+    (
+        "format|I|--no-wipe|--recalculate|--mode|B",
+        "mode: Bitmap, wipe: Recalculated",
+    ),
+    (
         "format|I|--salt|000102030405060708090a0b0c0d0eFF",
         "salt: Some([0, 1, 2, 3, 4, 5, 6, 7, 8, 9, 10, 11, 12, 13, 14, 255])",
     ),
 ];
 
 /// Words that are no command: one beyond each end, and what clap 4 refuses.
-static REFUSED: [&str; 70] = [
+static REFUSED: [&str; 71] = [
     "run|I|--mode|X",
     "run|I|--mode|",
     "run|I|--mode",
@@ -184,7 +192,8 @@ static REFUSED: [&str; 70] = [
     "format|I|--mode|D",
     "format|I|--mode|b",
     "format|I|--mode|B|--mode|B",
-    "format|I|--recalculate",
+    "format|I|--recalculate=0",
+    "format|I|--recalculate|--recalculate",
     "salvage|I|--placed",
     "salvage",
     "resize",

@@ -94,10 +94,10 @@ format_leaf = record {
       ▹ fact _ _ _ refl refl refl refl refl refl ▹ fact _ _ _ refl refl refl refl refl refl
       ▹ fact _ _ _ refl refl refl refl refl refl ▹ fact _ _ _ refl refl refl refl refl refl
       ▹ fact _ _ _ refl refl refl refl refl refl ▹ fact _ _ _ refl refl refl refl refl refl
-      ▹ fact _ _ _ refl refl refl refl refl refl ▹ tt;
+      ▹ fact _ _ _ refl refl refl refl refl refl ▹ fact _ _ _ refl refl refl refl refl refl ▹ tt;
   places = (refl, refl, refl, refl, tt);
   required = refl;
-  defaults = refl ▹ refl ▹ refl ▹ refl ▹ refl ▹ refl ▹ refl ▹ refl ▹ refl ▹ refl ▹ refl ▹ refl ▹ tt;
+  defaults = refl ▹ refl ▹ refl ▹ refl ▹ refl ▹ refl ▹ refl ▹ refl ▹ refl ▹ refl ▹ refl ▹ refl ▹ refl ▹ tt;
   again = refl;
   helps = refl;
   enters = refl;

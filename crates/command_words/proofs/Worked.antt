@@ -11,7 +11,7 @@ use Rattle.command_words.specs.declared.values.HashChoice.TheVariants.{Sha256, H
 use Rattle.command_words.specs.declared.values.BlockSize.TheVariants.{Bytes512}
 use Rattle.command_words.specs.declared.values.ImageMode.TheVariants as images
 use Rattle.command_words.specs.declared.values.Padding.TheVariants.{Fixed}
-use Rattle.command_words.specs.declared.values.Wipe.TheVariants.{Zeros}
+use Rattle.command_words.specs.declared.values.Wipe.TheVariants.{Recalculated, Zeros}
 use Rattle.command_words.specs.declared.values.Mode.TheVariants.{Bitmap, Direct, Journal, Recovery}
 
 -- The largest number of 64 bits, and one more: 2^64 - 1 and 2^64.
@@ -117,6 +117,30 @@ command_of-format : command_of (codes "integrity" ∷ codes "format" ∷ codes "
     ≡ command_of (codes "integrity" ∷ codes "format" ∷ codes "I" ∷ codes "--mode" ∷ codes "J" ∷ [])
 unfolding clap_on_literals
 command_of-format = refl
+
+-- Tags that are to be recalculated are so whether blocks are to be wiped or not.
+command_of-format_recalculate : command_of (codes "integrity" ∷ codes "format" ∷ codes "I" ∷ codes "--recalculate"
+    ∷ codes "--mode" ∷ codes "B" ∷ []) ≡ Some (command.Format (record {
+      image = codes "I";
+      hash = Sha256;
+      tag_size = 32;
+      block_size = Bytes512;
+      interleave = 32768;
+      sections = 4;
+      log2_blocks_per_bit = 15;
+      salt = None;
+      padding = Fixed;
+      mode = images.Bitmap;
+      wipe = Recalculated;
+    }))
+unfolding clap_on_literals
+command_of-format_recalculate = refl
+
+command_of-format_no_wipe : command_of (codes "integrity" ∷ codes "format" ∷ codes "I" ∷ codes "--no-wipe"
+    ∷ codes "--recalculate" ∷ codes "--mode" ∷ codes "B" ∷ [])
+    ≡ command_of (codes "integrity" ∷ codes "format" ∷ codes "I" ∷ codes "--recalculate" ∷ codes "--mode" ∷ codes "B" ∷ [])
+unfolding clap_on_literals
+command_of-format_no_wipe = refl
 
 command_of-format_direct : command_of (codes "integrity" ∷ codes "format" ∷ codes "I" ∷ codes "--mode" ∷ codes "D"
     ∷ []) ≡ None

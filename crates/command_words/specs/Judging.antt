@@ -86,8 +86,11 @@ salt_named text = option_map (λ salt. Some salt) (result_ok (decode_sized text 
 abbrev pub padding_of : Given → Padding
 padding_of given = if has given (codes "integrity-legacy-padding") then Legacy else Fixed
 
+-- Where tags are to be recalculated no block is wiped.
 abbrev pub wipe_of : Given → Wipe
-wipe_of given = if has given (codes "no-wipe") then wipe.Nothing else wipe.Zeros
+wipe_of given =
+    if has given (codes "recalculate") then wipe.Recalculated else
+    if has given (codes "no-wipe") then wipe.Nothing else wipe.Zeros
 
 abbrev pub checked_of : Given → Checked
 checked_of given = if has given (codes "placed") then Placed else Cells

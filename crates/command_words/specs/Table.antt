@@ -32,7 +32,7 @@ format_entry = record {
   options = valued (codes "integrity") ∷ valued (codes "integrity-key-file") ∷ valued (codes "tag-size")
       ∷ valued (codes "sector-size") ∷ valued (codes "interleave-sectors") ∷ valued (codes "sections")
       ∷ valued (codes "log2-blocks-per-bit") ∷ valued (codes "salt") ∷ flag (codes "integrity-legacy-padding")
-      ∷ valued (codes "mode") ∷ flag (codes "no-wipe") ∷ [];
+      ∷ valued (codes "mode") ∷ flag (codes "no-wipe") ∷ flag (codes "recalculate") ∷ [];
 }
 
 abbrev pub run_entry : Entry

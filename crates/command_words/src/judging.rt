@@ -9,7 +9,8 @@ use crate::given::Given;
 use crate::numbers::{number, number_or, number_within};
 use crate::table::{
     BLOCKS_PER_BIT, COUNT, IMAGE, INTEGRITY, INTERLEAVE, KEY_FILE, LEGACY_PADDING,
-    LEGACY_RECALCULATE, MODE, NO_WIPE, PLACED, SALT, SECTIONS, SECTOR_SIZE, SEED, TAG_SIZE,
+    LEGACY_RECALCULATE, MODE, NO_WIPE, PLACED, RECALCULATE, SALT, SECTIONS, SECTOR_SIZE, SEED,
+    TAG_SIZE,
 };
 use crate::values::{
     BlockSize, Checked, Consent, FileName, HashChoice, ImageMode, Interleave, Mode, Padding, Wipe,
@@ -247,11 +248,14 @@ fn padding(given: &Given<'_>) -> Padding
     }
 }
 
-/// What becomes of the blocks.
+/// What becomes of the blocks. Where their tags are to be recalculated nothing is wiped, whether that is asked for or
+/// not.
 fn wipe(given: &Given<'_>) -> Wipe
     ensures { result ≡ Judging.wipe_of (given_in given.now) }
 {
-    if given.has(NO_WIPE) {
+    if given.has(RECALCULATE) {
+        Wipe::Recalculated
+    } else if given.has(NO_WIPE) {
         Wipe::Nothing
     } else {
         Wipe::Zeros

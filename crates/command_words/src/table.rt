@@ -94,6 +94,9 @@ pub(crate) const LEGACY_PADDING: &str = "integrity-legacy-padding";
 /// Source: integritysetup(8), `--no-wipe`.
 pub(crate) const NO_WIPE: &str = "no-wipe";
 
+/// The blocks are left as they are, and their tags are to be recalculated. Own.
+pub(crate) const RECALCULATE: &str = "recalculate";
+
 /// The table. Whatever comes to it is one row here, or one option in a row.
 static COMMANDS: [CommandRow; 7] = [
     CommandRow {
@@ -142,6 +145,10 @@ static COMMANDS: [CommandRow; 7] = [
             },
             OptionRow {
                 name: NO_WIPE,
+                takes: Takes::Nothing,
+            },
+            OptionRow {
+                name: RECALCULATE,
                 takes: Takes::Nothing,
             },
         ],

@@ -222,6 +222,8 @@ pub enum Wipe {
     Zeros,
     /// Nothing.
     Nothing,
+    /// Nothing, and the tags of all blocks are to be recalculated.
+    Recalculated,
 }
 
 /// Which content of an image is checked.

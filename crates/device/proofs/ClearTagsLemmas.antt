@@ -1,4 +1,4 @@
--- The tags of blocks whose region's bit was clear, where no call of the disk is made.
+-- The tags of blocks that do not await, where no call of the disk is made.
 use Rattle.std.proofs.Common.{◌≡◌, List}
 use Rattle.disk_model.specs.Disk.{Content}
 use Rattle.disk_model.proofs.MomentsLemmas.{EachMoment-kept}
@@ -9,7 +9,7 @@ use Rattle.device.specs.declared.mode.Mode.TheVariants.{Bitmap, Direct, Journal,
 use Rattle.device.specs.Answers.{KeepsClearTags}
 
 pub clear_tags_still : (mode : Mode) (common : Parts) (event : Event) {a b : List Content} → b ≡ a → KeepsClearTags mode common event a b
-clear_tags_still Direct common event same = tt
-clear_tags_still (Journal journal) common event same = tt
+clear_tags_still (Direct recalculation) common event same = λ w is. EachMoment-kept _ same
+clear_tags_still (Journal state) common event same = λ w is. EachMoment-kept _ same
 clear_tags_still (Bitmap regions) common event same = λ w is. EachMoment-kept _ same
 clear_tags_still Recovery common event same = tt

@@ -16,7 +16,6 @@ use Rattle.device_parts.specs.declared.condition.Condition.TheVariants as Condit
 use Rattle.device_parts.specs.declared.parts.Parts.{Parts}
 use Rattle.device_parts.specs.Answers.{actor_of}
 use Rattle.device_parts.specs.Device.{Standing}
-use Rattle.journal_device.specs.Device.{kept}
 use Rattle.bitmap_device.specs.Device.{IsUnwritten, kept as bitmap_kept}
 use Rattle.device.specs.declared.mode.Mode.{Mode}
 use Rattle.device.specs.declared.mode.Mode.TheVariants.{Bitmap, Direct, Journal, Recovery}
@@ -25,7 +24,7 @@ use Rattle.device.specs.Device.{IsDeviceIn}
 use Rattle.device.specs.Tags.{IsLeftOut, IsOfBlock, KeepsStill, KeepsTagsOf, Leaves, LeavesIn}
 use Rattle.device.specs.Writes.{WritesOnly}
 use Rattle.device.proofs.EventWritesLemmas.{close_writes, serve_writes, step_writes}
-use Rattle.device.proofs.ModeLemmas.{condition_now, own_direct, plain_bitmap, plain_journal, plain_recovery}
+use Rattle.device.proofs.ModeLemmas.{condition_now, own_direct, own_journal, plain_bitmap, plain_recovery}
 use Rattle.device.proofs.RunLemmas.{first_of}
 use Rattle.device.proofs.TagsLemmas.{among_first, unwritten_behind}
 
@@ -33,14 +32,14 @@ module _ (w : Standing) (common : Parts) (a : List Content) where
   -- The tags of blocks that changes leave out are left, where it is told of an event behind which these have no write.
   tags_left : (mode : Mode) → IsDeviceIn mode w Conditions.Working common a → (changes : List Change) (told_of : Event) {b : List Content}
       → ((block : ℕ) → IsLeftOut w.state.history changes block → IsUnwritten (after_event w.format w.state told_of).history block)
-      → WritesOnly w.format.mode w.on.geometry changes a b → KeepsClearTags mode common told_of a b
+      → WritesOnly w.format.mode w.on.geometry w.entry changes a b → KeepsClearTags mode common told_of a b
       → EachMoment a b (KeepsTagsOf w.format.mode (IsLeftOut w.state.history changes) w.on.geometry w.entry)
-  tags_left Direct is changes told_of {b} unwritten writes tags =
+  tags_left (Direct r) is changes told_of {b} unwritten writes tags =
       subst (λ (m : Model.Mode). EachMoment a b (KeepsTagsOf m (IsLeftOut w.state.history changes) w.on.geometry w.entry))
-      (own_direct w Conditions.Working common a is) (EachMoment-weaker (λ c any. tt) writes)
-  tags_left (Journal journal) is changes told_of {b} unwritten writes tags =
+      (own_direct w Conditions.Working common r a is) (tags w is)
+  tags_left (Journal state) is changes told_of {b} unwritten writes tags =
       subst (λ (m : Model.Mode). EachMoment a b (KeepsTagsOf m (IsLeftOut w.state.history changes) w.on.geometry w.entry))
-      (plain_journal.own w Conditions.Working (kept common journal) a is) (EachMoment-weaker (λ c any. tt) writes)
+      (own_journal w Conditions.Working common state a is) (tags w is)
   tags_left (Bitmap states) is changes told_of {b} unwritten writes tags =
       subst (λ (m : Model.Mode). EachMoment a b (KeepsTagsOf m (IsLeftOut w.state.history changes) w.on.geometry w.entry))
       (plain_bitmap.own w Conditions.Working (bitmap_kept common states) a is)
@@ -54,9 +53,8 @@ module _ (w : Standing) (common : Parts) (a : List Content) where
   -- In recovery mode the disk is as it was, where a call tells that.
   still_left : (mode : Mode) → IsDeviceIn mode w Conditions.Working common a → {b : List Content} → (mode ≡ Recovery → b ≡ a)
       → KeepsStill w.format.mode a b
-  still_left Direct is {b} same = subst (λ (m : Model.Mode). KeepsStill m a b) (own_direct w Conditions.Working common a is) tt
-  still_left (Journal journal) is {b} same =
-      subst (λ (m : Model.Mode). KeepsStill m a b) (plain_journal.own w Conditions.Working (kept common journal) a is) tt
+  still_left (Direct r) is {b} same = subst (λ (m : Model.Mode). KeepsStill m a b) (own_direct w Conditions.Working common r a is) tt
+  still_left (Journal state) is {b} same = subst (λ (m : Model.Mode). KeepsStill m a b) (own_journal w Conditions.Working common state a is) tt
   still_left (Bitmap states) is {b} same =
       subst (λ (m : Model.Mode). KeepsStill m a b) (plain_bitmap.own w Conditions.Working (bitmap_kept common states) a is) tt
   still_left Recovery is {b} same =

@@ -1,7 +1,10 @@
 pub use Rattle.journal_device.proofs.DoneLemmas
+pub mod AwaitingLemmas
+mod Worked
 pub mod EmptiedLemmas
 mod ClearTagsLemmas
 pub mod ModeLemmas
+pub mod MovingLemmas
 pub mod JudgedLemmas
 pub mod StepLemmas
 pub mod RequestLemmas
@@ -11,6 +14,7 @@ pub mod TagsLemmas
 pub mod RunLemmas
 mod NextWritesLemmas
 mod BitmapWritesLemmas
+pub mod JournalWritesLemmas
 mod EventWritesLemmas
 pub mod LeavesLemmas
 pub mod CallLemmas

@@ -34,7 +34,6 @@ use Rattle.device_parts.specs.Device.{HasEnded, IsDone, Standing, condition_of}
 use Rattle.device_parts.specs.declared.parts.Parts.{Parts}
 use Rattle.device_parts.proofs.TurnLemmas.{placed, slot-is}
 use Rattle.bitmap_device.specs.Device.{kept as bitmap_kept}
-use Rattle.journal_device.specs.Device.{kept}
 use Rattle.recovery_device.specs.Device.{HasNoWrite, in_recovery}
 use Rattle.recovery_device.proofs.EventLemmas.{is_submitted as recovery_submitted, submitted_to, taken_writes}
 use Rattle.recovery_device.proofs.NoWriteLemmas.{no_write_submit, no_write_take}
@@ -45,7 +44,7 @@ use Rattle.device.specs.declared.mode.Mode.{Mode}
 use Rattle.device.specs.declared.mode.Mode.TheVariants.{Bitmap, Direct, Journal, Recovery}
 use Rattle.device.specs.Answers.{refusal_in}
 use Rattle.device.specs.Device.{IsDevice, IsDeviceIn, IsReady, IsReadyIn, any_mode, kind_of, mode_of, with_slots}
-use Rattle.device.proofs.ModeLemmas.{condition_now, done_plain, flight_now, in_recovery_mode, left_now, only_done, own_direct, plain_bitmap, plain_journal, plain_recovery, quiet_done, reached_now}
+use Rattle.device.proofs.ModeLemmas.{condition_now, done_plain, flight_now, in_recovery_mode, left_now, only_done, own_direct, own_journal, plain_bitmap, plain_recovery, quiet_done, reached_now}
 
 -- ---- a device that is broken
 
@@ -124,12 +123,12 @@ module _ (w : Standing) (a : List Content) (request : Request) where
 
   submitted_in : (mode : Mode) (condition : Condition) (common : Parts) → IsDeviceIn mode w condition common a
       → IsSubmitted mode condition common (refusal_for mode condition common)
-  submitted_in Direct Conditions.Broken common is = broken Direct common is
-  submitted_in Direct Conditions.Working common is =
-      taken Direct common is (takes Modes.Direct (own_direct w Conditions.Working common a is) refl)
-  submitted_in (Journal journal) Conditions.Broken common is = broken (Journal journal) common is
-  submitted_in (Journal journal) Conditions.Working common is =
-      taken (Journal journal) common is (takes Modes.Journal (plain_journal.own w Conditions.Working (kept common journal) a is) refl)
+  submitted_in (Direct r) Conditions.Broken common is = broken (Direct r) common is
+  submitted_in (Direct r) Conditions.Working common is =
+      taken (Direct r) common is (takes Modes.Direct (own_direct w Conditions.Working common r a is) refl)
+  submitted_in (Journal state) Conditions.Broken common is = broken (Journal state) common is
+  submitted_in (Journal state) Conditions.Working common is =
+      taken (Journal state) common is (takes Modes.Journal (own_journal w Conditions.Working common state a is) refl)
   submitted_in (Bitmap regions) Conditions.Broken common is = broken (Bitmap regions) common is
   submitted_in (Bitmap regions) Conditions.Working common is =
       taken (Bitmap regions) common is (takes Modes.Bitmap (plain_bitmap.own w Conditions.Working (bitmap_kept common regions) a is) refl)
@@ -138,7 +137,7 @@ module _ (w : Standing) (a : List Content) (request : Request) where
       record {
         answers = done.answers;
         done = done_plain in_recovery Modes.Recovery in_recovery_mode plain_recovery w condition common a is
-            (Model.Submit (as_submission request)) condition (submitted_to condition request common) a a done.done;
+            (Model.Submit (as_submission request)) condition (submitted_to condition request common) a a tt tt done.done;
       }
 
   pub is_submitted : (condition : Condition) (parts : DeviceParts) → IsDevice w condition parts a
@@ -148,8 +147,8 @@ module _ (w : Standing) (a : List Content) (request : Request) where
 -- In a mode that takes writes a request is refused as its slots refuse it.
 pub refusal_other : (mode : Mode) → (mode ≡ Recovery → ⊥) → (condition : Condition) (flight : Flight) (request : Request)
     → refusal_in (mode_of mode) condition flight request ≡ submit_fault condition flight request
-refusal_other Direct other condition flight request = refl
-refusal_other (Journal journal) other condition flight request = refl
+refusal_other (Direct r) other condition flight request = refl
+refusal_other (Journal state) other condition flight request = refl
 refusal_other (Bitmap regions) other condition flight request = refl
 refusal_other Recovery other condition flight request = absurd (other refl)
 
@@ -260,10 +259,14 @@ module _ (w : Standing) (condition : Condition) (parts : DeviceParts) (a : List 
 ready_in : (mode : Mode) (condition : Condition) (common : Parts) (flight : Flight) (disk : DiskIdentity) (a : List Content)
     → HasSameBlocks common.slots flight → (mode ≡ Recovery → HasNoWrite common.slots → HasNoWrite flight)
     → IsReadyIn mode condition common disk a → IsReadyIn mode condition (record common { slots = flight }) disk a
-ready_in Direct condition common flight disk a same none ready = ready-same common flight disk a same ready
-ready_in (Journal journal) condition common flight disk a same none ready = record {
+ready_in (Direct r) condition common flight disk a same none ready = record {
+  parts_ = ready-same common flight disk a same ready.parts_;
+  geometry = ready.geometry;
+}
+ready_in (Journal state) condition common flight disk a same none ready = record {
   parts_ = λ works. ready-same common flight disk a same (ready.parts_ works);
   geometry = ready.geometry;
+  regions_ = ready.regions_;
 }
 ready_in (Bitmap regions) condition common flight disk a same none ready = record {
   parts_ = ready-same common flight disk a same ready.parts_;

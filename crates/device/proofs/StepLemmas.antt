@@ -1,20 +1,30 @@
--- A step of a device in direct or in recovery mode, and a close in recovery mode, which do nothing.
-use Rattle.std.proofs.Common.{◌≡◌, List, Ok, refl, sym, subst}
+-- A step and a close of a device in recovery mode, which do nothing, and what a step that goes on leaves in the others.
+use Rattle.std.proofs.Common.{◌≡◌, ◌<◌, List, IfOk, Result, Ok, Err, refl, sym, subst, arith}
 use Rattle.disk_model.specs.Disk.{Content}
 use Rattle.device_model.specs.Progress as Model
+use Rattle.recalculation.specs.declared.recalculating.Recalculation.{Recalculation}
+use Rattle.recalculation.specs.Recalculation.{fields_then}
 use Rattle.device_parts.specs.declared.answers.Actor.{Actor}
+use Rattle.device_parts.specs.declared.answers.Actor.TheVariants as Actors
+use Rattle.device_parts.specs.declared.parts.Parts.{Parts}
 use Rattle.device_parts.specs.declared.answers.Moved.{Moved}
 use Rattle.device_parts.specs.declared.answers.Moved.TheVariants as Moves
 use Rattle.device_parts.specs.declared.condition.Condition.TheVariants.{Working}
 use Rattle.device_parts.specs.Answers.{StepsNext, actor_of, moved_answer}
 use Rattle.device_parts.specs.Device.{Ends, IsDone, Standing}
-use Rattle.direct_device.proofs.EventLemmas.{rest_law}
+use Rattle.direct_device.specs.Answers as InDirect
+use Rattle.journal_device.specs.Answers as InJournal
+use Rattle.journal_device.specs.Answers.{AdvancesAs}
+use Rattle.journal_device.specs.Journal.{PlacedRing}
+use Rattle.bitmap_mode.specs.States.{States}
+use Rattle.bitmap_device.specs.Answers as InBitmap
 use Rattle.recovery_device.specs.Device.{in_recovery}
 use Rattle.recovery_device.proofs.EventLemmas.{end_law as recovery_end_law, rest_law as recovery_rest_law}
 use Rattle.device_model.specs.Mode as Modes
 use Rattle.device.specs.declared.mode.DeviceParts.{DeviceParts}
 use Rattle.device.specs.declared.mode.Mode.{Mode}
-use Rattle.device.specs.declared.mode.Mode.TheVariants.{Direct, Recovery}
+use Rattle.device.specs.declared.mode.Mode.TheVariants.{Bitmap, Direct, Journal, Recovery}
+use Rattle.device.specs.Answers.{GoesOn}
 use Rattle.device.specs.Device.{IsDevice, IsDeviceIn, any_mode}
 use Rattle.device.proofs.ModeLemmas.{ended_plain, in_recovery_mode, only_done, plain_recovery}
 
@@ -33,15 +43,43 @@ module _ (parts : DeviceParts) (a : List Content) (actor : Actor) where
     err = tt;
   }
 
-  pub rests_direct : {E : Type 0} → parts.mode ≡ Direct → (moved : Moved) → moved ≡ Moves.Idle
-      → StepsNext {E = E} any_mode actor parts parts a a (Ok moved)
-  rests_direct direct =
-      rests (λ w is. rest_law w parts.common a (actor_of actor) (subst (λ (m : Mode). IsDeviceIn m w Working parts.common a) direct is).direct)
-
   pub rests_recovery : {E : Type 0} → parts.mode ≡ Recovery → (moved : Moved) → moved ≡ Moves.Idle
       → StepsNext {E = E} any_mode actor parts parts a a (Ok moved)
   rests_recovery recovery =
       rests (λ w is. recovery_rest_law w parts.common a (actor_of actor) (subst (λ (m : Mode). IsDeviceIn m w Working parts.common a) recovery is))
+
+-- ---- a step that goes on
+
+-- One that recalculated a region has moved the position, in direct mode. No other actor does anything there.
+direct_advances : (actor : Actor) (old new : Recalculation) → InDirect.steps_left actor new < InDirect.steps_left actor old → new.position ≡ fields_then old new → AdvancesAs actor Moves.Did old new
+direct_advances Actors.Commit old new fewer fields = absurd (omega (arith, fewer))
+direct_advances Actors.Place old new fewer fields = absurd (omega (arith, fewer))
+direct_advances Actors.Settle old new fewer fields = absurd (omega (arith, fewer))
+direct_advances Actors.Clean old new fewer fields = absurd (omega (arith, fewer))
+direct_advances Actors.Recalc old new fewer fields = fields
+
+pub direct_goes_on : {E : Type 0} (actor : Actor) (common later : Parts) (old new : Recalculation) (result : Result Moved E)
+    → IfOk result (λ moved. moved ≡ Moves.Did → InDirect.steps_left actor new < InDirect.steps_left actor old) → IfOk result (λ moved. moved ≡ Moves.Did → new.position ≡ fields_then old new)
+    → IfOk result (λ moved. moved ≡ Moves.Did → GoesOn actor (Direct old) (Direct new))
+direct_goes_on actor common later old new (Ok moved) fewer fields = λ did. record { fewer = fewer did; advances = direct_advances actor old new (fewer did) (fields did) }
+direct_goes_on actor common later old new (Err fault) fewer fields = tt
+
+-- In journal mode it is told of each actor.
+pub journal_goes_on : {E : Type 0} (actor : Actor) (journal later : PlacedRing) (old new : Recalculation) (result : Result Moved E)
+    → IfOk result (λ moved. moved ≡ Moves.Did → InJournal.steps_left actor later new < InJournal.steps_left actor journal old) → IfOk result (λ moved. AdvancesAs actor moved old new)
+    → IfOk result (λ moved. moved ≡ Moves.Did
+    → GoesOn actor (Journal (record { journal = journal; recalculation = old })) (Journal (record { journal = later; recalculation = new })))
+journal_goes_on actor journal later old new (Ok moved) fewer advances = λ did. record {
+  fewer = fewer did;
+  advances = subst (λ (m : Moved). AdvancesAs actor m old new) did advances;
+}
+journal_goes_on actor journal later old new (Err fault) fewer advances = tt
+
+pub bitmap_goes_on : {E : Type 0} (actor : Actor) (old new : States) (result : Result Moved E)
+    → IfOk result (λ moved. moved ≡ Moves.Did → InBitmap.steps_left actor new < InBitmap.steps_left actor old)
+    → IfOk result (λ moved. moved ≡ Moves.Did → GoesOn actor (Bitmap old) (Bitmap new))
+bitmap_goes_on actor old new (Ok moved) fewer = λ did. record { fewer = fewer did; advances = tt }
+bitmap_goes_on actor old new (Err fault) fewer = tt
 
 -- ---- a close
 
@@ -52,7 +90,7 @@ ends_recovery parts a recovery = record {
   done = λ w is.
       let own = subst (λ (m : Mode). IsDeviceIn m w Working parts.common a) recovery is in
       let ended = recovery_end_law w parts.common a own in
-      ended_plain in_recovery Modes.Recovery in_recovery_mode plain_recovery w Working parts.common a own Model.Close Model.IsClosed a a (record {
+      ended_plain in_recovery Modes.Recovery in_recovery_mode plain_recovery w Working parts.common a own Model.Close Model.IsClosed a a tt (record {
         answers = ended.answers;
         through = ended.through;
         left = record { opens = λ c told image of. tt; left = λ c told image of. tt };

@@ -94,8 +94,8 @@ pub tags_fewer : (mode : Model.Mode) (More Fewer : ℕ → Type 0) (g : Geometry
     → KeepsTagsOf mode Fewer g entry c
 tags_fewer Model.Bitmap More Fewer g entry fewer c keeps =
     λ image of. record { each = λ b below clear is. (keeps image of).each b below clear (fewer b is) }
-tags_fewer Model.Journal More Fewer g entry fewer c keeps = tt
-tags_fewer Model.Direct More Fewer g entry fewer c keeps = tt
+tags_fewer Model.Journal More Fewer g entry fewer c keeps = keeps
+tags_fewer Model.Direct More Fewer g entry fewer c keeps = keeps
 tags_fewer Model.Recovery More Fewer g entry fewer c keeps = tt
 
 -- ---- a disk as it was
@@ -121,7 +121,7 @@ module _ (w : Standing) where
   -- Where no moment has passed nothing is done.
   pub leaves_all : (changes : List Change) {a b : List Content} → b ≡ a → Leaves w changes a b
   leaves_all changes same = record {
-    sectors = WritesOnly-kept w.format.mode w.on.geometry changes same;
+    sectors = WritesOnly-kept w.format.mode w.on.geometry w.entry changes same;
     tags = EachMoment-kept _ same;
     still = still_kept w.format.mode same;
   }
@@ -129,7 +129,7 @@ module _ (w : Standing) where
   -- What some changes leave is left by them and more,
   pub leaves_left : (xs ys : List Change) {a b : List Content} → Leaves w xs a b → Leaves w (xs ++ ys) a b
   leaves_left xs ys leaves = record {
-    sectors = WritesOnly-left w.format.mode w.on.geometry xs ys leaves.sectors;
+    sectors = WritesOnly-left w.format.mode w.on.geometry w.entry xs ys leaves.sectors;
     tags = EachMoment-weaker
         (tags_fewer w.format.mode (IsLeftOut w.state.history xs) (IsLeftOut w.state.history (xs ++ ys)) w.on.geometry w.entry
         (λ block. out_left block w.state.history xs ys)) leaves.tags;
@@ -143,7 +143,7 @@ module _ (w : Standing) where
   leaves_then s xs ys {a} {b} {c} history first second =
       let all = IsLeftOut w.state.history (xs ++ ys) in
       record {
-        sectors = WritesOnly-then w.format.mode w.on.geometry xs ys first.sectors second.sectors;
+        sectors = WritesOnly-then w.format.mode w.on.geometry w.entry xs ys first.sectors second.sectors;
         tags = EachMoment-then (leaves_left xs ys first).tags
             (EachMoment-weaker
             (tags_fewer w.format.mode (IsLeftOut (with_changes xs w.state.history) ys) all w.on.geometry w.entry

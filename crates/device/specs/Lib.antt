@@ -7,6 +7,7 @@ pub use Rattle.journal_device.specs.Commits
 pub use Rattle.journal_device.specs.Device as JournalDeviceDevice
 pub use Rattle.journal_device.specs.Journal
 pub use Rattle.journal_device.specs.Standing
+pub mod Awaiting
 pub mod Answers
 pub mod Calls
 pub mod Device

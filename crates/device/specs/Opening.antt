@@ -19,15 +19,15 @@ use Rattle.device.specs.declared.opening.OpenMode.TheVariants.{Bitmap, Direct, J
 
 -- The mode that is asked for.
 abbrev pub asked_mode : OpenMode → Model.Mode
-asked_mode Direct = Model.Direct
-asked_mode Journal = Model.Journal
+asked_mode (Direct consent) = Model.Direct
+asked_mode (Journal consent) = Model.Journal
 asked_mode (Bitmap consent) = Model.Bitmap
 asked_mode Recovery = Model.Recovery
 
 -- The fault of an image on a disk of so many sectors, where it is to be opened so under a key.
 abbrev pub fault_in_mode : OpenMode → Option (List ℕ) → (sectors : ℕ) → Image → Option ImageFault
-fault_in_mode Direct key sectors image = fault_of key sectors image
-fault_in_mode Journal key sectors image = fault_of key sectors image
+fault_in_mode (Direct consent) key sectors image = fault_of key consent sectors image
+fault_in_mode (Journal consent) key sectors image = fault_of key consent sectors image
 fault_in_mode (Bitmap consent) key sectors image = bitmap_fault_of key consent sectors image
 fault_in_mode Recovery key sectors image = format_fault_of sectors image
 
@@ -43,8 +43,8 @@ HasNoFault mode key sectors moments = HasNow (λ c. fault_in_mode mode key secto
 
 -- In direct mode nothing is pending once it is open.
 abbrev pub IsSettledIn : OpenMode → List Content → Type 0
-IsSettledIn Direct moments = HasNow HasNothingPending moments
-IsSettledIn Journal moments = Unit {0}
+IsSettledIn (Direct consent) moments = HasNow HasNothingPending moments
+IsSettledIn (Journal consent) moments = Unit {0}
 IsSettledIn (Bitmap consent) moments = Unit {0}
 IsSettledIn Recovery moments = Unit {0}
 
@@ -60,8 +60,8 @@ pub record IsRefused (mode : OpenMode) (key : Option (List ℕ)) (disk : DiskIde
 -- and where the journal was empty nothing of it is written. In bitmap mode nothing is; in recovery mode the disk is not
 -- synced either.
 abbrev pub WritesInOpening : OpenMode → (key : Option (List ℕ)) → (sectors : ℕ) → (before after : List Content) → Type 0
-WritesInOpening Direct key sectors before after = WritesEmptying key sectors before after
-WritesInOpening Journal key sectors before after = WritesOpening key sectors before after
+WritesInOpening (Direct consent) key sectors before after = WritesEmptying key sectors before after
+WritesInOpening (Journal consent) key sectors before after = WritesOpening key sectors before after
 WritesInOpening (Bitmap consent) key sectors before after = OnlySyncs before after
 WritesInOpening Recovery key sectors before after = after ≡ before
 

@@ -9,13 +9,14 @@ ghost use Rattle.device.specs.Answers.{KeepsClearTags, WritesInClose};
 ghost use Rattle.device.specs.Calls.{Closes, LeavesAtRest, WritesClosing};
 ghost use Rattle.device.specs.Device.{IsReady, any_mode};
 
-use crate::{DeviceParts, Mode};
+use crate::{DeviceParts, JournalState, Mode};
 use device_parts::{Condition, StepFault};
 use sector_disk::{Disk, Failed};
 
 /// Flushes all that was written; in journal mode all is committed, placed and settled, and in bitmap mode the bit of
-/// each region is cleared that does not await. In recovery mode, and where it is broken, a device makes no call of its
-/// disk.
+/// each region is cleared that does not await. Where tags are to be recalculated without a bitmap the position then
+/// moves to the regions that await still, and without one the flag is cleared. In recovery mode, and where it is broken,
+/// a device makes no call of its disk.
 ///
 /// # Errors
 ///
@@ -75,8 +76,16 @@ fn close_in_mode<D: Disk>(disk: &mut D, parts: DeviceParts<'_>) -> Result<(), Fa
 {
     let DeviceParts { mut common, mode } = parts;
     match mode {
-        Mode::Direct => direct_device::close(disk, &mut common),
-        Mode::Journal(mut journal) => journal_device::close(disk, &mut common, &mut journal),
+        Mode::Direct(mut recalculation) => {
+            direct_device::close(disk, &mut common, &mut recalculation)
+        }
+        Mode::Journal(state) => {
+            let JournalState {
+                mut journal,
+                mut recalculation,
+            } = state;
+            journal_device::close(disk, &mut common, &mut journal, &mut recalculation)
+        }
         Mode::Bitmap(mut regions) => bitmap_device::close(disk, &mut common, &mut regions),
         Mode::Recovery => Ok(()),
     }

@@ -8,7 +8,7 @@ ghost use Rattle.request_slots.specs.Submitting.{answer_by};
 ghost use Rattle.device_parts.specs.Answers.{HasStepCause, TurnsBroken, actor_of};
 ghost use Rattle.device_parts.specs.declared.answers.Served.TheVariants.{Did, NoRoom};
 ghost use Rattle.device_model.specs.Progress.{Close, FailedServe, Step};
-ghost use Rattle.device.specs.Answers.{HasNoWork, KeepsClearTags, steps_left};
+ghost use Rattle.device.specs.Answers.{GoesOn, HasNoWork, KeepsClearTags};
 ghost use Rattle.device.specs.Calls.{Closes, GivesSerial, HasFewerTurns, Keeps, LeavesAtRest, Serves, StaysReady, Steps};
 ghost use Rattle.device.specs.Calls.{Submits, Takes, WritesClosing, WritesServing, WritesStepping, refusal_to, with_submitted};
 ghost use Rattle.device.specs.Device.{IsReady, mode_of, with_slots};
@@ -33,10 +33,11 @@ pub struct Device<'d, 'p, D: Disk> {
 impl<'d, 'p, D: Disk> Device<'d, 'p, D> {
     /// Opens a device on a disk in the mode that is asked for, whose tags are made by this hash. All memory that it
     /// ever takes is taken before the first write, and the region gets the journal's sectors. In each mode but
-    /// recovery mode the disk is synced. In direct and journal mode all that its journal holds comes to its place. In
-    /// direct mode the journal is then emptied, unless every entry of it is unused and it has one commit number: no
-    /// image of the disk has an entry that counts then. In bitmap mode each region awaits whose bit is set, and
-    /// nothing is written. In recovery mode the disk is called for one read.
+    /// recovery mode the disk is synced. In direct and journal mode all that its journal holds comes to its place, and
+    /// each region awaits that has a block which is to be recalculated. In direct mode the journal is then emptied,
+    /// unless every entry of it is unused and it has one commit number: no image of the disk has an entry that counts
+    /// then. In bitmap mode each region awaits whose bit is set, and nothing is written. In recovery mode the disk is
+    /// called for one read.
     ///
     /// # Errors
     ///
@@ -47,7 +48,8 @@ impl<'d, 'p, D: Disk> Device<'d, 'p, D> {
     /// - `Super`: the superblock is refused. A disk without a sector has no magic. Nothing was done.
     /// - `Geom`: the disk has no room for what the superblock tells. Nothing was done.
     /// - `Mode`: there is a bitmap; in bitmap mode, there is none; in recovery mode, it never comes. Nothing was done.
-    /// - `Consent`: in bitmap mode, a bit is set, there is a key, and consent is withheld. Nothing was done.
+    /// - `Consent`: a block is to be recalculated, in bitmap mode a bit is set, there is a key, and consent is withheld.
+    ///   Nothing was done.
     /// - `Journal`: the journal is refused, which recovery mode does not read. Nothing was done.
     pub fn open(
         alloc: Global,
@@ -202,10 +204,11 @@ impl<'d, 'p, D: Disk> Device<'d, 'p, D> {
         submitting::take(&mut self.parts, ticket)
     }
 
-    /// Lets an actor do its next step. In direct and in recovery mode none has anything to do; in journal mode a commit
-    /// writes the opened sections, a place writes an entry to its place, and a settle frees sections; in bitmap mode a
-    /// clean clears the bit of the least region that needs none and has no block of a request in flight, and a
-    /// recalculation takes the least region that awaits. A broken device makes no call of its disk.
+    /// Lets an actor do its next step. In journal mode a commit writes the opened sections, a place writes an entry to
+    /// its place, and a settle frees sections; in bitmap mode a clean clears the bit of the least region that needs none
+    /// and has no block of a request in flight. In each of these and in direct mode a recalculation takes the least
+    /// region that awaits; without a bitmap it then moves the position, or clears the flag. Else there is nothing to do.
+    /// A broken device makes no call of its disk.
     ///
     /// # Errors
     ///
@@ -217,8 +220,7 @@ impl<'d, 'p, D: Disk> Device<'d, 'p, D> {
 
         ensures stepped { Steps actor result self.old.condition self.old.parts self.new.parts
             (D.moments self.old.disk.now) (D.moments self.new.disk.now) }
-        ensures goes_on { result ≡ Ok Moved.Did
-            → steps_left actor self.new.parts.mode < steps_left actor self.old.parts.mode }
+        ensures goes_on { result ≡ Ok Moved.Did → GoesOn actor self.old.parts.mode self.new.parts.mode }
 
         ensures cause { HasStepCause (D.faults self.old.disk.now) (D.faults self.new.disk.now) result }
         ensures condition { TurnsBroken self.old.condition self.new.condition result
@@ -241,8 +243,9 @@ impl<'d, 'p, D: Disk> Device<'d, 'p, D> {
     }
 
     /// Flushes all that was written, and gives the disk back; in journal mode all is committed, placed and settled, and
-    /// in bitmap mode the bit of each region is cleared that does not await. Requests that are unfinished are dropped.
-    /// In recovery mode, and where it is broken, a device makes no call of its disk.
+    /// in bitmap mode the bit of each region is cleared that does not await. Where tags are to be recalculated without a
+    /// bitmap the position then moves to the regions that await still, and without one the flag is cleared. Requests
+    /// that are unfinished are dropped. In recovery mode, and where it is broken, a device makes no call of its disk.
     ///
     /// # Errors
     ///

@@ -3,8 +3,8 @@
 //!
 //! A contract sees a device as what it keeps beside its disk, and what the disk tells of its content.
 //! `specs/Device.antt`, the file to read first, says which device of `device_model` that is; each call is then one
-//! event of it, and a chain a run of events, `specs/Run.antt`. The work of each mode stands in `direct_device` and
-//! `journal_device`. Whether the device is broken is judged here alone.
+//! event of it, and a chain a run of events, `specs/Run.antt`. The work of each mode stands in `direct_device`,
+//! `journal_device`, `bitmap_device` and `recovery_device`. Whether the device is broken is judged here alone.
 #![tactic(auto)]
 
 mod closing;
@@ -23,6 +23,6 @@ pub use device_parts::{Actor, Moved, Served};
 pub use finishing::{finish, serve, serve_with_room};
 pub use image_judging::Consent;
 pub use making_room::{make_room, step, step_until_idle};
-pub use mode::{DeviceParts, Mode};
+pub use mode::{DeviceParts, JournalState, Mode};
 pub use opening::OpenMode;
 pub use refused::Refused;

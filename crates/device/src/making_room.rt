@@ -1,10 +1,10 @@
 //! Steps of the actors of a device: one, as many as there are, and those that make room in its journal.
-ghost use Rattle.std.specs.Prelude.{◌≡◌, ◌<◌, IfOk};
+ghost use Rattle.std.specs.Prelude.{◌≡◌, IfOk};
 ghost use Rattle.disk_model.specs.Causes.{HasCause};
 ghost use Rattle.device_model.specs.Progress.{Step};
 ghost use Rattle.device_model.specs.Script.{IsOfJournal};
 ghost use Rattle.device_parts.specs.Answers.{actor_of, condition_by, moved_answer};
-ghost use Rattle.device.specs.Answers.{HasNoWork, steps_left};
+ghost use Rattle.device.specs.Answers.{GoesOn, HasNoWork};
 ghost use Rattle.device.specs.Calls.{AnswersEvent, Runs, Works};
 ghost use Rattle.device.specs.Device.{mode_of};
 ghost use Rattle.device.specs.Run.{all_steps, one_step, room_steps};
@@ -28,7 +28,7 @@ pub fn step<'d, 'p, D: Disk>(device: &mut Device<'d, 'p, D>, actor: Actor) -> Re
     ensures answers { AnswersEvent (Step (actor_of actor)) moved_answer device.old.parts
         (D.moments device.old.disk.now) result }
     ensures goes_on { IfOk result (λ moved. moved ≡ Moved.Did
-        → steps_left actor device.new.parts.mode < steps_left actor device.old.parts.mode) }
+        → GoesOn actor device.old.parts.mode device.new.parts.mode) }
     ensures quiet { HasNoWork (mode_of device.old.parts.mode) (actor_of actor)
         → device.new.disk.now ≡ device.old.disk.now }
 

@@ -3,14 +3,25 @@
 use bitmap_device::RegionStates;
 use device_parts::Parts;
 use journal_device::Journal;
+use recalculation::Recalculation;
+
+/// What a device in journal mode keeps for it.
+#[derive(Drop)]
+pub struct JournalState<'p> {
+    /// The journal in use.
+    pub journal: Journal<'p>,
+    /// Which regions await the tags of their blocks, and how far sector 0 says that it is.
+    pub recalculation: Recalculation,
+}
 
 /// What a device keeps for its mode.
 #[derive(Drop)]
 pub enum Mode<'p> {
-    /// In direct mode a write goes to its place at once: nothing is kept for it.
-    Direct,
+    /// In direct mode a write goes to its place at once. Kept is which regions await the tags of their blocks, and how
+    /// far sector 0 says that it is.
+    Direct(Recalculation),
     /// In journal mode a write goes to the journal first.
-    Journal(Journal<'p>),
+    Journal(JournalState<'p>),
     /// In bitmap mode a write sets the bit of its region first, and goes to its place then.
     Bitmap(RegionStates),
     /// In recovery mode there are no writes, and no tag is compared: nothing is kept for it.

@@ -5,7 +5,7 @@ ghost use Rattle.hmac_tag.specs.TagMaker.{key_of};
 ghost use Rattle.image_judging.specs.Faults.{HasOpenCause};
 ghost use Rattle.device.specs.Opening.{HasNoFault, HasOpenedIn, IsRefused, IsSettledIn, LeavesOpening};
 
-use crate::{DeviceParts, Mode};
+use crate::{DeviceParts, JournalState, Mode};
 use device_opening::{open_bitmap, open_direct, open_journal, open_recovery};
 use hmac_tag::Hash;
 use image_judging::{Consent, OpeningFault};
@@ -17,11 +17,11 @@ use std::alloc::Global;
 #[derive(Clone, Copy, Debug, PartialEq, Eq)]
 pub enum OpenMode {
     /// Writes go to their places. What the journal holds comes to its place at the opening, which then empties it.
-    Direct,
+    /// Whether tags may be made anew that a key protects, as in the next two.
+    Direct(Consent),
     /// Writes go to the journal first.
-    Journal,
-    /// Writes set the bit of their region first, and go to their places then. Whether tags may be made anew that a key
-    /// protects.
+    Journal(Consent),
+    /// Writes set the bit of their region first, and go to their places then.
     Bitmap(Consent),
     /// There are no writes, and reads give what stands in the places of their blocks, whatever their tags are.
     Recovery,
@@ -41,7 +41,8 @@ pub enum OpenMode {
 /// - `Super`: the superblock is refused. A disk without a sector has no magic. Nothing was done.
 /// - `Geom`: the disk has no room for what the superblock tells. Nothing was done.
 /// - `Mode`: there is a bitmap; in bitmap mode, there is none; in recovery mode, it never comes. Nothing was done.
-/// - `Consent`: in bitmap mode, a bit is set, there is a key, and consent is withheld. Nothing was done.
+/// - `Consent`: a block is to be recalculated, in bitmap mode a bit is set, there is a key, and consent is withheld.
+///   Nothing was done.
 /// - `Journal`: the journal is refused, which recovery mode does not read. Nothing was done.
 pub(crate) fn open<'p, D: Disk>(
     alloc: Global,
@@ -64,8 +65,8 @@ pub(crate) fn open<'p, D: Disk>(
         (D.moments disk.old) (D.moments disk.new) }
 {
     match mode {
-        OpenMode::Direct => open_in_direct(alloc, disk, pool, hash),
-        OpenMode::Journal => open_in_journal(alloc, disk, pool, hash),
+        OpenMode::Direct(consent) => open_in_direct(alloc, disk, pool, hash, consent),
+        OpenMode::Journal(consent) => open_in_journal(alloc, disk, pool, hash, consent),
         OpenMode::Bitmap(consent) => open_in_bitmap(alloc, disk, hash, consent),
         OpenMode::Recovery => open_in_recovery(alloc, disk, hash),
     }
@@ -81,24 +82,25 @@ fn open_in_direct<'p, D: Disk>(
     disk: &mut D,
     pool: &mut Region,
     hash: Hash,
+    consent: Consent,
 ) -> Result<DeviceParts<'p>, OpeningFault>
     requires { IsBound (D.identity disk.old).name }
 
-    ensures opened { IfOk result (λ parts. HasOpenedIn OpenMode.Direct (key_of hash) (D.identity disk.old) parts
+    ensures opened { IfOk result (λ parts. HasOpenedIn (OpenMode.Direct consent) (key_of hash) (D.identity disk.old) parts
         (D.moments disk.old) (D.moments disk.new)) }
-    ensures settled { IfOk result (λ parts. IsSettledIn OpenMode.Direct (D.moments disk.new)) }
-    ensures accepted { IfOk result (λ parts. HasNoFault OpenMode.Direct (key_of hash) (D.identity disk.old).sectors
+    ensures settled { IfOk result (λ parts. IsSettledIn (OpenMode.Direct consent) (D.moments disk.new)) }
+    ensures accepted { IfOk result (λ parts. HasNoFault (OpenMode.Direct consent) (key_of hash) (D.identity disk.old).sectors
         (D.moments disk.old)) }
-    ensures refused { IfErr result (λ fault. IsRefused OpenMode.Direct (key_of hash) (D.identity disk.old) fault
+    ensures refused { IfErr result (λ fault. IsRefused (OpenMode.Direct consent) (key_of hash) (D.identity disk.old) fault
         (D.moments disk.old) (D.moments disk.new)) }
     ensures cause { HasOpenCause (D.faults disk.old) (D.faults disk.new) result }
-    ensures leaves { LeavesOpening OpenMode.Direct (key_of hash) (D.identity disk.old) (D.identity disk.new)
+    ensures leaves { LeavesOpening (OpenMode.Direct consent) (key_of hash) (D.identity disk.old) (D.identity disk.new)
         (D.moments disk.old) (D.moments disk.new) }
 {
-    let common = open_direct(alloc, disk, hash, pool)?;
+    let opened = open_direct(alloc, disk, hash, consent, pool)?;
     Ok(DeviceParts {
-        common,
-        mode: Mode::Direct,
+        common: opened.parts,
+        mode: Mode::Direct(opened.recalculation),
     })
 }
 
@@ -112,23 +114,27 @@ fn open_in_journal<'p, D: Disk>(
     disk: &mut D,
     pool: &'p mut Region,
     hash: Hash,
+    consent: Consent,
 ) -> Result<DeviceParts<'p>, OpeningFault>
     requires { IsBound (D.identity disk.old).name }
 
-    ensures opened { IfOk result (λ parts. HasOpenedIn OpenMode.Journal (key_of hash) (D.identity disk.old) parts
+    ensures opened { IfOk result (λ parts. HasOpenedIn (OpenMode.Journal consent) (key_of hash) (D.identity disk.old) parts
         (D.moments disk.old) (D.moments disk.new)) }
-    ensures accepted { IfOk result (λ parts. HasNoFault OpenMode.Journal (key_of hash) (D.identity disk.old).sectors
+    ensures accepted { IfOk result (λ parts. HasNoFault (OpenMode.Journal consent) (key_of hash) (D.identity disk.old).sectors
         (D.moments disk.old)) }
-    ensures refused { IfErr result (λ fault. IsRefused OpenMode.Journal (key_of hash) (D.identity disk.old) fault
+    ensures refused { IfErr result (λ fault. IsRefused (OpenMode.Journal consent) (key_of hash) (D.identity disk.old) fault
         (D.moments disk.old) (D.moments disk.new)) }
     ensures cause { HasOpenCause (D.faults disk.old) (D.faults disk.new) result }
-    ensures leaves { LeavesOpening OpenMode.Journal (key_of hash) (D.identity disk.old) (D.identity disk.new)
+    ensures leaves { LeavesOpening (OpenMode.Journal consent) (key_of hash) (D.identity disk.old) (D.identity disk.new)
         (D.moments disk.old) (D.moments disk.new) }
 {
-    let opened = open_journal(alloc, disk, hash, pool)?;
+    let opened = open_journal(alloc, disk, hash, consent, pool)?;
     Ok(DeviceParts {
         common: opened.parts,
-        mode: Mode::Journal(opened.journal),
+        mode: Mode::Journal(JournalState {
+            journal: opened.journal,
+            recalculation: opened.recalc,
+        }),
     })
 }
 

@@ -84,8 +84,16 @@ fn serve_next<D: Disk>(
         (D.moments disk.old) (D.moments disk.new) }
 {
     match &mut parts.mode {
-        Mode::Direct => direct_device::serve(disk, &mut parts.common, ticket),
-        Mode::Journal(journal) => journal_device::serve(disk, &mut parts.common, journal, ticket),
+        Mode::Direct(recalculation) => {
+            direct_device::serve(disk, &mut parts.common, recalculation, ticket)
+        }
+        Mode::Journal(state) => journal_device::serve(
+            disk,
+            &mut parts.common,
+            &mut state.journal,
+            &mut state.recalculation,
+            ticket,
+        ),
         Mode::Bitmap(regions) => bitmap_device::serve(disk, &mut parts.common, regions, ticket),
         Mode::Recovery => recovery_device::serve(disk, &mut parts.common, ticket),
     }

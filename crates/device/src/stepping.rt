@@ -1,10 +1,10 @@
 //! What is done in the background, in the device's mode.
-ghost use Rattle.std.specs.Prelude.{◌≡◌, ◌<◌, IfOk, Ok};
+ghost use Rattle.std.specs.Prelude.{◌≡◌, IfOk, Ok};
 ghost use Rattle.disk_model.specs.Causes.{HasCause};
 ghost use Rattle.device_parts.specs.Answers.{HasStepCause, StepsNext, TurnsBroken, actor_of};
 ghost use Rattle.device_parts.specs.declared.condition.Condition.TheVariants.{Working};
 ghost use Rattle.device_model.specs.Progress.{Step};
-ghost use Rattle.device.specs.Answers.{HasNoWork, KeepsClearTags, WritesInStep, steps_left};
+ghost use Rattle.device.specs.Answers.{GoesOn, HasNoWork, KeepsClearTags, WritesInStep};
 ghost use Rattle.device.specs.Calls.{Keeps, Steps, WritesStepping};
 ghost use Rattle.device.specs.Device.{IsReady, any_mode, mode_of};
 
@@ -27,7 +27,7 @@ pub(crate) fn step<D: Disk>(
     requires { IsReady condition.old parts.old (D.identity disk.old) (D.moments disk.old) }
 
     ensures stepped { Steps actor result condition.old parts.old parts.new (D.moments disk.old) (D.moments disk.new) }
-    ensures goes_on { result ≡ Ok Moved.Did → steps_left actor parts.new.mode < steps_left actor parts.old.mode }
+    ensures goes_on { result ≡ Ok Moved.Did → GoesOn actor parts.old.mode parts.new.mode }
 
     ensures cause { HasStepCause (D.faults disk.old) (D.faults disk.new) result }
     ensures condition { TurnsBroken condition.old condition.new result disk.old disk.new }
@@ -53,8 +53,7 @@ pub(crate) fn step<D: Disk>(
     }
 }
 
-/// Lets an actor of a device that works do its next step, as its mode has it. In direct and in recovery mode none has
-/// anything to do.
+/// Lets an actor of a device that works do its next step, as its mode has it. In recovery mode none has anything to do.
 ///
 /// # Errors
 ///
@@ -67,8 +66,7 @@ fn step_next<D: Disk>(
     requires { IsReady Working parts.old (D.identity disk.old) (D.moments disk.old) }
 
     ensures next { StepsNext any_mode actor parts.old parts.new (D.moments disk.old) (D.moments disk.new) result }
-    ensures goes_on { IfOk result (λ moved. moved ≡ Moved.Did
-        → steps_left actor parts.new.mode < steps_left actor parts.old.mode) }
+    ensures goes_on { IfOk result (λ moved. moved ≡ Moved.Did → GoesOn actor parts.old.mode parts.new.mode) }
     ensures idle { IfOk result (λ moved. moved ≡ Moved.Idle
         → (parts.new ≡ parts.old) × (disk.new ≡ disk.old)) }
 
@@ -83,8 +81,16 @@ fn step_next<D: Disk>(
     ensures quiet { HasNoWork (mode_of parts.old.mode) (actor_of actor) → disk.new ≡ disk.old }
 {
     match &mut parts.mode {
-        Mode::Direct => Ok(direct_device::step(actor)),
-        Mode::Journal(journal) => journal_device::step(disk, &mut parts.common, journal, actor),
+        Mode::Direct(recalculation) => {
+            direct_device::step(disk, &mut parts.common, recalculation, actor)
+        }
+        Mode::Journal(state) => journal_device::step(
+            disk,
+            &mut parts.common,
+            &mut state.journal,
+            &mut state.recalculation,
+            actor,
+        ),
         Mode::Bitmap(regions) => bitmap_device::step(disk, &mut parts.common, regions, actor),
         Mode::Recovery => Ok(recovery_device::step(actor)),
     }

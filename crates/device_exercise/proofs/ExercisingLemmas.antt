@@ -230,8 +230,9 @@ stays_wider m most condition old new tickets before disk moments fits stays = re
 -- A device that works has a block.
 some_in : (mode : Mode) (common : Parts) (disk : DiskIdentity) (moments : List Content)
     → IsReadyIn mode Conditions.Working common disk moments → 1 ≤ common.slots.blocks
-some_in Modes.Direct common disk moments ready =
-    let some = ready.store.geometry.blocks in let is = ready.blocks in omega (arith, some, is)
+some_in (Modes.Direct recalc) common disk moments ready =
+    let direct = ready.parts_ in
+    let some = direct.store.geometry.blocks in let is = direct.blocks in omega (arith, some, is)
 some_in (Modes.Journal journal) common disk moments ready =
     let direct = ready.parts_ refl in
     let some = direct.store.geometry.blocks in let is = direct.blocks in omega (arith, some, is)

@@ -6,7 +6,7 @@ use Rattle.disk_model.specs.Identity.{DiskIdentity}
 use Rattle.disk_model.specs.Moments.{EachMoment, EachSince, HasNow, IsChangedBy, content_now}
 use Rattle.image_model.specs.Bitmap.{is_dirty}
 use Rattle.image_model.specs.Cells.{placed_cells_of}
-use Rattle.image_model.specs.Geometry.{Geometry, bitmap_sectors, journal_sectors, layout_of, regions}
+use Rattle.image_model.specs.Geometry.{Geometry, bitmap_sectors, journal_sectors, regions}
 use Rattle.image_model.specs.GeometryLaws.{FitsDisk}
 use Rattle.image_model.proofs.GeometryOf.{geometry_given}
 use Rattle.device_model.specs.Mode.{Bitmap}
@@ -24,7 +24,7 @@ use Rattle.hmac_tag.specs.TagMaker.{TagRule}
 use Rattle.image_format.specs.declared.reading.ImageFormat.{ImageFormat}
 use Rattle.image_format.specs.Format.{IsBitmapFormat, bitmap_format_of, disk_format}
 use Rattle.image_judging.specs.declared.consent.Consent.{Consent}
-use Rattle.image_judging.specs.Faults.{ByConsent, ImageFault, bitmap_fault_by, bitmap_fault_of, has_dirty_region, lacks_consent}
+use Rattle.image_judging.specs.Faults.{ByConsent, bitmap_fault_by, bitmap_fault_of, has_dirty_region, lacks_consent}
 use Rattle.recalculation.specs.Awaiting.{awaiting_of}
 use Rattle.tag_store.specs.Store.{IsStore, Store, given_tags}
 use Rattle.request_slots.specs.Flight.{Flight, no_requests}
@@ -32,28 +32,22 @@ use Rattle.device_parts.specs.declared.condition.Condition.TheVariants.{Working}
 use Rattle.device_parts.specs.declared.parts.Parts.{Parts}
 use Rattle.device_parts.specs.Device as Devices
 use Rattle.device_parts.specs.Device.{HasOpened, opened_standing, rule_on}
-use Rattle.bitmap_mode.specs.States.{States, counts_of, least_awaiting}
-use Rattle.bitmap_device.specs.declared.parts.BitmapParts.{BitmapParts}
+use Rattle.bitmap_mode.specs.States.{States, least_awaiting}
 use Rattle.bitmap_device.specs.Device.{IsOverDisk, in_bitmap, kept, standing_on}
 use Rattle.journal_device.proofs.DoneLemmas.{told_then}
 use Rattle.device_opening.specs.declared.bitmap_judging.JudgedBitmap.{JudgedBitmap}
 use Rattle.device_opening.specs.declared.room.DeviceRoom.{DeviceRoom}
 use Rattle.device_opening.specs.BitmapOpening.{AreRegionsOf, HasJudgedBitmap}
 use Rattle.device_opening.specs.Opening.{IsRoomFor, LeavesOpenable}
+use Rattle.device_opening.proofs.JudgedLemmas.{own_layout}
 
 -- ---- what is judged
 
-module _ (sectors : ℕ) (format : ImageFormat) (is : IsBitmapFormat sectors format) where
-  given : (format.geometry ≡ layout_of format.fields) × FitsDisk format.fields sectors
-  given = (geometry_given format.fields sectors format.geometry).0 is.accepted.told
-
-  -- The geometry is that of the fields,
-  pub own_layout : format.geometry ≡ layout_of format.fields
-  own_layout = given.0
-
-  -- and the bitmap fits the journal's sectors.
-  pub bitmap_fits : bitmap_sectors format.geometry ≤ journal_sectors format.geometry
-  bitmap_fits = subst (λ (g : Geometry). bitmap_sectors g ≤ journal_sectors g) (sym given.0) (given.1.bitmap is.bitmap)
+-- The bitmap fits the journal's sectors.
+pub bitmap_fits : (sectors : ℕ) (format : ImageFormat) → IsBitmapFormat sectors format → bitmap_sectors format.geometry ≤ journal_sectors format.geometry
+bitmap_fits sectors format is =
+    let fits : FitsDisk format.fields sectors = ((geometry_given format.fields sectors format.geometry).0 is.accepted.told).1 in
+    subst (λ (g : Geometry). bitmap_sectors g ≤ journal_sectors g) (sym (own_layout sectors format is.accepted)) (fits.bitmap is.bitmap)
 
 module _ (key : Option (List ℕ)) (consent : Consent) (sectors : ℕ) (format : ImageFormat) (s : States) (a : List Content)
     (told : HasNow (λ c. Ok format ≡ bitmap_format_of sectors (last_image c)) a) (are : AreRegionsOf format s a) where

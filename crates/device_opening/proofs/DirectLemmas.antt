@@ -1,15 +1,15 @@
 -- From what is left of an image that was recovered and emptied to the device in direct mode that is open.
-use Rattle.std.proofs.Common.{◌≡◌, ℕ, ◌*◌, ◌<◌, false, refl, sym, ◌∙◌, ap, subst, Option, Some, List}
-use Rattle.std.proofs.lemmas.Bool.{true≢false}
+use Rattle.std.proofs.Common.{◌≡◌, ℕ, ◌*◌, ◌<◌, true, false, refl, sym, ◌∙◌, ap, subst, Option, Some, List}
 use Rattle.std.proofs.lemmas.Option.{none-some, same_Some}
 use Rattle.disk_model.specs.Disk.{Content, EachImage, HasNothingPending, Image, last_image}
 use Rattle.disk_model.specs.Identity.{DiskIdentity}
 use Rattle.disk_model.specs.Moments.{EachSince, HasNow, content_now}
 use Rattle.image_model.specs.declared.flags.TheConstants.{DIRTY_BITMAP}
 use Rattle.image_model.specs.Bitmap.{is_to_recalculate}
+use Rattle.image_model.specs.Geometry.{region_of}
 use Rattle.image_model.specs.Superblock.{has_flag}
 use Rattle.device_model.specs.Mode.{Direct}
-use Rattle.place_model.specs.Format.{DiskFormat, HasCells, IsReadAs, cells_on, format_on}
+use Rattle.place_model.specs.Format.{DiskFormat, HasCells, cells_on, format_on}
 use Rattle.place_model.specs.Kind.{CanOpenIn, kind_in}
 use Rattle.place_model.specs.Left.{IsLeftInDirect}
 use Rattle.place_model.specs.Opened.{awaiting_on, base_on, blocks_of, device_format, next_on, opened_on, set_bits_on}
@@ -24,6 +24,9 @@ use Rattle.direct_laws.proofs.DeviceLemmas.{beginning_law}
 use Rattle.direct_laws.proofs.MomentLemmas.{left_now_law}
 use Rattle.journal_model.specs.Opening.{opened_disk}
 use Rattle.journal_model.proofs.OpeningLemmas.{opened_cells_law}
+use Rattle.recalculate_laws.specs.Formats.{IsFormatOf}
+use Rattle.recalculate_laws.proofs.FormatsLemmas.{own_format_law, work_opened_law}
+use Rattle.recalculation.specs.declared.recalculating.Recalculation.{Recalculation}
 use Rattle.tag_store.specs.Store.{given_tags}
 use Rattle.replay.specs.declared.recovered.Recovered.{Recovered}
 use Rattle.replay.specs.Emptied.{HasEmptyJournal, IsEmptyJournal}
@@ -32,24 +35,26 @@ use Rattle.request_slots.specs.Flight.{Flight, no_requests}
 use Rattle.device_parts.specs.declared.condition.Condition.TheVariants.{Working}
 use Rattle.device_parts.specs.declared.parts.Parts.{Parts}
 use Rattle.device_parts.specs.Device.{CanOpenRead, HasOpened, rule_on}
-use Rattle.direct_device.specs.Device.{IsOverDisk as IsDevice, in_direct}
+use Rattle.direct_device.specs.declared.parts.DirectParts.{DirectParts}
+use Rattle.direct_device.specs.Device.{IsOverDisk as IsDevice, in_direct, kept}
 use Rattle.device_opening.specs.declared.judging.JudgedImage.{JudgedImage}
 use Rattle.device_opening.specs.Judged.{HasJudged, judged_format}
 use Rattle.device_opening.specs.DirectOpening.{HasOpenOn, IsOpenOn, KeepsEmpty, LeavesEmpty, WritesEmptying, opened_standing}
-use Rattle.device_opening.specs.Opening.{IsLeftOpening, IsOfOpening, IsUnasked, LeavesImage}
+use Rattle.device_opening.specs.Opening.{IsLeftOpening, IsOfOpening, IsRecalculationFor, IsUnasked, LeavesImage}
 use Rattle.device_opening.proofs.EmptiedLemmas.{empty_same}
 use Rattle.device_opening.proofs.EmptyingLemmas.{left_empty}
 use Rattle.device_opening.proofs.JudgedLemmas.{format_now, left_by, opens_now, own_format, own_since, own_writes}
 use Rattle.device_opening.proofs.MomentsLemmas.{settled_by}
-use Rattle.device_opening.proofs.StillLemmas.{none_awaits, none_recalculated}
+use Rattle.device_opening.proofs.OpenedRegions.{direct_regions, region_opened, work_awaits}
 use Rattle.device_opening.proofs.SettledLemmas.{settled_keeps, without_writes}
 
 -- ---- what is open
 
 module _ (f : DiskFormat) (image : Image) (at : Recovered) (parts : Parts) (after : List Content) (c : Content) (told : content_now after ≡ Some c)
-    (clear : has_flag DIRTY_BITMAP f.superblock.flags ≡ false) (reads : IsReadAs f image) (own : format_on f.key f.sectors image ≡ f)
+    (clear : has_flag DIRTY_BITMAP f.superblock.flags ≡ false) (own : format_on f.key f.sectors image ≡ f)
     (geometry : parts.tags.geometry ≡ f.geometry) (slots : parts.slots ≡ no_requests f.geometry.blocks (512 * f.geometry.shape.spb)) (maker : parts.maker ≡ rule_on f)
-    (left : LeavesRecovered (opened_disk f image) at (given_tags parts.tags c) c) (unused : at.used ≡ false) where
+    (left : LeavesRecovered (opened_disk f image) at (given_tags parts.tags c) c) (unused : at.used ≡ false)
+    (recalculation : Recalculation) (begins : IsRecalculationFor f.superblock f.geometry recalculation) where
   -- The disk has the cells of the image, without a write.
   abbrev disk : DirectDisk
   disk = without_writes f left.recovered.now.journal left.recovered.now.base
@@ -59,7 +64,8 @@ module _ (f : DiskFormat) (image : Image) (at : Recovered) (parts : Parts) (afte
       let is = left.recovered in
       subst (λ (x : DiskFormat). DirectReads.KeepsCells (without_writes x is.now.journal is.now.base) (awaiting_on Direct f image) (given_tags parts.tags c) c) is.same_format
       (settled_keeps is.now is.settled (λ b low. is.again b (subst (λ (x : DiskFormat). b < x.geometry.blocks) is.same_format low)) (awaiting_on Direct f image) (given_tags parts.tags c) c
-      (λ b. subst (λ (x : DiskFormat). is_to_recalculate x.superblock x.geometry b ≡ false) (sym is.same_format) (none_recalculated f image reads b)) is.keeps)
+      (subst (λ (x : DiskFormat). (b : ℕ) → b < x.geometry.blocks → is_to_recalculate x.superblock x.geometry b ≡ true → awaiting_on Direct f image (region_of x.geometry b) ≡ true)
+      (sym is.same_format) (region_opened f image clear)) is.keeps)
 
   now_is : (x : Content) → content_now after ≡ Some x → c ≡ x
   now_is x at_x = same_Some c x (sym told ∙ at_x)
@@ -68,12 +74,11 @@ module _ (f : DiskFormat) (image : Image) (at : Recovered) (parts : Parts) (afte
   device =
       beginning_law (device_format Direct f) disk (base_on Direct f image) (next_on Direct f image) (set_bits_on Direct f image) (awaiting_on Direct f image) refl refl refl
       (λ b low. left.recovered.cells b low ∙ opened_cells_law f image clear b)
-      (λ region waits. absurd (true≢false (sym waits ∙ none_awaits f image reads clear region)))
+      (λ region waits. work_awaits disk region ((work_opened_law f image clear).1 region waits))
 
-  is_device : IsDevice (opened_standing f image disk) Working parts after
+  is_device : IsDevice (opened_standing f image disk) Working parts recalculation after
   is_device = record {
     device = device;
-    reads = reads;
     opened = ap blocks_of (sym own);
     flight = record {
       blocks = ap (λ (x : Flight). x.blocks) slots;
@@ -87,9 +92,12 @@ module _ (f : DiskFormat) (image : Image) (at : Recovered) (parts : Parts) (afte
     condition_ = refl;
     told = c;
     is_told = told;
-    cells = λ _. record {
-      geometry = sym geometry;
-      now = λ x at_x. subst (λ (y : Content). DirectReads.KeepsCells disk (awaiting_on Direct f image) (given_tags parts.tags y) y) (now_is x at_x) keeps;
+    works = λ _. record {
+      cells = record {
+        geometry = sym geometry;
+        now = λ x at_x. subst (λ (y : Content). DirectReads.KeepsCells disk (awaiting_on Direct f image) (given_tags parts.tags y) y) (now_is x at_x) keeps;
+      };
+      recalculation_ = direct_regions f image clear recalculation begins;
     };
     left = left_now_law (device_format Direct f) (opened_on Direct f image) disk image after device (ap blocks_of (sym own))
         (λ x at_x. subst (InDirect.StandsFor disk) (now_is x at_x) keeps.stands);
@@ -105,7 +113,7 @@ module _ (f : DiskFormat) (image : Image) (at : Recovered) (parts : Parts) (afte
         empty = empty_same f.geometry f.sectors one left.recovered.now.journal keeps.stands.formed.is_geometry cut.journal empty;
       }
 
-  pub open_on : IsOpenOn f image parts after
+  pub open_on : IsOpenOn f image (kept parts recalculation) after
   open_on = record {
     disk = disk;
     format = refl;
@@ -138,25 +146,33 @@ module _ (key : Option (List ℕ)) (disk : DiskIdentity) (image : JudgedImage) (
       let opens = opens_now key disk image a judged same c told in
       (opens.openable, ap (λ (d : DiskFormat). has_flag DIRTY_BITMAP d.superblock.flags) (format_on-is (own_format key disk image a judged same) (last_image c) opens) ∙ judged.format.no_bitmap)
 
-  own_open : {b : List Content} (parts : Parts) → HasOpenOn (judged_format disk.sectors image) parts a b
-      → HasNow (λ start. IsOpenOn (format_on key disk.sectors (last_image start)) (last_image start) parts b) a
-  own_open {b} parts opened start at = subst (λ (f : DiskFormat). IsOpenOn f (last_image start) parts b) (format_now key disk image a judged same start at) (opened start at)
+  own_open : {b : List Content} (device : DirectParts) → HasOpenOn (judged_format disk.sectors image) device a b
+      → HasNow (λ start. IsOpenOn (format_on key disk.sectors (last_image start)) (last_image start) device b) a
+  own_open {b} device opened start at = subst (λ (f : DiskFormat). IsOpenOn f (last_image start) device b) (format_now key disk image a judged same start at) (opened start at)
 
   -- What was judged is open,
-  pub has_opened : {b : List Content} (parts : Parts) → HasOpenOn (judged_format disk.sectors image) parts a b → IsUnasked parts disk b → HasOpened in_direct Direct key disk parts a b
-  has_opened parts opened is = record {
-    device = λ start told. let on = own_open parts opened start told in record { disk = on.disk; format = on.format; device = on.device };
-    ready = is.ready;
+  pub has_opened : {b : List Content} (device : DirectParts) → HasOpenOn (judged_format disk.sectors image) device a b → IsUnasked device.parts device.recalculation disk b
+      → HasOpened in_direct Direct key disk device a b
+  has_opened device opened is = record {
+    device = λ start told.
+        let on = own_open device opened start told in
+        let f = format_on key disk.sectors (last_image start) in
+        record {
+          disk = on.disk;
+          format = subst (IsFormatOf f) (sym on.format) (own_format_law f (can_read start told).1);
+          over = on.device;
+        };
+    ready = record { parts_ = is.ready; geometry = is.regions_ };
     asked_ = refl;
     requests = is.requests;
     can = can_read;
   }
 
   -- over an empty journal,
-  pub leaves_empty : {b : List Content} (parts : Parts) → HasOpenOn (judged_format disk.sectors image) parts a b → LeavesImage (own_format key disk image a judged same) a b
+  pub leaves_empty : {b : List Content} (device : DirectParts) → HasOpenOn (judged_format disk.sectors image) device a b → LeavesImage (own_format key disk image a judged same) a b
       → LeavesEmpty key disk.sectors a b
-  leaves_empty parts opened leaves = record {
-    emptied = λ start told. (own_open parts opened start told).emptied;
+  leaves_empty device opened leaves = record {
+    emptied = λ start told. (own_open device opened start told).emptied;
     settled = settled_by a (IsOfOpening image.format.geometry) HasNothingPending leaves.writes (λ start told. (opened start told).settled);
   }
 

@@ -1,6 +1,6 @@
 -- From what a recovery leaves to the device in journal mode that is open, and from its cells to what a cut may leave of that.
 use Rattle.std.proofs.Common.{◌≡◌, ℕ, ◌*◌, false, refl, sym, ◌∙◌, ap, subst, arith, Option, Some, List}
-use Rattle.std.proofs.lemmas.Option.{none-some}
+use Rattle.std.proofs.lemmas.Option.{none-some, same_Some}
 use Rattle.disk_model.specs.Disk.{Content, EachImage, Image, last_image}
 use Rattle.disk_model.specs.Identity.{DiskIdentity}
 use Rattle.disk_model.specs.Moments.{EachMoment, HasNow, content_now}
@@ -9,15 +9,21 @@ use Rattle.image_model.specs.Geometry.{Geometry}
 use Rattle.image_model.specs.Superblock.{has_flag}
 use Rattle.device_model.specs.Mode.{Journal}
 use Rattle.device_model.proofs.ReachedLemmas.{IsReached-opened}
-use Rattle.place_model.specs.Format.{DiskFormat, HasCells, IsReadAs, OpensAs, cells_on, format_on}
+use Rattle.place_model.specs.Format.{DiskFormat, HasCells, OpensAs, cells_on, format_on}
 use Rattle.place_model.specs.Kind.{CanOpenIn, kind_in}
 use Rattle.place_model.specs.Left.{IsLeftInJournal}
-use Rattle.place_model.specs.Opened.{device_format, next_on, opened_on}
-use Rattle.place_model.proofs.FormatLemmas.{format_on-is, reads_on}
+use Rattle.place_model.specs.Opened.{awaiting_on, blocks_of, device_format, next_on, opened_on}
+use Rattle.place_model.proofs.FormatLemmas.{format_on-is}
 use Rattle.place_model.proofs.KindLemmas.{journal_kind_law}
 use Rattle.direct_laws.specs.MomentLaws.{IsLeftNow}
 use Rattle.journal_model.specs.Opening.{opened_disk}
 use Rattle.journal_model.specs.Recovery.{IsRecovered}
+use Rattle.recalculate_laws.specs.Formats.{AwaitsWork, IsFormatOf}
+use Rattle.recalculate_laws.specs.Recalculating.{KeepsAwaiting}
+use Rattle.recalculate_laws.proofs.DeviceLemmas.{opened_awaits}
+use Rattle.recalculate_laws.proofs.FormatsLemmas.{own_format_law, work_opened_law}
+use Rattle.recalculation.specs.Position.{CanBeWritten}
+use Rattle.recalculation.specs.Recalculation.{IsRecalculationOf}
 use Rattle.journal_mode.specs.Journal.{PlacedRing, empty_journal}
 use Rattle.journal_mode.specs.Opening.{opened_standing}
 use Rattle.journal_mode.specs.Standing.{StandsAs}
@@ -30,52 +36,74 @@ use Rattle.request_slots.specs.Flight.{Flight, no_requests}
 use Rattle.device_parts.specs.declared.condition.Condition.TheVariants.{Working}
 use Rattle.device_parts.specs.Device.{CanOpenRead, HasOpened, opened_standing as standing_opened, rule_on}
 use Rattle.journal_device.specs.declared.parts.JournalParts.{JournalParts}
-use Rattle.journal_device.specs.Device.{IsOverDisk, in_journal, kind_on, standing_on}
+use Rattle.journal_device.specs.Device.{IsOverDisk, IsWorking, in_journal, kind_on, standing_on}
 use Rattle.journal_device.proofs.DoneLemmas.{told_then}
 use Rattle.journal_device.proofs.KindLemmas.{left_now, standing_now}
 use Rattle.device_opening.specs.declared.judging.JudgedImage.{JudgedImage}
 use Rattle.device_opening.specs.Judged.{HasJudged, judged_format}
 use Rattle.device_opening.specs.JournalOpening.{HasEmptyRing, HasOpenOn, IsOpenOn}
-use Rattle.device_opening.specs.Opening.{IsLeftOpening, IsUnasked, KeepsRecovered, LeavesImage}
+use Rattle.device_opening.specs.Opening.{IsLeftOpening, IsRecalculationFor, IsUnasked, KeepsRecovered, LeavesImage}
 use Rattle.device_opening.proofs.JudgedLemmas.{format_now, left_by, opens_now, own_format, reads_now}
-use Rattle.device_opening.proofs.StillLemmas.{none_awaits}
+use Rattle.device_opening.proofs.OpenedRegions.{journal_regions}
 
 -- ---- what is open
 
 -- What a recovery leaves is open, with a journal that goes on where that told, as the image's walk says.
-pub open_on : (f : DiskFormat) (image : Image) (at : Recovered) (device : JournalParts) (after : List Content) (c : Content) → content_now after ≡ Some c
-    → has_flag DIRTY_BITMAP f.superblock.flags ≡ false → f.geometry ≡ device.parts.tags.geometry → at.next ≡ next_on Journal f image
-    → LeavesRecovered (opened_disk f image) at (given_tags device.parts.tags c) c → device.journal ≡ empty_journal f.geometry at.next at.number → device.parts.maker ≡ rule_on f
-    → IsOpenOn f image device after
-open_on f image at device after c told clear geometry next left journal maker =
-    let is = subst (λ (n : ℕ). IsRecovered (opened_disk f image) n at.number (given_tags device.parts.tags c) c) next left.recovered in
-    let same : device.journal ≡ empty_journal f.geometry (next_on Journal f image) at.number = journal ∙ ap (λ (n : ℕ). empty_journal f.geometry n at.number) next in
-    record {
-      disk = is.now;
-      format = is.same_format;
-      stands =
-          subst (λ (j : PlacedRing). StandsAs (opened_standing f image is.now) j device.parts.tags after) (sym same)
-          (recovered_stands_law f image at.number device.parts.tags after c clear geometry told is);
-      geometry = geometry;
-      rule = maker;
-    }
+module _ (f : DiskFormat) (image : Image) (at : Recovered) (device : JournalParts) (after : List Content) (c : Content) (told : content_now after ≡ Some c)
+    (clear : has_flag DIRTY_BITMAP f.superblock.flags ≡ false) (geometry : f.geometry ≡ device.parts.tags.geometry) (next : at.next ≡ next_on Journal f image)
+    (left : LeavesRecovered (opened_disk f image) at (given_tags device.parts.tags c) c) (journal : device.journal ≡ empty_journal f.geometry at.next at.number)
+    (maker : device.parts.maker ≡ rule_on f) (begins : IsRecalculationFor f.superblock f.geometry device.recalc) where
+  is_recovered : IsRecovered (opened_disk f image) (next_on Journal f image) at.number (given_tags device.parts.tags c) c
+  is_recovered = subst (λ (n : ℕ). IsRecovered (opened_disk f image) n at.number (given_tags device.parts.tags c) c) next left.recovered
 
-module _ (key : Option (List ℕ)) (disk : DiskIdentity) (device : JournalParts) (a b : List Content) (can : CanOpenRead Journal key disk.sectors a) (is : IsUnasked device.parts disk b) where
+  stands : StandsAs (opened_standing f image is_recovered.now) device.journal device.parts.tags after
+  stands =
+      let same : device.journal ≡ empty_journal f.geometry (next_on Journal f image) at.number = journal ∙ ap (λ (n : ℕ). empty_journal f.geometry n at.number) next in
+      subst (λ (j : PlacedRing). StandsAs (opened_standing f image is_recovered.now) j device.parts.tags after) (sym same)
+      (recovered_stands_law f image at.number device.parts.tags after c clear geometry told is_recovered)
+
+  keeps : KeepsAwaiting is_recovered.now (awaiting_on Journal f image) (given_tags device.parts.tags c) c
+  keeps =
+      let is = is_recovered in
+      subst (λ (x : DiskFormat). KeepsAwaiting is.now (awaiting_on Journal x image) (given_tags device.parts.tags c) c) is.same_format
+      (opened_awaits is.now image (given_tags device.parts.tags c) c (subst (λ (x : DiskFormat). has_flag DIRTY_BITMAP x.superblock.flags ≡ false) (sym is.same_format) clear) is.keeps)
+
+  works : IsWorking (opened_standing f image is_recovered.now) (awaiting_on Journal f image) device.journal device.recalc device.parts.tags after
+  works =
+      let same = sym is_recovered.same_format in
+      record {
+        stands = stands;
+        keeps = λ x at_x. subst (λ (y : Content). KeepsAwaiting is_recovered.now (awaiting_on Journal f image) (given_tags device.parts.tags y) y) (same_Some c x (sym told ∙ at_x)) keeps;
+        work = subst (λ (x : DiskFormat). AwaitsWork x (awaiting_on Journal f image)) same (work_opened_law f image clear).0;
+        recalc_ = subst (λ (x : DiskFormat). IsRecalculationOf x.superblock x.geometry (awaiting_on Journal f image) device.recalc) same (journal_regions f image clear device.recalc begins);
+        written = subst (λ (x : DiskFormat). CanBeWritten x.superblock) same begins.written;
+      }
+
+  pub open_on : IsOpenOn f image device after
+  open_on = record {
+    disk = is_recovered.now;
+    format = is_recovered.same_format;
+    works = works;
+    geometry = geometry;
+    rule = maker;
+  }
+
+module _ (key : Option (List ℕ)) (disk : DiskIdentity) (device : JournalParts) (a b : List Content) (can : CanOpenRead Journal key disk.sectors a) (is : IsUnasked device.parts device.recalc disk b) where
   -- It is the device of the image,
   over_disk : {P : Content → Type 0} → EachMoment a b P → (start : Content) → content_now a ≡ Some start
       → (on : IsOpenOn (format_on key disk.sectors (last_image start)) (last_image start) device b)
-      → IsOverDisk (standing_on (standing_opened Journal key disk.sectors (last_image start)) on.disk) Working device.parts device.journal b
+      → IsOverDisk (standing_on (standing_opened Journal key disk.sectors (last_image start)) on.disk) Working device.parts device.journal device.recalc b
   over_disk moments start told on =
       let image = last_image start in
       let f = format_on key disk.sectors image in
-      let opens = can start told in
-      let reads : IsReadAs f image = reads_on key disk.sectors image opens.0.readable in
+      let clear : has_flag DIRTY_BITMAP f.superblock.flags ≡ false = (can start told).1 in
       let now = told_then a b start told moments in
       let slots : device.parts.slots ≡ no_requests f.geometry.blocks (512 * f.geometry.shape.spb) = is.requests ∙ ap (λ (g : Geometry). no_requests g.blocks (512 * g.shape.spb)) (sym on.geometry) in
       record {
         reached = IsReached-opened (device_format Journal f) _ _ _ _;
         format = ap (device_format Journal) (sym on.format);
-        reads = subst (λ (x : DiskFormat). IsReadAs x image) (sym on.format) reads;
+        no_bitmap = subst (λ (x : DiskFormat). has_flag DIRTY_BITMAP x.superblock.flags ≡ false) (sym on.format) clear;
+        opened = subst (λ (x : DiskFormat). blocks_of x ≡ blocks_of (format_on x.key x.sectors image)) (sym on.format) refl;
         flight = record {
           blocks = ap (λ (x : Flight). x.blocks) slots;
           block_size = ap (λ (x : Flight). x.block_size) slots;
@@ -86,26 +114,28 @@ module _ (key : Option (List ℕ)) (disk : DiskIdentity) (device : JournalParts)
         };
         rule = on.rule ∙ ap rule_on (sym on.format);
         condition_ = refl;
-        still = none_awaits f image reads opens.1;
         told = now.content;
         is_told = now.is;
-        stands = λ _. on.stands;
+        works = λ _. on.works;
         left = subst (λ (x : DiskFormat). IsLeftNow (kind_on x) image (opened_on Journal f image).history b) (sym on.format)
-            (left_now f image reads opens.1 (opened_on Journal f image).history b
+            (left_now f image refl clear (opened_on Journal f image).history b
             (subst (λ (x : DiskFormat). HasNow (EachImage (IsLeftInJournal x (opened_on Journal f image).history)) b) on.format
-            (standing_now (opened_standing f image on.disk) device.journal device.parts.tags b on.stands)));
+            (standing_now (opened_standing f image on.disk) device.journal device.parts.tags b on.works.stands)));
       }
 
   -- and it was opened.
   opened_by : {P : Content → Type 0} → EachMoment a b P → HasEmptyRing device
       → HasNow (λ start. IsOpenOn (format_on key disk.sectors (last_image start)) (last_image start) device b) a → HasOpened in_journal Journal key disk device a b
   opened_by moments empty opened = record {
-    device = λ start told. let on = opened start told in record {
-      disk = on.disk;
-      format = on.format;
-      over = over_disk moments start told on;
-    };
-    ready = record { parts_ = λ _. is.ready; geometry = ap (λ (j : PlacedRing). j.ring.geometry) empty };
+    device = λ start told.
+        let on = opened start told in
+        let f = format_on key disk.sectors (last_image start) in
+        record {
+          disk = on.disk;
+          format = subst (IsFormatOf f) (sym on.format) (own_format_law f (can start told).1);
+          over = over_disk moments start told on;
+        };
+    ready = record { parts_ = λ _. is.ready; geometry = ap (λ (j : PlacedRing). j.ring.geometry) empty; regions_ = is.regions_ };
     asked_ = refl;
     requests = is.requests;
     can = can;
@@ -146,7 +176,7 @@ module _ (key : Option (List ℕ)) (disk : DiskIdentity) (image : JudgedImage) (
   can_read c told = can_open (own_format key disk image a judged same) (last_image c) judged.format.no_bitmap (opens_now key disk image a judged same c told)
 
   -- What was judged is open,
-  pub has_opened : {b : List Content} {P : Content → Type 0} (device : JournalParts) → EachMoment a b P → HasOpenOn (judged_format disk.sectors image) device a b → IsUnasked device.parts disk b
+  pub has_opened : {b : List Content} {P : Content → Type 0} (device : JournalParts) → EachMoment a b P → HasOpenOn (judged_format disk.sectors image) device a b → IsUnasked device.parts device.recalc disk b
       → HasEmptyRing device → HasOpened in_journal Journal key disk device a b
   has_opened {b} device moments opened is empty =
       opened_by key disk device a b can_read is moments empty

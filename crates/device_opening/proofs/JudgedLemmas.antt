@@ -1,5 +1,5 @@
 -- What an opening is, by an image that was judged, which leaves the disk as it was.
-use Rattle.std.proofs.Common.{◌≡◌, ℕ, ◌*◌, false, sym, ◌∙◌, ap, subst, Option, None, Some, Ok, Result, List}
+use Rattle.std.proofs.Common.{◌≡◌, ℕ, ◌*◌, true, false, sym, ◌∙◌, ap, subst, Option, None, Some, Ok, Result, List}
 use Rattle.std.specs.List.{AllByRecursion}
 use Rattle.std.specs.Option.{option_map}
 use Rattle.disk_model.specs.Causes.{HasCause}
@@ -8,12 +8,14 @@ use Rattle.disk_model.specs.Identity.{DiskIdentity}
 use Rattle.disk_model.specs.Moments.{EachMoment, EachSince, HasNow, content_now}
 use Rattle.disk_model.proofs.MomentsLemmas.{EachMoment-weaker, FromStart-weaker}
 use Rattle.image_model.specs.declared.flags.TheConstants.{DIRTY_BITMAP}
+use Rattle.image_model.specs.Bitmap.{some_await}
 use Rattle.image_model.specs.Cells.{salt_of}
-use Rattle.image_model.specs.Geometry.{Geometry}
+use Rattle.image_model.specs.Geometry.{Geometry, layout_of}
 use Rattle.image_model.specs.Openable as model
 use Rattle.image_model.specs.Openable.{IsReplayable, journal_fault_of}
 use Rattle.image_model.specs.Superblock.{has_flag}
 use Rattle.image_model.proofs.CellsLemmas.{counted_entries-journal}
+use Rattle.image_model.proofs.GeometryOf.{geometry_given}
 use Rattle.image_model.proofs.OpenableLemmas.{journal_fault_law}
 use Rattle.hmac_tag.specs.TagMaker.{TagRule}
 use Rattle.device_model.specs.Mode.{Mode}
@@ -21,17 +23,19 @@ use Rattle.place_model.specs.Format.{DiskFormat, HasCells, OpensAs, cells_on, fo
 use Rattle.place_model.specs.Kind.{kind_in}
 use Rattle.place_model.proofs.FormatLemmas.{opens_from, reads_tells}
 use Rattle.image_format.specs.declared.reading.ImageFormat.{ImageFormat}
-use Rattle.image_format.specs.Format.{IsReadNow, direct_format_of, disk_format}
+use Rattle.image_format.specs.Format.{IsFormat, IsReadNow, direct_format_of, disk_format}
+use Rattle.image_judging.specs.declared.consent.Consent.{Consent}
 use Rattle.image_judging.specs.declared.opening_fault.OpeningFault.{OpeningFault}
-use Rattle.image_judging.specs.Faults.{ByJournal, HasOpenCause, fault_of}
-use Rattle.image_judging.proofs.FaultsLemmas.{fault_of-format}
+use Rattle.image_judging.specs.Faults.{ByConsent, ByJournal, HasOpenCause, fault_of, lacks_consent}
+use Rattle.image_judging.proofs.FaultsLemmas.{fault_of-format, fault_of-lacking}
+use Rattle.recalculation.specs.declared.recalculating.Recalculation.{Recalculation}
 use Rattle.request_slots.specs.Flight.{Flight, no_requests}
 use Rattle.device_parts.specs.declared.parts.Parts.{Parts}
 use Rattle.device_opening.specs.declared.judging.JudgedImage.{JudgedImage}
 use Rattle.device_opening.specs.declared.recovering.RecoveredImage.{RecoveredImage}
 use Rattle.device_opening.specs.declared.room.DeviceRoom.{DeviceRoom}
 use Rattle.device_opening.specs.Judged.{HasJudged, judged_format, rule_of}
-use Rattle.device_opening.specs.Opening.{IsLeftOpening, IsOfImage, IsOfOpening, IsRoomFor, IsUnasked, LeavesImage, WritesOpening}
+use Rattle.device_opening.specs.Opening.{IsLeftOpening, IsOfImage, IsOfOpening, IsRecalculationFor, IsRoomFor, IsUnasked, LeavesImage, WritesOpening}
 use Rattle.device_opening.proofs.MomentsLemmas.{since_from}
 
 -- What is known of the disk behind a read is known of it before.
@@ -40,13 +44,21 @@ shift P {mid} {old} {m} {a} is same p = subst (λ (i : DiskIdentity). P i a) is 
 
 -- ---- an image is judged
 
--- The image has the fault that its journal has.
-pub fault_now : (key : Option (List ℕ)) (disk : DiskIdentity) (format : ImageFormat) (rule : TagRule) (a : List Content) → rule ≡ rule_of key format
-    → HasNow (λ c. Ok format ≡ direct_format_of disk.sectors (last_image c)) a → (fault : Option model.JournalFault)
-    → HasNow (λ c. fault ≡ journal_fault_of rule.key rule.salt format.geometry (last_image c)) a → HasNow (λ c. option_map ByJournal fault ≡ fault_of key disk.sectors (last_image c)) a
-fault_now key disk format rule a rule_is told fault has c at =
-    ap (option_map ByJournal) (has c at ∙ ap (λ (r : TagRule). journal_fault_of r.key r.salt format.geometry (last_image c)) rule_is)
-    ∙ sym (fault_of-format key disk.sectors format (last_image c) (told c at))
+-- The geometry is that of the fields.
+pub own_layout : (sectors : ℕ) (format : ImageFormat) → IsFormat sectors format → format.geometry ≡ layout_of format.fields
+own_layout sectors format is = ((geometry_given format.fields sectors format.geometry).0 is.told).0
+
+module _ (key : Option (List ℕ)) (consent : Consent) (disk : DiskIdentity) (format : ImageFormat) (a : List Content) (told : HasNow (λ c. Ok format ≡ direct_format_of disk.sectors (last_image c)) a) where
+  -- Where consent is lacking that is the fault of the image,
+  pub consent_now : lacks_consent key consent (some_await format.fields) ≡ true → HasNow (λ c. Some (ByConsent format.fields.flags) ≡ fault_of key consent disk.sectors (last_image c)) a
+  consent_now lacks c at = sym (fault_of-lacking key consent disk.sectors format (last_image c) (told c at) lacks)
+
+  -- and else it has the fault that its journal has.
+  pub fault_now : (rule : TagRule) → rule ≡ rule_of key format → lacks_consent key consent (some_await format.fields) ≡ false → (fault : Option model.JournalFault)
+      → HasNow (λ c. fault ≡ journal_fault_of rule.key rule.salt format.geometry (last_image c)) a → HasNow (λ c. option_map ByJournal fault ≡ fault_of key consent disk.sectors (last_image c)) a
+  fault_now rule rule_is given fault has c at =
+      ap (option_map ByJournal) (has c at ∙ ap (λ (r : TagRule). journal_fault_of r.key r.salt format.geometry (last_image c)) rule_is)
+      ∙ sym (fault_of-format key consent disk.sectors format (last_image c) (told c at) given)
 
 -- One whose journal has none can be opened.
 pub judged_opens : (key : Option (List ℕ)) (sectors : ℕ) (format : ImageFormat) (rule : TagRule) (c : Content) → rule ≡ rule_of key format → has_flag DIRTY_BITMAP format.fields.flags ≡ false
@@ -127,9 +139,10 @@ done_cause {A} {B} {C} {E} before mid after image made opened judged is =
 abbrev pub parts_of : RecoveredImage → DeviceRoom → ℕ → Parts
 parts_of recovered room spb = record { tags = recovered.tags; maker = recovered.maker; slots = room.slots; spb = spb; buffer = room.buffer }
 
-pub unasked : (image : JudgedImage) (recovered : RecoveredImage) (room : DeviceRoom) (spb sectors : ℕ) (disk : DiskIdentity) {m moments : List Content} → HasJudged sectors image m
-    → IsRoomFor image.format.geometry room → IsOfImage image recovered disk moments → spb ≡ image.format.geometry.shape.spb → IsUnasked (parts_of recovered room spb) disk moments
-unasked image recovered room spb sectors disk judged has made spb_is = record {
+pub unasked : (image : JudgedImage) (recovered : RecoveredImage) (room : DeviceRoom) (recalculation : Recalculation) (spb sectors : ℕ) (disk : DiskIdentity) {m moments : List Content} → HasJudged sectors image m
+    → IsRoomFor image.format.geometry room → IsRecalculationFor image.format.fields image.format.geometry recalculation → IsOfImage image recovered disk moments → spb ≡ image.format.geometry.shape.spb
+    → IsUnasked (parts_of recovered room spb) recalculation disk moments
+unasked image recovered room recalculation spb sectors disk judged has begins made spb_is = record {
   ready = record {
     store = made.store;
     blocks = ap (λ (x : Flight). x.blocks) has.slots ∙ ap (λ (x : Geometry). x.blocks) (sym made.geometry);
@@ -138,5 +151,6 @@ unasked image recovered room spb sectors disk judged has made spb_is = record {
     tag_size = ap (λ (r : TagRule). r.size) (made.maker ∙ judged.maker) ∙ ap (λ (x : Geometry). x.shape.tag_size) (sym made.geometry);
     buffer = has.buffer ∙ sym (ap (λ (x : Flight). x.block_size) has.slots);
   };
+  regions_ = begins.awaiting.geometry ∙ sym made.geometry;
   requests = has.slots ∙ ap (λ (x : Geometry). no_requests x.blocks (512 * x.shape.spb)) (sym made.geometry);
 }

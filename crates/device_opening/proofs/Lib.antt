@@ -2,7 +2,7 @@ pub mod MomentsLemmas
 pub mod RefusedLemmas
 pub mod JudgedLemmas
 pub mod RecoveringLemmas
-pub mod StillLemmas
+pub mod OpenedRegions
 pub mod SettledLemmas
 pub mod EmptiedLemmas
 pub mod EmptyingLemmas

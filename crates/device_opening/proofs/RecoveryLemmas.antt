@@ -13,7 +13,6 @@ use Rattle.image_format.specs.declared.open_fault.OpenFault.{OpenFault}
 use Rattle.image_format.specs.declared.open_fault.OpenFault.TheVariants as FormatFaults
 use Rattle.image_format.specs.declared.reading.ImageFormat.{ImageFormat}
 use Rattle.image_format.specs.Format.{IsFormat, IsReadNow, format_of}
-use Rattle.image_judging.specs.declared.opening_fault.OpeningFault.TheVariants as Faults
 use Rattle.image_judging.specs.Faults.{fault_by, fault_in, of_format}
 use Rattle.buffer_cache.specs.HeldSectors.{no_sectors}
 use Rattle.tag_store.specs.Store.{IsStore, Store}

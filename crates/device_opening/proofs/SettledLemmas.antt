@@ -1,9 +1,11 @@
 -- A disk in journal mode all of whose entries are settled is one in direct mode.
-use Rattle.std.proofs.Common.{◌≡◌, ℕ, ◌<◌, ◌≤◌, Bool, false, ◌∙◌, ap, arith, List, [], length, slice_index}
+use Rattle.std.proofs.Common.{◌≡◌, inl, inr, ℕ, ◌<◌, ◌≤◌, Bool, true, false, sym, ◌∙◌, ap, arith, List, [], length, slice_index}
+use Rattle.std.proofs.lemmas.Bool.{and_from, cases_Bool, true≢false}
 use Rattle.std.proofs.lemmas.List.{take_all}
 use Rattle.disk_model.specs.Disk.{Content, Image, sector_in}
 use Rattle.image_model.specs.Bitmap.{is_to_recalculate}
 use Rattle.image_model.specs.Cells.{Cell}
+use Rattle.image_model.specs.Geometry.{region_of}
 use Rattle.image_model.specs.Section.{Entry}
 use Rattle.place_model.specs.Format.{DiskFormat}
 use Rattle.direct_model.specs.DirectDisk as InDirect
@@ -48,13 +50,20 @@ module _ (d : JournaledDisk) (settled : d.settled ≡ length d.entries) (again :
         };
   }
 
-  -- So it has its cells, where no block is to be recalculated.
-  pub settled_keeps : (awaiting : ℕ → Bool) (tags : ℕ → List ℕ) (c : Content) → ((b : ℕ) → is_to_recalculate d.superblock d.geometry b ≡ false) → KeepsCells d tags c
+  -- So it has its cells, where the region of each block that is to be recalculated awaits.
+  pub settled_keeps : (awaiting : ℕ → Bool) (tags : ℕ → List ℕ) (c : Content)
+      → ((b : ℕ) → b < d.geometry.blocks → is_to_recalculate d.superblock d.geometry b ≡ true → awaiting (region_of d.geometry b) ≡ true) → KeepsCells d tags c
       → DirectReads.KeepsCells (without_writes d.format d.journal d.base) awaiting tags c
-  settled_keeps awaiting tags c none keeps =
+  settled_keeps awaiting tags c waits keeps =
       let all : length d.entries ≤ d.placed = omega (arith, keeps.stands.sound.formed.settled_low, settled) in
       record {
         stands = settled_stands c keeps.stands;
         reads = record { each = λ b k low k_low. keeps.reads.each b k low k_low ∙ ap (λ (cell : Cell). sector_in cell.bytes k) (all_cells d.placed b all low) };
-        tags_are = λ b low rests. keeps.tags_are.each b low (none b) ∙ ap (λ (cell : Cell). cell.tag) (all_cells d.placed b all low);
+        tags_are = λ b low rests. keeps.tags_are.each b low (own b low rests) ∙ ap (λ (cell : Cell). cell.tag) (all_cells d.placed b all low);
       }
+    where
+      own : (b : ℕ) → b < d.geometry.blocks → DirectReads.awaits_tag (without_writes d.format d.journal d.base) awaiting b ≡ false → is_to_recalculate d.superblock d.geometry b ≡ false
+      own b low rests = elim (cases_Bool (is_to_recalculate d.superblock d.geometry b)) [
+        | inl set ↦ absurd (true≢false (sym (and_from (awaiting (region_of d.geometry b)) (is_to_recalculate d.superblock d.geometry b) (waits b low set) set) ∙ rests))
+        | inr clear ↦ clear
+      ]

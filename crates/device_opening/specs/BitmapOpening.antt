@@ -15,8 +15,8 @@ pub record AreRegionsOf (format : ImageFormat) (regions : States) (moments : Lis
   pub geometry : regions.geometry ≡ format.geometry
   pub opened : (d : DiskFormat) → d.geometry ≡ format.geometry → AreOpened d regions moments
 
--- The image that reads give, on a disk of so many sectors, has the format that was read, and can be opened. Tags are made
--- by its rule, and these are its regions.
+-- The image that reads give, on a disk of so many sectors, has the format that was read, and can be opened. Tags are
+-- made by its rule, and these are its regions.
 pub record HasJudgedBitmap (sectors : ℕ) (image : JudgedBitmap) (moments : List Content) : Type 0 where
   pub format : IsBitmapFormat sectors image.format
   pub maker : image.maker ≡ rule_of image.maker.key image.format

@@ -1,4 +1,5 @@
--- What an opening in direct mode leaves: the device that is open then, over an empty journal, and each moment until it is.
+-- What an opening in direct mode leaves: the device that is open then, over an empty journal, and each moment until it
+-- is.
 -- Own: the journal is recovered and then emptied, so that each block is what stands in its place.
 use Rattle.std.specs.Prelude.{◌≡◌, ℕ, false, Option, List}
 use Rattle.disk_model.specs.Disk.{Content, EachImage, HasNothingPending, Image, OnlyAdds, last_image, newest_only}
@@ -13,7 +14,7 @@ use Rattle.tag_store.specs.Store.{HoldsTag, given_tags}
 use Rattle.replay.specs.Emptied.{HasEmptyJournal, IsEmptyJournal}
 use Rattle.replay.specs.Recovery.{LeavesRecovered}
 use Rattle.device_parts.specs.declared.condition.Condition.TheVariants.{Working}
-use Rattle.device_parts.specs.declared.parts.Parts.{Parts}
+use Rattle.direct_device.specs.declared.parts.DirectParts.{DirectParts}
 use Rattle.direct_device.specs.Device.{DirectStanding as Standing, IsOverDisk as IsDevice}
 use Rattle.device_opening.specs.declared.recovering.RecoveredImage.{RecoveredImage}
 use Rattle.device_opening.specs.Opening.{WritesOpening}
@@ -31,8 +32,8 @@ abbrev pub KeepsEmpty : Geometry → (start c : Content) → Type 0
 KeepsEmpty g start c = IsEmptyJournal g (last_image start)
     → OnlyAdds (λ sector x. HoldsTag g sector) (newest_only start) c
 
--- What an opening in direct mode writes, by the image that reads gave: entries of its journal in their places, sectors of
--- tags, and empty sections; and where its journal was empty, sectors of tags alone.
+-- What an opening in direct mode writes, by the image that reads gave: entries of its journal in their places, sectors
+-- of tags, and empty sections; and where its journal was empty, sectors of tags alone.
 pub record WritesEmptying (key : Option (List ℕ)) (sectors : ℕ) (before after : List Content) : Type 0 where
   pub recovers : WritesOpening key sectors before after
   pub keeps : EachSince (λ start. KeepsEmpty (format_on key sectors (last_image start)).geometry start) before after
@@ -50,16 +51,16 @@ opened_standing f image disk = record {
 
 -- What is open is that device, over a disk of the format. Each image of the disk has an empty journal, and nothing is
 -- pending.
-pub record IsOpenOn (f : DiskFormat) (image : Image) (parts : Parts) (moments : List Content) : Type 0 where
+pub record IsOpenOn (f : DiskFormat) (image : Image) (kept : DirectParts) (moments : List Content) : Type 0 where
   pub disk : DirectDisk
   pub format : disk.format ≡ f
-  pub device : IsDevice (opened_standing f image disk) Working parts moments
+  pub device : IsDevice (opened_standing f image disk) Working kept.parts kept.recalculation moments
   pub emptied : HasNow (EachImage (HasEmptyJournal f)) moments
   pub settled : HasNow HasNothingPending moments
 
 -- It is so by the image that reads gave.
-abbrev pub HasOpenOn : DiskFormat → Parts → (before after : List Content) → Type 0
-HasOpenOn f parts before after = HasNow (λ start. IsOpenOn f (last_image start) parts after) before
+abbrev pub HasOpenOn : DiskFormat → DirectParts → (before after : List Content) → Type 0
+HasOpenOn f kept before after = HasNow (λ start. IsOpenOn f (last_image start) kept after) before
 
 -- Each image of the disk has an empty journal, by the format of the image that reads gave, and nothing is pending.
 pub record LeavesEmpty (key : Option (List ℕ)) (sectors : ℕ) (before after : List Content) : Type 0 where

@@ -2,20 +2,23 @@
 use Rattle.std.specs.Prelude.{◌≡◌, List}
 use Rattle.disk_model.specs.Disk.{Content, Image, last_image}
 use Rattle.disk_model.specs.Moments.{HasNow}
+use Rattle.device_model.specs.Mode.{Journal}
 use Rattle.place_model.specs.Format.{DiskFormat}
+use Rattle.place_model.specs.Opened.{awaiting_on}
 use Rattle.journal_model.specs.JournaledDisk.{JournaledDisk}
 use Rattle.journal_mode.specs.Journal.{empty_journal}
 use Rattle.journal_mode.specs.Opening.{opened_standing}
-use Rattle.journal_mode.specs.Standing.{StandsAs}
 use Rattle.device_parts.specs.Device.{rule_on}
 use Rattle.journal_device.specs.declared.parts.JournalParts.{JournalParts}
+use Rattle.journal_device.specs.Device.{IsWorking}
 
--- The device is the one that was just opened on an image of this format. Its disk has the format, its places are those of
--- that, and tags are made by its rule.
+-- The device is the one that was just opened on an image of this format, of which these regions await. Its disk has the
+-- format, its places are those of that, and tags are made by its rule.
 pub record IsOpenOn (f : DiskFormat) (image : Image) (device : JournalParts) (moments : List Content) : Type 0 where
   pub disk : JournaledDisk
   pub format : disk.format ≡ f
-  pub stands : StandsAs (opened_standing f image disk) device.journal device.parts.tags moments
+  pub works : IsWorking (opened_standing f image disk) (awaiting_on Journal f image) device.journal device.recalc
+      device.parts.tags moments
   pub geometry : f.geometry ≡ device.parts.tags.geometry
   pub rule : device.parts.maker ≡ rule_on f
 

@@ -28,8 +28,8 @@ pub record IsJudgedNow (sectors : ℕ) (image : JudgedImage) (c : Content) : Typ
   pub opens : OpensAs (judged_format sectors image) (last_image c)
   pub journal : IsJournalOn image.format.geometry (last_image c) image.journal
 
--- It is so of a disk of so many sectors. Tags are made by the rule of the image, and what is kept of the journal is of its
--- layout, whatever the disk tells.
+-- It is so of a disk of so many sectors. Tags are made by the rule of the image, and what is kept of the journal is of
+-- its layout, whatever the disk tells.
 pub record HasJudged (sectors : ℕ) (image : JudgedImage) (moments : List Content) : Type 0 where
   pub format : IsDirectFormat sectors image.format
   pub maker : image.maker ≡ rule_of image.maker.key image.format

@@ -1,20 +1,25 @@
 -- What an opening does in any mode: the memory that it takes, why it refuses a disk, and what it leaves at each moment.
-use Rattle.std.specs.Prelude.{◌≡◌, ◌≢◌, ℕ, ◌*◌, Option, Some, List, Result, Err, IsErr, length}
+use Rattle.std.specs.Prelude.{◌≡◌, ◌≢◌, ℕ, ◌*◌, Option, Some, None, List, Result, Err, IsErr, length}
 use Rattle.disk_model.specs.Disk.{Content, EachImage, Image, OnlyAdds, last_image, newest_only}
 use Rattle.disk_model.specs.Identity.{DiskIdentity}
 use Rattle.disk_model.specs.Moments.{EachMoment, EachSince, HasNow}
 use Rattle.image_model.specs.Cells.{replayed_entries}
 use Rattle.image_model.specs.Geometry.{Geometry, journal_sectors}
+use Rattle.image_model.specs.Superblock.{Superblock}
 use Rattle.device_model.specs.Mode.{Journal, Mode}
 use Rattle.place_model.specs.Format.{DiskFormat, HasCells, OpensAs, cells_on, format_on}
 use Rattle.place_model.specs.Kind.{kind_in}
 use Rattle.place_model.specs.Opened.{next_on}
+use Rattle.image_format.specs.declared.reading.ImageFormat.{ImageFormat}
 use Rattle.image_judging.specs.declared.opening_fault.OpeningFault.{OpeningFault}
 use Rattle.image_judging.specs.declared.opening_fault.OpeningFault.TheVariants as Faults
 use Rattle.image_judging.specs.Faults.{ImageFault, fault_in}
 use Rattle.journal_model.specs.Opening.{opened_disk}
 use Rattle.buffer_cache.specs.Cache.{sectors_of}
 use Rattle.buffer_cache.specs.HeldSectors.{no_sectors}
+use Rattle.recalculation.specs.declared.recalculating.Recalculation.{Recalculation}
+use Rattle.recalculation.specs.Awaiting.{IsOpening}
+use Rattle.recalculation.specs.Position.{CanBeWritten}
 use Rattle.tag_store.specs.Store.{IsStore, given_tags}
 use Rattle.replay.specs.Emptied.{IsRecoveredAlready, KeepsResting}
 use Rattle.replay.specs.Recovery.{LeavesRecovered}
@@ -37,10 +42,18 @@ pub record IsRoomFor (g : Geometry) (room : DeviceRoom) : Type 0 where
   pub slots : room.slots ≡ no_requests g.blocks (512 * g.shape.spb)
   pub buffer : length room.buffer.items ≡ 512 * g.shape.spb
 
--- So it has, and for the journal's sectors.
-pub record IsRecoveryRoomFor (g : Geometry) (room : RecoveryRoom) : Type 0 where
-  pub device : IsRoomFor g room.device
-  pub pool : length room.pool.bytes ≡ 512 * journal_sectors g
+-- Those regions await that have a block to be recalculated by these fields, the position is theirs, and they may be
+-- written.
+pub record IsRecalculationFor (s : Superblock) (g : Geometry) (r : Recalculation) : Type 0 where
+  pub awaiting : IsOpening s g None r.awaiting
+  pub position : r.position ≡ s
+  pub written : CanBeWritten s
+
+-- What is allocated for an image in this format has that room, and room for the journal's sectors and for the regions.
+pub record IsRecoveryRoomFor (format : ImageFormat) (room : RecoveryRoom) : Type 0 where
+  pub device : IsRoomFor format.geometry room.device
+  pub pool : length room.pool.bytes ≡ 512 * journal_sectors format.geometry
+  pub recalculation_ : IsRecalculationFor format.fields format.geometry room.recalculation
 
 -- ---- an image that is refused
 
@@ -49,14 +62,15 @@ abbrev pub KeepsRefused : {F : Type 0} → (fault_of : Image → Option F) → (
 KeepsRefused {F} fault_of before after =
     HasNow (λ start. (fault : F) → fault_of (last_image start) ≡ Some fault → OnlySyncs before after) before
 
--- Where the disk did not fail and there was memory, an answer tells the fault that the image has which reads gave, if any.
+-- Where the disk did not fail and there was memory, an answer tells the fault that the image has which reads gave, if
+-- any.
 abbrev pub TellsFault : {T : Type 0} → (fault_of : Image → Option ImageFault) → List Content → Result T OpeningFault
     → Type 0
 TellsFault fault_of before result = result ≢ Err Faults.Memory → result ≢ Err Faults.Disk
     → HasNow (λ c. fault_in result ≡ fault_of (last_image c)) before
 
--- An opening tells the fault that the image has. A disk on which nothing is open then is as it was, not even synced, unless
--- it failed.
+-- An opening tells the fault that the image has. A disk on which nothing is open then is as it was, not even synced,
+-- unless it failed.
 pub record Refuses {T : Type 0} (fault_of : Image → Option ImageFault) (before after : List Content)
     (result : Result T OpeningFault) : Type 0 where
   pub told : TellsFault fault_of before result
@@ -120,8 +134,8 @@ pub record HasRecovered (f : DiskFormat) (before after : List Content) (image : 
       (given_tags image.tags c) c) after) before
   pub next : HasNow (λ start. image.at.next ≡ next_on Journal f (last_image start)) before
 
--- What was recovered is of this disk, and of the image that was judged: its blocks and tags lie where that has them, and
--- tags are made by its rule.
+-- What was recovered is of this disk, and of the image that was judged: its blocks and tags lie where that has them,
+-- and tags are made by its rule.
 pub record IsOfImage (image : JudgedImage) (recovered : RecoveredImage) (disk : DiskIdentity) (moments : List Content)
     : Type 0 where
   pub store : IsStore recovered.tags disk moments
@@ -130,7 +144,9 @@ pub record IsOfImage (image : JudgedImage) (recovered : RecoveredImage) (disk : 
 
 -- ---- what is open
 
--- What is kept of a device is ready for the disk, and no request is in flight.
-pub record IsUnasked (parts : Parts) (disk : DiskIdentity) (moments : List Content) : Type 0 where
+-- What is kept of a device is ready for the disk, its regions are those of its blocks, and no request is in flight.
+pub record IsUnasked (parts : Parts) (recalculation : Recalculation) (disk : DiskIdentity) (moments : List Content)
+    : Type 0 where
   pub ready : IsReady parts disk moments
+  pub regions_ : recalculation.awaiting.geometry ≡ parts.tags.geometry
   pub requests : parts.slots ≡ no_requests parts.tags.geometry.blocks (512 * parts.tags.geometry.shape.spb)

@@ -3,7 +3,7 @@ ghost use Rattle.std.specs.Prelude.{◌≡◌, ◌⊎◌, Err, IfOk, IsErr};
 ghost use Rattle.disk_model.specs.Identity.{IsBound};
 ghost use Rattle.hmac_tag.specs.TagMaker.{key_of};
 ghost use Rattle.image_format.specs.Format.{IsBitmapFormat};
-ghost use Rattle.image_judging.specs.Faults.{HasOpenCause, bitmap_fault_of, lacks_consent};
+ghost use Rattle.image_judging.specs.Faults.{HasOpenCause, bitmap_fault_of};
 ghost use Rattle.device_opening.specs.BitmapOpening.{AreRegionsOf, HasJudgedBitmap};
 ghost use Rattle.device_opening.specs.Opening.{TellsFault};
 
@@ -12,7 +12,7 @@ use bitmap_mode::RegionStates;
 use dirty_bitmap::BitsFault;
 use hmac_tag::{Hash, TagMaker};
 use image_format::{ImageFormat, read_bitmap_format};
-use image_judging::{Consent, OpeningFault};
+use image_judging::{Consent, OpeningFault, lacks_consent};
 use layout::Geometry;
 use sector_disk::Disk;
 use std::alloc::Global;
@@ -105,15 +105,5 @@ fn load_regions<D: Disk>(
         Ok(regions) => Ok(regions),
         Err(BitsFault::Memory) => Err(OpeningFault::Memory),
         Err(BitsFault::Disk) => Err(OpeningFault::Disk),
-    }
-}
-
-/// Tags under a key would be made anew without consent to that, where some blocks await them.
-fn lacks_consent(hash: &Hash, consent: Consent, some_await: bool) -> bool
-    ensures { result ≡ lacks_consent (key_of hash.now) consent some_await }
-{
-    match (hash, consent) {
-        (Hash::Hmac(_), Consent::Withheld) => some_await,
-        _ => false,
     }
 }

@@ -16,19 +16,21 @@ use crate::emptying::recover_emptied;
 use crate::judging::{JudgedImage, judge_image};
 use crate::room::{DeviceRoom, RecoveryRoom};
 use device_parts::Parts;
+use direct_device::DirectParts;
 use hmac_tag::Hash;
-use image_judging::OpeningFault;
+use image_judging::{Consent, OpeningFault};
 use sector_disk::{Disk, Failed};
 use sector_pool::Region;
 use std::alloc::Global;
 
 /// Opens a device in direct mode on a disk: all that its journal holds comes to its place, and then the journal is
 /// emptied, unless every entry of it is unused and it has one commit number. The region gets the journal's sectors, in
-/// place of those that it had: in them the journal is read and emptied.
+/// place of those that it had: in them the journal is read and emptied. A region awaits the tags of its blocks
+/// where one of them is to be recalculated.
 ///
-/// 1. The first sector is read and judged.
+/// 1. The first sector is read and judged, and consent is judged by its fields.
 /// 2. The journal is read in runs and judged, with memory for what is kept of it.
-/// 3. Memory is taken for the journal's sectors, for tags and for requests.
+/// 3. Memory is taken for tags and for requests, for the regions that await, if any, and for the journal's sectors.
 /// 4. The disk is synced, so that nothing of an earlier run is pending.
 /// 5. The image is recovered: where its journal has entries that count it is read once more, into the region.
 /// 6. Its journal is emptied.
@@ -40,22 +42,24 @@ use std::alloc::Global;
 /// - `Memory`: there is none for what is kept of the journal, or for what the device needs. Nothing was done.
 /// - `Disk`: the disk failed. Every image has the cells of the image at the entry, where that can be opened.
 /// - `Super`, `Geom`, `Mode`: as `read_direct_format` tells them. Nothing was done.
+/// - `Consent`: some block is to be recalculated, there is a key, and consent is withheld. Nothing was done.
 /// - `Journal`: the journal is refused, by its scan or for the first entry in the order of the replay. Nothing was
 ///   done.
 pub fn open_direct<D: Disk>(
     alloc: Global,
     disk: &mut D,
     hash: Hash,
+    consent: Consent,
     pool: &mut Region,
-) -> Result<Parts, OpeningFault>
+) -> Result<DirectParts, OpeningFault>
     requires bound { IsBound (D.identity disk.old).name }
 
-    ensures opened { IfOk result (λ parts. HasOpened in_direct Model.Direct (key_of hash) (D.identity disk.old)
-        parts (D.moments disk.old) (D.moments disk.new)) }
-    ensures empty { IfOk result (λ parts. LeavesEmpty (key_of hash) (D.identity disk.old).sectors
+    ensures opened { IfOk result (λ kept. HasOpened in_direct Model.Direct (key_of hash) (D.identity disk.old)
+        kept (D.moments disk.old) (D.moments disk.new)) }
+    ensures empty { IfOk result (λ kept. LeavesEmpty (key_of hash) (D.identity disk.old).sectors
         (D.moments disk.old) (D.moments disk.new)) }
 
-    ensures refused { Refuses (fault_of (key_of hash) (D.identity disk.old).sectors)
+    ensures refused { Refuses (fault_of (key_of hash) consent (D.identity disk.old).sectors)
         (D.moments disk.old) (D.moments disk.new) result }
     ensures cause { HasOpenCause (D.faults disk.old) (D.faults disk.new) result }
 
@@ -66,10 +70,10 @@ pub fn open_direct<D: Disk>(
     ensures moments { WritesEmptying (key_of hash) (D.identity disk.old).sectors
         (D.moments disk.old) (D.moments disk.new) }
 {
-    let image = judge_image(alloc, disk, hash)?;
-    let room = RecoveryRoom::new(alloc, image.geometry(), pool)?;
-    let parts = open_judged(disk, image, room)?;
-    Ok(parts)
+    let image = judge_image(alloc, disk, hash, consent)?;
+    let room = RecoveryRoom::new(alloc, &image.format, pool)?;
+    let device = open_judged(disk, image, room)?;
+    Ok(device)
 }
 
 /// Opens a device in direct mode on a disk whose image was judged, with memory that was taken for it.
@@ -81,14 +85,15 @@ fn open_judged<D: Disk>(
     disk: &mut D,
     image: JudgedImage,
     room: RecoveryRoom<'_>,
-) -> Result<Parts, Failed>
+) -> Result<DirectParts, Failed>
     requires bound { IsBound (D.identity disk.old).name }
     requires judged { HasJudged (D.identity disk.old).sectors image (D.moments disk.old) }
-    requires room { IsRecoveryRoomFor image.format.geometry room }
+    requires room { IsRecoveryRoomFor image.format room }
 
-    ensures opened { IfOk result (λ parts. HasOpenOn (judged_format (D.identity disk.old).sectors image)
-        parts (D.moments disk.old) (D.moments disk.new)) }
-    ensures unasked { IfOk result (λ parts. IsUnasked parts (D.identity disk.new) (D.moments disk.new)) }
+    ensures opened { IfOk result (λ device. HasOpenOn (judged_format (D.identity disk.old).sectors image)
+        device (D.moments disk.old) (D.moments disk.new)) }
+    ensures unasked { IfOk result (λ device. IsUnasked device.parts device.recalculation
+        (D.identity disk.new) (D.moments disk.new)) }
 
     ensures cause { HasCause (D.faults disk.old) (D.faults disk.new) result }
 
@@ -98,7 +103,11 @@ fn open_judged<D: Disk>(
         (D.moments disk.old) (D.moments disk.new) }
     ensures keeps { EachSince (KeepsEmpty image.format.geometry) (D.moments disk.old) (D.moments disk.new) }
 {
-    let RecoveryRoom { device, mut pool } = room;
+    let RecoveryRoom {
+        device,
+        mut pool,
+        recalculation,
+    } = room;
     let DeviceRoom {
         cache,
         slots,
@@ -106,11 +115,15 @@ fn open_judged<D: Disk>(
     } = device;
     let spb = image.geometry().shape().spb;
     let recovered = recover_emptied(disk, image, cache, &mut pool)?;
-    Ok(Parts {
+    let parts = Parts {
         tags: recovered.tags,
         maker: recovered.maker,
         slots,
         spb,
         buffer,
+    };
+    Ok(DirectParts {
+        parts,
+        recalculation,
     })
 }

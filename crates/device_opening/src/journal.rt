@@ -18,7 +18,7 @@ use crate::recovering::recover_image;
 use crate::room::{DeviceRoom, RecoveryRoom};
 use device_parts::Parts;
 use hmac_tag::Hash;
-use image_judging::OpeningFault;
+use image_judging::{Consent, OpeningFault};
 use journal_device::JournalParts;
 use journal_mode::{Journal, JournalRoom};
 use sector_disk::{Disk, Failed};
@@ -26,11 +26,12 @@ use sector_pool::Region;
 use std::alloc::Global;
 
 /// Opens a device in journal mode on a disk: all that its journal holds comes to its place, and writing goes on in the
-/// journal. The region gets the journal's sectors, in place of those that it had.
+/// journal. The region gets the journal's sectors, in place of those that it had. A region awaits the tags of its
+/// blocks where one of them is to be recalculated.
 ///
-/// 1. The first sector is read and judged.
+/// 1. The first sector is read and judged, and consent is judged by its fields.
 /// 2. The journal is read in runs and judged, with memory for what is kept of it.
-/// 3. Memory is taken for the journal's sectors, for tags and for requests.
+/// 3. Memory is taken for tags and for requests, for the regions that await, if any, and for the journal's sectors.
 /// 4. The disk is synced, so that nothing of an earlier run is pending.
 /// 5. The image is recovered: where its journal has entries that count it is read once more, into the region. Nothing
 ///    is written of one whose journal is at rest, with all its entries in their places.
@@ -42,12 +43,14 @@ use std::alloc::Global;
 /// - `Memory`: there is none for what is kept of the journal, or for what the device needs. Nothing was done.
 /// - `Disk`: the disk failed. Every image has the cells of the image at the entry, where that can be opened.
 /// - `Super`, `Geom`, `Mode`: as `read_direct_format` tells them. Nothing was done.
+/// - `Consent`: some block is to be recalculated, there is a key, and consent is withheld. Nothing was done.
 /// - `Journal`: the journal is refused, by its scan or for the first entry in the order of the replay. Nothing was
 ///   done.
 pub fn open_journal<'p, D: Disk>(
     alloc: Global,
     disk: &mut D,
     hash: Hash,
+    consent: Consent,
     pool: &'p mut Region,
 ) -> Result<JournalParts<'p>, OpeningFault>
     requires bound { IsBound (D.identity disk.old).name }
@@ -56,7 +59,7 @@ pub fn open_journal<'p, D: Disk>(
         kept (D.moments disk.old) (D.moments disk.new)) }
     ensures empty { IfOk result HasEmptyRing }
 
-    ensures refused { Refuses (fault_of (key_of hash) (D.identity disk.old).sectors)
+    ensures refused { Refuses (fault_of (key_of hash) consent (D.identity disk.old).sectors)
         (D.moments disk.old) (D.moments disk.new) result }
     ensures cause { HasOpenCause (D.faults disk.old) (D.faults disk.new) result }
 
@@ -70,9 +73,9 @@ pub fn open_journal<'p, D: Disk>(
     ensures in_place { KeepsRecovered (λ image. (format_on (key_of hash) (D.identity disk.old).sectors image).geometry)
         (D.moments disk.old) (D.moments disk.new) }
 {
-    let image = judge_image(alloc, disk, hash)?;
+    let image = judge_image(alloc, disk, hash, consent)?;
     let journal = JournalRoom::new(alloc, image.geometry())?;
-    let room = RecoveryRoom::new(alloc, image.geometry(), pool)?;
+    let room = RecoveryRoom::new(alloc, &image.format, pool)?;
     let device = open_judged(disk, image, journal, room)?;
     Ok(device)
 }
@@ -90,12 +93,13 @@ fn open_judged<'p, D: Disk>(
 ) -> Result<JournalParts<'p>, Failed>
     requires bound { IsBound (D.identity disk.old).name }
     requires judged { HasJudged (D.identity disk.old).sectors image (D.moments disk.old) }
-    requires room { IsRecoveryRoomFor image.format.geometry room }
+    requires room { IsRecoveryRoomFor image.format room }
     requires journal { journal ≡ image.format.geometry }
 
     ensures opened { IfOk result (λ device. HasOpenOn (judged_format (D.identity disk.old).sectors image)
         device (D.moments disk.old) (D.moments disk.new)) }
-    ensures unasked { IfOk result (λ device. IsUnasked device.parts (D.identity disk.new) (D.moments disk.new)) }
+    ensures unasked { IfOk result (λ device. IsUnasked device.parts device.recalc
+        (D.identity disk.new) (D.moments disk.new)) }
     ensures empty { IfOk result HasEmptyRing }
 
     ensures cause { HasCause (D.faults disk.old) (D.faults disk.new) result }
@@ -107,7 +111,11 @@ fn open_judged<'p, D: Disk>(
     // An image that was closed is not written.
     ensures in_place { KeepsRecovered (λ found. image.format.geometry) (D.moments disk.old) (D.moments disk.new) }
 {
-    let RecoveryRoom { device, mut pool } = room;
+    let RecoveryRoom {
+        device,
+        mut pool,
+        recalculation,
+    } = room;
     let DeviceRoom {
         cache,
         slots,
@@ -125,5 +133,6 @@ fn open_judged<'p, D: Disk>(
     Ok(JournalParts {
         parts,
         journal: Journal::new(journal, pool, recovered.at),
+        recalc: recalculation,
     })
 }

@@ -1,10 +1,13 @@
 //! The memory of an opening.
-ghost use Rattle.std.specs.Prelude.{IfOk};
-ghost use Rattle.device_opening.specs.Opening.{IsRecoveryRoomFor, IsRoomFor};
+ghost use Rattle.std.specs.Prelude.{◌*◌, ℕ, IfOk};
+ghost use Rattle.image_format.specs.Format.{IsFormat};
+ghost use Rattle.device_opening.specs.Opening.{IsRecalculationFor, IsRecoveryRoomFor, IsRoomFor};
 
 use buffer_cache::Cache;
+use image_format::ImageFormat;
 use journal_reading::JOURNAL_AT;
 use layout::Geometry;
+use recalculation::{Awaiting, Position, Recalculation};
 use request_slots::Slots;
 use sector_disk::Memory;
 use sector_pool::{Region, Run};
@@ -51,36 +54,60 @@ impl DeviceRoom {
     }
 }
 
-/// The same, with the memory in which a journal is recovered.
+/// The same without a bitmap, with the memory in which a journal is recovered and regions are recalculated.
 #[derive(Drop)]
 pub(crate) struct RecoveryRoom<'p> {
     /// What is allocated in every mode.
     pub(crate) device: DeviceRoom,
     /// As many sectors as the journal has.
     pub(crate) pool: Run<'p>,
+    /// The regions that await the tags of their blocks, and how far the fields say that it is.
+    pub(crate) recalculation: Recalculation,
 }
 
 impl<'p> RecoveryRoom<'p> {
-    /// Takes the memory for a device with these places. The region gets the sectors of the journal, in place of those
-    /// that it had.
+    /// Takes the memory for a device on an image in this format. The region gets the sectors of the journal, in place
+    /// of those that it had.
     ///
     /// # Errors
     ///
     /// - `Memory`: there is none.
     pub(crate) fn new(
         alloc: Global,
-        geometry: Geometry,
+        format: &ImageFormat,
         pool: &'p mut Region,
     ) -> Result<RecoveryRoom<'p>, Memory>
-        ensures { IfOk result (IsRecoveryRoomFor geometry) }
+        requires { (sectors : ℕ) × IsFormat sectors format.now }
+
+        ensures { IfOk result (IsRecoveryRoomFor format.now) }
     {
-        let device = DeviceRoom::new(alloc, geometry)?;
-        let Ok(()) = pool.reserve(alloc, geometry.initial() - JOURNAL_AT) else {
+        let device = DeviceRoom::new(alloc, format.geometry)?;
+        let recalculation = recalculation_of(alloc, format)?;
+        let Ok(()) = pool.reserve(alloc, format.geometry.initial() - JOURNAL_AT) else {
             return Err(Memory);
         };
         Ok(RecoveryRoom {
             device,
             pool: pool.whole(),
+            recalculation,
         })
     }
+}
+
+/// Takes the memory for the regions that await in an image in this format, which has no bitmap: none where no region
+/// does. The position is the one that its fields tell.
+///
+/// # Errors
+///
+/// - `Memory`: there is none.
+fn recalculation_of(alloc: Global, format: &ImageFormat) -> Result<Recalculation, Memory>
+    requires { (sectors : ℕ) × IsFormat sectors format.now }
+
+    ensures { IfOk result (IsRecalculationFor format.now.fields format.now.geometry) }
+{
+    let awaiting = Awaiting::of(alloc, &format.fields, &format.geometry, None)?;
+    Ok(Recalculation {
+        awaiting,
+        position: Position::of(format.fields),
+    })
 }

@@ -3,7 +3,7 @@ ghost use Rattle.std.specs.Prelude.{◌≡◌, ◌≤◌, IfSome};
 ghost use Rattle.disk_model.specs.Identity.{IsBound};
 ghost use Rattle.device.specs.Device.{IsReady};
 
-use device::{Device, OpenMode};
+use device::{Consent, Device, OpenMode};
 use device_parts::{Actor, Moved, Served};
 use hmac_tag::Hash;
 use image_formatting::{ImageMode, NewImage, Padding, Wipe, format};
@@ -174,7 +174,13 @@ fn close_fails<D: Disk>(
     requires { IsBound (D.identity disk.old).name }
 {
     let write = write_of(alloc, 0xaa)?;
-    let Some(mut device) = open_device(alloc, disk, region, Hash::Sha256, OpenMode::Journal) else {
+    let Some(mut device) = open_device(
+        alloc,
+        disk,
+        region,
+        Hash::Sha256,
+        OpenMode::Journal(Consent::Withheld),
+    ) else {
         return Ok(false);
     };
     let written = reply_to(&mut device, write);
@@ -205,12 +211,27 @@ fn in_journal_mode_a_write_is_placed_by_a_step(rt: HostRuntime) -> Result<(), Fa
     let byte = Some(0xaa);
     let moved = Some(Moved::Did);
     let mut disk = new_disk(rt.alloc())?;
-    let written = write_and_read(rt.alloc(), &mut disk, OpenMode::Journal, Actor::Place)?;
+    let written = write_and_read(
+        rt.alloc(),
+        &mut disk,
+        OpenMode::Journal(Consent::Withheld),
+        Actor::Place,
+    )?;
     assert_eq!(rt; written, Some(Written { byte, moved }));
-    let in_journal_mode = read_alone(rt.alloc(), &mut disk, Hash::Sha256, OpenMode::Journal)?;
+    let in_journal_mode = read_alone(
+        rt.alloc(),
+        &mut disk,
+        Hash::Sha256,
+        OpenMode::Journal(Consent::Withheld),
+    )?;
     assert_eq!(rt; in_journal_mode, byte);
     // A close has brought all to its place, where direct mode looks.
-    let in_direct_mode = read_alone(rt.alloc(), &mut disk, Hash::Sha256, OpenMode::Direct)?;
+    let in_direct_mode = read_alone(
+        rt.alloc(),
+        &mut disk,
+        Hash::Sha256,
+        OpenMode::Direct(Consent::Withheld),
+    )?;
     assert_eq!(rt; in_direct_mode, byte);
     Ok(())
 }

@@ -5,7 +5,7 @@ ghost use Rattle.device_parts.specs.declared.condition.Condition.TheVariants.{Wo
 ghost use Rattle.device.specs.Calls.{Works};
 ghost use Rattle.device.specs.Device.{IsReady};
 
-use device::{Device, OpenMode, finish, make_room, step};
+use device::{Consent, Device, OpenMode, finish, make_room, step};
 use device_parts::{Actor, Moved, Served};
 use hmac_tag::Hash;
 use image_formatting::{ImageMode, NewImage, Padding, Wipe, format};
@@ -73,7 +73,13 @@ fn open_device<'d, 'p, D: Disk>(
         (D.identity device.disk.now) (D.moments device.disk.now)) }
     ensures works { IfSome result (λ device. device.condition ≡ Working) }
 {
-    match Device::open(alloc, disk, region, Hash::Sha256, OpenMode::Journal) {
+    match Device::open(
+        alloc,
+        disk,
+        region,
+        Hash::Sha256,
+        OpenMode::Journal(Consent::Withheld),
+    ) {
         Ok(device) => Some(device),
         Err(_) => None,
     }

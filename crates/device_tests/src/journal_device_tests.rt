@@ -8,9 +8,10 @@ use device_opening::open_journal;
 use device_parts::{Condition, Served};
 use hmac_tag::Hash;
 use image_formatting::{ImageMode, NewImage, Padding, Wipe, format};
+use image_judging::Consent;
 use journal_device::{JournalParts, close, serve};
 use request_slots::{Bytes, Reply, Request, Ticket};
-use sector_disk::{Disk, MemDisk};
+use sector_disk::{Disk, Failed, MemDisk};
 use sector_pool::Region;
 use std::alloc::{AllocError, Global};
 use std::test::Fail;
@@ -36,6 +37,29 @@ fn new_disk(alloc: Global) -> Result<MemDisk, Fail> {
     let mut disk = MemDisk::new(alloc, 512, 2000)?;
     format(alloc, &mut disk, Hash::Sha256, SMALL)?;
     Ok(disk)
+}
+
+/// A disk with a new image whose tags are to be recalculated.
+fn awaiting_disk(alloc: Global) -> Result<MemDisk, Fail> {
+    let mut disk = MemDisk::new(alloc, 512, 2000)?;
+    let new = NewImage {
+        wipe: Wipe::Recalculated,
+        ..SMALL
+    };
+    format(alloc, &mut disk, Hash::Sha256, new)?;
+    Ok(disk)
+}
+
+/// The lowest byte of the flags in sector 0.
+fn flags_on<D: Disk>(disk: &mut D) -> Result<u8, Failed>
+    requires { IsBound (D.identity disk.old).name }
+{
+    let mut sector = [0; 512];
+    if disk.sectors() == 0 {
+        return Err(Failed);
+    }
+    disk.read_run(0, &mut sector)?;
+    Ok(sector[24])
 }
 
 /// A write of so many blocks from block 5 on, whose bytes are all this one.
@@ -65,10 +89,10 @@ fn open_device<'p, D: Disk>(
 ) -> Option<JournalParts<'p>>
     requires { IsBound (D.identity disk.old).name }
 
-    ensures { IfSome result (λ device. IsReady Working device.parts device.journal
+    ensures { IfSome result (λ device. IsReady Working device.parts device.journal device.recalc
         (D.identity disk.new) (D.moments disk.new)) }
 {
-    open_journal(alloc, disk, Hash::Sha256, region).ok()
+    open_journal(alloc, disk, Hash::Sha256, Consent::Withheld, region).ok()
 }
 
 /// Submits a request.
@@ -78,9 +102,11 @@ fn submit<D: Disk>(
     condition: Condition,
     request: Request,
 ) -> Option<Ticket>
-    requires { IsReady condition device.old.parts device.old.journal (D.identity disk.now) (D.moments disk.now) }
+    requires { IsReady condition device.old.parts device.old.journal device.old.recalc
+        (D.identity disk.now) (D.moments disk.now) }
 
-    ensures { IsReady condition device.new.parts device.new.journal (D.identity disk.now) (D.moments disk.now) }
+    ensures { IsReady condition device.new.parts device.new.journal device.new.recalc
+        (D.identity disk.now) (D.moments disk.now) }
 {
     if !device.parts.slots.has_ticket() {
         return None;
@@ -95,10 +121,10 @@ fn serve_once<D: Disk>(
     condition: &mut Condition,
     ticket: &Ticket,
 ) -> Option<Served>
-    requires { IsReady condition.old device.old.parts device.old.journal
+    requires { IsReady condition.old device.old.parts device.old.journal device.old.recalc
         (D.identity disk.old) (D.moments disk.old) }
 
-    ensures { IsReady condition.new device.new.parts device.new.journal
+    ensures { IsReady condition.new device.new.parts device.new.journal device.new.recalc
         (D.identity disk.new) (D.moments disk.new) }
 {
     if !device.parts.slots.holds(ticket) {
@@ -106,7 +132,13 @@ fn serve_once<D: Disk>(
     }
     match *condition {
         Condition::Broken => None,
-        Condition::Working => match serve(disk, &mut device.parts, &mut device.journal, ticket) {
+        Condition::Working => match serve(
+            disk,
+            &mut device.parts,
+            &mut device.journal,
+            &mut device.recalc,
+            ticket,
+        ) {
             Ok(served) => Some(served),
             Err(_) => {
                 *condition = Condition::Broken;
@@ -123,10 +155,10 @@ fn serve_on<D: Disk>(
     condition: &mut Condition,
     ticket: &Ticket,
 ) -> (Option<Served>, u64)
-    requires { IsReady condition.old device.old.parts device.old.journal
+    requires { IsReady condition.old device.old.parts device.old.journal device.old.recalc
         (D.identity disk.old) (D.moments disk.old) }
 
-    ensures { IsReady condition.new device.new.parts device.new.journal
+    ensures { IsReady condition.new device.new.parts device.new.journal device.new.recalc
         (D.identity disk.new) (D.moments disk.new) }
 {
     for count in 0..2 * ENTRIES {
@@ -145,10 +177,10 @@ fn reply_to<D: Disk>(
     condition: &mut Condition,
     request: Request,
 ) -> Option<Reply>
-    requires { IsReady condition.old device.old.parts device.old.journal
+    requires { IsReady condition.old device.old.parts device.old.journal device.old.recalc
         (D.identity disk.old) (D.moments disk.old) }
 
-    ensures { IsReady condition.new device.new.parts device.new.journal
+    ensures { IsReady condition.new device.new.parts device.new.journal device.new.recalc
         (D.identity disk.new) (D.moments disk.new) }
 {
     let ticket = submit(disk, device, *condition, request)?;
@@ -175,14 +207,26 @@ fn close_journaled<D: Disk>(
     device: &mut JournalParts<'_>,
     condition: Condition,
 ) -> bool
-    requires { IsReady condition device.old.parts device.old.journal (D.identity disk.old) (D.moments disk.old) }
+    requires { IsReady condition device.old.parts device.old.journal device.old.recalc
+        (D.identity disk.old) (D.moments disk.old) }
 {
-    if !device.journal.is_journaled(5) {
-        return false;
-    }
+    device.journal.is_journaled(5) && close_device(disk, device, condition)
+}
+
+/// Closes a device. Tells whether that went well.
+fn close_device<D: Disk>(disk: &mut D, device: &mut JournalParts<'_>, condition: Condition) -> bool
+    requires { IsReady condition device.old.parts device.old.journal device.old.recalc
+        (D.identity disk.old) (D.moments disk.old) }
+{
     match condition {
         Condition::Broken => false,
-        Condition::Working => close(disk, &mut device.parts, &mut device.journal).is_ok(),
+        Condition::Working => close(
+            disk,
+            &mut device.parts,
+            &mut device.journal,
+            &mut device.recalc,
+        )
+        .is_ok(),
     }
 }
 
@@ -220,6 +264,21 @@ fn read_alone<D: Disk>(alloc: Global, disk: &mut D) -> Result<Option<u8>, AllocE
     Ok(byte_of(reply_to(disk, &mut device, &mut condition, read)))
 }
 
+/// Reads the block and closes the device: the byte that was read, where all went well.
+fn read_and_close<D: Disk>(alloc: Global, disk: &mut D) -> Result<Option<u8>, AllocError>
+    requires { IsBound (D.identity disk.old).name }
+{
+    let read = read_of(alloc)?;
+    let mut region = Region::new();
+    let Some(mut device) = open_device(alloc, disk, &mut region) else {
+        return Ok(None);
+    };
+    let mut condition = Condition::Working;
+    let byte = byte_of(reply_to(disk, &mut device, &mut condition, read));
+    let is_closed = close_device(disk, &mut device, condition);
+    Ok(if is_closed { byte } else { None })
+}
+
 #[test]
 fn what_is_written_is_read_from_the_journal_and_then_from_its_place(
     rt: HostRuntime,
@@ -238,5 +297,21 @@ fn an_image_that_was_closed_is_opened_without_a_write(rt: HostRuntime) -> Result
     disk.stop_after(1);
     assert_eq!(rt; read_alone(rt.alloc(), &mut disk)?, Some(0xaa));
     assert_eq!(rt; read_alone(rt.alloc(), &mut disk)?, Some(0xaa));
+    Ok(())
+}
+
+#[test]
+fn a_region_is_recalculated_once_its_block_is_read_from_its_place(
+    rt: HostRuntime,
+) -> Result<(), Fail> {
+    // The image has one region. No write gave the block its tag.
+    let mut disk = awaiting_disk(rt.alloc())?;
+    assert_eq!(rt; flags_on(&mut disk)?, 0x0a);
+    assert_eq!(rt; read_alone(rt.alloc(), &mut disk)?, Some(0));
+    // Of a block that the journal holds nothing is recalculated, so the region awaits still.
+    assert_eq!(rt; write_and_read(rt.alloc(), &mut disk)?, Some(0xaa));
+    assert_eq!(rt; flags_on(&mut disk)?, 0x0a);
+    assert_eq!(rt; read_and_close(rt.alloc(), &mut disk)?, Some(0xaa));
+    assert_eq!(rt; flags_on(&mut disk)?, 0x08);
     Ok(())
 }

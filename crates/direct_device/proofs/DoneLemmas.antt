@@ -1,15 +1,18 @@
 -- After each serve the device is the one after its event.
 use Rattle.std.proofs.Common.{◌≡◌, ℕ, suc, ◌+◌, ◌<◌, ◌++◌, Bool, true, false, if◌then◌else◌, List, [], ◌∷◌, length, slice_get, None, Some, IfSome, refl, sym, ◌∙◌, ap, subst}
 use Rattle.std.specs.Str.{bytes_eq}
+use Rattle.std.proofs.lemmas.Bool.{and_left}
 use Rattle.disk_model.specs.Disk.{Content, Reads}
 use Rattle.disk_model.specs.Moments.{EachMoment, HasNow, content_now}
-use Rattle.image_model.specs.Geometry.{Geometry, data_at}
+use Rattle.image_model.specs.Bitmap.{is_to_recalculate}
+use Rattle.image_model.specs.Geometry.{Geometry, data_at, region_of}
 use Rattle.device_model.specs.History.{BlockWrite, cells_now}
 use Rattle.device_model.specs.Mode.{DeviceFormat}
 use Rattle.device_model.specs.Progress as Model
+use Rattle.device_model.specs.Regions.{RegionCounts, recalculated_region, with_region}
 use Rattle.device_model.specs.Request as Asks
 use Rattle.device_model.proofs.SubmissionLemmas.{result-working}
-use Rattle.place_model.specs.Format.{DiskFormat, IsReadAs, format_on, tagger_of}
+use Rattle.place_model.specs.Format.{DiskFormat, format_on, tagger_of}
 use Rattle.place_model.specs.Opened.{blocks_of}
 use Rattle.place_model.specs.Kind.{placed_kind}
 use Rattle.direct_mode.specs.JournalLawsEventLaws.{IsServed}
@@ -20,13 +23,19 @@ use Rattle.direct_mode.specs.Device.{IsDirectDevice}
 use Rattle.direct_mode.specs.EventLaws.{after_block}
 use Rattle.direct_mode.specs.MomentLaws.{IsLeftNow}
 use Rattle.direct_mode.specs.ServeLaws.{KeepsDevice}
-use Rattle.direct_mode.proofs.CallLemmas.{any_awaiting_law, block_read_law, none_awaits_law, still_law}
+use Rattle.direct_mode.proofs.CallLemmas.{block_read_law, still_law, through_law}
 use Rattle.direct_mode.proofs.EventLemmas.{held_law, served_law, serve_read_law, unserved_law}
 use Rattle.direct_mode.proofs.ServeLemmas.{failed_flush_law, failed_read_law, served_flush_law, served_kept_law}
 use Rattle.direct_mode.specs.Cells.{HasCells, KeepsDisk}
 use Rattle.direct_mode.specs.Serving as WriteModel
 use Rattle.direct_mode.specs.Serving.{HasFailed, HasServed, ServedWrite, WritesNext}
-use Rattle.tag_store.specs.Store.{given_tags}
+use Rattle.tag_store.specs.Store.{Store, given_tags}
+use Rattle.recalculate_laws.specs.Awaits.{ReadsNone}
+use Rattle.recalculate_laws.specs.Formats.{IsFormatOf}
+use Rattle.recalculate_laws.proofs.AwaitsLemmas.{awaiting_served_law}
+use Rattle.recalculate_laws.proofs.DirectDeviceLemmas.{direct_read_law}
+use Rattle.recalculation.specs.declared.recalculating.Recalculation.{Recalculation}
+use Rattle.recalculation.specs.Recalculation.{IsRecalculationOf}
 use Rattle.request_slots.specs.Flight.{Flight, slot_of, turn_of}
 use Rattle.request_slots.specs.InFlight.{IsFlightOf}
 use Rattle.request_slots.specs.Serving.{next_bytes, with_block_counted, with_block_read, with_change, with_fault, with_finish}
@@ -39,7 +48,8 @@ use Rattle.device_parts.specs.Answers.{served_by}
 use Rattle.device_parts.specs.Device.{condition_of, rule_on}
 use Rattle.device_parts.proofs.NextLemmas.{bytes-next, finished-is, flight_put, held-is, open_then, requests_then, served_asked, there_then}
 use Rattle.device_parts.proofs.TurnLemmas.{answer_is}
-use Rattle.direct_device.specs.Device.{DirectStanding, IsOverDisk}
+use Rattle.direct_device.specs.Device.{DirectStanding, IsOverDisk, Works, standing_then}
+use Rattle.direct_device.specs.Taking.{IsTaken, awaiting_read}
 use Rattle.direct_device.proofs.OverDisk.{HasFailedIn, IsAfter, IsServedAs}
 
 -- ---- an event that is done
@@ -57,51 +67,58 @@ pub told_then : {P : Content → Type 0} (a b : List Content) (c : Content) → 
 told_then a b c told moments = subst IsTold (sym moments.grows) (told_behind moments.since a c told)
 
 -- Where a call keeps the device, with its disk, the requests and the rule, the event is done.
-module _ (w : DirectStanding) (condition : Condition) (parts : Parts) (a : List Content) (is : IsOverDisk w condition parts a) where
-  pub done : (event : Model.Event) (d : DirectDisk) (now : Condition) (new : Parts) (b : List Content)
+module _ (w : DirectStanding) (condition : Condition) (parts : Parts) (recalculation : Recalculation) (a : List Content) (is : IsOverDisk w condition parts recalculation a) where
+  pub done : (event : Model.Event) (d : DirectDisk) (now : Condition) (new : Parts) (last : Recalculation) (b : List Content)
       → KeepsDevice w.format w.state event w.entry w.disk d a b → d.format ≡ w.disk.format
       → IsFlightOf w.format new.slots (Model.after_event w.format w.state event).progress.requests → new.maker ≡ parts.maker
       → (Model.after_event w.format w.state event).condition ≡ condition_of now
-      → (awaiting : ℕ → Bool) → (now ≡ Conditions.Working → HasCells d awaiting new.tags b)
-      → IsAfter w event now new a b
-  done event d now new b keeps same flight rule condition_is awaiting cells =
+      → (now ≡ Conditions.Working → Works (standing_then w event d) new last b)
+      → IsAfter w event now new last a b
+  done event d now new last b keeps same flight rule condition_is works =
       let told = told_then a b is.told is.is_told keeps.through.opens in
-      let reads = subst (λ (x : DiskFormat). IsReadAs x w.entry) (sym same) is.reads in
       record {
         disk = d;
-        format = same;
+        format = λ on of. subst (IsFormatOf on) (sym same) of;
         device = record {
           device = keeps.device;
-          reads = reads;
           opened = subst (λ (x : DiskFormat). blocks_of x ≡ blocks_of (format_on x.key x.sectors w.entry)) (sym same) is.opened;
           flight = flight;
           rule = rule ∙ is.rule ∙ ap rule_on (sym same);
           condition_ = condition_is;
           told = told.content;
           is_told = told.is;
-          cells = λ works. let has = cells works in record {
-            geometry = has.geometry;
-            now = any_awaiting_law w.format (Model.after_event w.format w.state event) d w.entry awaiting (Model.after_event w.format w.state event).progress.regions.awaiting (given_tags new.tags) b keeps.device reads has.now;
-          };
+          works = works;
           left = subst (λ (x : DiskFormat). IsLeftNow (placed_kind x.key x.sectors) w.entry (Model.after_event w.format w.state event).history b) (sym same) keeps.now;
         };
         through = keeps.through;
       }
 
-  -- Where the disk stays as it is at its moments,
-  pub still : (event : Model.Event) (now : Condition) (new : Parts) (b : List Content) → b ≡ a
+  -- Where the disk stays as it is,
+  pub still : (event : Model.Event) (now : Condition) (new : Parts) (last : Recalculation) (b : List Content)
       → IsDirectDevice w.format (Model.after_event w.format w.state event) w.disk
       → StandsThrough w.disk a b
       → IsFlightOf w.format new.slots (Model.after_event w.format w.state event).progress.requests → new.maker ≡ parts.maker
       → (Model.after_event w.format w.state event).condition ≡ condition_of now
-      → (now ≡ Conditions.Working → HasCells w.disk w.state.progress.regions.awaiting new.tags b)
-      → IsAfter w event now new a b
-  still event now new b same device through flight rule condition_is cells =
-      done event w.disk now new b (served_kept_law w.format w.state event w.disk w.entry a b is.device is.opened device through) refl flight rule condition_is w.state.progress.regions.awaiting cells
+      → (now ≡ Conditions.Working → Works (standing_then w event w.disk) new last b)
+      → IsAfter w event now new last a b
+  still event now new last b device through flight rule condition_is works =
+      done event w.disk now new last b (served_kept_law w.format w.state event w.disk w.entry a b is.device is.opened device through) refl flight rule condition_is works
+
+-- What works does so with regions that are the same.
+pub same_works : (w : DirectStanding) (event : Model.Event) (parts : Parts) (recalculation : Recalculation) (b : List Content) (d : DirectDisk) → HasCells d w.state.progress.regions.awaiting parts.tags b
+    → IsRecalculationOf d.superblock d.geometry w.state.progress.regions.awaiting recalculation
+    → (Model.after_event w.format w.state event).progress.regions.awaiting ≡ w.state.progress.regions.awaiting → Works (standing_then w event d) parts recalculation b
+same_works w event parts recalculation b d cells own same = record {
+  cells = subst (λ (x : ℕ → Bool). HasCells d x parts.tags b) (sym same) cells;
+  recalculation_ = subst (λ (x : ℕ → Bool). IsRecalculationOf d.superblock d.geometry x recalculation) (sym same) own;
+}
 
 -- ---- a device that works
 
-module _ (w : DirectStanding) (parts : Parts) (a : List Content) (is : IsOverDisk w Conditions.Working parts a) where
+pub not_working : {P : Type 0} → Conditions.Broken ≡ Conditions.Working → P
+not_working same = absurd (subst (λ (c : Condition). elim c as (λ _. Type 0) [ Conditions.Working ↦ ⊥ | Conditions.Broken ↦ Unit {0} ]) same tt)
+
+module _ (w : DirectStanding) (parts : Parts) (recalculation : Recalculation) (a : List Content) (is : IsOverDisk w Conditions.Working parts recalculation a) where
   abbrev f : DeviceFormat
   f = w.format
 
@@ -112,11 +129,14 @@ module _ (w : DirectStanding) (parts : Parts) (a : List Content) (is : IsOverDis
   works = is.condition_
 
   cells : HasCells w.disk s.progress.regions.awaiting parts.tags a
-  cells = is.cells refl
+  cells = (is.works refl).cells
+
+  own : IsRecalculationOf w.disk.superblock w.disk.geometry s.progress.regions.awaiting recalculation
+  own = (is.works refl).recalculation_
 
   -- A disk whose moments stay stands through that.
-  pub stands_still : (b : List Content) → b ≡ a → StandsThrough w.disk a b
-  stands_still b same = still_law w.disk a b same (λ c told. (cells.now c told).stands)
+  pub stands_still : StandsThrough w.disk a a
+  stands_still = still_law w.disk a a refl (λ c told. (cells.now c told).stands)
 
   module _ (k : ℕ) (r : Asks.Asked) (there : slice_get s.progress.requests k ≡ Some r) where
     -- ---- nothing is done
@@ -125,22 +145,29 @@ module _ (w : DirectStanding) (parts : Parts) (a : List Content) (is : IsOverDis
         → IsFlightOf f parts.slots (Model.after_event f s (Model.Serve (suc k))).progress.requests
     flight-same answer e = subst (λ (x : Model.EventResult). IsFlightOf f parts.slots x.progress.requests) (sym e) is.flight
 
-    pub served_finished : (b : List Content) → b ≡ a → r.state ≡ Asks.Finished → IsServedAs w (suc k) Serves.Done parts a b
-    served_finished b same e = record {
-      answer = ap (λ (x : Model.EventResult). x.answer) (finished-is f s works k r there e);
-      done = still w Conditions.Working parts a is (Model.Serve (suc k)) Conditions.Working parts b same
-          (unserved_law f s w.disk (suc k) is.device (ap Asks.is_to_serve there ∙ ap Asks.is_unfinished e))
-          (stands_still b same) (flight-same Model.Done (finished-is f s works k r there e)) refl works (λ _. subst (HasCells w.disk s.progress.regions.awaiting parts.tags) (sym same) cells);
-    }
+    still-works : (answer : Model.Answer) → Model.event_result f s (Model.Serve (suc k)) ≡ Model.only_answers s.progress answer → Works (standing_then w (Model.Serve (suc k)) w.disk) parts recalculation a
+    still-works answer e = same_works w (Model.Serve (suc k)) parts recalculation a w.disk cells own (ap (λ (x : Model.EventResult). x.progress.regions.awaiting) e)
 
-    pub served_held : (b : List Content) (by : ℕ) → b ≡ a → r.state ≡ Asks.Unfinished → Asks.held_by s.progress.requests k r.request ≡ Some by
-        → IsServedAs w (suc k) (Serves.Held by) parts a b
-    served_held b by same e held = record {
-      answer = ap (λ (x : Model.EventResult). x.answer) (held-is f s works k r there by e held);
-      done = still w Conditions.Working parts a is (Model.Serve (suc k)) Conditions.Working parts b same
-          (held_law f s w.disk k by r is.device there held)
-          (stands_still b same) (flight-same (Model.HeldBy by) (held-is f s works k r there by e held)) refl works (λ _. subst (HasCells w.disk s.progress.regions.awaiting parts.tags) (sym same) cells);
-    }
+    pub served_finished : r.state ≡ Asks.Finished → IsServedAs w (suc k) Serves.Done parts recalculation a a
+    served_finished e =
+        let result = finished-is f s works k r there e in
+        record {
+          answer = ap (λ (x : Model.EventResult). x.answer) result;
+          done = still w Conditions.Working parts recalculation a is (Model.Serve (suc k)) Conditions.Working parts recalculation a
+              (unserved_law f s w.disk (suc k) is.device (ap Asks.is_to_serve there ∙ ap Asks.is_unfinished e))
+              stands_still (flight-same Model.Done result) refl works (λ _. still-works Model.Done result);
+        }
+
+    pub served_held : (by : ℕ) → r.state ≡ Asks.Unfinished → Asks.held_by s.progress.requests k r.request ≡ Some by
+        → IsServedAs w (suc k) (Serves.Held by) parts recalculation a a
+    served_held by e held =
+        let result = held-is f s works k r there by e held in
+        record {
+          answer = ap (λ (x : Model.EventResult). x.answer) result;
+          done = still w Conditions.Working parts recalculation a is (Model.Serve (suc k)) Conditions.Working parts recalculation a
+              (held_law f s w.disk k by r is.device there held)
+              stands_still (flight-same (Model.HeldBy by) result) refl works (λ _. still-works (Model.HeldBy by) result);
+        }
 
     -- ---- the disk failed
 
@@ -155,15 +182,11 @@ module _ (w : DirectStanding) (parts : Parts) (a : List Content) (is : IsOverDis
     broken-now : (Model.after_event f s (Model.FailedServe (suc k))).condition ≡ condition_of Conditions.Broken
     broken-now = ap Model.after_failure works
 
-    not_working : {P : Type 0} → Conditions.Broken ≡ Conditions.Working → P
-    not_working same = absurd (subst (λ (c : Condition). elim c as (λ _. Type 0) [ Conditions.Working ↦ ⊥ | Conditions.Broken ↦ Unit {0} ]) same tt)
-
-    pub failed_still : (new : Parts) (b : List Content) → new.slots ≡ parts.slots → new.maker ≡ parts.maker → StandsThrough w.disk a b
-        → IsDirectDevice f (Model.after_event f s (Model.FailedServe (suc k))) w.disk → HasFailedIn w (suc k) new a b
-    failed_still new b slots maker through device =
-        done w Conditions.Working parts a is (Model.FailedServe (suc k)) w.disk Conditions.Broken new b
-        (served_kept_law f s (Model.FailedServe (suc k)) w.disk w.entry a b is.device is.opened device through) refl (failed-flight new slots) maker broken-now
-        s.progress.regions.awaiting (λ same. not_working same)
+    pub failed_still : (new : Parts) (last : Recalculation) (b : List Content) → new.slots ≡ parts.slots → new.maker ≡ parts.maker → StandsThrough w.disk a b
+        → IsDirectDevice f (Model.after_event f s (Model.FailedServe (suc k))) w.disk → HasFailedIn w (suc k) new last a b
+    failed_still new last b slots maker through device =
+        still w Conditions.Working parts recalculation a is (Model.FailedServe (suc k)) Conditions.Broken new last b
+        device through (failed-flight new slots) maker broken-now (λ same. not_working same)
 
     -- ---- a request that is served
 
@@ -178,53 +201,81 @@ module _ (w : DirectStanding) (parts : Parts) (a : List Content) (is : IsOverDis
       result_is = served_law f s w.disk k r is.device is_served
 
       -- where those in flight are the requests with it, it answers by what is done next,
-      pub served_done : (new : Parts) (b : List Content) (d : DirectDisk) → IsFlightOf f new.slots then_ → new.maker ≡ parts.maker
+      pub served_done : (new : Parts) (last : Recalculation) (b : List Content) (d : DirectDisk) → IsFlightOf f new.slots then_ → new.maker ≡ parts.maker
           → KeepsDevice f s (Model.Serve (suc k)) w.entry w.disk d a b → d.format ≡ w.disk.format
-          → (awaiting : ℕ → Bool) → HasCells d awaiting new.tags b
-          → IsServedAs w (suc k) (served_by (turn_of new.slots (suc k))) new a b
-      served_done new b d flight maker keeps same awaiting has = record {
+          → Works (standing_then w (Model.Serve (suc k)) d) new last b
+          → IsServedAs w (suc k) (served_by (turn_of new.slots (suc k))) new last a b
+      served_done new last b d flight maker keeps same has = record {
         answer = ap (λ (x : Model.EventResult). x.answer) result_is ∙ answer_is f new.slots then_ flight k (served_asked f s r) (there_then f s k r is_served) (open_then f s k r is_served);
-        done = done w Conditions.Working parts a is (Model.Serve (suc k)) d Conditions.Working new b keeps same
-            (subst (λ (x : Model.EventResult). IsFlightOf f new.slots x.progress.requests) (sym result_is) flight) maker works awaiting (λ _. has);
+        done = done w Conditions.Working parts recalculation a is (Model.Serve (suc k)) d Conditions.Working new last b keeps same
+            (subst (λ (x : Model.EventResult). IsFlightOf f new.slots x.progress.requests) (sym result_is) flight) maker works (λ _. has);
       }
+
+      -- a request that is no read takes no region,
+      served-awaiting : ReadsNone r.request → (Model.after_event f s (Model.Serve (suc k))).progress.regions.awaiting ≡ s.progress.regions.awaiting
+      served-awaiting none = awaiting_served_law f s k r is_served none
 
       -- a flush
       pub served_flush : (new : Parts) (b : List Content) → r.request ≡ Asks.Flush → new.slots ≡ with_change (suc k) with_finish parts.slots
           → new.maker ≡ parts.maker → StandsThrough w.disk a b → HasCells (after_flush w.disk) s.progress.regions.awaiting new.tags b
-          → IsServedAs w (suc k) Serves.Done new a b
+          → IsServedAs w (suc k) Serves.Done new recalculation a b
       served_flush new b e slots maker through has =
           let flight = subst (λ (x : Flight). IsFlightOf f x then_) (sym slots) (flight_flushed f (cells_now f.blocks.tag s.history) parts.slots s.progress.requests k r is.flight there unfinished e) in
-          let as_told = served_done new b (after_flush w.disk) flight maker
-          (served_flush_law f s w.disk k r w.entry s.progress.regions.awaiting (given_tags new.tags) a b is.device is.opened is_served e through has.now) refl s.progress.regions.awaiting has in
+          let same = served-awaiting (subst ReadsNone (sym e) tt) in
+          let as_told = served_done new recalculation b (after_flush w.disk) flight maker
+          (served_flush_law f s w.disk k r w.entry s.progress.regions.awaiting (given_tags new.tags) a b is.device is.opened is_served e through has.now) refl
+          (same_works w (Model.Serve (suc k)) new recalculation b (after_flush w.disk) has own same) in
           record {
             answer = ap (λ (x : Model.EventResult). x.answer) result_is ∙ ap (λ (q : Asks.Request). Model.answer_by (Model.with_block_of f (cells_now f.blocks.tag s.history) r q).state) e;
             done = as_told.done;
           }
 
       pub failed_flush : (new : Parts) (b : List Content) → r.request ≡ Asks.Flush → new.slots ≡ parts.slots → new.maker ≡ parts.maker → StandsThrough w.disk a b
-          → HasFailedIn w (suc k) new a b
-      failed_flush new b e slots maker through = failed_still new b slots maker through (failed_flush_law f s w.disk k r is.device is_served e)
+          → HasFailedIn w (suc k) new recalculation a b
+      failed_flush new b e slots maker through = failed_still new recalculation b slots maker through (failed_flush_law f s w.disk k r is.device is_served e)
 
-      pub failed_read : (first count : ℕ) (new : Parts) (b : List Content) → r.request ≡ Asks.Read first count → new.slots ≡ parts.slots → new.maker ≡ parts.maker → StandsThrough w.disk a b
-          → HasFailedIn w (suc k) new a b
-      failed_read first count new b e slots maker through = failed_still new b slots maker through (failed_read_law f s w.disk k r first count is.device is_served e)
+      pub failed_read : (first count : ℕ) (new : Parts) (last : Recalculation) (b : List Content) → r.request ≡ Asks.Read first count → new.slots ≡ parts.slots → new.maker ≡ parts.maker → StandsThrough w.disk a b
+          → HasFailedIn w (suc k) new last a b
+      failed_read first count new last b e slots maker through = failed_still new last b slots maker through (failed_read_law f s w.disk k r first count is.device is_served e)
 
-      -- a block that was read, with the tag that is stored for it
-      pub served_read : (first count block : ℕ) (bytes stored computed : List ℕ) (new : Parts) (b : List Content) → r.request ≡ Asks.Read first count → block ≡ first + r.served
+      -- The regions that await behind a read.
+      read-awaiting : (first count block : ℕ) → r.request ≡ Asks.Read first count → block ≡ first + r.served
+          → (Model.after_event f s (Model.Serve (suc k))).progress.regions.awaiting ≡ awaiting_read w.disk.geometry block s.progress.regions.awaiting
+      read-awaiting first count block e block_ =
+          let counts = s.progress.regions in
+          let region = region_of w.disk.geometry (first + r.served) in
+          ap (λ (x : RegionCounts). x.awaiting) (direct_read_law f s w.disk k r first count is.device is_served e)
+          ∙ by_test (counts.awaiting region) region counts
+          ∙ ap (λ (n : ℕ). awaiting_read w.disk.geometry n counts.awaiting) (sym block_)
+        where
+          by_test : (t : Bool) (region : ℕ) (counts : RegionCounts) → (if t then recalculated_region region counts else counts).awaiting ≡ (if t then with_region region false counts.awaiting else counts.awaiting)
+          by_test true region counts = refl
+          by_test false region counts = refl
+
+      -- a block that was read behind its region, with the tag that is stored for it
+      pub served_read : (first count block : ℕ) (bytes stored computed : List ℕ) (mid : Store) (new : Parts) (last : Recalculation) (m b : List Content) → r.request ≡ Asks.Read first count → block ≡ first + r.served
           → block < parts.slots.blocks → length bytes ≡ parts.slots.block_size → computed ≡ tagger_of w.disk.format block bytes
           → new.slots ≡ (if bytes_eq stored computed then with_change (suc k) (with_block_read parts.slots.block_size bytes) parts.slots
           else with_change (suc k) (with_fault block stored computed) parts.slots)
-          → new.maker ≡ parts.maker → KeepsDisk w.disk s.progress.regions.awaiting new.tags a b
-          → HasNow (Reads (data_at parts.tags.geometry block) bytes) a → HasNow (λ c. stored ≡ given_tags parts.tags c block) a
-          → IsServedAs w (suc k) (served_by (turn_of new.slots (suc k))) new a b
-      served_read first count block bytes stored computed new b e block_ low size computed_ slots maker kept reads tag =
-          let awaiting = s.progress.regions.awaiting in
+          → new.maker ≡ parts.maker → IsTaken w.disk s.progress.regions.awaiting block last mid a m
+          → KeepsDisk w.disk (awaiting_read w.disk.geometry block s.progress.regions.awaiting) new.tags m b
+          → HasNow (Reads (data_at mid.geometry block) bytes) m → HasNow (λ c. stored ≡ given_tags mid c block) m
+          → IsServedAs w (suc k) (served_by (turn_of new.slots (suc k))) new last a b
+      served_read first count block bytes stored computed mid new last m b e block_ low size computed_ slots maker taken kept reads tag =
+          let awaiting = awaiting_read w.disk.geometry block s.progress.regions.awaiting in
           let whole : length bytes ≡ f.blocks.block_size = size ∙ is.flight.block_size in
-          let told = (block_read_law f s w.disk awaiting (given_tags parts.tags) a block bytes stored is.device works cells.now (subst (λ (n : ℕ). block < n) is.flight.blocks low)
-          ((none_awaits_law f s w.disk w.entry is.device is.reads).1 awaiting block) whole
-          (subst (λ (g : Geometry). HasNow (Reads (data_at g block) bytes) a) (sym cells.geometry) reads) tag is.told is.is_told).1 in
-          served_done new b w.disk (subst (λ (x : Flight). IsFlightOf f x then_) (sym slots) (flight_put f s k r is_served parts.slots is.flight (tagger_of w.disk.format) first count block bytes stored computed e block_ whole computed_ told)) maker
-          (served_kept_law f s (Model.Serve (suc k)) w.disk w.entry a b is.device is.opened (serve_read_law f s w.disk k r first count is.device is_served e) kept.through) refl awaiting kept.cells
+          let at_mid = told_then a m is.told is.is_told taken.through.moments in
+          let told = (block_read_law f s w.disk awaiting (given_tags mid) m block bytes stored is.device works taken.cells.now (subst (λ (n : ℕ). block < n) is.flight.blocks low)
+          (and_left (awaiting (region_of w.disk.geometry block)) (is_to_recalculate w.disk.superblock w.disk.geometry block) taken.rests) whole
+          (subst (λ (g : Geometry). HasNow (Reads (data_at g block) bytes) m) (sym taken.cells.geometry) reads) tag at_mid.content at_mid.is).1 in
+          let through = through_law w.disk a m b taken.through kept.through in
+          let same = read-awaiting first count block e block_ in
+          served_done new last b w.disk (subst (λ (x : Flight). IsFlightOf f x then_) (sym slots) (flight_put f s k r is_served parts.slots is.flight (tagger_of w.disk.format) first count block bytes stored computed e block_ whole computed_ told)) maker
+          (served_kept_law f s (Model.Serve (suc k)) w.disk w.entry a b is.device is.opened (serve_read_law f s w.disk k r first count is.device is_served e) through) refl
+          (record {
+            cells = subst (λ (x : ℕ → Bool). HasCells w.disk x new.tags b) (sym same) kept.cells;
+            recalculation_ = subst (λ (x : ℕ → Bool). IsRecalculationOf w.disk.superblock w.disk.geometry x last) (sym same) taken.recalculation_;
+          })
 
       -- ---- a block of a write
 
@@ -253,13 +304,17 @@ module _ (w : DirectStanding) (parts : Parts) (a : List Content) (is : IsOverDis
 
         pub served_write : (flushes : Bool) (new : Parts) (b : List Content) → HasServed write flushes new.tags a b
             → new.slots ≡ with_change (suc k) with_block_counted parts.slots → new.maker ≡ parts.maker
-            → IsServedAs w (suc k) (served_by (turn_of new.slots (suc k))) new a b
+            → IsServedAs w (suc k) (served_by (turn_of new.slots (suc k))) new recalculation a b
         served_write flushes new b has slots maker =
-            served_done new b (after_block flushes (WriteModel.next_of write) w.disk)
+            let same = after_block-same flushes (WriteModel.next_of write) in
+            served_done new recalculation b (after_block flushes (WriteModel.next_of write) w.disk)
             (subst (λ (x : Flight). IsFlightOf f x then_) (sym slots) (flight_written f (cells_now f.blocks.tag s.history) parts.slots s.progress.requests k r is.flight there unfinished first blocks fua e))
-            maker has.device (after_block-same flushes (WriteModel.next_of write)) s.progress.regions.awaiting has.cells
+            maker has.device same
+            (same_works w (Model.Serve (suc k)) new recalculation b (after_block flushes (WriteModel.next_of write) w.disk) has.cells
+            (subst (λ (x : DiskFormat). IsRecalculationOf x.superblock x.geometry s.progress.regions.awaiting recalculation) (sym same) own)
+            (served-awaiting (subst ReadsNone (sym e) tt)))
 
-        pub failed_write : (new : Parts) (b : List Content) → HasFailed write a b → new.slots ≡ parts.slots → new.maker ≡ parts.maker → HasFailedIn w (suc k) new a b
+        pub failed_write : (new : Parts) (b : List Content) → HasFailed write a b → new.slots ≡ parts.slots → new.maker ≡ parts.maker → HasFailedIn w (suc k) new recalculation a b
         failed_write new b has slots maker =
-            done w Conditions.Working parts a is (Model.FailedServe (suc k)) (with_write w.disk (WriteModel.next_of write)) Conditions.Broken new b
-            has refl (failed-flight new slots) maker broken-now s.progress.regions.awaiting (λ same. not_working same)
+            done w Conditions.Working parts recalculation a is (Model.FailedServe (suc k)) (with_write w.disk (WriteModel.next_of write)) Conditions.Broken new recalculation b
+            has refl (failed-flight new slots) maker broken-now (λ same. not_working same)

@@ -1,5 +1,9 @@
 pub mod OverDisk
+pub mod TakingLemmas
 pub mod DoneLemmas
 pub mod ServeLemmas
 pub mod EventLemmas
+pub mod MovingLemmas
+pub mod StepLemmas
 pub mod EndLemmas
+pub mod FieldsLemmas

@@ -1,13 +1,27 @@
 -- What the calls of a device in direct mode write.
-use Rattle.std.specs.Prelude.{◌≡◌, ℕ, Bool, List}
-use Rattle.disk_model.specs.Disk.{Content}
+use Rattle.std.specs.Prelude.{◌≡◌, ◌⊎◌, ℕ, Bool, true, false, List, Option, Some, None}
+use Rattle.disk_model.specs.Disk.{Content, EachImage, OnlyAdds}
+use Rattle.disk_model.specs.Moments.{EachMoment, EachSince}
+use Rattle.image_model.specs.Geometry.{Geometry}
+use Rattle.image_model.specs.Superblock.{Superblock}
 use Rattle.device_model.specs.Progress as Model
+use Rattle.device_model.specs.Regions.{with_region}
 use Rattle.direct_mode.specs.Places.{WritesPlaces}
+use Rattle.place_model.specs.Format.{IsReadAs}
+use Rattle.recalculate_laws.specs.Formats.{under_fields}
+use Rattle.recalculate_laws.specs.Position.{moved_fields}
 use Rattle.request_slots.specs.declared.turn.Turn.TheVariants as Turns
 use Rattle.request_slots.specs.Flight.{Flight, turn_of}
+use Rattle.device_parts.specs.declared.answers.Actor.{Actor}
+use Rattle.device_parts.specs.declared.answers.Actor.TheVariants as Actors
 use Rattle.device_parts.specs.declared.condition.Condition.TheVariants as Conditions
 use Rattle.device_parts.specs.declared.parts.Parts.{Parts}
 use Rattle.device_parts.specs.Device.{Standing}
+use Rattle.recalculation.specs.declared.recalculating.Recalculation.{Recalculation}
+use Rattle.recalculation.specs.Awaiting.{awaiting_of}
+use Rattle.recalculation.specs.Recalculation.{IsOfTagsOrHead, count_of, next_of}
+use Rattle.tag_store.specs.Store.{HoldsTag}
+use Rattle.direct_device.specs.declared.parts.DirectParts.{DirectParts}
 use Rattle.direct_device.specs.Device.{IsDirect}
 
 -- A write of this block is done next for the request of this ticket.
@@ -20,8 +34,62 @@ abbrev pub WritesServed : (ticket : ℕ) → (old new : Parts) → (before after
 WritesServed ticket old new before after =
     WritesPlaces (IsWrittenNext old.slots ticket) old.tags.geometry new.tags.geometry before after
 
--- A step of an actor is idle.
+-- ---- a step
+
+-- How many steps of an actor still do something at most: a recalculation for each region that awaits.
+abbrev pub steps_left : Actor → Recalculation → ℕ
+steps_left Actors.Commit r = 0
+steps_left Actors.Place r = 0
+steps_left Actors.Settle r = 0
+steps_left Actors.Clean r = 0
+steps_left Actors.Recalc r = count_of r
+
+-- What is written where this region is recalculated: sectors of tags, and sector 0; and nothing where there is none.
+abbrev pub WritesRegion : Option ℕ → Geometry → (before after : List Content) → Type 0
+WritesRegion None g before after = after ≡ before
+WritesRegion (Some region) g before after = EachSince (OnlyAdds (IsOfTagsOrHead g)) before after
+
+-- What is written in a step: where a region awaits, what the recalculation of the least one writes.
+abbrev pub WritesAs : Actor → Parts → Recalculation → (before after : List Content) → Type 0
+WritesAs Actors.Commit parts r before after = after ≡ before
+WritesAs Actors.Place parts r before after = after ≡ before
+WritesAs Actors.Settle parts r before after = after ≡ before
+WritesAs Actors.Clean parts r before after = after ≡ before
+WritesAs Actors.Recalc parts r before after = WritesRegion (next_of r) parts.tags.geometry before after
+
+-- The fields once this region is taken out of those that await, and the position has moved: as they are, where there is
+-- none.
+abbrev pub fields_behind : Option ℕ → Recalculation → Superblock
+fields_behind None r = r.position
+fields_behind (Some region) r =
+    moved_fields r.position r.awaiting.geometry (with_region region false (awaiting_of r.awaiting))
+
+-- Those that a step leaves.
+abbrev pub fields_next : Recalculation → Superblock
+fields_next r = fields_behind (next_of r) r
+
+-- At each moment of a call each image can be read in the format of the device, under these fields or under those.
+abbrev pub HasFieldsThrough : Standing → (old new : Superblock) → (before after : List Content) → Type 0
+HasFieldsThrough w old new before after = EachMoment before after
+    (EachImage (λ image. IsReadAs (under_fields w.on old) image ⊎ IsReadAs (under_fields w.on new) image))
+
+-- The actor has nothing to do in direct mode.
+abbrev pub HasNoWork : Model.Actor → Type 0
+HasNoWork Model.Commit = Unit {0}
+HasNoWork Model.Place = Unit {0}
+HasNoWork Model.Settle = Unit {0}
+HasNoWork Model.Clean = Unit {0}
+HasNoWork Model.Recalc = ⊥
+
+-- A step of such an actor is idle.
 abbrev pub RestLaw : Type 0
-RestLaw = (w : Standing) (parts : Parts) (moments : List Content) (actor : Model.Actor)
-    → IsDirect w Conditions.Working parts moments
+RestLaw = (w : Standing) (device : DirectParts) (moments : List Content) (actor : Model.Actor) → HasNoWork actor
+    → IsDirect w Conditions.Working device moments
     → Model.event_result w.format w.state (Model.Step actor) ≡ Model.only_answers w.state.progress Model.Idle
+
+-- ---- a close
+
+-- What is written in a close: sectors of tags, and sector 0 where the flag is set.
+abbrev pub WritesClose : (is_set : Bool) → Geometry → (before after : List Content) → Type 0
+WritesClose true g before after = EachSince (OnlyAdds (IsOfTagsOrHead g)) before after
+WritesClose false g before after = EachSince (OnlyAdds (λ sector x. HoldsTag g sector)) before after

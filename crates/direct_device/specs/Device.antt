@@ -1,11 +1,11 @@
 -- Which device of `device_model` a device in direct mode is, by what it keeps beside its disk and what the disk tells.
 use Rattle.std.specs.Prelude.{◌≡◌, List, [], Some}
 use Rattle.disk_model.specs.Disk.{Content, Image}
+use Rattle.disk_model.specs.Identity.{DiskIdentity}
 use Rattle.disk_model.specs.Moments.{content_now}
 use Rattle.device_model.specs.Device.{DeviceKind}
 use Rattle.device_model.specs.Mode.{DeviceFormat, Direct}
 use Rattle.device_model.specs.Progress as Model
-use Rattle.place_model.specs.Format.{IsReadAs}
 use Rattle.place_model.specs.Kind.{placed_kind}
 use Rattle.direct_model.specs.DirectDisk.{DirectDisk}
 use Rattle.direct_mode.specs.Device.{IsDirectDevice}
@@ -16,7 +16,24 @@ use Rattle.request_slots.specs.InFlight.{IsFlightOf}
 use Rattle.device_parts.specs.declared.condition.Condition.{Condition}
 use Rattle.device_parts.specs.declared.condition.Condition.TheVariants as Conditions
 use Rattle.device_parts.specs.declared.parts.Parts.{Parts}
-use Rattle.device_parts.specs.Device.{DeviceMode, HasDone, IsReady, Standing, condition_of, rule_on}
+use Rattle.device_parts.specs.Device as Devices
+use Rattle.device_parts.specs.Device.{DeviceMode, HasDone, Standing, condition_of, rule_on}
+use Rattle.recalculate_laws.specs.Formats.{IsFormatOf}
+use Rattle.recalculation.specs.declared.recalculating.Recalculation.{Recalculation}
+use Rattle.recalculation.specs.Recalculation.{IsRecalculationOf}
+use Rattle.direct_device.specs.declared.parts.DirectParts.{DirectParts}
+
+-- ---- what is true of each device
+
+-- What is kept is of this disk, and the regions are those of its blocks.
+pub record IsReady (parts : Parts) (recalculation : Recalculation) (disk : DiskIdentity) (moments : List Content)
+    : Type 0 where
+  pub parts_ : Devices.IsReady parts disk moments
+  pub geometry : recalculation.awaiting.geometry ≡ parts.tags.geometry
+
+-- What a device in direct mode keeps.
+abbrev pub kept : Parts → Recalculation → DirectParts
+kept parts recalculation = record { parts = parts; recalculation = recalculation }
 
 -- ---- over its disk
 
@@ -36,20 +53,27 @@ standing_then w event disk = record {
   entry = w.entry;
 }
 
--- What is kept is that of this device, whose disk tells its content: the requests in flight, the tags' rule and, as
--- long as it works, the cells. Each image of the disk can be opened, and may be left by the history.
-pub record IsOverDisk (w : DirectStanding) (condition : Condition) (parts : Parts) (moments : List Content)
+-- While it works, its disk has the cells with the tags that the store gives, and the regions that await are those of
+-- the device, under the fields of the disk.
+pub record Works (w : DirectStanding) (parts : Parts) (recalculation : Recalculation) (moments : List Content)
     : Type 0 where
+  pub cells : HasCells w.disk w.state.progress.regions.awaiting parts.tags moments
+  pub recalculation_ : IsRecalculationOf w.disk.superblock w.disk.geometry w.state.progress.regions.awaiting
+      recalculation
+
+-- What is kept is that of this device, whose disk tells its content: the requests in flight, the tags' rule and, as
+-- long as it works, the cells and the regions. The disk has the blocks of the image that it was opened on, whatever the
+-- fields say of the position. Each image of the disk can be opened, and may be left by the history.
+pub record IsOverDisk (w : DirectStanding) (condition : Condition) (parts : Parts) (recalculation : Recalculation)
+    (moments : List Content) : Type 0 where
   pub device : IsDirectDevice w.format w.state w.disk
-  pub reads : IsReadAs w.disk.format w.entry
   pub opened : HasBlocksOf w.entry w.disk
   pub flight : IsFlightOf w.format parts.slots w.state.progress.requests
   pub rule : parts.maker ≡ rule_on w.disk.format
   pub condition_ : w.state.condition ≡ condition_of condition
   pub told : Content
   pub is_told : content_now moments ≡ Some told
-  pub cells : condition ≡ Conditions.Working
-      → HasCells w.disk w.state.progress.regions.awaiting parts.tags moments
+  pub works : condition ≡ Conditions.Working → Works w parts recalculation moments
   pub left : IsLeftNow (kind_of w.disk) w.entry w.state.history moments
 
 -- ---- as a device of any mode
@@ -58,23 +82,24 @@ pub record IsOverDisk (w : DirectStanding) (condition : Condition) (parts : Part
 abbrev pub standing_on : Standing → DirectDisk → DirectStanding
 standing_on w disk = record { format = w.format; state = w.state; disk = disk; entry = w.entry }
 
--- It is one over some disk of its format,
-pub record IsDirect (w : Standing) (condition : Condition) (parts : Parts) (moments : List Content) : Type 0 where
+-- It is one over some disk of its format, but for what is to be recalculated,
+pub record IsDirect (w : Standing) (condition : Condition) (device : DirectParts) (moments : List Content)
+    : Type 0 where
   pub disk : DirectDisk
-  pub format : disk.format ≡ w.on
-  pub device : IsOverDisk (standing_on w disk) condition parts moments
+  pub format : IsFormatOf w.on disk.format
+  pub over : IsOverDisk (standing_on w disk) condition device.parts device.recalculation moments
 
 -- and opened by superblock and geometry alone.
 abbrev pub placed_on : Standing → DeviceKind
 placed_on w = placed_kind w.on.key w.on.sectors
 
 -- Direct mode, whatever the journal says.
-abbrev pub in_direct : DeviceMode Parts
+abbrev pub in_direct : DeviceMode DirectParts
 in_direct = record {
   IsDevice = IsDirect;
-  IsReady = λ condition parts disk moments. IsReady parts disk moments;
-  parts = λ parts. parts;
-  mode_of = λ parts. Direct;
+  IsReady = λ condition device disk moments. IsReady device.parts device.recalculation disk moments;
+  parts = λ device. device.parts;
+  mode_of = λ device. Direct;
   kind = placed_on;
 }
 
@@ -82,8 +107,11 @@ in_direct = record {
 
 -- An event keeps the device that calls no disk, and changes nothing but its requests.
 abbrev pub QuietLaw : Type 0
-QuietLaw = (w : Standing) (condition : Condition) (parts : Parts) (flight : Flight) (moments : List Content)
-    (event : Model.Event) → IsDirect w condition parts moments → (Model.event_result w.format w.state event).changes ≡ []
-    → IsFlightOf w.format flight (Model.after_event w.format w.state event).progress.requests
+QuietLaw = (w : Standing) (condition : Condition) (device : DirectParts) (flight : Flight) (moments : List Content)
+    (event : Model.Event) → IsDirect w condition device moments
+    → let result = Model.event_result w.format w.state event in result.changes ≡ []
+    → result.progress.regions ≡ w.state.progress.regions
+    → IsFlightOf w.format flight result.progress.requests
     → (Model.after_event w.format w.state event).condition ≡ w.state.condition
-    → HasDone in_direct w event condition (record parts { slots = flight }) moments moments
+    → HasDone in_direct w event condition (kept (record device.parts { slots = flight }) device.recalculation)
+    moments moments

@@ -1,2 +1,3 @@
-pub mod Answers
 pub mod Device
+pub mod Taking
+pub mod Answers

@@ -7,7 +7,7 @@ pub fn quiet_events_are_kept()
     ensures { QuietLaw }
 {}
 
-/// No actor has anything to do in direct mode. It does nothing.
+/// No actor but the one that recalculates has anything to do in direct mode. It does nothing.
 pub fn direct_devices_rest()
     ensures { RestLaw }
 {}

@@ -1,21 +1,15 @@
 -- What the calls below a device in direct mode add, as what its disk stands for.
-use Rattle.std.proofs.Common.{◌≡◌, inl, inr, ℕ, ◌+◌, ◌<◌, Bool, false, refl, sym, ◌∙◌, ap, subst, Option, Some, None, List, [], ◌∷◌, ◌++◌}
+use Rattle.std.proofs.Common.{◌≡◌, inl, inr, ℕ, ◌+◌, ◌<◌, Bool, refl, sym, ◌∙◌, ap, subst, Option, Some, None, List, [], ◌∷◌, ◌++◌}
 use Rattle.std.specs.List.{Contains, AllByRecursion}
 use Rattle.std.specs.Option.{ForSome, option_map}
-use Rattle.std.proofs.lemmas.Bool.{cases_eq, eq-eqb, ne_eqb, true≢false, false_from_ne_true}
+use Rattle.std.proofs.lemmas.Bool.{cases_eq, eq-eqb, ne_eqb}
 use Rattle.std.proofs.lemmas.Option.{none-some, same_Some}
-use Rattle.disk_model.specs.Disk.{Content, Image, IsImage, OnlyAdds, AddsSome, IsOfRun, last_image, newest_only, with_run}
+use Rattle.disk_model.specs.Disk.{Content, IsImage, OnlyAdds, AddsSome, IsOfRun, last_image, newest_only, with_run}
 use Rattle.disk_model.specs.Moments.{content_now, EachMoment, FromStart}
 use Rattle.disk_model.proofs.DiskLemmas.{only_candidate, OnlyAdds-none, OnlyAdds-wider, AddsSome-adds, AddsSome-none, AddsSome-all}
 use Rattle.disk_model.proofs.MomentsLemmas.{EachMoment-kept, EachMoment-then, EachMoment-weaker, content_at_end}
-use Rattle.image_model.specs.declared.flags.TheConstants.{RECALCULATING}
-use Rattle.image_model.specs.Bitmap.{is_to_recalculate}
 use Rattle.image_model.specs.Cells.{Cell}
 use Rattle.image_model.specs.Geometry.{Geometry, data_at}
-use Rattle.image_model.specs.Openable.{IsReadable}
-use Rattle.image_model.specs.Superblock.{Superblock, has_flag}
-use Rattle.image_model.proofs.OpenableLemmas.{IsReadable-accepted}
-use Rattle.image_model.proofs.SuperblockLemmas.{flag_unset}
 use Rattle.device_model.specs.History.{BlockWrite, cells_now}
 use Rattle.device_model.specs.Reply.{block_reply}
 use Rattle.device_model.specs.Serial.{readable_cells}
@@ -26,7 +20,7 @@ use Rattle.place_model.proofs.BlocksLemmas.{ReadsData-same, KeepsOthers-data}
 use Rattle.direct_model.specs.DirectDisk.{DirectDisk, IsFormed, StandsFor, cell_now}
 use Rattle.direct_model.specs.Steps.{with_write, after_flush, AreTags, IsOfWrite}
 use Rattle.direct_model.proofs.DirectLemmas.{kept_before, writing_law, tags_written_law}
-use Rattle.direct_laws.specs.CallLaws.{StandsThrough, HasData, StillLaw, ThroughLaw, DataLaw, DataDoneLaw, PutLaw, PutDoneLaw, BackLaw, BackDoneLaw, SyncLaw, SyncDoneLaw, BlockReadLaw, NoneAwaitsLaw, AnyAwaitingLaw}
+use Rattle.direct_laws.specs.CallLaws.{StandsThrough, HasData, StillLaw, ThroughLaw, DataLaw, DataDoneLaw, PutLaw, PutDoneLaw, BackLaw, BackDoneLaw, SyncLaw, SyncDoneLaw, BlockReadLaw}
 use Rattle.direct_laws.specs.ReadLaws.{KeepsCells}
 use Rattle.direct_laws.proofs.ReadLemmas.{own, kept, rests, written_data, are_tags, keeps_flushed, keeps_same, read_law}
 
@@ -233,21 +227,3 @@ block_read_law f s d awaiting tags a b bytes tag is works keeps low awaits size 
     let held = readable_cells f (cells_now f.blocks.tag s.history) b in
     subst (λ (t : List ℕ). let cell : Cell = record { bytes = bytes; tag = t } in (held ≡ cell) × (block_reply f.blocks.tag b held ≡ block_reply (tagger_of d.format) b cell))
     (sym (is_tag c told)) (read_law f s d awaiting (tags c) c b bytes is works (keeps c told) low awaits size (reads c told))
-
--- ---- what awaits
-
--- The flag is not known, so it is not set.
-flag_clear : (sectors : ℕ) (image : Image) (readable : IsReadable sectors image) → has_flag RECALCULATING readable.superblock.flags ≡ false
-flag_clear sectors image readable = flag_unset RECALCULATING readable.superblock.flags refl (IsReadable-accepted sectors image readable).layout.flags
-
-pub none_awaits_law : NoneAwaitsLaw
-none_awaits_law f s d image is reads =
-    let clear : has_flag RECALCULATING d.superblock.flags ≡ false = subst (λ (x : Superblock). has_flag RECALCULATING x.flags ≡ false) reads.superblock (flag_clear d.sectors image reads.readable) in
-    let still : (b : ℕ) → is_to_recalculate d.superblock d.geometry b ≡ false = λ b. rw clear refl in (
-      λ region. false_from_ne_true (s.progress.regions.awaiting region) (λ waits. let may = is.awaiting region waits in true≢false (sym may.to_recalculate ∙ still may.block)),
-      λ awaiting b. rests d awaiting b (still b),
-    )
-
-pub any_awaiting_law : AnyAwaitingLaw
-any_awaiting_law f s d image awaiting now tags a is reads keeps c told =
-    keeps_same d awaiting now (tags c) (tags c) c (λ b low. refl) (λ b low awaits. (none_awaits_law f s d image is reads).1 awaiting b) (keeps c told)

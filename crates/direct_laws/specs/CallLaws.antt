@@ -1,7 +1,7 @@
 -- What the calls that a device in direct mode makes leave at each of their moments, by what the calls below them say.
 -- Own: the tags come from a store, which may write any of them back within each call of its own.
 use Rattle.std.specs.Prelude.{◌≡◌, ◌≢◌, ℕ, ◌<◌, Bool, false, List, length}
-use Rattle.disk_model.specs.Disk.{Content, Image, IsImage, OnlyAdds, AddsSome, Reads, last_image, newest_only, with_run}
+use Rattle.disk_model.specs.Disk.{Content, IsImage, OnlyAdds, AddsSome, Reads, last_image, newest_only, with_run}
 use Rattle.disk_model.specs.Moments.{EachMoment, EachSince, HasNow, IsChangedBy}
 use Rattle.image_model.specs.Cells.{Cell}
 use Rattle.image_model.specs.Geometry.{Geometry, data_at}
@@ -11,7 +11,7 @@ use Rattle.device_model.specs.Progress.{Working, DeviceState}
 use Rattle.device_model.specs.Reply.{block_reply}
 use Rattle.device_model.specs.Serial.{readable_cells}
 use Rattle.place_model.specs.Blocks.{IsBlockWrite, ReadsData}
-use Rattle.place_model.specs.Format.{IsReadAs, tagger_of}
+use Rattle.place_model.specs.Format.{tagger_of}
 use Rattle.place_model.specs.Tags.{IsOfTags, KeepsOthers, ReadsTags, with_block_tag}
 use Rattle.direct_model.specs.DirectDisk.{DirectDisk, IsFormed, StandsFor, cell_now}
 use Rattle.direct_model.specs.Steps.{with_write, after_flush}
@@ -30,8 +30,8 @@ pub record StandsThrough (d : DirectDisk) (before after : List Content) : Type 0
   pub moments : EachMoment before after (StandsFor d)
   pub now : HasNow (StandsFor d) after
 
--- The bytes of a write stand in its block, whose tag is not told: the disk stands for the one with the write, and reads and
--- all other tags are its cells.
+-- The bytes of a write stand in its block, whose tag is not told: the disk stands for the one with the write, and reads
+-- and all other tags are its cells.
 pub record HasData (d : DirectDisk) (write : BlockWrite) (awaiting : ℕ → Bool) (tags : ℕ → List ℕ)
     (c : Content) : Type 0 where
   pub formed : IsFormed d
@@ -146,16 +146,3 @@ BlockReadLaw = (f : DeviceFormat) (s : DeviceState) (d : DirectDisk) (awaiting :
     let told = readable_cells f (cells_now f.blocks.tag s.history) b in
     HasNow (λ c. (told ≡ cell)
     × (block_reply f.blocks.tag b told ≡ block_reply (tagger_of d.format) b cell)) a
-
--- No block awaits its tag on an image that can be read: no flag says so that is known.
--- Own: `RECALCULATING` is not yet one of the known flags.
-abbrev pub NoneAwaitsLaw : Type 0
-NoneAwaitsLaw = (f : DeviceFormat) (s : DeviceState) (d : DirectDisk) (image : Image) → IsDirectDevice f s d
-    → IsReadAs d.format image → ((region : ℕ) → s.progress.regions.awaiting region ≡ false)
-    × ((awaiting : ℕ → Bool) (b : ℕ) → awaits_tag d awaiting b ≡ false)
-
--- So whatever is said to await, the cells are the same.
-abbrev pub AnyAwaitingLaw : Type 0
-AnyAwaitingLaw = (f : DeviceFormat) (s : DeviceState) (d : DirectDisk) (image : Image)
-    (awaiting now : ℕ → Bool) (tags : Content → ℕ → List ℕ) (a : List Content) → IsDirectDevice f s d
-    → IsReadAs d.format image → KeepsNow d awaiting tags a → KeepsNow d now tags a

@@ -4,7 +4,7 @@
 //! keeps of it.
 #![tactic(auto)]
 
-ghost use Rattle.direct_laws.specs.CallLaws.{AnyAwaitingLaw, BackDoneLaw, BackLaw, BlockReadLaw, DataDoneLaw, DataLaw, NoneAwaitsLaw, PutDoneLaw, PutLaw, StillLaw, SyncDoneLaw, SyncLaw, ThroughLaw};
+ghost use Rattle.direct_laws.specs.CallLaws.{BackDoneLaw, BackLaw, BlockReadLaw, DataDoneLaw, DataLaw, PutDoneLaw, PutLaw, StillLaw, SyncDoneLaw, SyncLaw, ThroughLaw};
 ghost use Rattle.direct_laws.specs.Device.{BeginningLaw, MovedDeviceLaw, OpeningLaw, PlacedOpeningLaw};
 ghost use Rattle.direct_laws.specs.EventLaws.{CloseLaw, EventLaw, FailedWriteLaw, HeldLaw, IdleLaw, QuietEventsLaw, QuietLaw, RecalcIdleLaw, RecalcLaw, ServeFlushLaw, ServeReadLaw, ServeWriteLaw, ServedLaw, UnservedLaw};
 ghost use Rattle.direct_laws.specs.MomentLaws.{FailedNowLaw, KeptThroughLaw, LeftNowLaw, OpeningDoneLaw, OpeningSyncLaw, WrittenThroughLaw};
@@ -53,12 +53,10 @@ pub fn failures_leave_a_write()
     ensures left { FailedLeftLaw }
 {}
 
-/// What reads give of a block, data and tag, is its cell by the history, so its reply. No block awaits its tag as yet.
+/// What reads give of a block, data and tag, is its cell by the history, so its reply.
 pub fn reads_give_the_reply()
     ensures reply { ReadLaw }
     ensures block { BlockReadLaw }
-    ensures none_awaits { NoneAwaitsLaw }
-    ensures any_awaiting { AnyAwaitingLaw }
 {}
 
 /// Reads give what the disk says after an opening, and after each step that writes or syncs.

@@ -1,5 +1,5 @@
 -- What the calls of a store of tags say, in the words of direct mode.
-use Rattle.std.proofs.Common.{◌≡◌, inl, inr, ⊎_elim, ℕ, ◌<◌, refl, sym, ◌∙◌, ap, subst, arith, Option, Some, None, List, length, slice_index}
+use Rattle.std.proofs.Common.{◌≡◌, ◌==◌, inl, inr, ⊎_elim, ℕ, ◌<◌, if◌then◌else◌, refl, sym, ◌∙◌, ap, subst, arith, Option, Some, None, List, length, slice_index}
 use Rattle.std.specs.List.{Contains}
 use Rattle.std.specs.Option.{option_map}
 use Rattle.std.proofs.lemmas.Option.{same_Some}
@@ -7,10 +7,10 @@ use Rattle.disk_model.specs.Disk.{AddsSome, Content, IsImage, IsOfRun, OnlyAdds,
 use Rattle.disk_model.specs.Identity.{DiskIdentity}
 use Rattle.disk_model.specs.Moments.{EachSince, HasNow, IsChangedBy, content_now}
 use Rattle.disk_model.proofs.DiskLemmas.{AddsSome-adds, OnlyAdds-join, OnlyAdds-none, OnlyAdds-wider, Reads-same, Reads-with_run}
-use Rattle.disk_model.proofs.MomentsLemmas.{EachMoment-join, EachMoment-weaker, FromStart-weaker}
+use Rattle.disk_model.proofs.MomentsLemmas.{EachMoment-join, EachMoment-kept, EachMoment-weaker, FromStart-weaker}
 use Rattle.image_model.specs.Geometry.{Geometry, data_at, tag_at}
 use Rattle.place_model.specs.Blocks.{IsBlockWrite}
-use Rattle.place_model.specs.Tags.{with_block_tag}
+use Rattle.place_model.specs.Tags.{KeepsOthers, with_block_tag}
 use Rattle.place_model.proofs.BlocksLemmas.{KeepsOthers-data}
 use Rattle.direct_model.specs.DirectDisk.{DirectDisk}
 use Rattle.direct_laws.specs.CallLaws.{AddsTags, GivesTags, ReadsTagsNow}
@@ -36,7 +36,7 @@ pub reads_whole : (disk : DiskIdentity) (moments : List Content) → ((c : Conte
 reads_whole disk moments image whole c told sector low = whole c sector (last_image c sector) told low (image c told sector)
 
 -- So has each that the store gives.
-given-whole : (store : Store) (disk : DiskIdentity) (m : List Content) (c : Content) → IsStore store disk m → AreWhole disk.sectors (last_image c) → AreWhole disk.sectors (given store c)
+pub given-whole : (store : Store) (disk : DiskIdentity) (m : List Content) (c : Content) → IsStore store disk m → AreWhole disk.sectors (last_image c) → AreWhole disk.sectors (given store c)
 given-whole store disk m c is whole sector low = by_held (held_in store.sectors sector) refl
   where
     by_held : (o : Option Held) → held_in store.sectors sector ≡ o → length (held_or o (last_image c sector)) ≡ 512
@@ -44,6 +44,17 @@ given-whole store disk m c is whole sector low = by_held (held_in store.sectors 
     by_held (Some held) e = is.cache.whole sector held e
 
 -- ---- calls that keep the store
+
+-- A call that keeps the moments writes no tag back.
+pub back_kept : (g : Geometry) (tags : Content → ℕ → List ℕ) (a b : List Content) → b ≡ a → WritesBack g tags tags a b
+back_kept g tags a b same = record {
+  adds = EachMoment-kept _ same;
+  others = λ start told c told_c. subst (KeepsOthers g start) (one start c told told_c) (record { each = λ sector none. refl });
+  gives = λ start told c told_c n low. subst (λ (x : Content). tags x n ≡ tags start n) (one start c told told_c) refl;
+}
+  where
+    one : (start c : Content) → content_now a ≡ Some start → content_now b ≡ Some c → start ≡ c
+    one start c told told_c = same_Some start c (sym told ∙ ap content_now (sym same) ∙ told_c)
 
 module _ (store new : Store) (disk now : DiskIdentity) {a b : List Content} (is : IsStore store disk a) (is_new : IsStore new now b) (whole : ReadsWhole disk a) where
   all_whole : (c : Content) → content_now a ≡ Some c → AreWhole disk.sectors (given store c)
@@ -88,6 +99,13 @@ module _ (store new : Store) (disk now : DiskIdentity) {a b : List Content} (is 
       others = λ start told c told_c. put_keeps_others store new disk now is is_new block tag low size keeps.geometry stored start c told told_c;
       gives = λ start told c told_c n n_low. put_gives_tags store new disk now is is_new block tag low size keeps.geometry all_whole stored start c told told_c n n_low;
     }
+
+-- What is put of a block behind a call that leaves the tags is told by the content before that.
+pub gives_put : (g : Geometry) (block : ℕ) (tag : List ℕ) (tags now : Content → ℕ → List ℕ) (a m b : List Content) → GivesTags g tags tags a m → ((c : Content) → content_now b ≡ Some c → (start : Content) × (content_now m ≡ Some start))
+    → GivesTags g (λ c. with_block_tag block tag (tags c)) now m b → GivesTags g (λ c. with_block_tag block tag (tags c)) now a b
+gives_put g block tag tags now a m b same came put start told c told_c n low =
+    let mid = came c told_c in
+    put mid.0 mid.1 c told_c n low ∙ ap (λ (x : List ℕ). if block == n then tag else x) (same start told mid.0 mid.1 n low)
 
 -- ---- a block and its tag
 

@@ -8,3 +8,4 @@ pub mod Cells
 pub mod Places
 pub mod Serving
 pub mod Calls
+pub mod Settling

@@ -4,6 +4,7 @@ ghost use Rattle.disk_model.specs.Causes.{HasCause};
 ghost use Rattle.disk_model.specs.Disk.{OnlyAdds, Reads};
 ghost use Rattle.disk_model.specs.Moments.{EachSince, HasNow};
 ghost use Rattle.image_model.specs.Geometry.{data_at};
+ghost use Rattle.direct_laws.specs.ServeLaws.{WritesBack};
 ghost use Rattle.direct_mode.specs.Calls.{KeepsEach};
 ghost use Rattle.direct_mode.specs.Cells.{IsBlock};
 ghost use Rattle.tag_store.specs.Store.{IsOutForTag, IsStore, given_tags};
@@ -35,6 +36,8 @@ pub fn read_block<D: Disk>(
 
     ensures kept { KeepsEach tags.old tags.new (D.moments disk.old) (D.moments disk.new) }
 
+    ensures back { WritesBack tags.old.geometry (given_tags tags.old) (given_tags tags.new)
+        (D.moments disk.old) (D.moments disk.new) }
     ensures store { IsStore tags.new (D.identity disk.new) (D.moments disk.new) }
     ensures geometry { tags.new.geometry ≡ tags.old.geometry }
     ensures identity { D.identity disk.new ≡ D.identity disk.old }

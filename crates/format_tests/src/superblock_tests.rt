@@ -1,9 +1,9 @@
 //! Superblocks that others have written, and the versions that flags ask for.
 mod kernel_images;
 
-use kernel_images::{KERNEL_IMAGES, RECALCULATING_IMAGES};
+use kernel_images::KERNEL_IMAGES;
 use std::test::Fail;
-use superblock::{Super, SuperFault, read, version_for, write};
+use superblock::{Super, read, version_for, write};
 
 /// The fields of the small image: 256 sectors, interleave 8, one section.
 const SMALL: Super = Super {
@@ -56,12 +56,6 @@ fn images_of_the_kernel_are_read_as_integritysetup_prints_them(
         let mut after = before;
         write(&fields, &mut after);
         assert_eq!(rt; after, before, "image {i}");
-    }
-    for bytes in RECALCULATING_IMAGES {
-        assert_eq!(rt;
-            read(&sector(bytes)),
-            Err(SuperFault::Flags { unknown: 0x2 })
-        );
     }
     Ok(())
 }

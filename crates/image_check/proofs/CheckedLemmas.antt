@@ -10,15 +10,13 @@ use Rattle.std.proofs.lemmas.Slice.Eq.{bytes_eq-Decides}
 use Rattle.disk_model.specs.Disk.{Content, Image, last_image}
 use Rattle.disk_model.specs.Identity.{DiskIdentity, IsBound}
 use Rattle.disk_model.specs.Moments.{HasNow, content_now}
-use Rattle.image_model.specs.declared.flags.TheConstants.{DIRTY_BITMAP, RECALCULATING}
+use Rattle.image_model.specs.declared.flags.TheConstants.{DIRTY_BITMAP}
 use Rattle.image_model.specs.Bitmap.{awaits}
 use Rattle.image_model.specs.Cells.{Cell, block_tag, cells_of, counted_entries, last_entry, placed_cells_of, replayed_entries, salt_of}
-use Rattle.image_model.specs.Geometry.{Geometry}
 use Rattle.image_model.specs.Openable.{IsReplayable}
 use Rattle.image_model.specs.Section.{Entry}
-use Rattle.image_model.specs.Superblock.{IsAccepted, Superblock, has_flag}
+use Rattle.image_model.specs.Superblock.{has_flag}
 use Rattle.image_model.proofs.CellsLemmas.{cells_of-awaiting, cells_of-entry, cells_of-placed, counted_entries-bitmap, counted_entries-journal}
-use Rattle.image_model.proofs.SuperblockLemmas.{flag_unset}
 use Rattle.image_format.specs.declared.reading.ImageFormat.{ImageFormat}
 use Rattle.image_format.specs.Format.{IsFormat, IsReadNow, disk_format}
 use Rattle.hmac_tag.specs.TagMaker.{TagRule}
@@ -43,13 +41,6 @@ bad_by-same block stored computed same =
     let equal : bytes_eq stored computed ≡ true = (bytes_eq-Decides stored computed).1 same in
     rw equal refl
 
--- Without a bitmap no block awaits its tag, since the flag for that is not known.
-pub no_awaits : (s : Superblock) (g : Geometry) (image : Image) (b : ℕ) → IsAccepted s → has_flag DIRTY_BITMAP s.flags ≡ false → awaits s g image b ≡ false
-unfolding awaits
-no_awaits s g image b accepted clear =
-    let still : has_flag RECALCULATING s.flags ≡ false = flag_unset RECALCULATING s.flags refl accepted.layout.flags in
-    rw (clear, still) refl
-
 some_of : {A : Type 0} (o : Option A) → is_some o ≡ true → (x : A) × (o ≡ Some x)
 some_of None e = absurd (cc)
 some_of (Some x) e = (x, refl)
@@ -59,10 +50,29 @@ none_of None e = refl
 none_of (Some x) e = absurd (cc)
 
 module _ (rule : TagRule) (format : ImageFormat) (image : Image) (b : ℕ) where
-  -- With a journal a block that has an entry has its tag, and any other is as it is placed.
-  kept_cell : IsAccepted format.fields → (newest : List (ℕ × ℕ)) → IsLookedAt rule format image newest
+  -- A block of which no entry counts has the tag of its bytes where it awaits, and else it is as it is placed.
+  bare_cell : rule.salt ≡ salt_of format.fields → last_entry format.geometry (counted_entries format.fields format.geometry image) b ≡ None
+      → (if awaits format.fields format.geometry image b then None else bad_placed rule.key rule.salt format.geometry image b)
+      ≡ bad_cell rule.key rule.salt format.geometry b (cells_of rule.key format.fields format.geometry image b)
+  bare_cell salt last =
+      let s = format.fields in
+      let g = format.geometry in
+      let placed = placed_cells_of g image b in
+      elim (cases_Bool (awaits s g image b)) [
+        | inl waits ↦
+            let tag = block_tag rule.key (salt_of s) g (b * g.shape.spb) placed.bytes in
+            let cell : cells_of rule.key s g image b ≡ record { bytes = placed.bytes; tag = tag } = cells_of-awaiting rule.key s g image b last waits in
+            let same : tag ≡ block_tag rule.key rule.salt g (b * g.shape.spb) placed.bytes = ap (λ (x : Option (List ℕ)). block_tag rule.key x g (b * g.shape.spb) placed.bytes) (sym salt) in
+            rw waits (sym (ap (λ (x : Cell). bad_cell rule.key rule.salt g b x) cell ∙ bad_by-same b tag (block_tag rule.key rule.salt g (b * g.shape.spb) placed.bytes) same))
+        | inr rests ↦
+            let cell : cells_of rule.key s g image b ≡ placed = cells_of-placed rule.key s g image b last rests in
+            rw rests (sym (ap (λ (x : Cell). bad_cell rule.key rule.salt g b x) cell))
+      ]
+
+  -- With a journal a block that has an entry has its tag.
+  kept_cell : rule.salt ≡ salt_of format.fields → (newest : List (ℕ × ℕ)) → IsLookedAt rule format image newest
       → bad_kept Cells rule format (Some newest) image b ≡ bad_cell rule.key rule.salt format.geometry b (cells_of rule.key format.fields format.geometry image b)
-  kept_cell accepted newest is =
+  kept_cell salt newest is =
       let s = format.fields in
       let g = format.geometry in
       elim (cases_Bool (is_some (newest_in newest b))) [
@@ -77,38 +87,23 @@ module _ (rule : TagRule) (format : ImageFormat) (image : Image) (b : ℕ) where
         | inr none ↦
             let nothing = none_of (last_entry g (replayed_entries g image) b) (sym (is.index.each b) ∙ none) in
             let last = ap (λ (es : List Entry). last_entry g es b) (counted_entries-journal rule.key s g image is.no_bitmap) ∙ nothing in
-            let rests = no_awaits s g image b accepted is.no_bitmap in
-            let cell : cells_of rule.key s g image b ≡ placed_cells_of g image b = cells_of-placed rule.key s g image b last rests in
-            rw (none, rests) (sym (ap (λ (x : Cell). bad_cell rule.key rule.salt g b x) cell))
+            rw none (bare_cell salt last)
       ]
 
-  -- With a bitmap a block that awaits has the tag of its bytes, and any other is as it is placed.
+  -- With a bitmap no entry counts.
   dirty_cell : rule.salt ≡ salt_of format.fields → has_flag DIRTY_BITMAP format.fields.flags ≡ true
       → bad_kept Cells rule format None image b ≡ bad_cell rule.key rule.salt format.geometry b (cells_of rule.key format.fields format.geometry image b)
   dirty_cell salt set =
-      let s = format.fields in
-      let g = format.geometry in
-      let placed = placed_cells_of g image b in
-      let last : last_entry g (counted_entries s g image) b ≡ None = ap (λ (es : List Entry). last_entry g es b) (counted_entries-bitmap rule.key s g image set) in
-      elim (cases_Bool (awaits s g image b)) [
-        | inl waits ↦
-            let tag = block_tag rule.key (salt_of s) g (b * g.shape.spb) placed.bytes in
-            let cell : cells_of rule.key s g image b ≡ record { bytes = placed.bytes; tag = tag } = cells_of-awaiting rule.key s g image b last waits in
-            let same : tag ≡ block_tag rule.key rule.salt g (b * g.shape.spb) placed.bytes = ap (λ (x : Option (List ℕ)). block_tag rule.key x g (b * g.shape.spb) placed.bytes) (sym salt) in
-            rw waits (sym (ap (λ (x : Cell). bad_cell rule.key rule.salt g b x) cell ∙ bad_by-same b tag (block_tag rule.key rule.salt g (b * g.shape.spb) placed.bytes) same))
-        | inr rests ↦
-            let cell : cells_of rule.key s g image b ≡ placed = cells_of-placed rule.key s g image b last rests in
-            rw rests (sym (ap (λ (x : Cell). bad_cell rule.key rule.salt g b x) cell))
-      ]
+      bare_cell salt (ap (λ (es : List Entry). last_entry format.geometry es b) (counted_entries-bitmap rule.key format.fields format.geometry image set))
 
   -- So it is of what is judged.
-  kept_block : (sectors : ℕ) (what : What) (journal : Option (List (ℕ × ℕ))) → IsAccepted format.fields → rule.salt ≡ salt_of format.fields
+  kept_block : (sectors : ℕ) (what : What) (journal : Option (List (ℕ × ℕ))) → rule.salt ≡ salt_of format.fields
       → IsJournalOf what rule format image journal → bad_kept what rule format journal image b ≡ bad_block what (disk_format rule.key sectors format) image b
-  kept_block sectors Cells None accepted salt is =
+  kept_block sectors Cells None salt is =
       dirty_cell salt is ∙ ap (λ (x : Option (List ℕ)). bad_cell rule.key x format.geometry b (cells_of rule.key format.fields format.geometry image b)) salt
-  kept_block sectors Cells (Some newest) accepted salt is =
-      kept_cell accepted newest is ∙ ap (λ (x : Option (List ℕ)). bad_cell rule.key x format.geometry b (cells_of rule.key format.fields format.geometry image b)) salt
-  kept_block sectors Placed journal accepted salt is =
+  kept_block sectors Cells (Some newest) salt is =
+      kept_cell salt newest is ∙ ap (λ (x : Option (List ℕ)). bad_cell rule.key x format.geometry b (cells_of rule.key format.fields format.geometry image b)) salt
+  kept_block sectors Placed journal salt is =
       ap (λ (o : Option (List (ℕ × ℕ))). bad_kept Placed rule format o image b) is
       ∙ ap (λ (x : Option (List ℕ)). bad_cell rule.key x format.geometry b (placed_cells_of format.geometry image b)) salt
 
@@ -126,7 +121,7 @@ module _ (image : Checked) (disk : DiskIdentity) (moments : List Content) (is : 
   pub bad_is : (b : ℕ) → bad_kept image.what image.rule image.format image.journal (last_image c) b
       ≡ bad_block image.what (checked_format image disk.sectors (last_image c)) (last_image c) b
   bad_is b =
-      kept_block image.rule image.format (last_image c) b disk.sectors image.what image.journal is.format.fields is.salt (is.journal c told)
+      kept_block image.rule image.format (last_image c) b disk.sectors image.what image.journal is.salt (is.journal c told)
       ∙ ap (λ (d : DiskFormat). bad_block image.what d (last_image c) b) (sym own_is)
 
 -- ---- in order

@@ -138,3 +138,32 @@ bad_blocks-dirty_placed = refl
 awaiting_in-dirty : (awaiting_in dirty_format (dirty_with 1) ≡ 1) × (awaiting_in dirty_format (dirty_with 0xfe) ≡ 1) × (awaiting_in dirty_format (dirty_with 0xff) ≡ 2)
 unfolding awaits is_bit_set bitmap_sectors_for regions_for
 awaiting_in-dirty = (refl, refl, refl)
+
+-- ---- where tags are to be recalculated
+
+-- The same blocks with a journal, whose tags are to be recalculated from this sector of the device on.
+abbrev from_fields : ℕ → Superblock
+from_fields sector = record fields { flags = 0xa; recalc_sector = sector }
+
+abbrev from_format : ℕ → DiskFormat
+from_format sector = record { key = None; sectors = 112; superblock = from_fields sector; geometry = layout_of (from_fields sector) }
+
+-- Block 0 is not bad where that is its own sector,
+bad_blocks-from_0 : bad_blocks Cells (from_format 0) fresh ≡ []
+unfolding cells_of placed_cells_of awaits replayed_entries entry_at walk_of_grid plan_of grid_with blank_bound bitmap_sectors_for regions_for fitting_log2_region is_used number_of id_in data_at sector_at tag_at tag_offset tag_run_of entry_size entries_per_sector section_entries section_sectors first_words schedule rounds compress hash_after digest_bytes sha256 tag_message tag_of
+bad_blocks-from_0 = refl
+
+-- it is where the next block alone awaits,
+bad_blocks-from_1 : bad_blocks Cells (from_format 1) fresh ≡ bad_0 ∷ []
+unfolding cells_of placed_cells_of awaits replayed_entries entry_at walk_of_grid plan_of grid_with blank_bound bitmap_sectors_for regions_for fitting_log2_region is_used number_of id_in data_at sector_at tag_at tag_offset tag_run_of entry_size entries_per_sector section_entries section_sectors first_words schedule rounds compress hash_after digest_bytes sha256 tag_message tag_of
+bad_blocks-from_1 = refl
+
+-- and what is placed of it is in any case.
+bad_blocks-from_0_placed : bad_blocks Placed (from_format 0) fresh ≡ bad_0 ∷ []
+unfolding placed_cells_of data_at sector_at tag_at tag_offset tag_run_of bitmap_sectors_for regions_for fitting_log2_region entry_size entries_per_sector section_entries section_sectors first_words schedule rounds compress hash_after digest_bytes sha256 tag_message tag_of
+bad_blocks-from_0_placed = refl
+
+-- The blocks from there on await, also where the journal has an entry of one; none does behind the last sector.
+awaiting_in-from : (awaiting_in (from_format 0) committed ≡ 2) × (awaiting_in (from_format 1) committed ≡ 1) × (awaiting_in (from_format 2) committed ≡ 0)
+unfolding awaits
+awaiting_in-from = (refl, refl, refl)

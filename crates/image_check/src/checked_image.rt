@@ -220,8 +220,8 @@ impl CheckedImage {
         )
     }
 
-    /// How many blocks await their tags, whatever is judged. With a bitmap these are the blocks of dirty regions, and it is
-    /// read in runs. Without one none does.
+    /// How many blocks await their tags, whatever is judged. With a bitmap these are the blocks of dirty regions, and
+    /// it is read in runs. Without one they are those that are to be recalculated, whatever the journal has of them.
     ///
     /// # Errors
     ///

@@ -1,10 +1,12 @@
-//! Which blocks are not judged by what is placed: those that have an entry in the journal, and those that await their tags.
+//! Which blocks are not judged by what is placed: those that have an entry in the journal, and those that await their
+//! tags.
 ghost use Rattle.std.specs.Prelude.{◌≡◌, ◌+◌, ◌-◌, ◌^◌, ◌<◌, if◌then◌else◌, IfOk};
 ghost use Rattle.disk_model.specs.Causes.{HasCause};
 ghost use Rattle.disk_model.specs.Disk.{last_image};
 ghost use Rattle.disk_model.specs.Identity.{IsBound};
 ghost use Rattle.disk_model.specs.Moments.{HasNow};
-ghost use Rattle.image_model.specs.Bitmap.{awaits};
+ghost use Rattle.image_model.specs.Bitmap.{awaits, is_to_recalculate};
+ghost use Rattle.image_model.specs.Geometry.{IsGeometry};
 ghost use Rattle.image_format.specs.Format.{IsFormat};
 ghost use Rattle.image_check.specs.Checked.{awaits_in, has_entry, is_passed};
 ghost use Rattle.image_check.specs.Report.{awaiting_below};
@@ -14,6 +16,7 @@ use crate::What;
 use crate::opening::has_bitmap;
 use bitmap_reading::is_dirty;
 use image_format::ImageFormat;
+use image_model::RECALCULATING;
 use journal_reading::NewestEntries;
 use sector_disk::{Disk, Failed};
 use sector_window::SectorWindow;
@@ -28,8 +31,22 @@ fn has_entry(journal: &Option<NewestEntries>, block: u64) -> bool
     }
 }
 
-/// Whether a block awaits its tag. With a bitmap its region tells, and without one none does, since the flag for that is
-/// refused.
+/// Whether the tag of a block is to be recalculated, by the fields alone: the flag for that is set, and the block has a
+/// sector at or above `recalc_sector`.
+///
+/// Source: Linux, `drivers/md/dm-integrity.c`, `integrity_recalc`.
+fn is_to_recalculate(format: &ImageFormat, block: u64) -> bool
+    requires geometry { IsGeometry format.now.geometry (2 ^ 48) }
+    requires block { block < format.now.geometry.blocks }
+
+    ensures { result ≡ is_to_recalculate format.now.fields format.now.geometry block }
+{
+    let spb = format.geometry.shape().spb;
+    let end = (block + 1) * spb;
+    format.fields.flags & RECALCULATING != 0 && format.fields.recalc_sector < end
+}
+
+/// Whether a block awaits its tag. With a bitmap its region tells, and without one the fields do.
 ///
 /// # Errors
 ///
@@ -57,7 +74,7 @@ fn is_awaiting<D: Disk>(
     if has_bitmap(format) {
         return is_dirty(disk, &format.geometry, bits, block);
     }
-    Ok(false)
+    Ok(is_to_recalculate(format, block))
 }
 
 /// Whether a block is not judged by what is placed: it has an entry, or, where cells are judged, it awaits its tag.

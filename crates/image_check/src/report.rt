@@ -20,7 +20,8 @@ use std::alloc::Global;
 pub struct Report {
     /// How many blocks the device has.
     pub blocks: u64,
-    /// How many of them await their tags: with a bitmap those of dirty regions, and without one none.
+    /// How many of them await their tags: with a bitmap those of dirty regions, and without one those that are to be
+    /// recalculated.
     pub awaiting: u64,
     /// The bad ones, in order.
     pub bad: Vec<Bad>,

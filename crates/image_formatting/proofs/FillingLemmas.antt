@@ -10,11 +10,11 @@ use Rattle.image_model.proofs.GeometryLemmas.{data_at-inside, section_at-lt}
 use Rattle.journal_section.specs.Entries.{IsWithin}
 use Rattle.place_model.proofs.TagsLemmas.{tag_byte-behind}
 use Rattle.image_formatting.specs.declared.new_image.Wipe.{Wipe}
-use Rattle.image_formatting.specs.declared.new_image.Wipe.TheVariants.{Wiped, Kept}
+use Rattle.image_formatting.specs.declared.new_image.Wipe.TheVariants.{Wiped, Kept, Recalculated}
 use Rattle.image_formatting.specs.Formatted.{HasBlocks, HasFilled, IsBlocksByte, IsBlocksSector, IsFillSector, IsImageByte}
 use Rattle.image_formatting.specs.Stays.{ReadsKeep}
 use Rattle.image_formatting.proofs.StaysLemmas.{keep_changes, keep_then, keep_wider}
-use Rattle.image_formatting.specs.Journal.{HasJournalPlace, has_bitmap}
+use Rattle.image_formatting.specs.Journal.{HasJournalPlace, has_bitmap, regions_set}
 use Rattle.image_formatting.specs.Runs.{ChangesOnly, HasZeros}
 use Rattle.image_formatting.proofs.FormattedLemmas.{HasJournalBy-same}
 use Rattle.image_formatting.proofs.JournalLemmas.{bitmap_fits, sections_some}
@@ -27,6 +27,7 @@ blocks_behind Wiped g sectors s is of = elim of.at [
   | inr tag ↦ let at = tag_byte-behind g sectors of.block tag.0 is (omega (arith, of.is_block.ends)) in omega (arith, at, tag.2)
 ]
 blocks_behind Kept g sectors s is of = absurd of
+blocks_behind Recalculated g sectors s is of = absurd of
 
 journal_some : (g : Geometry) (sectors : ℕ) → IsGeometry g sectors → 8 ≤ journal_sectors g
 journal_some g sectors is =
@@ -72,7 +73,7 @@ filled_now {b} {c} {d} wipe rule format sectors is zeros second journal third bl
           (keeps_now (IsWithin 8 (journal_sectors g)) (λ image. HasZeros 1 7 image) (λ one other same h k low. same (1 + k) (λ within. omega (arith, within.0, low)) ∙ h k low) zeros second)
           third content told;
       journal = keeps_now (IsBlocksSector wipe g) (λ image. HasJournalPlace format image)
-          (λ one other same h. HasJournalBy-same (has_bitmap format) g one other
+          (λ one other same h. HasJournalBy-same (has_bitmap format) (regions_set format) g one other
           (λ k set low. same (8 + k) (λ of. let from = behind (8 + k) of in let fits = bitmap_fits sectors format is set in omega (arith, from, low, fits)))
           (λ s from to. same s (λ of. let high = behind s of in omega (arith, high, to)))
           h)

@@ -1,36 +1,40 @@
--- A new image can be opened, with nothing to replay or with no bit set, and has zeros with their tags.
-use Rattle.std.specs.Prelude.{flat_map, if◌then◌else◌, unwrap_or, slice_index}
-use Rattle.std.proofs.Common.{◌≡◌, ◌≢◌, ◌⊎◌, inl, inr, ℕ, zero, suc, ◌+◌, ◌*◌, ◌/◌, ◌%◌, ◌<◌, Bool, true, false, List, [], ◌∷◌, map, replicate, filter_map, Option, Some, None, is_some, Ok, is_ok, refl, sym, ◌∙◌, ap, subst, arith}
-use Rattle.std.specs.Int.{bit_at}
+-- A new image can be opened, with nothing to replay, or with no bit set or all; its blocks have zeros with their tags,
+-- or await them.
+use Rattle.std.specs.Prelude.{flat_map, if◌then◌else◌, unwrap_or, slice_index, nat_lt}
+use Rattle.std.proofs.Common.{◌≡◌, ◌≢◌, ◌⊎◌, inl, inr, ⊎_elim, ℕ, zero, suc, ◌+◌, ◌*◌, ◌/◌, ◌%◌, ◌^◌, ◌<◌, ◌≤◌, ◌&&◌, Bool, true, false, List, [], ◌∷◌, map, replicate, filter_map, Option, Some, None, is_some, Ok, is_ok, refl, sym, ◌∙◌, ap, subst, arith}
 use Rattle.std.specs.List.{AllByRecursion, range_with_len}
-use Rattle.std.proofs.lemmas.Bool.{cases_lt, ne_eqb, true≢false}
-use Rattle.std.proofs.lemmas.List.{get_or-replicate, get_or_past, length-replicate}
-use Rattle.std.proofs.lemmas.Nat.Bits.{bit_at-zero}
+use Rattle.std.proofs.Math.Nat.{mul-le-mul_right}
+use Rattle.std.proofs.lemmas.Bool.{and_from, lt-ltb, ne_eqb, true≢false}
+use Rattle.std.proofs.lemmas.List.{length-replicate}
+use Rattle.std.proofs.lemmas.Nat.{div-mul-add, pow_pos}
 use Rattle.disk_model.specs.Disk.{Image}
 use Rattle.image_model.specs.declared.flags.TheConstants.{DIRTY_BITMAP, FIXED_HMAC, RECALCULATING}
-use Rattle.image_model.specs.Bitmap.{awaits, is_bit_set}
+use Rattle.image_model.specs.Bitmap.{awaits, is_dirty, region_awaits}
 use Rattle.image_model.specs.Tag.{tag_of}
 use Rattle.image_model.specs.declared.journal_plan.Plan.{Plan}
 use Rattle.image_model.specs.Cells.{Cell, counted_entries, entry_of, last_entry, placed_cells_of, salt_of, section_bytes}
-use Rattle.image_model.specs.Geometry.{Geometry, IsGeometry, bitmap_sectors, geometry_of, region_of, section_entries, section_sectors}
+use Rattle.image_model.specs.Geometry.{Geometry, IsGeometry, bitmap_sectors, data_at, geometry_of, initial, region_of, regions, section_entries, section_sectors, tag_at}
 use Rattle.image_model.specs.Grid.{walk_of}
 use Rattle.image_model.specs.Openable.{IsReplayable, first_sector}
 use Rattle.image_model.specs.Section.{Entry, entry_at}
-use Rattle.image_model.specs.Sectors.{bytes_at, zero_bytes}
+use Rattle.image_model.specs.Sectors.{piece, zero_bytes}
 use Rattle.image_model.specs.Superblock.{has_flag, superblock_of}
 use Rattle.image_model.specs.Walk.{newest, occurs, plan_at, sections_of}
+use Rattle.image_model.proofs.BitmapLemmas.{awaits-bitmap, awaits-journal, region_awaits-block}
+use Rattle.image_model.proofs.GeometryLemmas.{data_at-inside, tag_at-inside}
 use Rattle.image_model.proofs.GeometryOf.{geometry_apart}
 use Rattle.image_model.proofs.CellsLemmas.{counted_entries-bitmap, counted_entries-journal}
-use Rattle.image_model.proofs.SectorLemmas.{bytes_at_read}
+use Rattle.image_model.proofs.Regions.{region-begins, region_of-lt}
+use Rattle.image_model.proofs.SectorLemmas.{bytes_at-same}
 use Rattle.image_model.proofs.TablesLemmas.{newest_law}
 use Rattle.image_model.proofs.TagLemmas.{length-tag_of}
 use Rattle.image_model.proofs.WalkLemmas.{lacks_from, numbered_from, occurs_at, plan_is}
-use Rattle.place_model.specs.Format.{DiskFormat, IsReadAs, OpensAs, cells_on, format_on, placed_on}
+use Rattle.place_model.specs.Format.{DiskFormat, IsReadAs, OpensAs, cells_on, format_on, placed_on, tagger_of}
 use Rattle.place_model.specs.Journal.{HasNothingToReplay, entries_in, numbers_on}
 use Rattle.place_model.specs.Kind.{CanOpenIn, CanOpenPlaced}
 use Rattle.place_model.proofs.FormatLemmas.{opens_from, read_format_law}
 use Rattle.place_model.proofs.JournalLemmas.{replayed_entries-plan, walk-same, walk_of-plan}
-use Rattle.place_model.proofs.PlacedLemmas.{cells_of-none, placed_bytes, placed_tag, recalculated-bytes, recalculated-tag, same_cell}
+use Rattle.place_model.proofs.PlacedLemmas.{cells_of-none, placed_bytes, placed_tag, recalculated-bytes, recalculated-computed, recalculated-tag, same_cell}
 use Rattle.place_model.proofs.ReplayLemmas.{placed_opens_law}
 use Rattle.device_model.specs.Mode.{Bitmap as InBitmap}
 use Rattle.image_formatting.specs.declared.new_image.ImageMode.{ImageMode}
@@ -39,14 +43,16 @@ use Rattle.image_formatting.specs.declared.new_image.NewImage.{NewImage}
 use Rattle.image_formatting.specs.declared.new_image.Padding.{Padding}
 use Rattle.image_formatting.specs.declared.new_image.Padding.TheVariants.{Fixed, Legacy}
 use Rattle.image_formatting.specs.declared.new_image.Wipe.{Wipe}
-use Rattle.image_formatting.specs.declared.new_image.Wipe.TheVariants.{Wiped}
+use Rattle.image_formatting.specs.declared.new_image.Wipe.TheVariants.{Wiped, Kept, Recalculated}
+use Rattle.image_formatting.specs.Bits.{HasBits}
 use Rattle.image_formatting.specs.Blocks.{HasZeroBlocks, IsBlockOf, zero_tag}
-use Rattle.image_formatting.specs.Formatted.{HasBlocks, rule_with}
-use Rattle.image_formatting.specs.FormattedLaws.{HasNoBit, IsNewOn, NewBitmapLaw, NewCellsLaw, NewOpensLaw, new_format, zero_cell}
-use Rattle.image_formatting.specs.Journal.{HasClearBitmap, HasEmptyJournal, HasJournalBy}
-use Rattle.image_formatting.specs.Runs.{HasZeros}
+use Rattle.image_formatting.specs.Formatted.{HasBlocks, IsOfImage, format_with, rule_with}
+use Rattle.image_formatting.specs.FormattedLaws.{HasBitsFor, IsNewOn, NewAwaitsLaw, NewBitmapLaw, NewCellsLaw, NewKeptLaw, NewOpensLaw, new_format, retagged_cell, zero_cell}
+use Rattle.image_formatting.specs.Journal.{HasBitmap, HasEmptyJournal, HasJournalBy, regions_set}
+use Rattle.image_formatting.specs.NewImage.{flags_of}
+use Rattle.image_formatting.proofs.BitsLemmas.{bits_are, not_below, set_fits}
 use Rattle.image_formatting.proofs.JournalLemmas.{sections_some}
-use Rattle.image_formatting.proofs.PlanningLemmas.{accepted_fields, flags_by, given_fields, no_bitmap, with_bitmap}
+use Rattle.image_formatting.proofs.PlanningLemmas.{accepted_fields, flags_by, given_fields, is_recalculated, is_recalculating, no_bitmap, other_flag, with_bitmap}
 use Rattle.image_formatting.proofs.RunsLemmas.{sector_in-zeros}
 
 -- ---- an empty journal
@@ -105,44 +111,23 @@ module _ (g : Geometry) (sectors : ℕ) (image : Image) (is : IsGeometry g secto
         ∙ none_of (sections_of plan.walk);
   }
 
--- ---- a bitmap without a bit
-
--- Bytes of zeros have no bit set.
-zero_bits : (size region : ℕ) → is_bit_set (zero_bytes size) region ≡ false
-unfolding is_bit_set
-zero_bits size region =
-    let none : bit_at 0 (region % 8) ≡ 0 = bit_at-zero (region % 8) in
-    rw (zero_at (region / 8), none) refl
-  where
-    zero_at : (k : ℕ) → slice_index (zero_bytes size) k ≡ 0
-    zero_at k = elim (cases_lt k size) [
-      | inl low ↦ get_or-replicate size k 0 0 low
-      | inr high ↦ get_or_past (replicate size 0) k 0 (let long = length-replicate {A = ℕ} size 0 in omega (arith, long, high))
-    ]
-
--- So has the bitmap of an image whose sectors are zero.
-no_bit_set : (g : Geometry) (image : Image) → HasZeros 8 (bitmap_sectors g) image → HasNoBit g image
-no_bit_set g image zeros region =
-    let count = bitmap_sectors g in
-    let same : zero_bytes (512 * count) ≡ bytes_at image 8 count =
-    bytes_at_read image 8 count (zero_bytes (512 * count)) (length-replicate {A = ℕ} (512 * count) 0) (λ k low. sector_in-zeros count k low ∙ sym (zeros k low)) in
-    ap (λ (bytes : List ℕ). is_bit_set bytes region) (sym same) ∙ zero_bits (512 * count) region
-
 -- ---- an image
 
 cases_mode : (mode : ImageMode) → (mode ≡ Journal) ⊎ (mode ≡ Bitmap)
 cases_mode Journal = inl refl
 cases_mode Bitmap = inr refl
 
-no_recalculating : (padding : Padding) (salt : Option (List ℕ)) (mode : ImageMode) → has_flag RECALCULATING (flags_by padding salt mode) ≡ false
-no_recalculating Fixed None Journal = refl
-no_recalculating Fixed None Bitmap = refl
-no_recalculating Fixed (Some salt) Journal = refl
-no_recalculating Fixed (Some salt) Bitmap = refl
-no_recalculating Legacy None Journal = refl
-no_recalculating Legacy None Bitmap = refl
-no_recalculating Legacy (Some salt) Journal = refl
-no_recalculating Legacy (Some salt) Bitmap = refl
+-- The bits of a bitmap, by whether tags are to be recalculated.
+bits_for : (wipe : Wipe) (g : Geometry) (image : Image) → ((region : ℕ) → is_dirty g image region ≡ nat_lt region (if is_recalculated wipe then regions g else 0)) → HasBitsFor wipe g image
+bits_for Wiped g image h = λ region. h region ∙ not_below region 0 (omega arith)
+bits_for Kept g image h = λ region. h region ∙ not_below region 0 (omega arith)
+bits_for Recalculated g image h = h
+
+-- A sector behind the journal is not written, where nothing is wiped.
+not_written : (wipe : Wipe) (g : Geometry) (sector : ℕ) → wipe ≢ Wiped → initial g ≤ sector → IsOfImage wipe g sector → ⊥
+not_written Wiped g sector unwiped from of = unwiped refl
+not_written Kept g sector unwiped from of = ⊎_elim (λ low. omega (arith, low, from)) (λ none. none) of
+not_written Recalculated g sector unwiped from of = ⊎_elim (λ low. omega (arith, low, from)) (λ none. none) of
 
 module _ (key : Option (List ℕ)) (sectors : ℕ) (new : NewImage) (provided : ℕ) (before image : Image) (h : IsNewOn key sectors new provided before image) where
   abbrev d : DiskFormat
@@ -169,7 +154,7 @@ module _ (key : Option (List ℕ)) (sectors : ℕ) (new : NewImage) (provided : 
     clear = no_bitmap new journal
 
     pub nothing : HasNothingToReplay d.geometry image
-    nothing = nothing_to_replay d.geometry sectors image is_geometry (subst (λ (bitmap : Bool). HasJournalBy bitmap d.geometry image) clear h.formatted.filled.journal)
+    nothing = nothing_to_replay d.geometry sectors image is_geometry (subst (λ (bitmap : Bool). HasJournalBy bitmap (regions_set (format_with new provided)) d.geometry image) clear h.formatted.filled.journal)
 
     pub opens : OpensAs d image
     opens = placed_opens_law d image clear nothing reads.0
@@ -182,11 +167,13 @@ module _ (key : Option (List ℕ)) (sectors : ℕ) (new : NewImage) (provided : 
     pub set : has_flag DIRTY_BITMAP d.superblock.flags ≡ true
     set = with_bitmap new bitmap
 
-    cleared : HasClearBitmap d.geometry image
-    cleared = subst (λ (bitmap : Bool). HasJournalBy bitmap d.geometry image) set h.formatted.filled.journal
+    in_place : HasBitmap (regions_set (format_with new provided)) d.geometry image
+    in_place = subst (λ (bitmap : Bool). HasJournalBy bitmap (regions_set (format_with new provided)) d.geometry image) set h.formatted.filled.journal
 
-    pub no_bit : HasNoBit d.geometry image
-    no_bit = no_bit_set d.geometry image cleared.bits
+    -- The bits of all regions are set, or none is.
+    pub each_bit : (region : ℕ) → is_dirty d.geometry image region ≡ nat_lt region (if is_recalculated new.wipe then regions d.geometry else 0)
+    each_bit = bits_are (if is_recalculated new.wipe then regions d.geometry else 0) d.geometry image (set_fits (is_recalculated new.wipe) d.geometry)
+        (subst (λ (n : ℕ). HasBits n 8 (bitmap_sectors d.geometry) image) (ap (λ (all : Bool). if all then regions d.geometry else 0) (is_recalculating new)) in_place.bits)
 
     pub opens_bitmap : OpensAs d image
     opens_bitmap = opens_from d image (record {
@@ -200,7 +187,7 @@ module _ (key : Option (List ℕ)) (sectors : ℕ) (new : NewImage) (provided : 
     pub opens_in_bitmap : CanOpenIn InBitmap key sectors image
     opens_in_bitmap = (opens_bitmap.openable, ap (λ (x : DiskFormat). has_flag DIRTY_BITMAP x.superblock.flags) reads.1 ∙ set)
 
-  -- In either no entry counts, and no block awaits.
+  -- In either no entry counts,
   pub opens_any : OpensAs d image
   opens_any = elim (cases_mode new.mode) [
     | inl journal ↦ opens journal
@@ -213,12 +200,56 @@ module _ (key : Option (List ℕ)) (sectors : ℕ) (new : NewImage) (provided : 
     | inr bitmap ↦ counted_entries-bitmap d.key d.superblock d.geometry image (set bitmap)
   ]
 
-  pub not_awaiting : (b : ℕ) → awaits d.superblock d.geometry image b ≡ false
-  unfolding awaits
-  not_awaiting b = elim (cases_mode new.mode) [
-    | inl journal ↦ rw (clear journal, no_recalculating new.padding new.salt new.mode) refl
-    | inr bitmap ↦ rw (set bitmap) (no_bit bitmap (region_of d.geometry b))
+  -- and no block awaits, where no tags are to be recalculated.
+  pub not_awaiting : is_recalculated new.wipe ≡ false → (b : ℕ) → awaits d.superblock d.geometry image b ≡ false
+  not_awaiting none b = elim (cases_mode new.mode) [
+    | inl journal ↦
+        let unset : has_flag RECALCULATING d.superblock.flags ≡ false = is_recalculating new ∙ none in
+        awaits-journal d.superblock d.geometry image b (clear journal) ∙ rw unset refl
+    | inr bitmap ↦
+        awaits-bitmap d.superblock d.geometry image b (set bitmap) ∙ each_bit bitmap (region_of d.geometry b)
+        ∙ ap (λ (all : Bool). nat_lt (region_of d.geometry b) (if all then regions d.geometry else 0)) none ∙ not_below (region_of d.geometry b) 0 (omega arith)
   ]
+
+  -- Where they are each does,
+  module _ (all : is_recalculated new.wipe ≡ true) where
+    pub each_awaits : (b : ℕ) → b < d.geometry.blocks → awaits d.superblock d.geometry image b ≡ true
+    each_awaits b low = elim (cases_mode new.mode) [
+      | inl journal ↦
+          let row : 1 * d.geometry.shape.spb ≤ (b + 1) * d.geometry.shape.spb = mul-le-mul_right d.geometry.shape.spb (omega arith) in
+          let some = is_geometry.spb.0 in
+          awaits-journal d.superblock d.geometry image b (clear journal)
+          ∙ and_from (has_flag RECALCULATING d.superblock.flags) (nat_lt 0 ((b + 1) * d.geometry.shape.spb)) (is_recalculating new ∙ all) (lt-ltb 0 ((b + 1) * d.geometry.shape.spb) (omega (arith, row, some)))
+      | inr bitmap ↦
+          awaits-bitmap d.superblock d.geometry image b (set bitmap) ∙ each_bit bitmap (region_of d.geometry b)
+          ∙ ap (λ (x : Bool). nat_lt (region_of d.geometry b) (if x then regions d.geometry else 0)) all
+          ∙ lt-ltb (region_of d.geometry b) (regions d.geometry) (region_of-lt d.geometry b low)
+    ]
+
+    -- and each region, by its first block.
+    pub each_region_awaits : (region : ℕ) → region < regions d.geometry → region_awaits d.superblock d.geometry image region ≡ true
+    each_region_awaits region low =
+        let first = region * 2 ^ d.geometry.log2_region in
+        let inside : first < d.geometry.blocks = region-begins d.geometry region low in
+        let same : region_of d.geometry first ≡ region =
+        ap (λ (n : ℕ). n / 2 ^ d.geometry.log2_region) (let e : first ≡ first + 0 = omega arith in e) ∙ div-mul-add region (2 ^ d.geometry.log2_region) 0 (pow_pos d.geometry.log2_region) in
+        ap (region_awaits d.superblock d.geometry image) (sym same)
+        ∙ region_awaits-block d.superblock d.geometry image first inside (each_awaits first inside)
+
+  -- Sectors of data and tags are as they were, where nothing is wiped,
+  sector_kept : new.wipe ≢ Wiped → (sector : ℕ) → initial d.geometry ≤ sector → image sector ≡ before sector
+  sector_kept unwiped sector from = h.formatted.others sector (not_written new.wipe d.geometry sector unwiped from)
+
+  -- and so are the blocks that are in place.
+  pub placed_kept : new.wipe ≢ Wiped → (b : ℕ) → b < d.geometry.blocks → placed_cells_of d.geometry image b ≡ placed_cells_of d.geometry before b
+  unfolding placed_cells_of
+  placed_kept unwiped b low =
+      let g = d.geometry in
+      let bytes_from = (data_at-inside g sectors b is_geometry low).0 in
+      let tag_from = (tag_at-inside g sectors b is_geometry low).0 in
+      same_cell (placed_cells_of g image b) (placed_cells_of g before b)
+      (bytes_at-same image before (data_at g b) g.shape.spb (λ s from to. sector_kept unwiped s (omega (arith, from, bytes_from))))
+      (ap (λ (xs : List ℕ). piece xs (tag_at g b).1 g.shape.tag_size) (bytes_at-same image before (tag_at g b).0 2 (λ s from to. sector_kept unwiped s (omega (arith, from, tag_from)))))
 
 -- ---- the cells
 
@@ -233,6 +264,11 @@ salt_is Legacy None Bitmap none = refl
 salt_is Legacy (Some salt) Journal none = refl
 salt_is Legacy (Some salt) Bitmap none = refl
 
+new_salt : (new : NewImage) (none : List ℕ) → (if has_flag FIXED_HMAC (flags_of new) then Some (unwrap_or new.salt none) else None) ≡ new.salt
+new_salt new none =
+    ap (λ (salted : Bool). if salted then Some (unwrap_or new.salt none) else None) (other_flag FIXED_HMAC (flags_by new.padding new.salt new.mode) refl refl new.wipe)
+    ∙ salt_is new.padding new.salt new.mode none
+
 module _ (key : Option (List ℕ)) (sectors : ℕ) (new : NewImage) (provided : ℕ) (before image : Image) (h : IsNewOn key sectors new provided before image) (wiped : new.wipe ≡ Wiped)
     (b : ℕ) (low : b < (new_format key sectors new provided).geometry.blocks) where
   abbrev of : DiskFormat
@@ -245,7 +281,7 @@ module _ (key : Option (List ℕ)) (sectors : ℕ) (new : NewImage) (provided : 
   block = record { begins = omega arith; ends = omega (arith, low) }
 
   zero_tag_is : zero_tag (rule_with key new) of.geometry.shape.spb b ≡ (zero_cell of b).tag
-  zero_tag_is = ap (λ (salt : Option (List ℕ)). tag_of key salt new.tag_size (b * of.geometry.shape.spb) (zero_bytes (512 * of.geometry.shape.spb))) (sym (salt_is new.padding new.salt new.mode (zero_bytes 16)))
+  zero_tag_is = ap (λ (salt : Option (List ℕ)). tag_of key salt new.tag_size (b * of.geometry.shape.spb) (zero_bytes (512 * of.geometry.shape.spb))) (sym (new_salt new (zero_bytes 16)))
 
   geometry_is : IsGeometry of.geometry sectors
   geometry_is = is_geometry key sectors new provided before image h
@@ -260,7 +296,7 @@ module _ (key : Option (List ℕ)) (sectors : ℕ) (new : NewImage) (provided : 
   recalculated_is : placed_on of image b ≡ zero_cell of b
   recalculated_is = same_cell (placed_on of image b) (zero_cell of b)
       (recalculated-bytes key of.superblock of.geometry image b ∙ ap (λ (c : Cell). c.bytes) placed_is)
-      (recalculated-tag key of.superblock of.geometry image b (not_awaiting key sectors new provided before image h b) ∙ ap (λ (c : Cell). c.tag) placed_is)
+      (recalculated-tag key of.superblock of.geometry image b (not_awaiting key sectors new provided before image h (ap is_recalculated wiped) b) ∙ ap (λ (c : Cell). c.tag) placed_is)
 
   cell_is : cells_on of image b ≡ zero_cell of b
   cell_is = cells_of-none key of.superblock of.geometry image b (ap (λ (entries : List Entry). last_entry of.geometry entries b) (no_entries key sectors new provided before image h)) ∙ recalculated_is
@@ -278,7 +314,7 @@ pub new_bitmap_law : NewBitmapLaw
 new_bitmap_law key sectors new provided before image h bitmap = (
   opens_bitmap key sectors new provided before image h bitmap,
   opens_in_bitmap key sectors new provided before image h bitmap,
-  no_bit key sectors new provided before image h bitmap,
+  bits_for new.wipe (new_format key sectors new provided).geometry image (each_bit key sectors new provided before image h bitmap),
 )
 
 pub new_cells_law : NewCellsLaw
@@ -292,3 +328,29 @@ new_cells_law key sectors new provided before image h wiped = (
     each = λ b low. recalculated_is key sectors new provided before image h wiped b low;
   },
 )
+
+pub new_kept_law : NewKeptLaw
+new_kept_law key sectors new provided before image h unwiped b low = placed_kept key sectors new provided before image h unwiped b low
+
+unwiped_by : (wipe : Wipe) → wipe ≡ Recalculated → wipe ≢ Wiped
+unwiped_by Wiped e = λ _. let none : Wiped ≡ Recalculated = e in cc
+unwiped_by Kept e = λ none. cc
+unwiped_by Recalculated e = λ none. cc
+
+pub new_awaits_law : NewAwaitsLaw
+new_awaits_law key sectors new provided before image h again =
+    let d = new_format key sectors new provided in
+    let all = ap is_recalculated again in (
+      each_awaits key sectors new provided before image h all,
+      each_region_awaits key sectors new provided before image h all,
+      record {
+        opens = opens_any key sectors new provided before image h;
+        each = λ b low.
+            let kept : (placed_cells_of d.geometry image b).bytes ≡ (placed_cells_of d.geometry before b).bytes =
+            ap (λ (c : Cell). c.bytes) (placed_kept key sectors new provided before image h (unwiped_by new.wipe again) b low) in
+            cells_of-none key d.superblock d.geometry image b (ap (λ (entries : List Entry). last_entry d.geometry entries b) (no_entries key sectors new provided before image h))
+            ∙ same_cell (placed_on d image b) (retagged_cell d before b)
+            (recalculated-bytes key d.superblock d.geometry image b ∙ kept)
+            (recalculated-computed key d.superblock d.geometry image b (each_awaits key sectors new provided before image h all b low) ∙ ap (tagger_of d b) kept);
+      },
+    )

@@ -18,13 +18,14 @@ use Rattle.image_format.specs.declared.reading.ImageFormat.{ImageFormat}
 use Rattle.place_model.specs.Tags.{tag_byte_at}
 use Rattle.place_model.proofs.TagsLemmas.{tag_byte-behind}
 use Rattle.image_formatting.specs.declared.new_image.Wipe.{Wipe}
-use Rattle.image_formatting.specs.declared.new_image.Wipe.TheVariants.{Wiped, Kept}
+use Rattle.image_formatting.specs.declared.new_image.Wipe.TheVariants.{Wiped, Kept, Recalculated}
 use Rattle.image_formatting.specs.FirstSector.{zero_sector, head_of, forgotten, founded, HasZeroHead, HasHead, IsAmidFounding}
 use Rattle.image_formatting.specs.Stays.{KeepsBytes, ReadsKeep}
 use Rattle.image_formatting.specs.Formatted.{HasBlocks, HasFilled, IsImageByte, IsFillSector, IsFormatted, IsAmidWriting, IsNewContent, IsWritten, IsWrittenBehindSync, IsWrittenInOrder}
-use Rattle.image_formatting.specs.Journal.{HasEmptyRest, HasEmptySection, HasJournalBy, has_bitmap}
+use Rattle.image_formatting.specs.Journal.{HasEmptyRest, HasEmptySection, HasJournalBy, has_bitmap, regions_set}
 use Rattle.image_formatting.specs.Order.{HasFirstSync, IsForgotten, IsInOrder, IsUnsettled}
 use Rattle.image_formatting.specs.Runs.{ChangesOnly}
+use Rattle.image_formatting.proofs.BitsLemmas.{HasBits-same}
 use Rattle.image_formatting.proofs.OrderLemmas.{first_sync_then, first_sync_weaker, in_order, order_weaker, silent, silent_order}
 use Rattle.image_formatting.proofs.RunsLemmas.{changed_now, since_end}
 
@@ -55,13 +56,13 @@ HasEmptyRest-same g first one other section same h = record {
 }
 
 -- What stands in the journal's place stays where its sectors do, those of a bitmap included.
-pub HasJournalBy-same : (bitmap : Bool) (g : Geometry) (one other : Image) → ((k : ℕ) → IsTrue bitmap → k < bitmap_sectors g → other (8 + k) ≡ one (8 + k)) → ((s : ℕ) → 8 ≤ s → s < initial g → other s ≡ one s)
-    → HasJournalBy bitmap g one → HasJournalBy bitmap g other
-HasJournalBy-same false g one other bits same h = λ section low.
+pub HasJournalBy-same : (bitmap : Bool) (set : ℕ) (g : Geometry) (one other : Image) → ((k : ℕ) → IsTrue bitmap → k < bitmap_sectors g → other (8 + k) ≡ one (8 + k)) → ((s : ℕ) → 8 ≤ s → s < initial g → other s ≡ one s)
+    → HasJournalBy bitmap set g one → HasJournalBy bitmap set g other
+HasJournalBy-same false set g one other bits same h = λ section low.
     let next = section_at-lt g section g.sections low in
     HasEmptySection-same g one other section (λ s from to. same s (omega (arith, from)) (omega (arith, to, next))) (h section low)
-HasJournalBy-same true g one other bits same h = record {
-  bits = λ k low. bits k refl low ∙ h.bits k low;
+HasJournalBy-same true set g one other bits same h = record {
+  bits = HasBits-same set 8 (bitmap_sectors g) one other (λ k low. bits k refl low) h.bits;
   behind = λ section low within.
       let next = section_at-lt g section g.sections low in
       HasEmptyRest-same g (bitmap_sectors g) one other section (λ s from to. same s (omega (arith, from)) (omega (arith, to, next))) (h.behind section low within);
@@ -77,11 +78,12 @@ blocks_same Wiped rule g sectors one other is same h = record {
       ap (λ (x : List ℕ). slice_index x (tag_byte_at g b i).1) (same (tag_byte_at g b i).0 (λ none. omega (arith, at, none))) ∙ h.tags b i block low;
 }
 blocks_same Kept rule g sectors one other is same h = tt
+blocks_same Recalculated rule g sectors one other is same h = tt
 
 HasFilled-same : (wipe : Wipe) (rule : TagRule) (format : ImageFormat) (sectors : ℕ) (one other : Image) → IsGeometry format.geometry sectors → SameBehind one other → HasFilled wipe rule format one → HasFilled wipe rule format other
 HasFilled-same wipe rule format sectors one other is same h = record {
   zeros = λ k low. same (1 + k) (some 1 k (omega arith)) ∙ h.zeros k low;
-  journal = HasJournalBy-same (has_bitmap format) format.geometry one other (λ k set low. same (8 + k) (some 8 k (omega arith))) (λ s from to. same s (λ none. omega (arith, from, none))) h.journal;
+  journal = HasJournalBy-same (has_bitmap format) (regions_set format) format.geometry one other (λ k set low. same (8 + k) (some 8 k (omega arith))) (λ s from to. same s (λ none. omega (arith, from, none))) h.journal;
   blocks = blocks_same wipe rule format.geometry sectors one other is same h.blocks;
 }
 

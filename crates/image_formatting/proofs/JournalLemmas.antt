@@ -19,7 +19,9 @@ use Rattle.image_format.specs.declared.reading.ImageFormat.{ImageFormat}
 use Rattle.image_format.specs.Format.{IsFormat}
 use Rattle.journal_section.specs.Entries.{HoldsEntries, IsWithin}
 use Rattle.image_formatting.specs.Journal.{HasEmptyJournal, HasEmptyRest, HasEmptyRests, HasJournalBy, IsEmptyBehind, IsEmptySection, bitmap_taken, has_bitmap}
-use Rattle.image_formatting.specs.Runs.{ChangesOnly, HasZeros}
+use Rattle.image_formatting.specs.Bits.{HasBits}
+use Rattle.image_formatting.specs.Runs.{ChangesOnly}
+use Rattle.image_formatting.proofs.BitsLemmas.{HasBits-same}
 use Rattle.image_formatting.proofs.FormattedLemmas.{HasEmptyRest-same}
 use Rattle.image_formatting.proofs.RunsLemmas.{changed_now, keeps_now}
 
@@ -98,13 +100,14 @@ rests_are_journal g image h section low =
       numbers = λ j inside. ap (commit_number section j) (rest.each j inside (omega arith)) ∙ rest.is_empty.numbers j inside;
     }
 
--- Zeros in the bitmap's sectors, and empty ones behind them.
-pub journal_now : {a b : List Content} (bitmap : Bool) (g : Geometry) (taken : ℕ) → taken ≡ bitmap_taken bitmap g → HasNow (λ c. HasZeros 8 taken (last_image c)) a
-    → EachMoment a b (FromStart a (ChangesOnly (IsWithin (8 + taken) (journal_sectors g - taken)))) → HasNow (λ c. IsEmptyBehind g taken (last_image c)) b → HasNow (λ c. HasJournalBy bitmap g (last_image c)) b
-journal_now false g taken is zeros changes behind d told = rests_are_journal g (last_image d) (subst (λ (n : ℕ). IsEmptyBehind g n (last_image d)) is (behind d told))
-journal_now true g taken is zeros changes behind d told = record {
-  bits = subst (λ (n : ℕ). HasZeros 8 n (last_image d)) is
-      (keeps_now (IsWithin (8 + taken) (journal_sectors g - taken)) (λ image. HasZeros 8 taken image) (λ one other same h k low. same (8 + k) (λ of. omega (arith, of.0, low)) ∙ h k low) zeros changes d told);
+-- A bitmap in its sectors, and empty ones behind them.
+pub journal_now : {a b : List Content} (bitmap : Bool) (set : ℕ) (g : Geometry) (taken : ℕ) → taken ≡ bitmap_taken bitmap g → HasNow (λ c. HasBits set 8 taken (last_image c)) a
+    → EachMoment a b (FromStart a (ChangesOnly (IsWithin (8 + taken) (journal_sectors g - taken)))) → HasNow (λ c. IsEmptyBehind g taken (last_image c)) b → HasNow (λ c. HasJournalBy bitmap set g (last_image c)) b
+journal_now false set g taken is bits changes behind d told = rests_are_journal g (last_image d) (subst (λ (n : ℕ). IsEmptyBehind g n (last_image d)) is (behind d told))
+journal_now true set g taken is bits changes behind d told = record {
+  bits = subst (λ (n : ℕ). HasBits set 8 n (last_image d)) is
+      (keeps_now (IsWithin (8 + taken) (journal_sectors g - taken)) (λ image. HasBits set 8 taken image)
+      (λ one other same h. HasBits-same set 8 taken one other (λ k low. same (8 + k) (λ of. omega (arith, of.0, low))) h) bits changes d told);
   behind = subst (λ (n : ℕ). IsEmptyBehind g n (last_image d)) is (behind d told);
 }
 

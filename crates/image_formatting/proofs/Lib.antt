@@ -1,3 +1,4 @@
+mod BitsLemmas
 mod FirstSectorLemmas
 mod FormattedLemmas
 mod OrderLemmas

@@ -1,6 +1,8 @@
 -- The fields of a new image are accepted, and have their geometry.
-use Rattle.std.proofs.Common.{◌≡◌, ℕ, ◌≤◌, IsTrue, true, false, List, Option, Some, None, Ok, Err, Result, refl, ◌∙◌, ap, sym, subst, arith, bit_or, Bool}
-use Rattle.image_model.specs.declared.flags.TheConstants.{DIRTY_BITMAP, FIXED_PADDING}
+use Rattle.std.proofs.Common.{◌≡◌, ℕ, ◌≤◌, ◌==◌, IsTrue, true, false, not, List, Option, Some, None, Ok, Err, Result, refl, ◌∙◌, ap, sym, subst, arith, bit_and, bit_or, Bool}
+use Rattle.std.specs.Int.{w32, bit_not}
+use Rattle.std.proofs.lemmas.Nat.{and_or_apart, and_or_self}
+use Rattle.image_model.specs.declared.flags.TheConstants.{DIRTY_BITMAP, FIXED_PADDING, KNOWN_FLAGS, RECALCULATING}
 use Rattle.image_model.specs.declared.geom_fault.GeomFault.{GeomFault}
 use Rattle.image_model.specs.Geometry.{Geometry, IsGeometry, layout_of, geometry_of, best_provided, best_provided_of, bitmap_sectors, fitting_log2_region, journal_sectors, tag_run_of}
 use Rattle.image_model.specs.Superblock.{Superblock, has_flag, HasLayout, IsAccepted, unknown_flags}
@@ -13,15 +15,17 @@ use Rattle.image_formatting.specs.declared.new_image.ImageMode.TheVariants.{Jour
 use Rattle.image_formatting.specs.declared.new_image.NewImage.{NewImage}
 use Rattle.image_formatting.specs.declared.new_image.Padding.{Padding}
 use Rattle.image_formatting.specs.declared.new_image.Padding.TheVariants.{Fixed, Legacy}
-use Rattle.image_formatting.specs.NewImage.{IsNewImage, asked_fields, mode_flag, padding_flag, salt_flag, flags_of, fields_of, fields_with, provided_of}
+use Rattle.image_formatting.specs.declared.new_image.Wipe.{Wipe}
+use Rattle.image_formatting.specs.declared.new_image.Wipe.TheVariants.{Wiped, Kept, Recalculated}
+use Rattle.image_formatting.specs.NewImage.{IsNewImage, asked_fields, mode_flag, padding_flag, recalculating_flag, salt_flag, flags_of, fields_of, fields_with, provided_of}
 
 -- ---- the flags
 
--- Those of the padding, of the salt and of the mode.
+-- Those of the padding, of the salt and of the mode: all but the one of tags that are to be recalculated.
 abbrev pub flags_by : Padding → Option (List ℕ) → ImageMode → ℕ
 flags_by padding salt mode = bit_or (bit_or (padding_flag padding) (salt_flag salt)) (mode_flag mode)
 
--- All flags are known.
+-- They are known.
 known_flags : (padding : Padding) (salt : Option (List ℕ)) (mode : ImageMode) → unknown_flags (flags_by padding salt mode) ≡ 0
 known_flags Fixed None Journal = refl
 known_flags Fixed None Bitmap = refl
@@ -58,19 +62,65 @@ padding_by Legacy None Bitmap = refl
 padding_by Legacy (Some salt) Journal = refl
 padding_by Legacy (Some salt) Bitmap = refl
 
+-- The flag of tags that are to be recalculated leaves the others as they are,
+other_bits : (bits flags : ℕ) → bit_and 0 bits ≡ 0 → bit_and RECALCULATING bits ≡ 0 → (wipe : Wipe) → bit_and (bit_or flags (recalculating_flag wipe)) bits ≡ bit_and flags bits
+other_bits bits flags none apart Wiped = and_or_apart bits flags 0 none
+other_bits bits flags none apart Kept = and_or_apart bits flags 0 none
+other_bits bits flags none apart Recalculated = and_or_apart bits flags RECALCULATING apart
+
+pub other_flag : (flag flags : ℕ) → bit_and 0 flag ≡ 0 → bit_and RECALCULATING flag ≡ 0 → (wipe : Wipe) → has_flag flag (bit_or flags (recalculating_flag wipe)) ≡ has_flag flag flags
+other_flag flag flags none apart wipe = ap (λ (n : ℕ). not (n == 0)) (other_bits flag flags none apart wipe)
+
+-- and they don't have it.
+no_recalculating : (padding : Padding) (salt : Option (List ℕ)) (mode : ImageMode) → has_flag RECALCULATING (flags_by padding salt mode) ≡ false
+no_recalculating Fixed None Journal = refl
+no_recalculating Fixed None Bitmap = refl
+no_recalculating Fixed (Some salt) Journal = refl
+no_recalculating Fixed (Some salt) Bitmap = refl
+no_recalculating Legacy None Journal = refl
+no_recalculating Legacy None Bitmap = refl
+no_recalculating Legacy (Some salt) Journal = refl
+no_recalculating Legacy (Some salt) Bitmap = refl
+
+-- Whether it is set is told by what comes to the blocks alone.
+abbrev pub is_recalculated : Wipe → Bool
+is_recalculated Wiped = false
+is_recalculated Kept = false
+is_recalculated Recalculated = true
+
+recalculating_by : (flags : ℕ) (wipe : Wipe) → has_flag RECALCULATING flags ≡ false → has_flag RECALCULATING (bit_or flags (recalculating_flag wipe)) ≡ is_recalculated wipe
+recalculating_by flags Wiped none = ap (λ (n : ℕ). not (n == 0)) (and_or_apart RECALCULATING flags 0 refl) ∙ none
+recalculating_by flags Kept none = ap (λ (n : ℕ). not (n == 0)) (and_or_apart RECALCULATING flags 0 refl) ∙ none
+recalculating_by flags Recalculated none = ap (λ (n : ℕ). not (n == 0)) (and_or_self RECALCULATING flags)
+
+pub is_recalculating : (new : NewImage) → has_flag RECALCULATING (flags_of new) ≡ is_recalculated new.wipe
+is_recalculating new = recalculating_by (flags_by new.padding new.salt new.mode) new.wipe (no_recalculating new.padding new.salt new.mode)
+
+-- All flags are known.
+all_known : (new : NewImage) → unknown_flags (flags_of new) ≡ 0
+all_known new =
+    other_bits (bit_not w32 KNOWN_FLAGS) (flags_by new.padding new.salt new.mode) refl refl new.wipe ∙ known_flags new.padding new.salt new.mode
+
 -- An image for journal mode has no bitmap, and one for bitmap mode has one.
 pub no_bitmap : (new : NewImage) → new.mode ≡ Journal → has_flag DIRTY_BITMAP (flags_of new) ≡ false
-no_bitmap new is = bitmap_by new.padding new.salt new.mode ∙ ap is_bitmap_mode is
+no_bitmap new is = other_flag DIRTY_BITMAP (flags_by new.padding new.salt new.mode) refl refl new.wipe ∙ bitmap_by new.padding new.salt new.mode ∙ ap is_bitmap_mode is
 
 pub with_bitmap : (new : NewImage) → new.mode ≡ Bitmap → has_flag DIRTY_BITMAP (flags_of new) ≡ true
-with_bitmap new is = bitmap_by new.padding new.salt new.mode ∙ ap is_bitmap_mode is
+with_bitmap new is = other_flag DIRTY_BITMAP (flags_by new.padding new.salt new.mode) refl refl new.wipe ∙ bitmap_by new.padding new.salt new.mode ∙ ap is_bitmap_mode is
+
+-- The padding is that of the same image with a journal.
+padding_is : (new : NewImage) → has_flag FIXED_PADDING (flags_of new) ≡ has_flag FIXED_PADDING (flags_of (record new { mode = Journal }))
+padding_is new =
+    other_flag FIXED_PADDING (flags_by new.padding new.salt new.mode) refl refl new.wipe
+    ∙ padding_by new.padding new.salt new.mode
+    ∙ sym (other_flag FIXED_PADDING (flags_by new.padding new.salt Journal) refl refl new.wipe)
 
 -- ---- the fields
 
 pub new_layout : (new : NewImage) (provided log2_region : ℕ) → IsNewImage new → HasLayout (fields_with new provided log2_region)
 new_layout new provided log2_region h = record {
   version = (version_for-accepted 1 (flags_of new) (omega arith, omega arith)).0;
-  flags = known_flags new.padding new.salt new.mode;
+  flags = all_known new;
   log2_interleave = h.log2_interleave;
   log2_spb = h.log2_spb;
   tag_size = h.tag_size;
@@ -80,7 +130,7 @@ new_layout new provided log2_region h = record {
 -- The provided sectors follow from neither the regions nor the mode.
 same_provided : (new : NewImage) (sectors one log2_region : ℕ) → best_provided_of (fields_with new one log2_region) sectors ≡ provided_of new sectors
 unfolding best_provided_of best_provided tag_run_of
-same_provided new sectors one log2_region = rw (padding_by new.padding new.salt new.mode) refl
+same_provided new sectors one log2_region = rw (padding_is new) refl
 
 -- The ranges are those of the same image with a journal.
 abbrev with_journal : NewImage → NewImage

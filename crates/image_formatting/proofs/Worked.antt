@@ -1,5 +1,5 @@
--- Values of specs/NewImage.antt, specs/Journal.antt and specs/FirstSector.antt from outside: images worked by hand from the formulas of the
--- kernel's documentation.
+-- Values of specs/NewImage.antt, specs/Bits.antt, specs/Journal.antt and specs/FirstSector.antt from outside: images
+-- worked by hand from the formulas of the kernel's documentation.
 use Rattle.std.proofs.Common.{◌≡◌, ◌∷◌, replicate, true, false, Some, None, Ok, Err, refl}
 use Rattle.image_model.specs.declared.geom_fault.GeomFault.TheVariants.{JournalTooLarge, TooSmall}
 use Rattle.image_model.specs.Geometry.{best_provided, best_provided_of, bitmap_sectors_for, entries_per_sector, entry_size, fitting_log2_region, journal_sectors, layout_of, regions_for, section_entries, section_sectors, tag_run_of}
@@ -7,7 +7,8 @@ use Rattle.image_model.specs.Superblock.{superblock_bytes}
 use Rattle.image_formatting.specs.declared.new_image.ImageMode.TheVariants.{Journal, Bitmap}
 use Rattle.image_formatting.specs.declared.new_image.NewImage.{NewImage}
 use Rattle.image_formatting.specs.declared.new_image.Padding.TheVariants.{Fixed, Legacy}
-use Rattle.image_formatting.specs.declared.new_image.Wipe.TheVariants.{Wiped}
+use Rattle.image_formatting.specs.declared.new_image.Wipe.TheVariants.{Wiped, Recalculated}
+use Rattle.image_formatting.specs.Bits.{bits_byte}
 use Rattle.image_formatting.specs.FirstSector.{head_of}
 use Rattle.image_formatting.specs.Journal.{bitmap_taken}
 use Rattle.image_formatting.specs.NewImage.{fields_of, provided_of}
@@ -75,6 +76,23 @@ fields_of-bitmap :
     × ((fields_of (record small { mode = Bitmap; salt = Some (replicate 16 7) }) 80).flags ≡ 0x1c)
 unfolding small
 fields_of-bitmap = (refl, refl, refl, refl, refl)
+
+-- So has what is to be recalculated, which is so from the first sector on, with a journal and with a bitmap.
+fields_of-recalculated :
+    ((fields_of (record small { wipe = Recalculated }) 80).version ≡ 4) × ((fields_of (record small { wipe = Recalculated }) 80).flags ≡ 0xa)
+    × ((fields_of (record small { wipe = Recalculated }) 80).recalc_sector ≡ 0)
+    × ((fields_of (record small { wipe = Recalculated; padding = Legacy }) 80).version ≡ 2)
+    × ((fields_of (record small { wipe = Recalculated; padding = Legacy }) 80).flags ≡ 0x2)
+    × ((fields_of (record small { wipe = Recalculated; mode = Bitmap }) 80).version ≡ 4)
+    × ((fields_of (record small { wipe = Recalculated; mode = Bitmap }) 80).flags ≡ 0xe)
+unfolding small
+fields_of-recalculated = (refl, refl, refl, refl, refl, refl, refl)
+
+-- Of 47 regions bits 0 to 46 are set: five bytes, and seven bits of the next one. Of none no bit is.
+bits_byte-regions :
+    (bits_byte 47 0 ≡ 0xff) × (bits_byte 47 4 ≡ 0xff) × (bits_byte 47 5 ≡ 0x7f) × (bits_byte 47 6 ≡ 0)
+    × (bits_byte 1 0 ≡ 1) × (bits_byte 80 9 ≡ 0xff) × (bits_byte 80 10 ≡ 0) × (bits_byte 0 0 ≡ 0)
+bits_byte-regions = (refl, refl, refl, refl, refl, refl, refl, refl)
 
 -- Its regions are raised where the bitmap does not fit the journal of 88 sectors.
 fields_of-raised :

@@ -16,7 +16,7 @@ use Rattle.journal_section.specs.Entries.{IsWithin}
 use Rattle.place_model.proofs.TagsLemmas.{order, tag_byte-behind}
 use Rattle.image_formatting.specs.declared.new_image.NewImage.{NewImage}
 use Rattle.image_formatting.specs.declared.new_image.Wipe.{Wipe}
-use Rattle.image_formatting.specs.declared.new_image.Wipe.TheVariants.{Wiped, Kept}
+use Rattle.image_formatting.specs.declared.new_image.Wipe.TheVariants.{Wiped, Kept, Recalculated}
 use Rattle.image_formatting.specs.Blocks.{IsAreaRun}
 use Rattle.image_formatting.specs.FirstSector.{IsFirst, forgotten, head_of, zero_sector}
 use Rattle.image_formatting.specs.Formatted.{format_with}
@@ -169,6 +169,7 @@ wipe_same Wiped g sectors is start middle same s x of = elim of [
       })
 ]
 wipe_same Kept g sectors is start middle same s x of = of
+wipe_same Recalculated g sectors is start middle same s x of = of
 
 format_same : (wipe : Wipe) (format : ImageFormat) (sectors : ℕ) → IsGeometry format.geometry sectors → (start middle : Content) → SameBehind format.geometry start middle
     → (s : ℕ) (x : List ℕ) → IsOfFormat wipe format middle s x → IsOfFormat wipe format start s x

@@ -14,7 +14,7 @@ use Rattle.image_formatting.specs.declared.format_fault.FormatFault.{FormatFault
 use Rattle.image_formatting.specs.declared.format_fault.FormatFault.TheVariants.{Disk}
 use Rattle.image_formatting.specs.declared.new_image.NewImage.{NewImage}
 use Rattle.image_formatting.specs.declared.new_image.Wipe.{Wipe}
-use Rattle.image_formatting.specs.declared.new_image.Wipe.TheVariants.{Wiped, Kept}
+use Rattle.image_formatting.specs.declared.new_image.Wipe.TheVariants.{Wiped, Kept, Recalculated}
 use Rattle.image_formatting.specs.Blocks.{HasZeroBlocks, IsSectorOf}
 use Rattle.image_formatting.specs.FirstSector.{HasZeroHead, head_of}
 use Rattle.image_formatting.specs.Journal.{HasJournalPlace}
@@ -29,11 +29,13 @@ use Rattle.image_formatting.specs.Stays.{IsBlockByte, KeepsBytes}
 abbrev pub HasBlocks : Wipe → TagRule → Geometry → Image → Type 0
 HasBlocks Wiped rule g image = HasZeroBlocks rule g 0 g.blocks image
 HasBlocks Kept rule g image = Unit {0}
+HasBlocks Recalculated rule g image = Unit {0}
 
 -- The sector is written for the blocks.
 abbrev pub IsBlocksSector : Wipe → Geometry → ℕ → Type 0
 IsBlocksSector Wiped g sector = IsSectorOf g 0 g.blocks sector
 IsBlocksSector Kept g sector = ⊥
+IsBlocksSector Recalculated g sector = ⊥
 
 -- It is one of the superblock's or the journal's, or is written for the blocks.
 abbrev pub IsOfImage : Wipe → Geometry → ℕ → Type 0
@@ -43,6 +45,7 @@ IsOfImage wipe g sector = (sector < initial g) ⊎ IsBlocksSector wipe g sector
 abbrev pub IsBlocksByte : Wipe → Geometry → (sector byte : ℕ) → Type 0
 IsBlocksByte Wiped g sector byte = IsBlockByte g 0 g.blocks sector byte
 IsBlocksByte Kept g sector byte = ⊥
+IsBlocksByte Recalculated g sector byte = ⊥
 
 -- Its sector is one of the superblock's or the journal's, or it is written for the blocks.
 abbrev pub IsImageByte : Wipe → Geometry → (sector byte : ℕ) → Type 0
@@ -52,8 +55,7 @@ IsImageByte wipe g sector byte = (sector < initial g) ⊎ IsBlocksByte wipe g se
 abbrev pub IsFillSector : Wipe → Geometry → ℕ → Type 0
 IsFillSector wipe g sector = (1 ≤ sector) × IsOfImage wipe g sector
 
--- The image has all but the fields: zeros behind their sector, an empty journal or a bitmap without a bit, and its
--- blocks.
+-- The image has all but the fields: zeros behind their sector, an empty journal or a bitmap, and its blocks.
 pub record HasFilled (wipe : Wipe) (rule : TagRule) (format : ImageFormat) (image : Image) : Type 0 where
   pub zeros : HasZeros 1 7 image
   pub journal : HasJournalPlace format image

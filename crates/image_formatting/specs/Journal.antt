@@ -1,16 +1,15 @@
--- What stands in the place of the journal of a new image: empty sections, or a bitmap without a bit and empty sectors
--- behind it.
+-- What stands in the place of the journal of a new image: empty sections, or a bitmap and empty sectors behind it.
 -- Source: Linux, drivers/md/dm-integrity.c, init_journal and block_bitmap_op. Own: what stands behind the bitmap.
-use Rattle.std.specs.Prelude.{◌≡◌, ℕ, ◌+◌, ◌*◌, ◌<◌, ◌≤◌, Bool, true, false, List, Some, None, replicate}
+use Rattle.std.specs.Prelude.{◌≡◌, ℕ, ◌+◌, ◌*◌, ◌<◌, ◌≤◌, Bool, true, false, if◌then◌else◌, List, Some, None, replicate}
 use Rattle.disk_model.specs.Disk.{Image, sector_in}
-use Rattle.image_model.specs.declared.flags.TheConstants.{DIRTY_BITMAP}
+use Rattle.image_model.specs.declared.flags.TheConstants.{DIRTY_BITMAP, RECALCULATING}
 use Rattle.image_model.specs.Cells.{section_bytes}
-use Rattle.image_model.specs.Geometry.{Geometry, Shape, bitmap_sectors, section_at, section_entries, section_sectors}
+use Rattle.image_model.specs.Geometry.{Geometry, Shape, bitmap_sectors, regions, section_at, section_entries, section_sectors}
 use Rattle.image_model.specs.Superblock.{has_flag}
 use Rattle.image_format.specs.declared.reading.ImageFormat.{ImageFormat}
 use Rattle.place_model.specs.Journal.{numbers_on}
 use Rattle.journal_section.specs.Entries.{BearsNumber, HoldsEntries}
-use Rattle.image_formatting.specs.Runs.{HasZeros}
+use Rattle.image_formatting.specs.Bits.{HasBits}
 
 -- ---- a journal
 
@@ -48,9 +47,9 @@ HasEmptyRests g first count image = (section : ℕ) → section < count
 abbrev pub IsEmptyBehind : Geometry → (first : ℕ) → Image → Type 0
 IsEmptyBehind g first = HasEmptyRests g first g.sections
 
--- The bitmap has no bit set, not even one that no region has, and all behind it is empty.
-pub record HasClearBitmap (g : Geometry) (image : Image) : Type 0 where
-  pub bits : HasZeros 8 (bitmap_sectors g) image
+-- So many first bits of the bitmap are set and no other, not even one that no region has, and all behind it is empty.
+pub record HasBitmap (set : ℕ) (g : Geometry) (image : Image) : Type 0 where
+  pub bits : HasBits set 8 (bitmap_sectors g) image
   pub behind : IsEmptyBehind g (bitmap_sectors g) image
 
 -- ---- either
@@ -64,11 +63,15 @@ abbrev pub bitmap_taken : (bitmap : Bool) → Geometry → ℕ
 bitmap_taken false g = 0
 bitmap_taken true g = bitmap_sectors g
 
--- An empty journal, or a bitmap without a bit.
-abbrev pub HasJournalBy : (bitmap : Bool) → Geometry → Image → Type 0
-HasJournalBy false g image = HasEmptyJournal g image
-HasJournalBy true g image = HasClearBitmap g image
+-- How many regions have their bit set in a bitmap of the image: all where tags are to be recalculated, and else none.
+abbrev pub regions_set : ImageFormat → ℕ
+regions_set format = if has_flag RECALCULATING format.fields.flags then regions format.geometry else 0
+
+-- An empty journal, or a bitmap with so many bits set.
+abbrev pub HasJournalBy : (bitmap : Bool) → (set : ℕ) → Geometry → Image → Type 0
+HasJournalBy false set g image = HasEmptyJournal g image
+HasJournalBy true set g image = HasBitmap set g image
 
 -- The image has that of the two which its fields tell.
 abbrev pub HasJournalPlace : ImageFormat → Image → Type 0
-HasJournalPlace format = HasJournalBy (has_bitmap format) format.geometry
+HasJournalPlace format = HasJournalBy (has_bitmap format) (regions_set format) format.geometry

@@ -2,7 +2,7 @@
 -- Source: Linux, drivers/md/dm-integrity.c, initialize_superblock.
 use Rattle.std.specs.Prelude.{ℕ, ◌≤◌, bit_or, List, Option, Some, None, unwrap_or, Result}
 use Rattle.std.specs.Int.{IsInRange}
-use Rattle.image_model.specs.declared.flags.TheConstants.{DIRTY_BITMAP, FIXED_PADDING, FIXED_HMAC}
+use Rattle.image_model.specs.declared.flags.TheConstants.{DIRTY_BITMAP, FIXED_PADDING, FIXED_HMAC, RECALCULATING}
 use Rattle.image_model.specs.declared.geom_fault.GeomFault.{GeomFault}
 use Rattle.image_model.specs.Geometry.{layout_of, fitting_log2_region, best_provided_of}
 use Rattle.image_model.specs.Sectors.{zero_bytes}
@@ -12,6 +12,8 @@ use Rattle.image_formatting.specs.declared.new_image.ImageMode.TheVariants.{Jour
 use Rattle.image_formatting.specs.declared.new_image.NewImage.{NewImage}
 use Rattle.image_formatting.specs.declared.new_image.Padding.{Padding}
 use Rattle.image_formatting.specs.declared.new_image.Padding.TheVariants.{Fixed, Legacy}
+use Rattle.image_formatting.specs.declared.new_image.Wipe.{Wipe}
+use Rattle.image_formatting.specs.declared.new_image.Wipe.TheVariants.{Wiped, Kept, Recalculated}
 
 -- The fields are in their ranges.
 pub record IsNewImage (new : NewImage) : Type 0 where
@@ -35,11 +37,20 @@ abbrev pub mode_flag : ImageMode → ℕ
 mode_flag Journal = 0
 mode_flag Bitmap = DIRTY_BITMAP
 
+-- The flag of tags that are to be recalculated.
+abbrev pub recalculating_flag : Wipe → ℕ
+recalculating_flag Wiped = 0
+recalculating_flag Kept = 0
+recalculating_flag Recalculated = RECALCULATING
+
 -- The flags of the image.
 abbrev pub flags_of : NewImage → ℕ
-flags_of new = bit_or (bit_or (padding_flag new.padding) (salt_flag new.salt)) (mode_flag new.mode)
+flags_of new =
+    bit_or (bit_or (bit_or (padding_flag new.padding) (salt_flag new.salt)) (mode_flag new.mode))
+    (recalculating_flag new.wipe)
 
--- The fields with so many provided sectors and so large regions. Nothing is to be recalculated.
+-- The fields with so many provided sectors and so large regions. Tags that are to be recalculated are so from the first
+-- sector of the device on.
 abbrev pub fields_with : NewImage → (provided log2_region : ℕ) → Superblock
 fields_with new provided log2_region = record {
   version = version_for 1 (flags_of new);

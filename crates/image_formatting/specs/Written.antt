@@ -9,7 +9,7 @@ use Rattle.journal_section.specs.Entries.{IsWithin}
 use Rattle.place_model.specs.Tags.{tag_byte_at}
 use Rattle.image_formatting.specs.declared.new_image.NewImage.{NewImage}
 use Rattle.image_formatting.specs.declared.new_image.Wipe.{Wipe}
-use Rattle.image_formatting.specs.declared.new_image.Wipe.TheVariants.{Wiped, Kept}
+use Rattle.image_formatting.specs.declared.new_image.Wipe.TheVariants.{Wiped, Kept, Recalculated}
 use Rattle.image_formatting.specs.Blocks.{IsBlockOf}
 use Rattle.image_formatting.specs.FirstSector.{head_of, zero_sector}
 use Rattle.image_formatting.specs.Formatted.{format_with}
@@ -62,6 +62,7 @@ IsOfBlocks g first count start sector x = IsOfData g first count sector x ⊎ Is
 abbrev pub IsOfWipe : Wipe → Geometry → (start : Content) → (sector : ℕ) → (x : List ℕ) → Type 0
 IsOfWipe Wiped g start sector x = IsOfBlocks g 0 g.blocks start sector x
 IsOfWipe Kept g start sector x = ⊥
+IsOfWipe Recalculated g start sector x = ⊥
 
 -- ---- the image
 

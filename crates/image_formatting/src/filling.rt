@@ -1,31 +1,32 @@
 //! All of an image but its first sector.
-ghost use Rattle.std.specs.Prelude.{◌≡◌, ◌*◌, length, OnOk};
+ghost use Rattle.std.specs.Prelude.{◌≡◌, ◌*◌, ◌^◌, length, OnOk};
 ghost use Rattle.disk_model.specs.Causes.{HasCause};
 ghost use Rattle.disk_model.specs.Disk.{last_image};
 ghost use Rattle.disk_model.specs.Identity.{IsBound};
 ghost use Rattle.disk_model.specs.Moments.{EachSince, HasNow};
 ghost use Rattle.image_format.specs.Format.{IsFormat};
-ghost use Rattle.image_model.specs.Geometry.{journal_sectors, section_sectors};
+ghost use Rattle.image_model.specs.Geometry.{IsGeometry, journal_sectors, section_sectors};
 ghost use Rattle.journal_section.specs.Entries.{IsWithin};
 ghost use Rattle.image_formatting.specs.Formatted.{HasBlocks, HasFilled, IsBlocksByte, IsBlocksSector, IsFillSector, IsImageByte};
-ghost use Rattle.image_formatting.specs.Journal.{HasJournalPlace, bitmap_taken, has_bitmap};
-ghost use Rattle.image_formatting.specs.Room.{HasRoom, HasRuns, zeros_at_once};
+ghost use Rattle.image_formatting.specs.Journal.{HasJournalPlace, bitmap_taken, has_bitmap, regions_set};
+ghost use Rattle.image_formatting.specs.Room.{HasRoom, HasRuns};
 ghost use Rattle.image_formatting.specs.Runs.{ChangesOnly};
 ghost use Rattle.image_formatting.specs.Stays.{ReadsKeep};
 ghost use Rattle.image_formatting.specs.Written.{IsOfFormat, IsOfWipe, OnlyWrites};
 
 use crate::emptying::empty;
+use crate::marking::write_bits;
 use crate::new_image::Wipe;
 use crate::room::Room;
 use crate::wiping::wipe_blocks;
 use crate::zeroing::write_zeros;
 use hmac_tag::TagMaker;
 use image_format::ImageFormat;
-use image_model::DIRTY_BITMAP;
+use image_model::{DIRTY_BITMAP, RECALCULATING};
 use sector_disk::{Disk, Failed};
 
-/// Writes zeros to the other sectors of the superblock, an empty journal or a bitmap without a bit, and
-/// what comes to the blocks. Nothing is synced.
+/// Writes zeros to the other sectors of the superblock, an empty journal or a bitmap, and what comes to the
+/// blocks. Nothing is synced.
 ///
 /// # Errors
 ///
@@ -56,21 +57,22 @@ pub(crate) fn fill<D: Disk>(
     ensures writes { OnlyWrites (IsOfFormat wipe format.now) (D.moments disk.old) (D.moments disk.new) }
 {
     write_zeros(disk, &room.zeros, 1, 7)?;
-    fill_journal(disk, format, &room.zeros, &mut room.section)?;
+    fill_journal(disk, format, &mut room.section)?;
     fill_blocks(disk, format, wipe, maker, room)
 }
 
-/// Writes zeros to the sectors of the bitmap, where the image has one, and empty sectors to all others
-/// of the journal.
+/// Writes the bitmap, where the image has one, and empty sectors to all others of the journal.
+///
+/// # Errors
+///
+/// - `Failed`: the disk failed.
 fn fill_journal<D: Disk>(
     disk: &mut D,
     format: &ImageFormat,
-    zeros: &[u8],
     section: &mut [u8],
 ) -> Result<(), Failed>
     requires bound { IsBound (D.identity disk.old).name }
     requires format { IsFormat (D.identity disk.old).sectors format.now }
-    requires zeros { zeros.now ≡ zeros_at_once }
     requires section { length section.old ≡ 512 * section_sectors format.now.geometry.shape }
 
     ensures filled { OnOk result (HasNow (λ c. HasJournalPlace format.now (last_image c))
@@ -85,7 +87,13 @@ fn fill_journal<D: Disk>(
         (D.moments disk.old) (D.moments disk.new) }
 {
     let bitmap = bitmap_taken(format);
-    write_zeros(disk, zeros, format.geometry.section_at(0), bitmap)?;
+    write_bits(
+        disk,
+        regions_set(format),
+        section,
+        format.geometry.section_at(0),
+        bitmap,
+    )?;
     empty(disk, &format.geometry, bitmap, section)
 }
 
@@ -97,6 +105,18 @@ fn bitmap_taken(format: &ImageFormat) -> u64
         return 0;
     }
     format.geometry.bitmap_sectors()
+}
+
+/// How many regions have their bit set in a bitmap of the image: all where tags are to be recalculated, and else none.
+fn regions_set(format: &ImageFormat) -> u64
+    requires { IsGeometry format.now.geometry (2 ^ 48) }
+
+    ensures { result ≡ regions_set format.now }
+{
+    if format.fields.flags & RECALCULATING == 0 {
+        return 0;
+    }
+    format.geometry.regions()
 }
 
 /// Writes what comes to the blocks.
@@ -128,5 +148,6 @@ fn fill_blocks<D: Disk>(
     match wipe {
         Wipe::Wiped => wipe_blocks(disk, format, maker, &room.zeros, &mut room.tags),
         Wipe::Kept => Ok(()),
+        Wipe::Recalculated => Ok(()),
     }
 }

@@ -1,5 +1,5 @@
-//! Makes a new image on a disk: an erased journal, or a bitmap without a bit; zeros with their tags in
-//! all blocks; and a superblock that comes last.
+//! Makes a new image on a disk: an erased journal, or a bitmap; zeros with their tags in all blocks, or tags
+//! that are to be recalculated; and a superblock that comes last.
 //!
 //! A contract sees a `NewImage` and a `FormatFault` as they are. What the image has stands in
 //! `specs/Formatted.antt`, the file to read first. Zeros come to the first sector before all else,
@@ -15,6 +15,7 @@ mod first_sector;
 mod format_fault;
 mod formatting;
 mod laws;
+mod marking;
 mod new_image;
 mod planning;
 mod room;

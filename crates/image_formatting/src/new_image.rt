@@ -16,8 +16,8 @@ pub enum Padding {
 pub enum ImageMode {
     /// Journal mode, and direct mode: the image has a journal, of empty sections.
     Journal,
-    /// Bitmap mode, by a flag of the superblock: a bitmap with no bit set stands where the journal
-    /// would begin.
+    /// Bitmap mode, by a flag of the superblock: a bitmap stands where the journal would begin, with no bit
+    /// set, but where tags are to be recalculated.
     ///
     /// Source: Linux, `drivers/md/dm-integrity.c`, `SB_FLAG_DIRTY_BITMAP`.
     Bitmap,
@@ -30,6 +30,11 @@ pub enum Wipe {
     Wiped,
     /// Nothing: data and tags stay as they stand.
     Kept,
+    /// Nothing: data stay as they stand, and their tags are to be recalculated, by a flag of the superblock. Where
+    /// there is a bitmap, the bits of all regions are set.
+    ///
+    /// Source: Linux, `drivers/md/dm-integrity.c`, `SB_FLAG_RECALCULATING`. Own: the bits.
+    Recalculated,
 }
 
 /// What a new image is to be, but for the hash, of which nothing stands on the disk.

@@ -5,9 +5,9 @@ ghost use Rattle.image_model.specs.Superblock.{HasLayout};
 ghost use Rattle.image_format.specs.Format.{IsFormat};
 ghost use Rattle.image_formatting.specs.NewImage.{IsNewImage, asked_fields, fields_of, fields_with, flags_of, provided_of};
 
-use crate::new_image::{ImageMode, NewImage, Padding};
+use crate::new_image::{ImageMode, NewImage, Padding, Wipe};
 use image_format::ImageFormat;
-use image_model::{DIRTY_BITMAP, FIXED_HMAC, FIXED_PADDING, GeomFault};
+use image_model::{DIRTY_BITMAP, FIXED_HMAC, FIXED_PADDING, GeomFault, RECALCULATING};
 use layout::{Geometry, best_provided};
 use superblock::{Super, version_for};
 
@@ -96,5 +96,9 @@ fn flags_of(new: &NewImage) -> u32
         ImageMode::Journal => 0,
         ImageMode::Bitmap => DIRTY_BITMAP,
     };
-    padding | salt | bitmap
+    let recalculating = match new.wipe {
+        Wipe::Recalculated => RECALCULATING,
+        Wipe::Wiped | Wipe::Kept => 0,
+    };
+    padding | salt | bitmap | recalculating
 }

@@ -6,6 +6,7 @@ use Rattle.disk_model.specs.Disk.{Image}
 use Rattle.image_model.specs.declared.flags.TheConstants.{DIRTY_BITMAP}
 use Rattle.image_model.specs.declared.geom_fault.GeomFault.{GeomFault}
 use Rattle.image_model.specs.declared.super_fields.SuperFault.{SuperFault}
+use Rattle.image_model.specs.Bitmap.{some_await}
 use Rattle.image_model.specs.Cells.{salt_of}
 use Rattle.image_model.specs.Geometry.{Geometry}
 use Rattle.image_model.specs.Openable as model
@@ -20,16 +21,16 @@ use Rattle.image_format.specs.Format.{bitmap_format_of, direct_format_of, format
 use Rattle.image_format.specs.FormatLaws.{BitmapLaw, DirectLaw}
 use Rattle.image_judging.specs.declared.consent.Consent.{Consent}
 use Rattle.image_judging.specs.FaultLaws.{BitmapOpensLaw, OpensLaw}
-use Rattle.image_judging.specs.Faults.{ByConsent, ByFormat, ByJournal, bitmap_fault_by, bitmap_fault_of, fault_by, fault_in_format, fault_of, has_dirty_region, lacks_consent}
+use Rattle.image_judging.specs.Faults.{ByConsent, ByFormat, ByJournal, bitmap_fault_by, bitmap_fault_of, direct_fault_by, fault_of, has_dirty_region, lacks_consent}
 
 no_fault : (o : Option model.JournalFault) → option_map ByJournal o ≡ None → o ≡ None
 no_fault None e = refl
 no_fault (Some fault) e = absurd (none-some (ByJournal fault) (sym e))
 
 -- An image without a fault is one that direct mode opens,
-told-ok : (journal : ImageFormat → Option model.JournalFault) (r : Result ImageFormat OpenFault) → fault_by journal r ≡ None → IsOk r
-told-ok journal (Ok format) e = refl
-told-ok journal (Err fault) e = absurd (none-some (ByFormat fault) (sym e))
+told-ok : (key : Option (List ℕ)) (consent : Consent) (image : Image) (r : Result ImageFormat OpenFault) → direct_fault_by key consent image r ≡ None → IsOk r
+told-ok key consent image (Ok format) e = refl
+told-ok key consent image (Err fault) e = absurd (none-some (ByFormat fault) (sym e))
 
 module _ (sectors : ℕ) (image : Image) (readable : IsReadable sectors image) (clear : has_flag DIRTY_BITMAP readable.superblock.flags ≡ false) where
   -- and tells it this.
@@ -39,24 +40,47 @@ module _ (sectors : ℕ) (image : Image) (readable : IsReadable sectors image) (
       ∙ ap (λ (r : Result Geometry GeomFault). in_direct_mode (format_with readable.superblock r)) readable.has_geometry
       ∙ rw clear refl
 
-  fault_of-readable : (key : Option (List ℕ)) → fault_of key sectors image ≡ option_map ByJournal (journal_fault_of key (salt_of readable.superblock) readable.geometry image)
-  fault_of-readable key = ap (fault_by (fault_in_format key image)) direct_format_of-readable
+  fault_of-readable : (key : Option (List ℕ)) (consent : Consent) → fault_of key consent sectors image
+      ≡ (if lacks_consent key consent (some_await readable.superblock) then Some (ByConsent readable.superblock.flags)
+      else option_map ByJournal (journal_fault_of key (salt_of readable.superblock) readable.geometry image))
+  fault_of-readable key consent = ap (direct_fault_by key consent image) direct_format_of-readable
+
+-- Neither fault, where there is none: nothing lacks, and the journal has none.
+neither : (flags : ℕ) (b : Bool) (o : Option model.JournalFault) → (if b then Some (ByConsent flags) else option_map ByJournal o) ≡ None → (b ≡ false) × (o ≡ None)
+neither flags true o e = absurd (none-some (ByConsent flags) (sym e))
+neither flags false o e = (refl, no_fault o e)
+
+-- The fields of a readable image are its own.
+own_fields : (key : Option (List ℕ)) (sectors : ℕ) (image : Image) (readable : IsReadable sectors image) → readable.superblock ≡ (format_on key sectors image).superblock
+own_fields key sectors image readable =
+    let reads = reads_on key sectors image readable in
+    (IsReadable-same sectors image readable reads.readable).0 ∙ reads.superblock
 
 -- Whether a disk has a bitmap, by its own fields.
 own_flag : (key : Option (List ℕ)) (sectors : ℕ) (image : Image) (readable : IsReadable sectors image) → has_flag DIRTY_BITMAP readable.superblock.flags ≡ has_flag DIRTY_BITMAP (format_on key sectors image).superblock.flags
-own_flag key sectors image readable =
-    let reads = reads_on key sectors image readable in
-    ap (λ (s : Superblock). has_flag DIRTY_BITMAP s.flags) ((IsReadable-same sectors image readable reads.readable).0 ∙ reads.superblock)
+own_flag key sectors image readable = ap (λ (s : Superblock). has_flag DIRTY_BITMAP s.flags) (own_fields key sectors image readable)
 
 pub opens_law : DirectLaw → OpensLaw
-opens_law direct key sectors image = (
+opens_law direct key consent sectors image = (
   λ none.
-      let opens = (direct key sectors image).0 (told-ok (fault_in_format key image) (direct_format_of sectors image) none) in
-      let clear = own_flag key sectors image opens.0 ∙ opens.1 in
-      (IsOpenable-from key sectors image opens.0 (λ _. no_fault (journal_fault_of key (salt_of opens.0.superblock) opens.0.geometry image) (sym (fault_of-readable sectors image opens.0 clear key) ∙ none)), opens.1),
-  λ opens.
-      let clear = own_flag key sectors image opens.0.readable ∙ opens.1 in
-      fault_of-readable sectors image opens.0.readable clear key ∙ ap (option_map ByJournal) (IsOpenable-journal key sectors image opens.0 clear),
+      let opens = (direct key sectors image).0 (told-ok key consent image (direct_format_of sectors image) none) in
+      let readable = opens.0 in
+      let s = readable.superblock in
+      let clear = own_flag key sectors image readable ∙ opens.1 in
+      let both = neither s.flags (lacks_consent key consent (some_await s)) (journal_fault_of key (salt_of s) readable.geometry image)
+      (sym (fault_of-readable sectors image readable clear key consent) ∙ none) in (
+        (IsOpenable-from key sectors image readable (λ _. both.1), opens.1),
+        ap (λ (x : Superblock). lacks_consent key consent (some_await x)) (sym (own_fields key sectors image readable)) ∙ both.0,
+      ),
+  λ given.
+      let opens = given.0 in
+      let readable = opens.0.readable in
+      let s = readable.superblock in
+      let clear = own_flag key sectors image readable ∙ opens.1 in
+      let lacks = ap (λ (x : Superblock). lacks_consent key consent (some_await x)) (own_fields key sectors image readable) ∙ given.1 in
+      fault_of-readable sectors image readable clear key consent
+      ∙ ap (λ (b : Bool). if b then Some (ByConsent s.flags) else option_map ByJournal (journal_fault_of key (salt_of s) readable.geometry image)) lacks
+      ∙ ap (option_map ByJournal) (IsOpenable-journal key sectors image opens.0 clear),
 )
 
 -- ---- in bitmap mode

@@ -1,23 +1,34 @@
 -- Which fault is told, and what it says of an image.
-use Rattle.std.proofs.Common.{◌≡◌, ℕ, refl, sym, ap, Result, Option, Ok, Err, List}
+use Rattle.std.proofs.Common.{◌≡◌, ℕ, Bool, true, false, if◌then◌else◌, refl, sym, ◌∙◌, ap, Result, Option, Some, Ok, Err, List}
 use Rattle.std.specs.Option.{option_map}
 use Rattle.disk_model.specs.Disk.{Image}
+use Rattle.image_model.specs.Bitmap.{some_await}
 use Rattle.image_format.specs.declared.reading.ImageFormat.{ImageFormat}
 use Rattle.image_format.specs.Format.{direct_format_of}
 use Rattle.journal_reading.specs.declared.faults.ReplayFault.{ReplayFault}
 use Rattle.journal_reading.specs.declared.faults.ReplayFault.TheVariants as ReplayFaults
 use Rattle.journal_reading.specs.Faults.{refusal_in}
+use Rattle.image_judging.specs.declared.consent.Consent.{Consent}
 use Rattle.image_judging.specs.declared.opening_fault.OpeningFault.{OpeningFault}
 use Rattle.image_judging.specs.declared.opening_fault.OpeningFault.TheVariants.{Memory, Disk, Super, Geom, Mode, Journal}
 use Rattle.image_judging.specs.declared.opening_fault.OpeningFault.TheVariants as Refusals
-use Rattle.image_judging.specs.Faults.{ByJournal, fault_by, fault_in, fault_in_format, fault_of, of_replay}
+use Rattle.image_judging.specs.Faults.{ByConsent, ByJournal, direct_fault_by, fault_in, fault_in_format, fault_of, lacks_consent, of_replay}
 
 -- ---- the fault of an image
 
--- What is told of an image that direct mode takes is what its journal says.
-pub fault_of-format : (key : Option (List ℕ)) (sectors : ℕ) (format : ImageFormat) (image : Image) → Ok format ≡ direct_format_of sectors image
-    → fault_of key sectors image ≡ option_map ByJournal (fault_in_format key image format)
-fault_of-format key sectors format image told = ap (fault_by (fault_in_format key image)) (sym told)
+-- Of an image that direct mode takes it is want of consent, where that is lacking,
+pub fault_of-lacking : (key : Option (List ℕ)) (consent : Consent) (sectors : ℕ) (format : ImageFormat) (image : Image) → Ok format ≡ direct_format_of sectors image
+    → lacks_consent key consent (some_await format.fields) ≡ true → fault_of key consent sectors image ≡ Some (ByConsent format.fields.flags)
+fault_of-lacking key consent sectors format image told lacks =
+    ap (direct_fault_by key consent image) (sym told)
+    ∙ ap (λ (b : Bool). if b then Some (ByConsent format.fields.flags) else option_map ByJournal (fault_in_format key image format)) lacks
+
+-- and else what its journal says.
+pub fault_of-format : (key : Option (List ℕ)) (consent : Consent) (sectors : ℕ) (format : ImageFormat) (image : Image) → Ok format ≡ direct_format_of sectors image
+    → lacks_consent key consent (some_await format.fields) ≡ false → fault_of key consent sectors image ≡ option_map ByJournal (fault_in_format key image format)
+fault_of-format key consent sectors format image told lacks =
+    ap (direct_fault_by key consent image) (sym told)
+    ∙ ap (λ (b : Bool). if b then Some (ByConsent format.fields.flags) else option_map ByJournal (fault_in_format key image format)) lacks
 
 -- ---- the fault of an answer
 

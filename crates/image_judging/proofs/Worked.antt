@@ -1,5 +1,5 @@
--- Values of the definitions, computed: why bitmap mode does not open an image, of which a bit is set or none, under a
--- key or without one, with consent or without.
+-- Values of the definitions, computed: why an image is not opened, of which a bit is set or none, or whose tags are to
+-- be recalculated, under a key or without one, with consent or without.
 use Rattle.std.proofs.Common.{◌≡◌, ℕ, ◌==◌, true, false, if◌then◌else◌, refl, None, Some, List, [], ◌∷◌, ◌++◌, replicate}
 use Rattle.disk_model.specs.Disk.{Image}
 use Rattle.image_model.specs.Bitmap.{is_bit_set}
@@ -7,7 +7,7 @@ use Rattle.image_model.specs.Geometry.{bitmap_sectors_for, entries_per_sector, e
 use Rattle.image_model.specs.Superblock.{Superblock, fields_in, superblock_of}
 use Rattle.image_format.specs.declared.open_fault.OpenFault.TheVariants.{Mode}
 use Rattle.image_judging.specs.declared.consent.Consent.TheVariants.{Given, Withheld}
-use Rattle.image_judging.specs.Faults.{ByConsent, ByFormat, bitmap_fault_of, has_dirty_region, lacks_consent}
+use Rattle.image_judging.specs.Faults.{ByConsent, ByFormat, bitmap_fault_of, fault_of, has_dirty_region, lacks_consent}
 
 -- The first sector of an image of 47 blocks of eight sectors on 1024 sectors, with tags of 32 bytes, with these flags.
 -- Source: the sizes and places of the superblock's fields, each with its lowest byte first.
@@ -82,6 +82,23 @@ has_dirty_region-behind_all = refl
 bitmap_fault_of-journal : bitmap_fault_of (Some key) Given 1024 (image_with 0x8 0x01) ≡ Some (ByFormat (Mode 0x8))
 unfolding superblock_of fields_in geometry_of sector_at tag_run_of bitmap_sectors_for regions_for entry_size entries_per_sector section_entries section_sectors is_bit_set
 bitmap_fault_of-journal = refl
+
+-- Nor is flag 0x2 beside a bitmap, whatever recalc_sector is: the bits alone decide.
+bitmap_fault_of-recalculating : bitmap_fault_of (Some key) Withheld 1024 (image_with 0xe 0) ≡ None
+unfolding superblock_of fields_in geometry_of sector_at tag_run_of bitmap_sectors_for regions_for entry_size entries_per_sector section_entries section_sectors is_bit_set
+bitmap_fault_of-recalculating = refl
+
+-- ---- tags are to be recalculated without a bitmap
+
+-- From sector 0 on, under a key, consent is asked for, whatever the journal says: that of this image has no number.
+fault_of-withheld : fault_of (Some key) Withheld 1024 (image_with 0xa 0) ≡ Some (ByConsent 0xa)
+unfolding superblock_of fields_in geometry_of sector_at tag_run_of bitmap_sectors_for regions_for entry_size entries_per_sector section_entries section_sectors
+fault_of-withheld = refl
+
+-- With a bitmap the image is refused for its mode before.
+fault_of-bitmap : fault_of (Some key) Withheld 1024 (image_with 0xe 0) ≡ Some (ByFormat (Mode 0xe))
+unfolding superblock_of fields_in geometry_of sector_at tag_run_of bitmap_sectors_for regions_for entry_size entries_per_sector section_entries section_sectors
+fault_of-bitmap = refl
 
 -- ---- consent
 

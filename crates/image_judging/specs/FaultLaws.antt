@@ -1,16 +1,18 @@
 -- Which images have a fault.
 use Rattle.std.specs.Prelude.{◌≡◌, ◌↔◌, ℕ, false, None, Option, List}
 use Rattle.disk_model.specs.Disk.{Image}
+use Rattle.image_model.specs.Bitmap.{some_await}
 use Rattle.device_model.specs.Mode.{Bitmap, Journal}
 use Rattle.image_judging.specs.declared.consent.Consent.{Consent}
 use Rattle.place_model.specs.Format.{format_on}
 use Rattle.place_model.specs.Kind.{CanOpenIn}
 use Rattle.image_judging.specs.Faults.{bitmap_fault_of, fault_of, has_dirty_region, lacks_consent}
 
--- An image has no fault exactly where journal mode can open it.
+-- An image has no fault exactly where journal mode can open it, and consent is not lacking.
 abbrev pub OpensLaw : Type 0
-OpensLaw = (key : Option (List ℕ)) (sectors : ℕ) (image : Image)
-    → (fault_of key sectors image ≡ None) ↔ CanOpenIn Journal key sectors image
+OpensLaw = (key : Option (List ℕ)) (consent : Consent) (sectors : ℕ) (image : Image)
+    → (fault_of key consent sectors image ≡ None) ↔ (CanOpenIn Journal key sectors image
+    × (lacks_consent key consent (some_await (format_on key sectors image).superblock) ≡ false))
 
 -- It has none in bitmap mode exactly where that can open it, and consent is not lacking.
 abbrev pub BitmapOpensLaw : Type 0

@@ -1,9 +1,9 @@
 -- Why a disk is not opened: the fault that is told, and the one that an image has.
--- Own: the superblock is judged before the geometry, that before the mode, and the journal, or the consent, last.
+-- Own: the superblock is judged before the geometry, that before the mode, that before consent, and the journal last.
 use Rattle.std.specs.Prelude.{◌≡◌, ◌≢◌, ℕ, ◌≤◌, Bool, false, if◌then◌else◌, is_some, Option, Some, None, option_map, List, Result, Ok, Err}
 use Rattle.disk_model.specs.Causes.{Rose}
 use Rattle.disk_model.specs.Disk.{Image}
-use Rattle.image_model.specs.Bitmap.{is_dirty}
+use Rattle.image_model.specs.Bitmap.{is_dirty, some_await}
 use Rattle.image_model.specs.Cells.{salt_of}
 use Rattle.image_model.specs.Geometry.{Geometry, regions}
 use Rattle.image_model.specs.Openable as model
@@ -52,17 +52,9 @@ abbrev pub fault_by : (journal : ImageFormat → Option model.JournalFault) → 
 fault_by journal (Ok format) = option_map ByJournal (journal format)
 fault_by journal (Err fault) = Some (ByFormat fault)
 
--- The fault of the journal of an image in this format, under a key, if it has one,
+-- The fault of the journal of an image in this format, under a key, if it has one.
 abbrev pub fault_in_format : (key : Option (List ℕ)) → Image → ImageFormat → Option model.JournalFault
 fault_in_format key image format = journal_fault_of key (salt_of format.fields) format.geometry image
-
--- and that of an image on a disk of so many sectors.
-abbrev pub fault_of : (key : Option (List ℕ)) → (sectors : ℕ) → Image → Option ImageFault
-fault_of key sectors image = fault_by (fault_in_format key image) (direct_format_of sectors image)
-
--- The image has a region whose bit is set.
-abbrev pub has_dirty_region : Geometry → Image → Bool
-has_dirty_region g image = is_some (least_region (regions g) (is_dirty g image))
 
 -- Tags under a key would be made anew of bytes that no tag vouches for, where some await them, without consent to that.
 -- Source: Linux, drivers/md/dm-integrity.c, legacy_recalculate.
@@ -70,6 +62,24 @@ abbrev pub lacks_consent : (key : Option (List ℕ)) → Consent → (some_await
 lacks_consent None consent some_await = false
 lacks_consent (Some key) Given some_await = false
 lacks_consent (Some key) Withheld some_await = some_await
+
+-- The fault of an image where journal mode or direct mode is asked for, by what its first sector tells: of the format,
+-- else want of consent, where by the fields some block awaits, and else of the journal.
+abbrev pub direct_fault_by : (key : Option (List ℕ)) → Consent → Image → Result ImageFormat OpenFault
+    → Option ImageFault
+direct_fault_by key consent image (Ok format) =
+    if lacks_consent key consent (some_await format.fields)
+    then Some (ByConsent format.fields.flags)
+    else option_map ByJournal (fault_in_format key image format)
+direct_fault_by key consent image (Err fault) = Some (ByFormat fault)
+
+-- That of an image on a disk of so many sectors.
+abbrev pub fault_of : (key : Option (List ℕ)) → Consent → (sectors : ℕ) → Image → Option ImageFault
+fault_of key consent sectors image = direct_fault_by key consent image (direct_format_of sectors image)
+
+-- The image has a region whose bit is set.
+abbrev pub has_dirty_region : Geometry → Image → Bool
+has_dirty_region g image = is_some (least_region (regions g) (is_dirty g image))
 
 -- The fault of an image where bitmap mode is asked for, by what its first sector tells: of the format, and else want of
 -- consent.

@@ -1,7 +1,8 @@
 //! Consent to tags that are made anew.
 
-/// Whether tags under a key may be made anew of blocks whose bytes no tag vouches for: those of a region whose bit is set.
-/// Who tampers with an image could ask for that. Without a key it is no question.
+/// Whether tags under a key may be made anew of blocks whose bytes no tag vouches for: those of a region whose bit is
+/// set, or without a bitmap those that are to be recalculated. Who tampers with an image could ask for that. Without a
+/// key it is no question.
 ///
 /// Source: Linux, `drivers/md/dm-integrity.c`, `legacy_recalculate`.
 #[derive(Clone, Copy, Debug, PartialEq, Eq)]

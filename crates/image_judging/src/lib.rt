@@ -5,10 +5,12 @@
 //! `specs/Faults.antt`, the file to read first.
 #![tactic(auto)]
 
+mod asking;
 mod consent;
 mod laws;
 mod opening_fault;
 
+pub use asking::{judge_consent, lacks_consent};
 pub use consent::Consent;
 pub use laws::images_that_open_have_no_fault;
 pub use opening_fault::OpeningFault;

@@ -29,7 +29,8 @@ pub enum OpeningFault {
     /// The superblock has other `flags` than the mode wants: there is a bitmap, or in bitmap mode none.
     #[error("the mode does not fit the flags")]
     Mode { flags: u32 },
-    /// A bit of the bitmap is set, there is a key, and consent is withheld. The superblock has these `flags`.
+    /// A bit of the bitmap is set, or without one some block is to be recalculated, there is a key, and consent is
+    /// withheld. The superblock has these `flags`.
     #[error("tags may not be made anew without consent")]
     Consent { flags: u32 },
     /// The journal is refused, by its scan or for an entry.

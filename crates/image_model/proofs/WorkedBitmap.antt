@@ -2,7 +2,7 @@
 use Rattle.std.proofs.Common.{◌≡◌, ℕ, ◌==◌, true, false, if◌then◌else◌, refl, List, [], ◌∷◌, length, filter, replicate}
 use Rattle.std.specs.List.{range_with_len}
 use Rattle.disk_model.specs.Disk.{Image}
-use Rattle.image_model.specs.Bitmap.{is_bit_set, dirty_regions, awaits, region_awaits}
+use Rattle.image_model.specs.Bitmap.{is_bit_set, dirty_regions, awaits, region_awaits, some_await}
 use Rattle.image_model.specs.Geometry.{layout_of, regions_for, bitmap_sectors_for}
 use Rattle.image_model.specs.Superblock.{Superblock}
 
@@ -80,3 +80,16 @@ awaiting-no_flag = refl
 region_awaits-from_16 : filter (region_awaits (small 4 0xa 16) (layout_of (small 4 0xa 16)) marked) (range_with_len 0 5) ≡ 1 ∷ 2 ∷ 3 ∷ 4 ∷ []
 unfolding region_awaits awaits
 region_awaits-from_16 = refl
+
+-- By the fields some block is to be recalculated from any sector of the device on, and none where the flag is clear.
+some_await-start : some_await (small 15 0xa 0) ≡ true
+some_await-start = refl
+
+some_await-last : some_await (small 15 0xa 79) ≡ true
+some_await-last = refl
+
+some_await-end : some_await (small 15 0xa 80) ≡ false
+some_await-end = refl
+
+some_await-clear : some_await (small 15 0x8 0) ≡ false
+some_await-clear = refl

@@ -1,4 +1,5 @@
--- Values of specs/Superblock.antt from outside: the format's table, images that the kernel made, and the order of faults.
+-- Values of specs/Superblock.antt from outside: the format's table, images that the kernel made, and the order of
+-- faults.
 use Rattle.std.proofs.Common.{◌≡◌, ℕ, List, [], ◌∷◌, ◌++◌, replicate, Ok, Err, refl}
 use Rattle.image_model.specs.Sectors.{piece}
 use Rattle.image_model.specs.Superblock.{Superblock, fields_in, superblock_of, superblock_bytes, version_for}
@@ -72,10 +73,16 @@ superblock_of-flags :
     (superblock_of (superblock_bytes (record small { flags = 0x9 })) ≡ Err (JournalMac 0x9))
     × (superblock_of (superblock_bytes (record small { flags = 0x28 })) ≡ Err (Inline 0x28))
     × (superblock_of (superblock_bytes (record small { flags = 0x48 })) ≡ Err (Flags 0x40))
-    × (superblock_of (superblock_bytes (record small { flags = 0xa })) ≡ Err (Flags 0x2))
-    × (superblock_of (superblock_bytes (record small { flags = 0x4a })) ≡ Err (Flags 0x42))
+    × (superblock_of (superblock_bytes (record small { flags = 0x4a })) ≡ Err (Flags 0x40))
 unfolding superblock_of fields_in superblock_bytes
-superblock_of-flags = (refl, refl, refl, refl, refl)
+superblock_of-flags = (refl, refl, refl, refl)
+
+-- Where tags are still to be written the fields are read like others, with and without a bitmap.
+superblock_of-recalculating :
+    (superblock_of (superblock_bytes (record small { flags = 0xa })) ≡ Ok (record small { flags = 0xa }))
+    × (superblock_of (superblock_bytes (record small { flags = 0xe; recalc_sector = 16 })) ≡ Ok (record small { flags = 0xe; recalc_sector = 16 }))
+unfolding superblock_of fields_in superblock_bytes
+superblock_of-recalculating = (refl, refl)
 
 superblock_of-sizes :
     (superblock_of (superblock_bytes (record small { log2_interleave = 2 })) ≡ Err (Interleave 2))

@@ -26,6 +26,10 @@ dirty_regions g image = filter (is_dirty g image) (range_with_len 0 (regions g))
 abbrev pub is_to_recalculate : Superblock → Geometry → ℕ → Bool
 is_to_recalculate s g b = has_flag RECALCULATING s.flags && nat_lt s.recalc_sector ((b + 1) * g.shape.spb)
 
+-- They are to be recalculated of some block, by the fields alone: from a sector of the device on.
+abbrev pub some_await : Superblock → Bool
+some_await s = has_flag RECALCULATING s.flags && nat_lt s.recalc_sector s.provided
+
 -- Block b awaits its tag at opening: with a bitmap the bits alone decide.
 unfoldable pub awaits : Superblock → Geometry → Image → ℕ → Bool
 awaits s g image b =

@@ -31,6 +31,4 @@ pub const FIXED_HMAC: u32 = 0x10;
 pub const INLINE: u32 = 0x20;
 
 /// The flags with which an image is opened.
-///
-/// Own: `RECALCULATING` is not yet one of them.
-pub const KNOWN_FLAGS: u32 = DIRTY_BITMAP | FIXED_PADDING | FIXED_HMAC;
+pub const KNOWN_FLAGS: u32 = RECALCULATING | DIRTY_BITMAP | FIXED_PADDING | FIXED_HMAC;

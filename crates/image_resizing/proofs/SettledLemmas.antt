@@ -7,14 +7,11 @@ use Rattle.disk_model.specs.Disk.{Content, Image, IsImage, last_image, newest_on
 use Rattle.disk_model.specs.Moments.{EachMoment, EachSince, FromStart, IsChangedBy, content_now}
 use Rattle.disk_model.proofs.DiskLemmas.{OnlyAdds-none, newest_only-pending}
 use Rattle.disk_model.proofs.MomentsLemmas.{EachMoment-weaker}
-use Rattle.image_model.specs.declared.flags.TheConstants.{DIRTY_BITMAP, RECALCULATING}
-use Rattle.image_model.specs.Bitmap.{awaits}
+use Rattle.image_model.specs.declared.flags.TheConstants.{DIRTY_BITMAP}
 use Rattle.image_model.specs.Cells.{replayed_entries}
 use Rattle.image_model.specs.Geometry.{Geometry, data_at, initial, sector_at}
 use Rattle.image_model.specs.Section.{Entry}
 use Rattle.image_model.specs.Superblock.{has_flag}
-use Rattle.image_model.proofs.BitmapLemmas.{awaits-journal}
-use Rattle.image_model.proofs.SuperblockLemmas.{flag_unset}
 use Rattle.buffer_cache.specs.HeldSectors.{no_sectors}
 use Rattle.journal_model.specs.Opening.{opened_disk}
 use Rattle.place_model.specs.Format.{HasWholeSectors, OpensAs}
@@ -57,7 +54,7 @@ module _ (sectors : ℕ) (plan : Plan) (is : IsPlan sectors plan) (start : Conte
       → ((s : ℕ) → image s ≡ last_image start s) → KeepsStored (present_format sectors plan) (last_image start) image
   same_stored whole set image same = record {
     rest = λ clear resting sector on. same sector;
-    awaiting = λ b low none waits. tags_in-same plan.present.geometry sectors is.present.geometry (last_image start) image whole
+    awaiting = λ set_ b low waits. tags_in-same plan.present.geometry sectors is.present.geometry (last_image start) image whole
         (λ s inside. ap length (same s) ∙ whole s inside) (λ s holds. same s) b low;
   }
 
@@ -96,12 +93,6 @@ module _ (sectors : ℕ) (plan : Plan) (is : IsPlan sectors plan) (start : Conte
         (λ holds. let late = tag_byte-behind plan.present.geometry sectors holds.block holds.byte is.present.geometry holds.block_low in let there = holds.is in omega (arith, before, late, there))
         of
 
-    -- The flag is not known, so it is not set.
-    none_waits : (b : ℕ) → awaits plan.present.fields plan.present.geometry (last_image start) b ≡ false
-    none_waits b =
-        let unset : has_flag RECALCULATING plan.present.fields.flags ≡ false = flag_unset RECALCULATING plan.present.fields.flags refl is.present.fields.layout.flags in
-        awaits-journal plan.present.fields plan.present.geometry (last_image start) b clear ∙ rw unset refl
-
     -- A recovery keeps what is stored.
     recovered_stored : (c : Content) → KeepsResting plan.present.geometry (newest_only start) (newest_only start) c → (image : Image) → IsImage c image → KeepsStored (present_format sectors plan) (last_image start) image
     recovered_stored c keeps image among = record {
@@ -110,7 +101,7 @@ module _ (sectors : ℕ) (plan : Plan) (is : IsPlan sectors plan) (start : Conte
           (λ old. (newest_only-pending start).only sector (image sector) old)
           (λ of. absurd (no_place (Contains (replayed_entries plan.present.geometry (last_image start))) sector (image sector) on of))
           ((keeps (record { next = resting.next; number = resting.number; rests = resting.at })).among sector (image sector) (among sector));
-      awaiting = λ b low none waits. absurd (true≢false (sym waits ∙ none_waits b));
+      awaiting = λ set b low waits. absurd (true≢false (sym set ∙ clear));
     }
 
     -- The disk is settled once it is recovered.

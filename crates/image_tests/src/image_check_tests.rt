@@ -183,3 +183,38 @@ fn the_next_bad_block_is_told(rt: HostRuntime) -> Result<(), Fail> {
     assert_eq!(rt; bad.stored.bytes(), [7; 32].as_slice());
     Ok(())
 }
+
+#[test]
+fn a_block_that_is_to_be_recalculated_is_counted_and_not_judged(
+    rt: HostRuntime,
+) -> Result<(), Fail> {
+    // The flag is bit 1 of byte 24 of the first sector, and bytes 32 to 39 tell the sector from which on.
+    let rows: [(u8, &[u64], u64); 4] = [
+        (0, &[], 80),
+        (17, &[], 63),
+        (18, &[17], 62),
+        (80, &[17], 0),
+    ];
+    for (from, cells, awaiting) in rows {
+        let mut disk = disk_with(rt.alloc(), &BAD_PLACES)?;
+        let mut head = small_sector(0);
+        head[24] = 0x0a;
+        head[32] = from;
+        write(&mut disk, 0, &head)?;
+        let report = check(rt.alloc(), &mut disk, Hash::Sha256, What::Cells)?;
+        assert_eq!(rt;
+            numbers(rt.alloc(), &report)?.as_slice(),
+            cells,
+            "from {from}"
+        );
+        assert_eq!(rt; report.awaiting, awaiting, "from {from}");
+        let report = check(rt.alloc(), &mut disk, Hash::Sha256, What::Placed)?;
+        assert_eq!(rt;
+            numbers(rt.alloc(), &report)?.as_slice(),
+            [5, 17].as_slice(),
+            "from {from}"
+        );
+        assert_eq!(rt; report.awaiting, awaiting, "from {from}");
+    }
+    Ok(())
+}

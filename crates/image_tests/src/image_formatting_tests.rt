@@ -139,3 +139,48 @@ fn a_bitmap_takes_the_first_sectors_of_the_journal(rt: HostRuntime) -> Result<()
     assert_eq!(rt; read_bitmap_format(&mut disk)?.geometry.blocks(), 80);
     Ok(())
 }
+
+#[test]
+fn tags_that_are_to_be_recalculated_are_told_by_the_flag_and_the_bits(
+    rt: HostRuntime,
+) -> Result<(), Fail> {
+    let mut disk = used_disk(rt.alloc(), 256)?;
+    let new = NewImage {
+        wipe: Wipe::Recalculated,
+        ..SMALL
+    };
+    assert_eq!(rt; format(rt.alloc(), &mut disk, Hash::Sha256, new), Ok(80));
+    assert!(rt; has(&mut disk, 0, 8, &[4])?);
+    assert!(rt; has(&mut disk, 0, 24, &[0x0a, 0, 0, 0])?);
+    assert!(rt; has(&mut disk, 0, 32, &[0; 8])?);
+    assert!(rt; has(&mut disk, 8, 504, &[0x11; 8])?);
+    // Neither data nor tags are written.
+    assert_eq!(rt; sector_of(&mut disk, 96)?, [0xee; 512]);
+    assert_eq!(rt; sector_of(&mut disk, 104)?, [0xee; 512]);
+    assert_eq!(rt; read_direct_format(&mut disk)?.fields.recalc_sector, 0);
+
+    // With a bitmap each of five regions has its bit.
+    let with_bitmap = NewImage {
+        mode: ImageMode::Bitmap,
+        log2_region: 4,
+        ..new
+    };
+    assert_eq!(rt;
+        format(rt.alloc(), &mut disk, Hash::Sha256, with_bitmap),
+        Ok(80)
+    );
+    assert!(rt; has(&mut disk, 0, 24, &[0x0e, 0, 0, 0])?);
+    assert!(rt; has(&mut disk, 8, 0, &[0x1f, 0, 0, 0])?);
+    assert!(rt; has(&mut disk, 8, 4, &[0; 508])?);
+    assert_eq!(rt; sector_of(&mut disk, 15)?, [0; 512]);
+    assert!(rt;
+        has(
+            &mut disk,
+            16,
+            504,
+            &[0x19, 0x11, 0x11, 0x11, 0x11, 0x11, 0x11, 0x11]
+        )?
+    );
+    assert_eq!(rt; sector_of(&mut disk, 104)?, [0xee; 512]);
+    Ok(())
+}

@@ -1,11 +1,12 @@
-//! What the faults of the crates below are told as.
+//! What the faults of the crates below are told as, and when consent is asked for.
 use commit_id::ScanFault;
+use hmac_tag::{Hash, Key};
 use image_format::OpenFault;
-use image_judging::OpeningFault;
+use image_judging::{Consent, OpeningFault, judge_consent};
 use journal_reading::{JournalFault, ReplayFault};
 use sector_disk::{Failed, Memory};
 use std::test::Fail;
-use superblock::SuperFault;
+use superblock::{Super, SuperFault};
 
 /// A journal whose first section has a number of no commit.
 const UNNUMBERED: JournalFault = JournalFault::Scan(ScanFault::NoNumber {
@@ -24,5 +25,43 @@ fn a_fault_from_below_keeps_its_cause(rt: HostRuntime) -> Result<(), Fail> {
     assert!(rt; matches!(told, OpeningFault::Mode { flags: 0xc }));
     let told = OpeningFault::from(ReplayFault::Journal(UNNUMBERED));
     assert!(rt; matches!(told, OpeningFault::Journal(JournalFault::Scan(_))));
+    Ok(())
+}
+
+#[test]
+fn consent_is_asked_where_a_block_is_to_be_recalculated_under_a_key(
+    rt: HostRuntime,
+) -> Result<(), Fail> {
+    let keyed = Hash::Hmac(Key::from_bytes(rt.alloc(), b"Jefe")?);
+    // The small image has 80 blocks of one sector.
+    let rows = [
+        (0xa, 0, true),
+        (0xa, 79, true),
+        (0xa, 80, false),
+        (0x8, 0, false),
+    ];
+    for (flags, recalc_sector, asks) in rows {
+        let fields = Super {
+            version: 4,
+            log2_interleave: 3,
+            tag_size: 32,
+            sections: 1,
+            provided: 80,
+            flags,
+            log2_spb: 0,
+            log2_region: 15,
+            recalc_sector,
+            salt: [0; 16],
+        };
+        let told = judge_consent(&fields, &keyed, Consent::Withheld);
+        assert_eq!(rt;
+            matches!(told, Err(OpeningFault::Consent { flags: 0xa })),
+            asks,
+            "from {recalc_sector}"
+        );
+        assert_eq!(rt; told.is_err(), asks, "from {recalc_sector}");
+        assert!(rt; judge_consent(&fields, &keyed, Consent::Given).is_ok());
+        assert!(rt; judge_consent(&fields, &Hash::Sha256, Consent::Withheld).is_ok());
+    }
     Ok(())
 }

@@ -1,9 +1,10 @@
 -- What the close of a run leaves.
-use Rattle.std.proofs.Common.{Option, Result, Ok, Err, OnOk, is_err, ◌≡◌, ℕ, false, List, [], sym, subst}
+use Rattle.std.proofs.Common.{Option, Result, Ok, Err, OnOk, is_err, ◌≡◌, ℕ, false, List, [], refl, sym, ap, subst}
 use Rattle.std.proofs.lemmas.Result.{on_ok_weaker}
 use Rattle.disk_model.specs.Disk.{Content, Image}
 use Rattle.disk_model.specs.Identity.{DiskIdentity}
 use Rattle.disk_model.specs.Moments.{HasNow}
+use Rattle.image_model.specs.Geometry.{Geometry}
 use Rattle.device_model.specs.Device.{DeviceKind}
 use Rattle.device_model.specs.Mode.{DeviceFormat}
 use Rattle.device_model.specs.Mode as Modes
@@ -14,19 +15,25 @@ use Rattle.device_parts.specs.declared.condition.Condition.{Condition}
 use Rattle.device_parts.specs.declared.condition.Condition.TheVariants.{Working}
 use Rattle.device_parts.specs.declared.parts.Parts.{Parts}
 use Rattle.device_parts.specs.Device.{Standing}
+use Rattle.recalculation.specs.Recalculation.{HasFields, fields_left}
+use Rattle.direct_device.specs.declared.parts.DirectParts.{DirectParts}
+use Rattle.direct_device.specs.Device.{IsDirect, kept as direct_kept}
+use Rattle.journal_device.specs.declared.parts.JournalParts.{JournalParts}
+use Rattle.journal_device.specs.Device.{IsJournaled, kept}
 use Rattle.device.specs.declared.mode.DeviceParts.{DeviceParts}
 use Rattle.device.specs.declared.mode.Mode.{Mode}
 use Rattle.device.specs.declared.mode.Mode.TheVariants.{Bitmap, Direct, Journal, Recovery}
 use Rattle.device.specs.Answers.{IsAtRest}
 use Rattle.device.specs.Calls.{LeavesAtRest}
 use Rattle.device.specs.Device.{IsDevice, IsDeviceIn}
-use Rattle.device.proofs.ModeLemmas.{own_direct, plain_bitmap, plain_journal, plain_recovery}
+use Rattle.device.proofs.ModeLemmas.{plain_bitmap, plain_recovery}
 use Rattle.script_session.specs.declared.tags_found.TagsFound.{TagsFound}
 use Rattle.command_ending.specs.declared.ended.Ended.{Ended}
 use Rattle.integrity_tool.specs.declared.closing.CloseFault.{CloseFault}
 use Rattle.integrity_tool.specs.Closing.{ended_close}
 use Rattle.integrity_tool.specs.declared.asked.Task.{Task}
-use Rattle.integrity_tool.specs.Closed.{ClosesTask, ComesTo, HasAllPlaced, IsClosedAt, IsClosedBehind, IsClosedIn, state_behind}
+use Rattle.integrity_tool.specs.Closed.{ClosesTask, ComesTo, HasPositionOf, IsClosedAt, IsClosedBehind, IsClosedIn, state_behind}
+use Rattle.integrity_tool.proofs.PositionLemmas.{position_left}
 
 -- A close that answers well leaves each image as the mode has it.
 pub rests_closed : {T : Type 0} (result : Result T StepFault) → is_err result ≡ false → (condition : Condition) (parts : DeviceParts)
@@ -43,6 +50,30 @@ left_behind there here b left script comes =
     subst (λ (s : DeviceState). HasNow (IsClosedIn there.format.mode there.on there.format.blocks.tag s) b) comes.comes
     (subst (λ (w : Standing). HasNow (IsClosedIn w.format.mode w.on w.format.blocks.tag here.state) b) comes.same left)
 
+-- ---- by mode
+
+-- In direct mode it leaves the position,
+position_direct : (here : Standing) (device : DirectParts) (a b : List Content) → IsDirect here Working device a
+    → HasFields (fields_left device.recalculation) b → HasNow (HasPositionOf here.on.geometry here.state) b
+position_direct here device a b is fields =
+    let works = is.over.works refl in
+    let formed = (works.cells.now is.over.told is.over.is_told).stands.formed in
+    subst (λ (g : Geometry). HasNow (HasPositionOf g here.state) b) is.format.geometry
+    (position_left device.recalculation is.disk.superblock is.disk.geometry here.state.progress.regions.awaiting works.recalculation_ formed.no_bitmap
+    (λ region waits. let has = is.over.device.awaiting region waits in (has.block, has.inside, has.is, has.to_recalculate))
+    formed.is_geometry.spb.0 formed.is_geometry.blocks b fields)
+
+-- and so it does in journal mode.
+position_journal : (here : Standing) (device : JournalParts) (a b : List Content) → IsJournaled here Working device a
+    → HasFields (fields_left device.recalc) b → HasNow (HasPositionOf here.on.geometry here.state) b
+position_journal here device a b is fields =
+    let works = is.over.works refl in
+    let formed = works.stands.device.sound.formed in
+    subst (λ (g : Geometry). HasNow (HasPositionOf g here.state) b) is.format.geometry
+    (position_left device.recalc is.disk.superblock is.disk.geometry here.state.progress.regions.awaiting works.recalc_ formed.no_bitmap
+    (λ region waits. let has = works.work region waits in (has.block, has.inside, has.is, has.to_recalculate))
+    formed.is_geometry.spb.0 formed.is_geometry.blocks b fields)
+
 -- A close leaves each image as the mode has it.
 module _ (here : Standing) (common : Parts) (a b : List Content) where
   in_mode : (m : Modes.Mode) → m ≡ here.format.mode → HasNow (IsClosedIn m here.on here.format.blocks.tag here.state) b
@@ -51,10 +82,12 @@ module _ (here : Standing) (common : Parts) (a b : List Content) where
 
   pub closed_here : (mode : Mode) → IsDeviceIn mode here Working common a → IsAtRest mode here b
       → HasNow (IsClosedIn here.format.mode here.on here.format.blocks.tag here.state) b
-  closed_here Direct is rests = in_mode Modes.Direct (own_direct here Working common a is) (λ c told. tt)
-  closed_here (Journal journal) is rests =
-      in_mode Modes.Journal (plain_journal.own here Working _ a is)
-      (subst (λ (d : DiskFormat). HasNow (HasAllPlaced d here.format.blocks.tag here.state) b) rests.format rests.placed)
+  closed_here (Direct recalculation) is rests =
+      in_mode Modes.Direct (sym (ap (λ (f : DeviceFormat). f.mode) is.direct.over.device.format))
+      (position_direct here (direct_kept common recalculation) a b is.direct rests)
+  closed_here (Journal state) is rests =
+      in_mode Modes.Journal (sym (ap (λ (f : DeviceFormat). f.mode) is.journaled.over.format))
+      (λ c told. (rests.placed c told, position_journal here (kept common state.journal state.recalculation) a b is.journaled rests.fields_ c told))
   closed_here (Bitmap regions) is rests = in_mode Modes.Bitmap (plain_bitmap.own here Working _ a is) rests
   closed_here Recovery is rests = in_mode Modes.Recovery (plain_recovery.own here Working common a is) (λ c told. tt)
 

@@ -28,6 +28,7 @@ use Rattle.image_formatting.specs.FormattedLaws.{NewOpensLaw}
 use Rattle.image_formatting.specs.NewImage.{IsNewImage, provided_of}
 use Rattle.image_judging.specs.declared.opening_fault.OpeningFault.{OpeningFault}
 use Rattle.image_judging.specs.declared.opening_fault.OpeningFault.TheVariants as OpeningFaults
+use Rattle.image_judging.specs.declared.consent.Consent.TheVariants.{Withheld}
 use Rattle.image_judging.specs.FaultLaws.{OpensLaw}
 use Rattle.image_judging.specs.Faults.{fault_in}
 use Rattle.device_opening.proofs.MomentsLemmas.{each_from}
@@ -67,6 +68,7 @@ use Rattle.integrity_tool.specs.Running.{ending_by}
 use Rattle.integrity_tool.proofs.ClosingLemmas.{failed_close, since_event}
 use Rattle.integrity_tool.proofs.KeyLemmas.{ok_no_err}
 use Rattle.integrity_tool.proofs.MakingLemmas.{left_since}
+use Rattle.integrity_tool.proofs.HeadLemmas.{no_more_opened}
 use Rattle.integrity_tool.proofs.OpeningLemmas.{at_told, written_in}
 use Rattle.integrity_tool.proofs.RunningLemmas.{now_of, told_nothing}
 use Rattle.integrity_tool.proofs.StartLemmas.{before_kept, fine_exercise, left_at_start, nothing_run, refused_run, untouched_kept}
@@ -250,7 +252,7 @@ module _ (sectors count seed : ℕ) (made : Content) where
 
 module _ (law : OpensLaw) (disk now : DiskIdentity) (count seed : ℕ) (a b : List Content) (made : Content)
     (told : content_now a ≡ Some made) (can : CanOpenIn Modes.Journal None disk.sectors (last_image made))
-    (leaves : LeavesOpening OpenModes.Journal None disk now a b) where
+    (leaves : LeavesOpening (OpenModes.Journal Withheld) None disk now a b) where
   abbrev image : Image
   image = last_image made
 
@@ -273,14 +275,14 @@ module _ (law : OpensLaw) (disk now : DiskIdentity) (count seed : ℕ) (a b : Li
         written = record {
           opened = c;
           opening = inr both.1;
-          behind = OnlyAdds-none (IsOfRun Modes.Journal g (changes_in run.steps)) c;
-          tags = inr tt;
+          behind = OnlyAdds-none (IsOfRun Modes.Journal g image (changes_in run.steps)) c;
+          tags = inr (no_more_opened g made c both.1);
         };
         opens = both.0.0;
       })
       (EachMoment-both
       (EachMoment-both (each_from _ made told left.opens) (each_from _ made told left.left))
-      (written_in OpenModes.Journal None disk.sectors made told leaves.writes))
+      (written_in (OpenModes.Journal Withheld) None disk.sectors made told leaves.writes))
 
   left_opening : HasNow (IsLeftOfRun kind image made []) b
   left_opening =
@@ -301,13 +303,13 @@ module _ (law : OpensLaw) (disk now : DiskIdentity) (count seed : ℕ) (a b : Li
     closed = tt;
   }
 
-  no_fault : (fault : OpeningFault) → IsRefused OpenModes.Journal None disk fault a b → fault ≢ OpeningFaults.Disk
+  no_fault : (fault : OpeningFault) → IsRefused (OpenModes.Journal Withheld) None disk fault a b → fault ≢ OpeningFaults.Disk
       → fault ≢ OpeningFaults.Memory → fault_in {T = DeviceParts} (Err fault) ≡ None
   no_fault fault refused not_disk not_memory =
-      refused.told not_disk not_memory made told ∙ (law None disk.sectors image).1 can
+      refused.told not_disk not_memory made told ∙ (law None Withheld disk.sectors image).1 (can, refl)
 
   -- A new image is not refused: the disk failed, or there was no memory.
-  pub not_opened : (fault : OpeningFault) → IsRefused OpenModes.Journal None disk fault a b
+  pub not_opened : (fault : OpeningFault) → IsRefused (OpenModes.Journal Withheld) None disk fault a b
       → IsExercisedOn disk.sectors count seed made (Err (ended_by_opening fault)) a b
   not_opened OpeningFaults.Memory refused = refused_as Endings.Memory (inr refl)
   not_opened OpeningFaults.Disk refused = refused_as Endings.Disk (inl refl)
@@ -331,7 +333,7 @@ module _ (law : OpensLaw) (disk now : DiskIdentity) (count seed : ℕ) (a b : Li
         opened_to : HasNow (IsOpenedTo Modes.Journal g made) b
         opened_to =
             content_at_end
-            (EachMoment-weaker (λ x of. inr of) (written_in OpenModes.Journal None disk.sectors made told leaves.writes))
+            (EachMoment-weaker (λ x of. inr of) (written_in (OpenModes.Journal Withheld) None disk.sectors made told leaves.writes))
             (at_told (IsOpenedTo Modes.Journal g made) a made told (inl refl))
 
         writes_behind : (opened : Option Content) → content_now b ≡ opened
@@ -339,14 +341,14 @@ module _ (law : OpensLaw) (disk now : DiskIdentity) (count seed : ℕ) (a b : Li
         writes_behind None none = EachMoment-weaker (λ x from. absurd (rw none at from)) exercised.others.sectors
         writes_behind (Some opened) is =
             EachMoment-weaker
-            (λ x adds. record {
+            (λ x both. record {
               opened = opened;
               opening = opened_to opened is;
-              behind = subst (λ (l : List Change). OnlyAdds (IsOfRun Modes.Journal g l) opened x)
-                  (sym (changes_run disk.sectors count seed made)) adds;
-              tags = inr tt;
+              behind = subst (λ (l : List Change). OnlyAdds (IsOfRun Modes.Journal g image l) opened x)
+                  (sym (changes_run disk.sectors count seed made)) both.0;
+              tags = inr both.1;
             })
-            (each_from _ opened is exercised.others.sectors)
+            (EachMoment-both (each_from _ opened is exercised.others.sectors) exercised.others.tags)
 
     -- The device is open, and its exercise came so far.
     pub exercised_on : IsExercisedOn disk.sectors count seed made (ended_count counted) a c

@@ -1,7 +1,9 @@
 pub mod ClosingLemmas
+pub mod PositionLemmas
 pub mod ClosedLemmas
 pub mod KeyLemmas
 pub mod LoopLemmas
+pub mod HeadLemmas
 pub mod OpeningLemmas
 pub mod ReopeningLemmas
 pub mod RunningLemmas

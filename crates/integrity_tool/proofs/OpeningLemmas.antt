@@ -47,6 +47,7 @@ use Rattle.integrity_tool.specs.Opening.{HasReadIn, HasRunOn, IsMomentOn, IsOfOp
 use Rattle.integrity_tool.specs.Outset.{begun_on, geometry_on, outset_by, outset_on}
 use Rattle.integrity_tool.specs.Refusing.{ended_by_opening, ending_by_refusal}
 use Rattle.integrity_tool.specs.Running.{EndsScript, HasReadTo, IsStopped}
+use Rattle.integrity_tool.proofs.HeadLemmas.{no_more_opened}
 use Rattle.integrity_tool.proofs.StartLemmas.{IsAsBefore, as_same, before_may_be_left, fine_on, nothing_run, of_run, refused_run, some_run, untouched_now, untouched_through}
 
 -- ---- modes that take writes, and recovery mode
@@ -63,15 +64,15 @@ data Sort (mode : OpenMode) : Type 1 where
   Reading : mode ≡ Recovery → Sort mode
 
 sort_of : (mode : OpenMode) → Sort mode
-sort_of Direct = Writing (record {
+sort_of (Direct consent) = Writing (record {
   begun = λ kind image. refl;
   kind_ = λ key sectors. refl;
-  opens = λ law bitmap key sectors image none. (law key sectors image).0 none;
+  opens = λ law bitmap key sectors image none. ((law key consent sectors image).0 none).0;
 })
-sort_of Journal = Writing (record {
+sort_of (Journal consent) = Writing (record {
   begun = λ kind image. refl;
   kind_ = λ key sectors. refl;
-  opens = λ law bitmap key sectors image none. (law key sectors image).0 none;
+  opens = λ law bitmap key sectors image none. ((law key consent sectors image).0 none).0;
 })
 sort_of (Bitmap consent) = Writing (record {
   begun = λ kind image. refl;
@@ -83,16 +84,16 @@ sort_of Recovery = Reading refl
 -- A run of the device is one of the command, in every mode.
 run_at : (mode : OpenMode) (kind : DeviceKind) (image : Image) (script : List ℕ) (run : ScriptRun)
     → IsRunOf (kind.format image) (kind.opened image) script run → IsRunAt (begun_on mode kind image) script run
-run_at Direct kind image script run is = is
-run_at Journal kind image script run is = is
+run_at (Direct consent) kind image script run is = is
+run_at (Journal consent) kind image script run is = is
 run_at (Bitmap consent) kind image script run is = is
 run_at Recovery kind image script run is = is
 
 -- An opening in recovery mode leaves the disk as it was.
 pub still_opened : (mode : OpenMode) (key : Option (List ℕ)) (sectors : ℕ) (a b : List Content) → WritesInOpening mode key sectors a b
     → KeepsStill (asked_mode mode) a b
-still_opened Direct key sectors a b writes = tt
-still_opened Journal key sectors a b writes = tt
+still_opened (Direct consent) key sectors a b writes = tt
+still_opened (Journal consent) key sectors a b writes = tt
 still_opened (Bitmap consent) key sectors a b writes = tt
 still_opened Recovery key sectors a b kept = kept
 
@@ -105,18 +106,18 @@ at_told P moments start told has c is = subst P (same_Some start c (sym told ∙
 pub written_in : (mode : OpenMode) (key : Option (List ℕ)) (sectors : ℕ) (start : Content) {a b : List Content}
     → content_now a ≡ Some start → WritesInOpening mode key sectors a b
     → EachMoment a b (IsOfOpeningIn (asked_mode mode) (geometry_on sectors (last_image start)) start)
-written_in Direct key sectors start told writes =
+written_in (Direct consent) key sectors start told writes =
     EachMoment-both (each_from _ start told writes.recovers) (each_from _ start told writes.keeps)
-written_in Journal key sectors start told writes = each_from _ start told writes
+written_in (Journal consent) key sectors start told writes = each_from _ start told writes
 written_in (Bitmap consent) key sectors start told writes = each_from _ start told writes
 written_in Recovery key sectors start told kept = EachMoment-kept _ kept
 
--- An opening in bitmap mode writes nothing, so all tags stand.
+-- An opening in bitmap mode writes nothing, so all tags stand; and none writes the first sector.
 tags_opened : (mode : Modes.Mode) (g : Geometry) (run : ScriptRun) (start opened : Content) → IsOfOpeningIn mode g start opened
     → KeepsClearTags mode g run start opened
 tags_opened Modes.Bitmap g run start opened of = inl (inr of)
-tags_opened Modes.Journal g run start opened of = inr tt
-tags_opened Modes.Direct g run start opened of = inr tt
+tags_opened Modes.Journal g run start opened of = inr (no_more_opened g start opened of)
+tags_opened Modes.Direct g run start opened of = inr (no_more_opened g start opened of.0)
 tags_opened Modes.Recovery g run start opened of = inr tt
 
 -- ---- the opening
@@ -167,7 +168,7 @@ module _ (law : OpensLaw) (bitmap : BitmapOpensLaw) (mode : OpenMode) (key : Opt
           (EachMoment-weaker (λ c of. record {
             opened = c;
             opening = inr of;
-            behind = OnlyAdds-none (IsOfRun (asked_mode mode) g (changes_in run.steps)) c;
+            behind = OnlyAdds-none (IsOfRun (asked_mode mode) g image (changes_in run.steps)) c;
             tags = tags_opened (asked_mode mode) g run start c of;
           })
           (written_in mode key disk.sectors start told leaves.writes))

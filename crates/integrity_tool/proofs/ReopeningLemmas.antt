@@ -78,8 +78,9 @@ reopening_law law key sectors entry changes later left by image =
     let is : MayBeLeftIn Journal key sectors entry h left = by.left left image in
     let own = first key sectors entry left h is in
     record {
-      starts = λ script run is_run.
-          subst (λ (o : Outset). IsRunAt o script run) (sym (ap (outset_by Modes.Journal key sectors left) ((law key sectors left).1 (by.opens left image)))) is_run;
+      starts = λ consent script run given is_run.
+          subst (λ (o : Outset). IsRunAt o script run)
+          (sym (ap (outset_by (Modes.Journal consent) key sectors left) ((law key consent sectors left).1 (by.opens left image, given)))) is_run;
       blocks = is.blocks;
       kept = own.kept;
       flushed = own.flushed;

@@ -109,8 +109,8 @@ fine_refused (faults.ByConsent flags) = no_complete _ (λ (x : ⊥). x)
 fine_refused (faults.ByJournal fault) = no_complete _ (λ (x : ⊥). x)
 
 fine_begun : (mode : OpenMode) (kind : DeviceKind) (image : Image) → IsFine (begun_on mode kind image)
-fine_begun Direct kind image = tt
-fine_begun Journal kind image = tt
+fine_begun (Direct consent) kind image = tt
+fine_begun (Journal consent) kind image = tt
 fine_begun (Bitmap consent) kind image = tt
 fine_begun Recovery kind image = tt
 
@@ -246,8 +246,8 @@ IsOfRun (ReadsOn kind image) = Unit {0}
 IsOfRun (Changes changing) = ⊥
 
 of_run_begun : (mode : OpenMode) (kind : DeviceKind) (image : Image) → IsOfRun (begun_on mode kind image)
-of_run_begun Direct kind image = tt
-of_run_begun Journal kind image = tt
+of_run_begun (Direct consent) kind image = tt
+of_run_begun (Journal consent) kind image = tt
 of_run_begun (Bitmap consent) kind image = tt
 of_run_begun Recovery kind image = tt
 

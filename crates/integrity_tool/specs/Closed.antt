@@ -1,24 +1,26 @@
 -- The device behind the lines of a script, and what its close leaves.
-use Rattle.std.specs.Prelude.{◌≡◌, ℕ, ◌<◌, ◌&&◌, List, [], ◌∷◌, Option, Some, None, Result, Ok, Err, OnOk}
+use Rattle.std.specs.Prelude.{◌≡◌, ℕ, ◌<◌, nat_le, Bool, false, ◌&&◌, List, [], ◌∷◌, Option, Some, None, Result, Ok, Err, OnOk}
 use Rattle.std.specs.List.{AllZip}
 use Rattle.disk_model.specs.Disk.{Content, EachImage, Image, last_image}
 use Rattle.disk_model.specs.Identity.{DiskIdentity}
 use Rattle.disk_model.specs.Moments.{HasNow}
 use Rattle.image_formatting.specs.NewImage.{provided_of}
-use Rattle.image_model.specs.Bitmap.{is_dirty}
+use Rattle.image_model.specs.Bitmap.{is_dirty, region_awaits}
 use Rattle.image_model.specs.Geometry.{Geometry, regions}
 use Rattle.device_model.specs.Device.{DeviceKind}
 use Rattle.device_model.specs.Ending.{KeyRefusal}
 use Rattle.device_model.specs.Grammar.{ReadLine, IsReadAs, Means, Refused}
 use Rattle.device_model.specs.History.{Tagger, cells_now}
-use Rattle.device_model.specs.Mode.{DeviceFormat, Mode, Bitmap, Journal}
+use Rattle.device_model.specs.Mode.{DeviceFormat, Mode, Bitmap, Direct, Journal, Recovery}
 use Rattle.device_model.specs.Progress.{DeviceState}
+use Rattle.device_model.specs.Regions.{least_region}
 use Rattle.device_model.specs.Script.{after_script, line_outcome}
 use Rattle.device_model.specs.ScriptBytes.{lines_of}
 use Rattle.command_model.specs.Exercise.{exercise_lines}
 use Rattle.place_model.specs.Format.{DiskFormat, format_on, placed_on}
 use Rattle.place_model.specs.Kind.{kind_in}
 use Rattle.device_parts.specs.Device.{Standing}
+use Rattle.device.specs.Awaiting.{fields_of}
 use Rattle.device.specs.Opening.{asked_mode}
 use Rattle.integrity_tool.specs.declared.asked.Asked.{Asked}
 use Rattle.integrity_tool.specs.declared.asked.Task.{Task}
@@ -44,11 +46,11 @@ pub record ComesTo (there : Standing) (script : List ℕ) (here : Standing) (lin
 
 -- ---- behind the close
 
--- Each image has in the place of each block the cell that the history gives it, so that who reads it without a replay
--- reads the latest write.
+-- Each image has in the place of each block the cell that the history gives it, by the image's own fields, so that who
+-- reads it without a replay reads the latest write.
 abbrev pub HasAllPlaced : DiskFormat → Tagger → DeviceState → Content → Type 0
 HasAllPlaced d tag s c = EachImage (λ image. (b : ℕ) → b < d.geometry.blocks
-    → placed_on d image b ≡ cells_now tag s.history b) c
+    → placed_on (format_on d.key d.sectors image) image b ≡ cells_now tag s.history b) c
 
 -- Each image has those bits set that are set in this state, and whose regions await in it.
 abbrev pub HasBitsOf : Geometry → DeviceState → Content → Type 0
@@ -56,12 +58,25 @@ HasBitsOf g s c = let counts = s.progress.regions in
     EachImage (λ image. (region : ℕ) → region < regions g
     → is_dirty g image region ≡ (counts.set_bits region && counts.awaiting region)) c
 
--- How a close in a mode leaves the images of a device that is in this state. In direct mode, and in recovery mode, it
--- leaves no more than a flush does.
+-- The region is the least one, or one behind it.
+abbrev pub is_from : Option ℕ → (region : ℕ) → Bool
+is_from None region = false
+is_from (Some least) region = nat_le least region
+
+-- By the position of each image the least region that awaits in this state awaits, and all behind it, and no other; so
+-- where none does, none awaits at the next opening.
+abbrev pub HasPositionOf : Geometry → DeviceState → Content → Type 0
+HasPositionOf g s c = EachImage (λ image. (region : ℕ) → region < regions g
+    → region_awaits (fields_of image) g image region
+    ≡ is_from (least_region (regions g) s.progress.regions.awaiting) region) c
+
+-- How a close in a mode leaves the images of a device that is in this state. In direct mode it moves the position, and
+-- else leaves no more than a flush does; in recovery mode it leaves the disk.
 abbrev pub IsClosedIn : Mode → DiskFormat → Tagger → DeviceState → Content → Type 0
-IsClosedIn Journal d tag s c = HasAllPlaced d tag s c
+IsClosedIn Journal d tag s c = HasAllPlaced d tag s c × HasPositionOf d.geometry s c
 IsClosedIn Bitmap d tag s c = HasBitsOf d.geometry s c
-IsClosedIn mode d tag s c = Unit {0}
+IsClosedIn Direct d tag s c = HasPositionOf d.geometry s c
+IsClosedIn Recovery d tag s c = Unit {0}
 
 -- So is each image left by the close of the device of this kind that opened an image in this format, behind the lines of
 -- a script.

@@ -44,20 +44,23 @@ IsOfOpeningIn mode g start opened = IsOfOpening g start opened
 abbrev pub IsOpenedTo : Mode → Geometry → (start opened : Content) → Type 0
 IsOpenedTo mode g start opened = (opened ≡ start) ⊎ IsOfOpeningIn mode g start opened
 
--- No sector was written; or the tags stand in their places as in the image that was opened, in bitmap mode of each block
--- that the run does not write, where its region's bit was clear in that image. So no region is recalculated but those whose
--- bit was set.
+-- No sector was written; or in bitmap mode the tags stand in their places as in the image that was opened, of each block
+-- that the run does not write, where its region's bit was clear in that image; and in journal and in direct mode no block
+-- awaits its tag, by the fields of an image, that did not by those of the image that was opened. So no region is
+-- recalculated but those whose bit was set, and no block but those that the position named.
 abbrev pub KeepsClearTags : Mode → Geometry → ScriptRun → (start later : Content) → Type 0
 KeepsClearTags mode g run start later =
     IsUntouched start later ⊎ KeepsTagsOf mode (AreOfOthers (changes_in run.steps)) g (last_image start) later
 
 -- What is written up to a moment of a run in this mode: in its opening what that may write; and then in direct mode
 -- sectors of tags, and of the data of blocks that the run writes, in bitmap mode these and sectors of the bitmap, and in
--- journal mode sectors of the journal, of tags, and of the data of blocks. Neither the superblock, nor padding, nor a sector behind the data is ever among them.
+-- journal mode sectors of the journal, of tags, and of the data of blocks; in direct and in journal mode the first sector
+-- too, where the flag of tags that are to be recalculated is set in the image that was opened. Neither another sector of
+-- the superblock, nor padding, nor a sector behind the data is ever among them.
 pub record IsWrittenByRun (mode : Mode) (g : Geometry) (run : ScriptRun) (start later : Content) : Type 0 where
   pub opened : Content
   pub opening : IsOpenedTo mode g start opened
-  pub behind : OnlyAdds (IsOfRun mode g (changes_in run.steps)) opened later
+  pub behind : OnlyAdds (IsOfRun mode g (last_image start) (changes_in run.steps)) opened later
   pub tags : KeepsClearTags mode g run start later
 
 -- The same behind the making of an image that is exercised: what a run in journal mode writes on that.

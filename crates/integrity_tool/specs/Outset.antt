@@ -43,8 +43,8 @@ key_by (Some file) bytes = keyed (key_in bytes)
 
 -- A device in this mode is open on the image. In recovery mode it writes nothing.
 abbrev pub begun_on : OpenMode → DeviceKind → Image → Outset
-begun_on Direct kind image = RunsOn kind image
-begun_on Journal kind image = RunsOn kind image
+begun_on (Direct consent) kind image = RunsOn kind image
+begun_on (Journal consent) kind image = RunsOn kind image
 begun_on (Bitmap consent) kind image = RunsOn kind image
 begun_on Recovery kind image = ReadsOn kind image
 

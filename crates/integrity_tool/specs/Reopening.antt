@@ -1,5 +1,5 @@
 -- A run in journal mode that was cut, and the next run on what it left.
-use Rattle.std.specs.Prelude.{◌≡◌, ℕ, ◌<◌, ◌≤◌, List, ◌++◌, length, take, Option}
+use Rattle.std.specs.Prelude.{◌≡◌, ℕ, ◌<◌, ◌≤◌, false, List, ◌++◌, length, take, Option}
 use Rattle.disk_model.specs.Disk.{Content, Image, IsImage}
 use Rattle.device_model.specs.Cut.{all_writes}
 use Rattle.device_model.specs.Device.{DeviceKind}
@@ -7,6 +7,9 @@ use Rattle.device_model.specs.History.{Change, History, cells_after, with_change
 use Rattle.device_model.specs.Mode.{Journal}
 use Rattle.device_model.specs.ScriptRun.{ScriptRun, IsRunOf}
 use Rattle.device_model.specs.Transcript.{BlockFormat}
+use Rattle.image_judging.specs.declared.consent.Consent.{Consent}
+use Rattle.image_judging.specs.Faults.{lacks_consent}
+use Rattle.image_model.specs.Bitmap.{some_await}
 use Rattle.image_model.specs.Cells.{Cell}
 use Rattle.place_model.specs.Format.{cells_on, format_on}
 use Rattle.place_model.specs.Kind.{kind_in}
@@ -34,14 +37,16 @@ pub record IsLeftBehind (f : BlockFormat) (first : History) (kept : ℕ) (second
       → left b ≡ cells_after f.tag first.base
       (take kept (all_writes first) ++ take more (all_writes second)) b
 
--- A reopened image begins with what a cut left: the next run in journal mode runs its script on a device whose blocks
--- hold what some of the first writes of the run before gave them, with every flushed one among them; and what a cut of
--- that run leaves holds some of the first of its own writes behind those.
+-- A reopened image begins with what a cut left: the next run in journal mode, with consent where tags are still to be
+-- made anew under a key, runs its script on a device whose blocks hold what some of the first writes of the run before
+-- gave them, with every flushed one among them; and what a cut of that run leaves holds some of the first of its own
+-- writes behind those.
 pub record BeginsWithCut (key : Option (List ℕ)) (sectors : ℕ) (entry : Image) (changes : List Change) (left : Image)
     : Type 0 where
-  pub starts : (script : List ℕ) (run : ScriptRun) → let kind = kind_in Journal key sectors in
-      IsRunOf (kind.format left) (kind.opened left) script run
-      → IsRunAt (outset_on Modes.Journal key sectors left) script run
+  pub starts : (consent : Consent) (script : List ℕ) (run : ScriptRun) → let kind = kind_in Journal key sectors in
+      lacks_consent key consent (some_await (format_on key sectors left).superblock) ≡ false
+      → IsRunOf (kind.format left) (kind.opened left) script run
+      → IsRunAt (outset_on (Modes.Journal consent) key sectors left) script run
   pub blocks : blocks_of (format_on key sectors left) ≡ blocks_of (format_on key sectors entry)
   pub kept : ℕ
   pub flushed : HoldsFlushed (history_on (kind_in Journal key sectors) entry changes) kept

@@ -36,7 +36,7 @@ use Rattle.image_formatting.specs.declared.new_image.NewImage.{NewImage}
 use Rattle.image_formatting.specs.declared.new_image.Padding.{Padding}
 use Rattle.image_formatting.specs.declared.new_image.Padding.TheVariants.{Fixed, Legacy}
 use Rattle.image_formatting.specs.declared.new_image.Wipe.{Wipe}
-use Rattle.image_formatting.specs.declared.new_image.Wipe.TheVariants.{Wiped, Kept}
+use Rattle.image_formatting.specs.declared.new_image.Wipe.TheVariants.{Wiped, Kept, Recalculated}
 use Rattle.image_formatting.specs.NewImage.{IsNewImage}
 use Rattle.image_judging.specs.declared.consent.Consent.{Consent}
 use Rattle.image_judging.specs.declared.consent.Consent.TheVariants.{Given, Withheld}
@@ -59,6 +59,7 @@ image_mode_as image_modes.Bitmap = new_modes.Bitmap
 abbrev pub wipe_as : words_wipe.Wipe → Wipe
 wipe_as wipes.Zeros = Wiped
 wipe_as wipes.Nothing = Kept
+wipe_as wipes.Recalculated = Recalculated
 
 abbrev pub new_image_of : Format → NewImage
 new_image_of format = record {
@@ -95,10 +96,10 @@ abbrev pub consent_as : words_consent.Consent → Consent
 consent_as consents.Given = Given
 consent_as consents.Withheld = Withheld
 
--- The mode of a run. Bitmap mode alone asks for consent.
+-- The mode of a run. Recovery mode makes no tag anew, and asks for no consent.
 abbrev pub mode_as : Mode → words_consent.Consent → OpenMode
-mode_as modes.Journal consent = Journal
-mode_as modes.Direct consent = Direct
+mode_as modes.Journal consent = Journal (consent_as consent)
+mode_as modes.Direct consent = Direct (consent_as consent)
 mode_as modes.Bitmap consent = Bitmap (consent_as consent)
 mode_as modes.Recovery consent = Recovery
 

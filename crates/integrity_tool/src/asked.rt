@@ -110,13 +110,13 @@ fn run_asked(run: Run) -> Asked
     }
 }
 
-/// The same mode. Bitmap mode alone asks for consent.
+/// The same mode. Recovery mode makes no tag anew, and asks for no consent.
 fn mode(mode: Mode, by: Consent) -> OpenMode
     ensures { result ≡ mode_as mode by }
 {
     match mode {
-        Mode::Journal => OpenMode::Journal,
-        Mode::Direct => OpenMode::Direct,
+        Mode::Journal => OpenMode::Journal(consent(by)),
+        Mode::Direct => OpenMode::Direct(consent(by)),
         Mode::Bitmap => OpenMode::Bitmap(consent(by)),
         Mode::Recovery => OpenMode::Recovery,
     }
@@ -246,5 +246,6 @@ fn wipe(wipe: Wipe) -> image_formatting::Wipe
     match wipe {
         Wipe::Zeros => image_formatting::Wipe::Wiped,
         Wipe::Nothing => image_formatting::Wipe::Kept,
+        Wipe::Recalculated => image_formatting::Wipe::Recalculated,
     }
 }

@@ -18,7 +18,7 @@ use crate::making::ended_by_format;
 use crate::opening::handed_back;
 use crate::refusing::ended_by_opening;
 use command_ending::Ended;
-use device::{Device, OpenMode};
+use device::{Consent, Device, OpenMode};
 use device_exercise::exercise;
 use hmac_tag::Hash;
 use image_formatting::{ImageMode, NewImage, Padding, Wipe, format, new_image_opens};
@@ -141,9 +141,10 @@ fn exercise_new<'d, D: Disk>(
     ensures identity { D.identity result.now ≡ D.identity disk.old }
     ensures same_disk { result.ghost_name ≡ disk.entry.ghost_name }
 {
-    // What has no fault can be opened.
+    // What has no fault can be opened. No tag of a new image is made anew, so no consent is asked.
     images_that_open_have_no_fault();
-    match Device::open(alloc, disk, pool, Hash::Sha256, OpenMode::Journal) {
+    let mode = OpenMode::Journal(Consent::Withheld);
+    match Device::open(alloc, disk, pool, Hash::Sha256, mode) {
         Err(refused) => {
             let (fault, disk) = handed_back(refused);
             *counted = Err(ended_by_opening(fault));

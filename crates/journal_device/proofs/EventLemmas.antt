@@ -1,6 +1,5 @@
 -- The steps of the actors, the end of a device, and the events that call no disk.
-use Rattle.std.proofs.Common.{◌≡◌, ℕ, zero, suc, ◌+◌, not, Bool, false, find, option_map, if◌then◌else◌, List, [], ◌∷◌, Option, None, Some, refl, sym, ◌∙◌, ap, subst}
-use Rattle.std.specs.List.{range_with_len}
+use Rattle.std.proofs.Common.{◌≡◌, if◌then◌else◌, List, [], ◌∷◌, Option, None, Some, refl, sym, ◌∙◌, ap, subst}
 use Rattle.disk_model.specs.Disk.{Content, EachImage}
 use Rattle.disk_model.specs.Moments.{HasNow}
 use Rattle.disk_model.proofs.MomentsLemmas.{content_at_end}
@@ -8,7 +7,7 @@ use Rattle.device_model.specs.History.{Change, Flushed, with_change, with_change
 use Rattle.device_model.specs.Journal.{JournalCounts, commit, place, settle}
 use Rattle.device_model.specs.Mode.{DeviceFormat, is_journal, is_bitmap, is_recovery}
 use Rattle.device_model.specs.Progress as Model
-use Rattle.device_model.specs.Regions.{clean, recalculate, recalculated_region}
+use Rattle.device_model.specs.Regions.{clean}
 use Rattle.place_model.specs.Format.{DiskFormat}
 use Rattle.place_model.specs.Left.{IsLeftInJournal}
 use Rattle.direct_laws.specs.MomentLaws.{IsLeftNow}
@@ -26,16 +25,20 @@ use Rattle.journal_mode.specs.Closing.{HasClosed}
 use Rattle.journal_mode.specs.Commits.{CommitsAs}
 use Rattle.journal_mode.specs.Moves.{PlacesAs, SettlesAs}
 use Rattle.journal_mode.specs.Journal.{PlacedRing}
-use Rattle.journal_mode.specs.Standing.{IsLeftThrough, JournalStanding, StandsAs}
+use Rattle.journal_mode.specs.Standing.{IsLeftThrough, JournalStanding, StandsAs, TagsPlaced}
+use Rattle.recalculation.specs.declared.recalculating.Recalculation.{Recalculation}
+use Rattle.tag_store.specs.Store.{Store}
 use Rattle.journal_device.specs.Answers.{moved_as}
 use Rattle.journal_device.specs.Device.{IsOverDisk, JournaledStanding, QuietLaw, kind_on, standing_of, standing_on}
+use Rattle.journal_device.specs.Recalculating.{HasStepped}
+use Rattle.journal_device.proofs.RecalcLemmas.{recalc_did, recalc_idle}
 use Rattle.journal_device.proofs.OverDisk.{EndsOver, IsAfter, IsDoneOver, done_on}
-use Rattle.journal_device.proofs.DoneLemmas.{broken_done, no_bitmap, only_done, quiet_done, stands_now, working_done, working-is}
+use Rattle.journal_device.proofs.DoneLemmas.{broken_done, only_done, quiet_done, stands_now, working_done, working-is}
 use Rattle.journal_device.proofs.KindLemmas.{left_now, left_through, standing_now}
 
 -- ---- a device that works
 
-module _ (w : JournaledStanding) (parts : Parts) (journal : PlacedRing) (a : List Content) (is : IsOverDisk w Conditions.Working parts journal a) where
+module _ (w : JournaledStanding) (parts : Parts) (journal : PlacedRing) (recalc : Recalculation) (a : List Content) (is : IsOverDisk w Conditions.Working parts journal recalc a) where
   abbrev f : DeviceFormat
   f = w.format
 
@@ -50,107 +53,109 @@ module _ (w : JournaledStanding) (parts : Parts) (journal : PlacedRing) (a : Lis
   -- A step that did something to the counts of the journal,
   pub step_did : (actor : Model.Actor) (counts : JournalCounts) (d : JournaledDisk) (new : Parts) (p : PlacedRing) (b : List Content)
       → Model.event_result f s (Model.Step actor) ≡ Model.only_answers (record s.progress { journal = counts }) Model.Did → d.format ≡ w.disk.format
-      → new.slots ≡ parts.slots → new.maker ≡ parts.maker → StandsAs (record { format = f; history = s.history; counts = counts; disk = d }) p new.tags b → IsLeftThrough y a b
-      → IsDoneOver w (Model.Step actor) Model.Did Conditions.Working new p a b
-  step_did actor counts d new p b told same slots maker stands m = record {
+      → new.slots ≡ parts.slots → new.maker ≡ parts.maker → StandsAs (record { format = f; history = s.history; counts = counts; disk = d }) p new.tags b
+      → TagsPlaced w.disk d parts.tags new.tags a b → IsLeftThrough y a b
+      → IsDoneOver w (Model.Step actor) Model.Did Conditions.Working new p recalc a b
+  step_did actor counts d new p b told same slots maker stands gives m = record {
     answers = ap (λ (x : Model.EventResult). x.answer) told;
-    done = working_done w parts journal a is (Model.Step actor) (Model.only_answers (record s.progress { journal = counts }) Model.Did) told is.condition_ d same new p b
-        (subst (λ (x : Flight). IsFlightOf f x s.progress.requests) (sym slots) is.flight) maker is.still stands 0 s.history refl m;
+    done = working_done w parts journal recalc a is (Model.Step actor) (Model.only_answers (record s.progress { journal = counts }) Model.Did) told is.condition_ d same new p b
+        (subst (λ (x : Flight). IsFlightOf f x s.progress.requests) (sym slots) is.flight) maker refl stands gives 0 s.history refl m;
   }
 
   -- and one that found nothing to do.
   pub step_idle : (actor : Model.Actor) (new : Parts) (p : PlacedRing) (b : List Content) → Model.event_result f s (Model.Step actor) ≡ Model.only_answers s.progress Model.Idle
-      → new.slots ≡ parts.slots → new.maker ≡ parts.maker → StandsAs y p new.tags b → IsLeftThrough y a b
-      → IsDoneOver w (Model.Step actor) Model.Idle Conditions.Working new p a b
-  step_idle actor new p b told slots maker stands m = record {
+      → new.slots ≡ parts.slots → new.maker ≡ parts.maker → StandsAs y p new.tags b → TagsPlaced w.disk w.disk parts.tags new.tags a b → IsLeftThrough y a b
+      → IsDoneOver w (Model.Step actor) Model.Idle Conditions.Working new p recalc a b
+  step_idle actor new p b told slots maker stands gives m = record {
     answers = ap (λ (x : Model.EventResult). x.answer) told;
-    done = working_done w parts journal a is (Model.Step actor) (Model.only_answers s.progress Model.Idle) told is.condition_ w.disk refl new p b
-        (subst (λ (x : Flight). IsFlightOf f x s.progress.requests) (sym slots) is.flight) maker is.still stands 0 s.history refl m;
+    done = working_done w parts journal recalc a is (Model.Step actor) (Model.only_answers s.progress Model.Idle) told is.condition_ w.disk refl new p b
+        (subst (λ (x : Flight). IsFlightOf f x s.progress.requests) (sym slots) is.flight) maker refl stands gives 0 s.history refl m;
   }
 
   -- One in which the disk fails leaves the history.
   pub step_failed : (actor : Model.Actor) (new : Parts) (p : PlacedRing) (b : List Content) → new.slots ≡ parts.slots → new.maker ≡ parts.maker → IsLeftThrough y a b
-      → IsAfter w (Model.FailedStep actor) Conditions.Broken new p a b
+      → IsAfter w (Model.FailedStep actor) Conditions.Broken new p recalc a b
   step_failed actor new p b slots maker m =
-      broken_done w parts journal a is (Model.FailedStep actor) (Model.only_answers s.progress Model.DiskFailed) (working-is w parts journal a is (Model.FailedStep actor)) (ap Model.after_failure is.condition_) new p b
-      (subst (λ (x : Flight). IsFlightOf f x s.progress.requests) (sym slots) is.flight) maker refl (standing_now y journal parts.tags a (stands_now w parts journal a is)) m
+      broken_done w parts journal recalc a is (Model.FailedStep actor) (Model.only_answers s.progress Model.DiskFailed) (working-is w parts journal recalc a is (Model.FailedStep actor)) (ap Model.after_failure is.condition_) new p recalc b
+      (subst (λ (x : Flight). IsFlightOf f x s.progress.requests) (sym slots) is.flight) maker (standing_now y journal parts.tags a (stands_now w parts journal recalc a is)) m
 
   -- What the journal has to do, in journal mode.
   pub journal_step : (actor : Model.Actor) (found : Option JournalCounts) → Model.step f s.progress actor ≡ Model.step_journal s.progress (Model.in_modes (is_journal f.mode) found)
       → (o : Option JournalCounts) → found ≡ o → Model.event_result f s (Model.Step actor) ≡ Model.step_journal s.progress o
   journal_step actor found steps o is_o =
-      working-is w parts journal a is (Model.Step actor) ∙ steps ∙ ap (λ (x : DeviceFormat). Model.step_journal s.progress (Model.in_modes (is_journal x.mode) found)) is.format
+      working-is w parts journal recalc a is (Model.Step actor) ∙ steps ∙ ap (λ (x : DeviceFormat). Model.step_journal s.progress (Model.in_modes (is_journal x.mode) found)) is.format
       ∙ ap (Model.step_journal s.progress) is_o
 
   -- What a commit, a place or a settle did.
   abbrev pub Steps : Model.Actor → Moved → Parts → PlacedRing → List Content → Type 0
-  Steps actor moved new p b = IsDoneOver w (Model.Step actor) (moved_answer (moved_as moved)) Conditions.Working new p a b
+  Steps actor moved new p b = IsDoneOver w (Model.Step actor) (moved_answer (moved_as moved)) Conditions.Working new p recalc a b
 
-  pub commit_step : (moved : Moved) (new : Parts) (p : PlacedRing) (b : List Content) → new.slots ≡ parts.slots → new.maker ≡ parts.maker
-      → CommitsAs moved y journal p new.tags b → IsLeftThrough y a b → Steps Model.Commit moved new p b
-  commit_step JournalMoves.Did new p b slots maker has m =
-      step_did Model.Commit has.counts (after_commit w.disk (next_batch journal.ring) has.bytes) new p b
-      (journal_step Model.Commit (commit f.sections s.progress.journal) refl (Some has.counts) has.counts_are) refl slots maker has.stands m
-  commit_step JournalMoves.Idle new p b slots maker has m =
-      step_idle Model.Commit new p b (journal_step Model.Commit (commit f.sections s.progress.journal) refl None has.none) slots maker has.stands m
+  -- A commit leaves the store.
+  pub commit_step : (moved : Moved) (p : PlacedRing) (b : List Content) → CommitsAs moved y journal p parts.tags a b → IsLeftThrough y a b → Steps Model.Commit moved parts p b
+  commit_step JournalMoves.Did p b has m =
+      step_did Model.Commit has.counts (after_commit w.disk (next_batch journal.ring) has.bytes) parts p b
+      (journal_step Model.Commit (commit f.sections s.progress.journal) refl (Some has.counts) has.counts_are) refl refl refl has.stands has.gives m
+  commit_step JournalMoves.Idle p b has m =
+      step_idle Model.Commit parts p b (journal_step Model.Commit (commit f.sections s.progress.journal) refl None has.none) refl refl has.stands has.gives m
 
   pub place_step : (moved : Moved) (new : Parts) (p : PlacedRing) (b : List Content) → new.slots ≡ parts.slots → new.maker ≡ parts.maker
-      → PlacesAs moved y p new.tags b → IsLeftThrough y a b → Steps Model.Place moved new p b
+      → PlacesAs moved y p parts.tags new.tags a b → IsLeftThrough y a b → Steps Model.Place moved new p b
   place_step JournalMoves.Did new p b slots maker has m =
-      step_did Model.Place has.counts (after_place w.disk) new p b (journal_step Model.Place (place s.progress.journal) refl (Some has.counts) has.counts_are) refl slots maker has.stands m
+      step_did Model.Place has.counts (after_place w.disk) new p b (journal_step Model.Place (place s.progress.journal) refl (Some has.counts) has.counts_are) refl slots maker has.stands has.gives m
   place_step JournalMoves.Idle new p b slots maker has m =
-      step_idle Model.Place new p b (journal_step Model.Place (place s.progress.journal) refl None has.none) slots maker has.stands m
+      step_idle Model.Place new p b (journal_step Model.Place (place s.progress.journal) refl None has.none) slots maker has.stands has.gives m
 
   pub settle_step : (moved : Moved) (new : Parts) (p : PlacedRing) (b : List Content) → new.slots ≡ parts.slots → new.maker ≡ parts.maker
-      → SettlesAs moved y p new.tags b → IsLeftThrough y a b → Steps Model.Settle moved new p b
+      → SettlesAs moved y p parts.tags new.tags a b → IsLeftThrough y a b → Steps Model.Settle moved new p b
   settle_step JournalMoves.Did new p b slots maker has m =
-      step_did Model.Settle has.counts (after_settle w.disk) new p b (journal_step Model.Settle (settle s.progress.journal) refl (Some has.counts) has.counts_are) refl slots maker has.stands m
+      step_did Model.Settle has.counts (after_settle w.disk) new p b (journal_step Model.Settle (settle s.progress.journal) refl (Some has.counts) has.counts_are) refl slots maker has.stands has.gives m
   settle_step JournalMoves.Idle new p b slots maker has m =
-      step_idle Model.Settle new p b (journal_step Model.Settle (settle s.progress.journal) refl None has.none) slots maker has.stands m
+      step_idle Model.Settle new p b (journal_step Model.Settle (settle s.progress.journal) refl None has.none) slots maker has.stands has.gives m
 
-  -- The other actors have nothing to do.
-  pub clean_step : IsDoneOver w (Model.Step Model.Clean) Model.Idle Conditions.Working parts journal a a
+  -- A recalculation, by what it did.
+  pub recalc_step : {A : Type 0} (moved : Moved) (new : Recalculation) (last : Store) (first final : A) (b : List Content) → last.geometry ≡ parts.tags.geometry
+      → HasStepped moved parts.maker recalc new parts.tags last first final a b → (moved ≡ JournalMoves.Idle → b ≡ a)
+      → IsDoneOver w (Model.Step Model.Recalc) (moved_answer (moved_as moved)) Conditions.Working (record parts { tags = last }) journal new a b
+  recalc_step JournalMoves.Did new last first final b same has still = recalc_did w parts journal recalc a is has.region has.least new last b same has.steps
+  recalc_step JournalMoves.Idle new last first final b same has still =
+      subst (λ (r : Recalculation). IsDoneOver w (Model.Step Model.Recalc) Model.Idle Conditions.Working (record parts { tags = last }) journal r a b) (sym has.recalc_)
+      (subst (λ (x : Store). IsDoneOver w (Model.Step Model.Recalc) Model.Idle Conditions.Working (record parts { tags = x }) journal recalc a b) (sym has.store_)
+      (subst (λ (m : List Content). IsDoneOver w (Model.Step Model.Recalc) Model.Idle Conditions.Working parts journal recalc a m) (sym (still refl)) (recalc_idle w parts journal recalc a is has.none)))
+
+  -- The last actor has nothing to do.
+  pub clean_step : IsDoneOver w (Model.Step Model.Clean) Model.Idle Conditions.Working parts journal recalc a a
   clean_step =
-      only_done w Conditions.Working parts journal a is (Model.Step Model.Clean) Model.Idle
-      (working-is w parts journal a is (Model.Step Model.Clean)
+      only_done w Conditions.Working parts journal recalc a is (Model.Step Model.Clean) Model.Idle
+      (working-is w parts journal recalc a is (Model.Step Model.Clean)
       ∙ ap (λ (x : DeviceFormat). Model.step_regions s.progress (Model.in_modes (is_bitmap x.mode) (clean f.regions (Model.is_used f s.progress.requests) s.progress.regions))) is.format) refl
-
-  find-none : (test : ℕ → Bool) (from count : ℕ) → ((r : ℕ) → test r ≡ false) → find test (range_with_len from count) ≡ None
-  find-none test from zero fails = refl
-  find-none test from (suc count) fails = rw (fails from) (find-none test (from + 1) count fails)
-
-  pub recalc_step : IsDoneOver w (Model.Step Model.Recalc) Model.Idle Conditions.Working parts journal a a
-  recalc_step =
-      only_done w Conditions.Working parts journal a is (Model.Step Model.Recalc) Model.Idle
-      (working-is w parts journal a is (Model.Step Model.Recalc)
-      ∙ ap (λ (x : DeviceFormat). Model.step_regions s.progress (Model.in_modes (not (is_recovery x.mode)) (recalculate f.regions s.progress.regions))) is.format
-      ∙ ap (λ (o : Option ℕ). Model.step_regions s.progress (option_map (λ (r : ℕ). recalculated_region r s.progress.regions) o)) (find-none s.progress.regions.awaiting 0 f.regions is.still)) refl
 
   -- ---- the end
 
-  pub close_done : (new : Parts) (p : PlacedRing) (b : List Content) → HasClosed y p new.tags b → IsLeftThrough y a b → EndsOver w Model.Close Model.IsClosed a b
-  close_done new p b closed m =
-      let told = working-is w parts journal a is Model.Close in
-      let changes : (Model.event_result f s Model.Close).changes ≡ Flushed ∷ [] = ap (λ (x : Model.EventResult). x.changes) told ∙ ap (λ (x : DeviceFormat). if is_recovery x.mode then [] else Flushed ∷ []) is.format in
-      let mode = no_bitmap w parts journal a is in
-      record {
-        answers = ap (λ (x : Model.EventResult). x.answer) told;
-        through = left_through w.disk.format w.entry is.reads mode f s Model.Close 0 s.history refl m;
-        left = subst (λ (xs : List Change). IsLeftNow (kind_on w.disk.format) w.entry (with_changes xs s.history) b) (sym changes)
-            (left_now w.disk.format w.entry is.reads mode (with_change s.history Flushed) b
-            (subst (λ (d : DiskFormat). HasNow (EachImage (IsLeftInJournal d (with_change s.history Flushed))) b) closed.format
-            (standing_now (record { format = f; history = with_change s.history Flushed; counts = closed.counts; disk = closed.disk }) p new.tags b closed.stands)));
-      }
+  -- All is flushed by a close.
+  close_flushes : (Model.event_result w.format w.state Model.Close).changes ≡ Flushed ∷ []
+  close_flushes =
+      ap (λ (x : Model.EventResult). x.changes) (working-is w parts journal recalc a is Model.Close) ∙ ap (λ (x : DeviceFormat). if is_recovery x.mode then [] else Flushed ∷ []) is.format
 
+  -- Where it ends with the journal,
+  pub close_done : (new : Parts) (p : PlacedRing) (b : List Content) → HasClosed y p parts.tags new.tags a b → IsLeftThrough y a b → EndsOver w Model.Close Model.IsClosed a b
+  close_done new p b closed m = record {
+    answers = ap (λ (x : Model.EventResult). x.answer) (working-is w parts journal recalc a is Model.Close);
+    through = left_through w.disk.format w.entry is.opened is.no_bitmap f s Model.Close 0 s.history refl m;
+    left = subst (λ (xs : List Change). IsLeftNow (kind_on w.disk.format) w.entry (with_changes xs s.history) b) (sym close_flushes)
+        (left_now w.disk.format w.entry is.opened is.no_bitmap (with_change s.history Flushed) b
+        (subst (λ (d : DiskFormat). HasNow (EachImage (IsLeftInJournal d (with_change s.history Flushed))) b) closed.format
+        (standing_now (record { format = f; history = with_change s.history Flushed; counts = closed.counts; disk = closed.disk }) p new.tags b closed.stands)));
+  }
+
+  -- and where the disk fails in that.
   pub close_failed : (b : List Content) → IsLeftThrough y a b → EndsOver w Model.FailedClose Model.DiskFailed a b
   close_failed b m =
-      let told = working-is w parts journal a is Model.FailedClose in
-      let mode = no_bitmap w parts journal a is in
+      let told = working-is w parts journal recalc a is Model.FailedClose in
       record {
         answers = ap (λ (x : Model.EventResult). x.answer) told;
-        through = left_through w.disk.format w.entry is.reads mode f s Model.FailedClose 0 s.history refl m;
+        through = left_through w.disk.format w.entry is.opened is.no_bitmap f s Model.FailedClose 0 s.history refl m;
         left = subst (λ (x : Model.EventResult). IsLeftNow (kind_on w.disk.format) w.entry (with_changes x.changes s.history) b) (sym told)
-            (left_now w.disk.format w.entry is.reads mode s.history b (content_at_end m (standing_now y journal parts.tags a (stands_now w parts journal a is))));
+            (left_now w.disk.format w.entry is.opened is.no_bitmap s.history b (content_at_end m (standing_now y journal parts.tags a (stands_now w parts journal recalc a is))));
       }
 
 -- ---- for callers
@@ -158,5 +163,5 @@ module _ (w : JournaledStanding) (parts : Parts) (journal : PlacedRing) (a : Lis
 pub quiet_kept_law : QuietLaw
 quiet_kept_law w condition device flight moments event is none counts regions own same =
     let new : Parts = record device.parts { slots = flight } in
-    done_on w is.disk is.format event condition new device.journal moments moments
-    (quiet_done (standing_on w is.disk) condition device.parts device.journal moments is.over event new none own refl refl counts regions same)
+    done_on w is.disk is.format event condition new device.journal device.recalc moments moments
+    (quiet_done (standing_on w is.disk) condition device.parts device.journal device.recalc moments is.over event new none own refl refl counts regions same)

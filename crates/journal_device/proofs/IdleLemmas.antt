@@ -12,8 +12,11 @@ use Rattle.journal_mode.specs.Commits.{HasCommitted}
 use Rattle.journal_mode.specs.Journal.{PlacedRing}
 use Rattle.disk_model.specs.Disk.{Content}
 use Rattle.std.specs.Prelude.{List}
+use Rattle.hmac_tag.specs.TagMaker.{TagRule}
+use Rattle.recalculation.specs.declared.recalculating.Recalculation.{Recalculation}
 use Rattle.journal_device.specs.Answers.{moved_as}
 use Rattle.journal_device.specs.Device.{kept}
+use Rattle.journal_device.specs.Recalculating.{HasStepped}
 
 -- A journal is its ring and how far that is placed.
 same_journal : (old new : PlacedRing) → new.ring ≡ old.ring → new.placement ≡ old.placement → new ≡ old
@@ -25,25 +28,37 @@ same_journal old new ring placement =
 same_parts : (parts : Parts) (tags : Store) → tags ≡ parts.tags → record parts { tags = tags } ≡ parts
 same_parts parts tags same = ap (λ (t : Store). let p : Parts = record parts { tags = t } in p) same
 
--- What is kept is the parts and the journal.
-pub same_kept : (parts new : Parts) (journal put : PlacedRing) → new ≡ parts → put ≡ journal → kept new put ≡ kept parts journal
-same_kept parts new journal put same same_journal =
-    ap (λ (p : Parts). kept p put) same ∙ ap (λ (j : PlacedRing). kept parts j) same_journal
+-- What is kept is the parts, the journal and the regions.
+pub same_kept : (parts new : Parts) (journal put : PlacedRing) (recalc last : Recalculation) → new ≡ parts → put ≡ journal → last ≡ recalc → kept new put last ≡ kept parts journal recalc
+same_kept parts new journal put recalc last same same_journal same_recalc =
+    ap (λ (p : Parts). kept p put last) same ∙ ap (λ (j : PlacedRing). kept parts j last) same_journal ∙ ap (λ (r : Recalculation). kept parts journal r) same_recalc
 
-module _ {A : Type 0} (parts : Parts) (old new : PlacedRing) (first last : A) where
+module _ {A : Type 0} (parts : Parts) (old new : PlacedRing) (recalc : Recalculation) (first last : A) where
   pub idle_commit : (moved : JournalMove.Moved) (before after : List Content) → HasCommitted moved old new first last before after
-      → moved_as moved ≡ Moves.Idle → (kept parts new ≡ kept parts old) × (last ≡ first)
+      → moved_as moved ≡ Moves.Idle → (kept parts new recalc ≡ kept parts old recalc) × (last ≡ first)
   idle_commit JournalMoves.Did before after has idle = absurd cc
-  idle_commit JournalMoves.Idle before after has idle = (same_kept parts parts old new refl has.journal, has.disk)
+  idle_commit JournalMoves.Idle before after has idle = (same_kept parts parts old new recalc recalc refl has.journal refl, has.disk)
 
   pub idle_place : (moved : JournalMove.Moved) (tags : Store) → HasPlaced moved old.placement new.placement old.ring parts.tags tags first last
-      → new.ring ≡ old.ring → moved_as moved ≡ Moves.Idle → (kept (record parts { tags = tags }) new ≡ kept parts old) × (last ≡ first)
+      → new.ring ≡ old.ring → moved_as moved ≡ Moves.Idle → (kept (record parts { tags = tags }) new recalc ≡ kept parts old recalc) × (last ≡ first)
   idle_place JournalMoves.Did tags has ring idle = absurd cc
   idle_place JournalMoves.Idle tags has ring idle =
-      (same_kept parts (record parts { tags = tags }) old new (same_parts parts tags has.store) (same_journal old new ring has.placement), has.disk)
+      (same_kept parts (record parts { tags = tags }) old new recalc recalc (same_parts parts tags has.store) (same_journal old new ring has.placement) refl, has.disk)
 
   pub idle_settle : (moved : JournalMove.Moved) (tags : Store) → HasSettled moved old.placement new.placement old.ring new.ring parts.tags tags first last
-      → moved_as moved ≡ Moves.Idle → (kept (record parts { tags = tags }) new ≡ kept parts old) × (last ≡ first)
+      → moved_as moved ≡ Moves.Idle → (kept (record parts { tags = tags }) new recalc ≡ kept parts old recalc) × (last ≡ first)
   idle_settle JournalMoves.Did tags has idle = absurd cc
   idle_settle JournalMoves.Idle tags has idle =
-      (same_kept parts (record parts { tags = tags }) old new (same_parts parts tags has.store) (same_journal old new has.ring_ has.placement), has.disk)
+      (same_kept parts (record parts { tags = tags }) old new recalc recalc (same_parts parts tags has.store) (same_journal old new has.ring_ has.placement) refl, has.disk)
+
+pub idle_recalc : {A : Type 0} (parts : Parts) (journal : PlacedRing) (old new : Recalculation) (tags : Store) (rule : TagRule) (first last : A) (moved : JournalMove.Moved) (a b : List Content)
+    → HasStepped moved rule old new parts.tags tags first last a b → moved_as moved ≡ Moves.Idle → (kept (record parts { tags = tags }) journal new ≡ kept parts journal old) × (last ≡ first)
+idle_recalc parts journal old new tags rule first last JournalMoves.Did a b has idle = absurd cc
+idle_recalc parts journal old new tags rule first last JournalMoves.Idle a b has idle =
+    (same_kept parts (record parts { tags = tags }) journal journal old new (same_parts parts tags has.store_) refl has.recalc_, has.disk)
+
+-- One that is idle has not called the disk.
+pub still_recalc : {A : Type 0} (moved : JournalMove.Moved) (rule : TagRule) (old new : Recalculation) (store last : Store) (first final : A) (a b : List Content) → HasStepped moved rule old new store last first final a b
+    → moved ≡ JournalMoves.Idle → final ≡ first
+still_recalc JournalMoves.Did rule old new store last first final a b has idle = absurd cc
+still_recalc JournalMoves.Idle rule old new store last first final a b has idle = has.disk

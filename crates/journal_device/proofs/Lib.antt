@@ -1,9 +1,13 @@
-pub mod OverDisk
 pub mod KindLemmas
+pub mod OverDisk
 pub mod DoneLemmas
 pub mod WriteLemmas
+pub mod ConditionLemmas
+pub mod CutLemmas
+pub mod RecalcLemmas
 pub mod ServingLemmas
 pub mod EventLemmas
 pub mod EndLemmas
 pub mod StepsLemmas
 pub mod IdleLemmas
+pub mod FieldsLemmas

@@ -1,10 +1,11 @@
 -- An event of a device in journal mode over its disk, and as one of any mode.
-use Rattle.std.proofs.Common.{◌≡◌, ℕ, List, ◌∙◌, subst}
+use Rattle.std.proofs.Common.{◌≡◌, ℕ, List}
 use Rattle.disk_model.specs.Disk.{Content}
 use Rattle.device_model.specs.Progress as Model
-use Rattle.place_model.specs.Format.{DiskFormat}
 use Rattle.direct_laws.specs.MomentLaws.{IsLeftNow, IsLeftThrough}
 use Rattle.journal_model.specs.JournaledDisk.{JournaledDisk}
+use Rattle.recalculate_laws.specs.Formats.{IsFormatOf}
+use Rattle.recalculation.specs.declared.recalculating.Recalculation.{Recalculation}
 use Rattle.device_parts.specs.declared.answers.Served.{Served}
 use Rattle.device_parts.specs.declared.condition.Condition.{Condition}
 use Rattle.device_parts.specs.declared.condition.Condition.TheVariants.{Broken, Working}
@@ -13,32 +14,34 @@ use Rattle.device_parts.specs.Answers.{served_answer}
 use Rattle.device_parts.specs.Device.{HasDone, HasEnded, IsDone, Standing}
 use Rattle.journal_mode.specs.Journal.{PlacedRing}
 use Rattle.journal_device.specs.Device.{IsOverDisk, JournaledStanding, in_journal, kept, kind_on, standing_on, standing_then}
+use Rattle.journal_device.proofs.KindLemmas.{format_again, now_on, through_on}
 
--- The device is the one after an event, over a disk of the same format. At each moment of the call each image can be
--- opened, and may be left within the event.
+-- The device is the one after an event, over a disk of the same format, but for what is to be recalculated. At each
+-- moment of the call each image can be opened, and may be left within the event.
 pub record IsAfter (w : JournaledStanding) (event : Model.Event) (condition : Condition) (parts : Parts)
-    (journal : PlacedRing) (before after : List Content) : Type 0 where
+    (journal : PlacedRing) (recalc : Recalculation) (before after : List Content) : Type 0 where
   pub disk : JournaledDisk
-  pub format : disk.format ≡ w.disk.format
-  pub device : IsOverDisk (standing_then w event disk) condition parts journal after
+  pub format : IsFormatOf w.disk.format disk.format
+  pub device : IsOverDisk (standing_then w event disk) condition parts journal recalc after
   pub through : IsLeftThrough (kind_on w.disk.format) w.entry w.format w.state event before after
 
 -- The device answers the event so, and is the one after it.
 pub record IsDoneOver (w : JournaledStanding) (event : Model.Event) (answer : Model.Answer) (condition : Condition)
-    (parts : Parts) (journal : PlacedRing) (before after : List Content) : Type 0 where
+    (parts : Parts) (journal : PlacedRing) (recalc : Recalculation) (before after : List Content) : Type 0 where
   pub answers : (Model.event_result w.format w.state event).answer ≡ answer
-  pub done : IsAfter w event condition parts journal before after
+  pub done : IsAfter w event condition parts journal recalc before after
 
 -- The request is served, and answers so.
-abbrev pub IsServedAs : JournaledStanding → (ticket : ℕ) → Served → Parts → PlacedRing → (before after : List Content)
-    → Type 0
-IsServedAs w ticket served parts journal before after =
-    IsDoneOver w (Model.Serve ticket) (served_answer served) Working parts journal before after
+abbrev pub IsServedAs : JournaledStanding → (ticket : ℕ) → Served → Parts → PlacedRing → Recalculation
+    → (before after : List Content) → Type 0
+IsServedAs w ticket served parts journal recalc before after =
+    IsDoneOver w (Model.Serve ticket) (served_answer served) Working parts journal recalc before after
 
 -- The disk failed in it.
-abbrev pub HasFailedIn : JournaledStanding → (ticket : ℕ) → Parts → PlacedRing → (before after : List Content) → Type 0
-HasFailedIn w ticket parts journal before after =
-    IsAfter w (Model.FailedServe ticket) Broken parts journal before after
+abbrev pub HasFailedIn : JournaledStanding → (ticket : ℕ) → Parts → PlacedRing → Recalculation
+    → (before after : List Content) → Type 0
+HasFailedIn w ticket parts journal recalc before after =
+    IsAfter w (Model.FailedServe ticket) Broken parts journal recalc before after
 
 -- It ends with an event that answers so.
 pub record EndsOver (w : JournaledStanding) (event : Model.Event) (answer : Model.Answer) (before after : List Content)
@@ -50,26 +53,25 @@ pub record EndsOver (w : JournaledStanding) (event : Model.Event) (answer : Mode
 -- ---- for callers
 
 -- What is said over a disk of the device's format is said of the device.
-module _ (w : Standing) (disk : JournaledDisk) (same : disk.format ≡ w.on) (event : Model.Event) where
-  pub done_on : (condition : Condition) (parts : Parts) (journal : PlacedRing) (a b : List Content)
-      → IsAfter (standing_on w disk) event condition parts journal a b
-      → HasDone in_journal w event condition (kept parts journal) a b
-  done_on condition parts journal a b done = record {
-    device = record { disk = done.disk; format = done.format ∙ same; over = done.device };
-    through = subst (λ (f : DiskFormat). IsLeftThrough (kind_on f) w.entry w.format w.state event a b) same done.through;
+module _ (w : Standing) (disk : JournaledDisk) (same : IsFormatOf w.on disk.format) (event : Model.Event) where
+  pub done_on : (condition : Condition) (parts : Parts) (journal : PlacedRing) (recalc : Recalculation) (a b : List Content)
+      → IsAfter (standing_on w disk) event condition parts journal recalc a b
+      → HasDone in_journal w event condition (kept parts journal recalc) a b
+  done_on condition parts journal recalc a b done = record {
+    device = record { disk = done.disk; format = format_again w.on disk.format same done.disk.format done.format; over = done.device };
+    through = through_on w.on disk.format same w.entry w.format w.state event a b done.through;
   }
 
-  pub is_done_on : (answer : Model.Answer) (condition : Condition) (parts : Parts) (journal : PlacedRing) (a b : List Content)
-      → IsDoneOver (standing_on w disk) event answer condition parts journal a b
-      → IsDone in_journal w event answer condition (kept parts journal) a b
-  is_done_on answer condition parts journal a b done =
-      record { answers = done.answers; done = done_on condition parts journal a b done.done }
+  pub is_done_on : (answer : Model.Answer) (condition : Condition) (parts : Parts) (journal : PlacedRing) (recalc : Recalculation) (a b : List Content)
+      → IsDoneOver (standing_on w disk) event answer condition parts journal recalc a b
+      → IsDone in_journal w event answer condition (kept parts journal recalc) a b
+  is_done_on answer condition parts journal recalc a b done =
+      record { answers = done.answers; done = done_on condition parts journal recalc a b done.done }
 
   pub ended_on : (answer : Model.Answer) (a b : List Content) → EndsOver (standing_on w disk) event answer a b
       → HasEnded in_journal w event answer a b
   ended_on answer a b ended = record {
     answers = ended.answers;
-    through = subst (λ (f : DiskFormat). IsLeftThrough (kind_on f) w.entry w.format w.state event a b) same ended.through;
-    left = subst (λ (f : DiskFormat). IsLeftNow (kind_on f) w.entry (Model.after_event w.format w.state event).history b) same
-        ended.left;
+    through = through_on w.on disk.format same w.entry w.format w.state event a b ended.through;
+    left = now_on w.on disk.format same w.entry (Model.after_event w.format w.state event).history b ended.left;
   }

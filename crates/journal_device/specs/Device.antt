@@ -1,17 +1,26 @@
 -- Which device of `device_model` a device in journal mode is, by what it keeps beside its disk and what the disk tells.
-use Rattle.std.specs.Prelude.{◌≡◌, ℕ, false, List, [], Some}
+use Rattle.std.specs.Prelude.{◌≡◌, ℕ, Bool, false, List, [], Some}
 use Rattle.disk_model.specs.Disk.{Content, Image}
 use Rattle.disk_model.specs.Identity.{DiskIdentity}
 use Rattle.disk_model.specs.Moments.{content_now}
+use Rattle.image_model.specs.declared.flags.TheConstants.{DIRTY_BITMAP}
+use Rattle.image_model.specs.Superblock.{has_flag}
 use Rattle.device_model.specs.Device.{DeviceKind}
 use Rattle.device_model.specs.Mode.{DeviceFormat, Journal}
 use Rattle.device_model.specs.Progress as Model
 use Rattle.device_model.specs.RequestLaws.{IsReached}
-use Rattle.place_model.specs.Format.{DiskFormat, IsReadAs}
+use Rattle.place_model.specs.Format.{DiskFormat}
 use Rattle.place_model.specs.Kind.{kind_in}
 use Rattle.place_model.specs.Opened.{device_format}
 use Rattle.journal_model.specs.JournaledDisk.{JournaledDisk}
 use Rattle.direct_laws.specs.MomentLaws.{IsLeftNow}
+use Rattle.recalculate_laws.specs.Device.{HasBlocksOf}
+use Rattle.recalculate_laws.specs.Formats.{AwaitsWork, IsFormatOf}
+use Rattle.recalculate_laws.specs.Taking.{KeepsAwaitingNow}
+use Rattle.recalculation.specs.declared.recalculating.Recalculation.{Recalculation}
+use Rattle.recalculation.specs.Position.{CanBeWritten}
+use Rattle.recalculation.specs.Recalculation.{IsRecalculationOf}
+use Rattle.tag_store.specs.Store.{Store, given_tags}
 use Rattle.request_slots.specs.Flight.{Flight}
 use Rattle.request_slots.specs.InFlight.{IsFlightOf}
 use Rattle.device_parts.specs.declared.condition.Condition.{Condition}
@@ -25,15 +34,17 @@ use Rattle.journal_device.specs.declared.parts.JournalParts.{JournalParts}
 
 -- ---- what is true of each device
 
--- What is kept is of this disk, as long as the device works, and the journal lies on it.
-pub record IsReady (condition : Condition) (parts : Parts) (journal : PlacedRing) (disk : DiskIdentity)
-    (moments : List Content) : Type 0 where
+-- What is kept is of this disk, as long as the device works, the journal lies on it, and the regions are those of its
+-- blocks.
+pub record IsReady (condition : Condition) (parts : Parts) (journal : PlacedRing) (recalc : Recalculation)
+    (disk : DiskIdentity) (moments : List Content) : Type 0 where
   pub parts_ : condition ≡ Working → Devices.IsReady parts disk moments
   pub geometry : journal.ring.geometry ≡ parts.tags.geometry
+  pub regions_ : recalc.awaiting.geometry ≡ parts.tags.geometry
 
 -- What a device in journal mode keeps.
-abbrev pub kept : Parts → PlacedRing → JournalParts
-kept parts journal = record { parts = parts; journal = journal }
+abbrev pub kept : Parts → PlacedRing → Recalculation → JournalParts
+kept parts journal recalc = record { parts = parts; journal = journal; recalc = recalc }
 
 -- ---- over its disk
 
@@ -62,25 +73,40 @@ standing_of w = record {
   disk = w.disk;
 }
 
+-- The regions that await the tags of their blocks.
+abbrev pub awaiting_in : JournaledStanding → ℕ → Bool
+awaiting_in w = w.state.progress.regions.awaiting
+
+-- What holds as long as a device works: what its journal stands for, with tags that are made in each region that does
+-- not await; each region that does has a block to be recalculated; and these are the regions and the fields that are
+-- kept.
+pub record IsWorking (y : JournalStanding) (awaiting : ℕ → Bool) (journal : PlacedRing) (recalc : Recalculation)
+    (store : Store) (moments : List Content) : Type 0 where
+  pub stands : StandsAs y journal store moments
+  pub keeps : KeepsAwaitingNow y.disk awaiting (given_tags store) moments
+  pub work : AwaitsWork y.disk.format awaiting
+  pub recalc_ : IsRecalculationOf y.disk.superblock y.disk.geometry awaiting recalc
+  pub written : CanBeWritten y.disk.superblock
+
 -- The kind of device that a disk is opened by in journal mode.
 abbrev pub kind_on : DiskFormat → DeviceKind
 kind_on d = kind_in Journal d.key d.sectors
 
--- What is kept is that of this device, whose disk tells its content: the requests in flight, the tags' rule and, as
--- long as it works, the journal. No region awaits its tags. Each image of the disk can be opened, and may be left by
--- the history.
+-- What is kept is that of this device, whose disk tells its content, and has the blocks of the image that it was opened
+-- on: the requests in flight, the tags' rule and, as long as it works, the journal and the regions that await. Each
+-- image of the disk can be opened, and may be left by the history.
 pub record IsOverDisk (w : JournaledStanding) (condition : Condition) (parts : Parts) (journal : PlacedRing)
-    (moments : List Content) : Type 0 where
+    (recalc : Recalculation) (moments : List Content) : Type 0 where
   pub reached : IsReached w.format w.state
   pub format : w.format ≡ device_format Journal w.disk.format
-  pub reads : IsReadAs w.disk.format w.entry
+  pub no_bitmap : has_flag DIRTY_BITMAP w.disk.superblock.flags ≡ false
+  pub opened : HasBlocksOf w.entry w.disk
   pub flight : IsFlightOf w.format parts.slots w.state.progress.requests
   pub rule : parts.maker ≡ rule_on w.disk.format
   pub condition_ : w.state.condition ≡ condition_of condition
-  pub still : (region : ℕ) → w.state.progress.regions.awaiting region ≡ false
   pub told : Content
   pub is_told : content_now moments ≡ Some told
-  pub stands : condition ≡ Working → StandsAs (standing_of w) journal parts.tags moments
+  pub works : condition ≡ Working → IsWorking (standing_of w) (awaiting_in w) journal recalc parts.tags moments
   pub left : IsLeftNow (kind_on w.disk.format) w.entry w.state.history moments
 
 -- ---- as a device of any mode
@@ -89,18 +115,18 @@ pub record IsOverDisk (w : JournaledStanding) (condition : Condition) (parts : P
 abbrev pub standing_on : Standing → JournaledDisk → JournaledStanding
 standing_on w disk = record { format = w.format; state = w.state; disk = disk; entry = w.entry }
 
--- It is one over some disk of its format.
+-- It is one over some disk of its format, but for what is to be recalculated.
 pub record IsJournaled (w : Standing) (condition : Condition) (device : JournalParts) (moments : List Content)
     : Type 0 where
   pub disk : JournaledDisk
-  pub format : disk.format ≡ w.on
-  pub over : IsOverDisk (standing_on w disk) condition device.parts device.journal moments
+  pub format : IsFormatOf w.on disk.format
+  pub over : IsOverDisk (standing_on w disk) condition device.parts device.journal device.recalc moments
 
 -- Journal mode.
 abbrev pub in_journal : DeviceMode JournalParts
 in_journal = record {
   IsDevice = IsJournaled;
-  IsReady = λ condition device disk moments. IsReady condition device.parts device.journal disk moments;
+  IsReady = λ condition device disk moments. IsReady condition device.parts device.journal device.recalc disk moments;
   parts = λ device. device.parts;
   mode_of = λ device. Journal;
   kind = λ w. kind_on w.on;
@@ -116,4 +142,5 @@ QuietLaw = (w : Standing) (condition : Condition) (device : JournalParts) (fligh
     → result.progress.journal ≡ w.state.progress.journal → result.progress.regions ≡ w.state.progress.regions
     → IsFlightOf w.format flight result.progress.requests
     → (Model.after_event w.format w.state event).condition ≡ w.state.condition
-    → HasDone in_journal w event condition (kept (record device.parts { slots = flight }) device.journal) moments moments
+    → HasDone in_journal w event condition (kept (record device.parts { slots = flight }) device.journal device.recalc)
+    moments moments

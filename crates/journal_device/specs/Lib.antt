@@ -4,4 +4,5 @@ pub use Rattle.journal_mode.specs.Journal
 pub use Rattle.journal_mode.specs.Standing
 pub mod Answers
 pub mod Device
+pub mod Recalculating
 pub mod Writing

@@ -2,6 +2,7 @@
 
 use device_parts::Parts;
 use journal_mode::Journal;
+use recalculation::Recalculation;
 
 /// What a device in journal mode keeps beside its disk.
 #[derive(Drop)]
@@ -10,4 +11,6 @@ pub struct JournalParts<'p> {
     pub parts: Parts,
     /// The journal in use.
     pub journal: Journal<'p>,
+    /// The regions that await the tags of their blocks, and how far sector 0 says that it is.
+    pub recalc: Recalculation,
 }

@@ -8,17 +8,20 @@ ghost use Rattle.device_parts.specs.declared.condition.Condition.TheVariants.{Wo
 ghost use Rattle.journal_device.specs.Answers.{WritesFor};
 ghost use Rattle.journal_device.specs.Device.{IsReady, in_journal, kept};
 
+use crate::taking::take_first;
 use crate::writing::flush_if;
 use device_parts::{Parts, Served};
 use journal_mode::Journal;
+use recalculation::Recalculation;
 use request_slots::{Ticket, Turn};
 use sector_disk::{Disk, Failed};
 
 /// Does what is next for a request: reads one block, puts one into the journal, or commits all. It does nothing of one
 /// that is done, or that waits for another one, or whose block finds no room.
 ///
-/// A read takes the newest entry of its block in the journal, and else what is placed. The last block of a write that
-/// is to be flushed also commits all, as a flush does: by two batches at most.
+/// A read takes the newest entry of its block in the journal, and else what is placed, once the tags of its region are
+/// recalculated where that awaits. The last block of a write that is to be flushed also commits all, as a flush does:
+/// by two batches at most.
 ///
 /// Source: Linux, `drivers/md/dm-integrity.c`, `dm_integrity_map_continue` and `integrity_commit`.
 ///
@@ -29,56 +32,62 @@ pub fn serve<D: Disk>(
     disk: &mut D,
     parts: &mut Parts,
     journal: &mut Journal<'_>,
+    recalc: &mut Recalculation,
     ticket: &Ticket,
 ) -> Result<Served, Failed>
-    requires ready { IsReady Working parts.old journal.old (D.identity disk.old) (D.moments disk.old) }
+    requires ready { IsReady Working parts.old journal.old recalc.old (D.identity disk.old) (D.moments disk.old) }
     requires there { is_in_flight ticket.now parts.old.slots ≡ true }
 
-    ensures next { ServesNext in_journal ticket.now (kept parts.old journal.old) (kept parts.new journal.new)
-        (D.moments disk.old) (D.moments disk.new) result }
+    ensures next { ServesNext in_journal ticket.now (kept parts.old journal.old recalc.old)
+        (kept parts.new journal.new recalc.new) (D.moments disk.old) (D.moments disk.new) result }
 
     ensures cause { HasCause (D.faults disk.old) (D.faults disk.new) result }
 
-    ensures ready { IsReady (condition_by result) parts.new journal.new (D.identity disk.new) (D.moments disk.new) }
+    ensures ready { IsReady (condition_by result) parts.new journal.new recalc.new
+        (D.identity disk.new) (D.moments disk.new) }
     ensures identity { D.identity disk.new ≡ D.identity disk.old }
-    ensures writes { WritesFor (turn_of parts.old.slots ticket.now) parts.old journal.old
+    ensures writes { WritesFor (turn_of parts.old.slots ticket.now) parts.old journal.old recalc.old
         (D.moments disk.old) (D.moments disk.new) }
 {
     match parts.slots.turn(ticket) {
         Turn::Finished => Ok(Served::Done),
         Turn::Held { by } => Ok(Served::Held { by }),
-        Turn::Read { block } => serve_read(disk, parts, journal, ticket, block),
-        Turn::Write { block, is_flushed } => {
-            serve_write(disk, parts, journal, ticket, block, is_flushed)
-        }
-        Turn::Flush => serve_flush(disk, parts, journal, ticket),
+        Turn::Read { block } => serve_read(disk, parts, journal, recalc, ticket, block),
+        Turn::Write { block, is_flushed } => serve_write(
+            disk, parts, journal, recalc, ticket, block, is_flushed,
+        ),
+        Turn::Flush => serve_flush(disk, parts, journal, recalc, ticket),
     }
 }
 
-/// Reads the next block of a read, and compares its tag.
+/// Reads the next block of a read, and compares its tag. Its region is recalculated first, where that awaits and no
+/// section that is not free holds the block.
 fn serve_read<D: Disk>(
     disk: &mut D,
     parts: &mut Parts,
     journal: &Journal<'_>,
+    recalc: &mut Recalculation,
     ticket: &Ticket,
     block: u64,
 ) -> Result<Served, Failed>
-    requires ready { IsReady Working parts.old journal.now (D.identity disk.old) (D.moments disk.old) }
+    requires ready { IsReady Working parts.old journal.now recalc.old (D.identity disk.old) (D.moments disk.old) }
     requires there { is_in_flight ticket.now parts.old.slots ≡ true }
     requires turn { turn_of parts.old.slots ticket.now ≡ Turns.Read block }
     requires within { block < parts.old.slots.blocks }
     requires fits { FitsFlight ticket.now parts.old.slots }
 
-    ensures next { ServesNext in_journal ticket.now (kept parts.old journal.now) (kept parts.new journal.now)
-        (D.moments disk.old) (D.moments disk.new) result }
+    ensures next { ServesNext in_journal ticket.now (kept parts.old journal.now recalc.old)
+        (kept parts.new journal.now recalc.new) (D.moments disk.old) (D.moments disk.new) result }
 
     ensures cause { HasCause (D.faults disk.old) (D.faults disk.new) result }
 
-    ensures ready { IsReady (condition_by result) parts.new journal.now (D.identity disk.new) (D.moments disk.new) }
+    ensures ready { IsReady (condition_by result) parts.new journal.now recalc.new
+        (D.identity disk.new) (D.moments disk.new) }
     ensures identity { D.identity disk.new ≡ D.identity disk.old }
-    ensures writes { WritesFor (turn_of parts.old.slots ticket.now) parts.old journal.now
+    ensures writes { WritesFor (turn_of parts.old.slots ticket.now) parts.old journal.now recalc.old
         (D.moments disk.old) (D.moments disk.new) }
 {
+    take_first(disk, &mut parts.tags, &parts.maker, journal, recalc, block)?;
     let stored = journal.read_block(disk, &mut parts.tags, block, &mut parts.buffer)?;
     Ok(parts.serve_read(ticket, block, stored))
 }
@@ -88,26 +97,30 @@ fn serve_write<D: Disk>(
     disk: &mut D,
     parts: &mut Parts,
     journal: &mut Journal<'_>,
+    recalc: &Recalculation,
     ticket: &Ticket,
     block: u64,
     is_flushed: bool,
 ) -> Result<Served, Failed>
-    requires ready { IsReady Working parts.old journal.old (D.identity disk.old) (D.moments disk.old) }
+    requires ready { IsReady Working parts.old journal.old recalc.now (D.identity disk.old) (D.moments disk.old) }
     requires there { is_in_flight ticket.now parts.old.slots ≡ true }
     requires turn { turn_of parts.old.slots ticket.now ≡ Turns.Write block is_flushed }
     requires within { block < parts.old.slots.blocks }
     requires fits { FitsFlight ticket.now parts.old.slots }
 
-    ensures next { ServesNext in_journal ticket.now (kept parts.old journal.old) (kept parts.new journal.new)
-        (D.moments disk.old) (D.moments disk.new) result }
+    ensures next { ServesNext in_journal ticket.now (kept parts.old journal.old recalc.now)
+        (kept parts.new journal.new recalc.now) (D.moments disk.old) (D.moments disk.new) result }
 
     ensures cause { HasCause (D.faults disk.old) (D.faults disk.new) result }
 
-    ensures ready { IsReady (condition_by result) parts.new journal.new (D.identity disk.new) (D.moments disk.new) }
+    ensures ready { IsReady (condition_by result) parts.new journal.new recalc.now
+        (D.identity disk.new) (D.moments disk.new) }
     ensures identity { D.identity disk.new ≡ D.identity disk.old }
-    ensures writes { WritesFor (turn_of parts.old.slots ticket.now) parts.old journal.old
+    ensures writes { WritesFor (turn_of parts.old.slots ticket.now) parts.old journal.old recalc.now
         (D.moments disk.old) (D.moments disk.new) }
 {
+    // The regions are named in the contract alone: no tag is made.
+    let _ = recalc;
     let bytes = parts.slots.next_bytes(ticket);
     let tag = parts.maker.tag(block * parts.spb, bytes);
     if journal.put(block, bytes, &tag).is_err() {
@@ -123,22 +136,26 @@ fn serve_flush<D: Disk>(
     disk: &mut D,
     parts: &mut Parts,
     journal: &mut Journal<'_>,
+    recalc: &Recalculation,
     ticket: &Ticket,
 ) -> Result<Served, Failed>
-    requires ready { IsReady Working parts.old journal.old (D.identity disk.old) (D.moments disk.old) }
+    requires ready { IsReady Working parts.old journal.old recalc.now (D.identity disk.old) (D.moments disk.old) }
     requires there { is_in_flight ticket.now parts.old.slots ≡ true }
     requires turn { turn_of parts.old.slots ticket.now ≡ Turns.Flush }
 
-    ensures next { ServesNext in_journal ticket.now (kept parts.old journal.old) (kept parts.new journal.new)
-        (D.moments disk.old) (D.moments disk.new) result }
+    ensures next { ServesNext in_journal ticket.now (kept parts.old journal.old recalc.now)
+        (kept parts.new journal.new recalc.now) (D.moments disk.old) (D.moments disk.new) result }
 
     ensures cause { HasCause (D.faults disk.old) (D.faults disk.new) result }
 
-    ensures ready { IsReady (condition_by result) parts.new journal.new (D.identity disk.new) (D.moments disk.new) }
+    ensures ready { IsReady (condition_by result) parts.new journal.new recalc.now
+        (D.identity disk.new) (D.moments disk.new) }
     ensures identity { D.identity disk.new ≡ D.identity disk.old }
-    ensures writes { WritesFor (turn_of parts.old.slots ticket.now) parts.old journal.old
+    ensures writes { WritesFor (turn_of parts.old.slots ticket.now) parts.old journal.old recalc.now
         (D.moments disk.old) (D.moments disk.new) }
 {
+    // The regions are named in the contract alone: no tag is made.
+    let _ = recalc;
     journal.flush(disk, &parts.tags)?;
     parts.slots.finish(ticket);
     Ok(Served::Done)

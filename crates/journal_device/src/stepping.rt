@@ -1,19 +1,31 @@
-//! What is done in the background: batches are committed, entries placed, and sections freed.
-ghost use Rattle.std.specs.Prelude.{◌≡◌, ◌<◌, IfOk};
+//! What is done in the background: batches are committed, entries placed, sections freed, and regions recalculated.
+ghost use Rattle.std.specs.Prelude.{◌≡◌, ◌<◌, IfOk, OnErr};
 ghost use Rattle.disk_model.specs.Causes.{HasCause};
+ghost use Rattle.disk_model.specs.Disk.{OnlyAdds};
+ghost use Rattle.disk_model.specs.Moments.{EachSince};
+ghost use Rattle.recalculation.specs.Recalculation.{IsOfTagsOrHead, StaysOnDisk};
+ghost use Rattle.tag_store.specs.Store.{IsStore};
 ghost use Rattle.device_parts.specs.Answers.{StepsNext, actor_of, condition_by};
+ghost use Rattle.device_parts.specs.Device.{Standing};
 ghost use Rattle.device_parts.specs.declared.condition.Condition.TheVariants.{Working};
-ghost use Rattle.journal_device.specs.Answers.{HasNoWork, WritesAs, moved_as, steps_left};
-ghost use Rattle.journal_device.specs.Device.{IsReady, in_journal, kept};
+ghost use Rattle.journal_device.specs.Answers.{AdvancesAs, HasFieldsThrough, HasNoWork, WritesAs, fields_next, moved_as};
+ghost use Rattle.journal_device.specs.Answers.{steps_left};
+ghost use Rattle.journal_device.specs.Device.{IsJournaled, IsReady, in_journal, kept};
+ghost use Rattle.journal_device.specs.Recalculating.{HasStepped, StepsRegionIn};
 
 use device_parts::{Actor, Moved, Parts};
+use hmac_tag::TagMaker;
 use journal_mode::Journal;
 use journal_ring::Moved as JournalMoved;
+use recalculation::Recalculation;
 use sector_disk::{Disk, Failed};
+use tag_store::Tags;
 
 /// Lets an actor do its next step: a commit writes the opened sections and syncs, a place writes the oldest entry that
-/// is not placed to its place, and a settle frees the sections of which all is placed. The others have nothing to do
-/// in journal mode.
+/// is not placed to its place, a settle frees the sections of which all is placed, and a recalculation makes the tags
+/// of the least region that awaits and then moves the position. A clean has nothing to do in journal mode.
+///
+/// Source: Linux, `drivers/md/dm-integrity.c`, `do_journal_write` and `integrity_recalc`.
 ///
 /// # Errors
 ///
@@ -22,23 +34,30 @@ pub fn step<D: Disk>(
     disk: &mut D,
     parts: &mut Parts,
     journal: &mut Journal<'_>,
+    recalc: &mut Recalculation,
     actor: Actor,
 ) -> Result<Moved, Failed>
-    requires { IsReady Working parts.old journal.old (D.identity disk.old) (D.moments disk.old) }
+    requires { IsReady Working parts.old journal.old recalc.old (D.identity disk.old) (D.moments disk.old) }
 
-    ensures next { StepsNext in_journal actor (kept parts.old journal.old) (kept parts.new journal.new)
-        (D.moments disk.old) (D.moments disk.new) result }
+    ensures next { StepsNext in_journal actor (kept parts.old journal.old recalc.old)
+        (kept parts.new journal.new recalc.new) (D.moments disk.old) (D.moments disk.new) result }
     ensures goes_on { IfOk result (λ moved. moved ≡ Moved.Did
-        → steps_left actor journal.new < steps_left actor journal.old) }
+        → steps_left actor journal.new recalc.new < steps_left actor journal.old recalc.old) }
     ensures idle { IfOk result (λ moved. moved ≡ Moved.Idle
-        → (kept parts.new journal.new ≡ kept parts.old journal.old) × (disk.new ≡ disk.old)) }
+        → (kept parts.new journal.new recalc.new ≡ kept parts.old journal.old recalc.old)
+        × (disk.new ≡ disk.old)) }
+    ensures advances { IfOk result (λ moved. AdvancesAs actor moved recalc.old recalc.new) }
 
     ensures cause { HasCause (D.faults disk.old) (D.faults disk.new) result }
 
-    ensures ready { IsReady (condition_by result) parts.new journal.new (D.identity disk.new) (D.moments disk.new) }
+    ensures ready { IsReady (condition_by result) parts.new journal.new recalc.new
+        (D.identity disk.new) (D.moments disk.new) }
     ensures slots { parts.new.slots ≡ parts.old.slots }
     ensures identity { D.identity disk.new ≡ D.identity disk.old }
-    ensures writes { WritesAs actor parts.old journal.old (D.moments disk.old) (D.moments disk.new) }
+    ensures heads { (w : Standing) → IsJournaled w Working (kept parts.old journal.old recalc.old)
+        (D.moments disk.old) → HasFieldsThrough w recalc.old.position (fields_next recalc.old)
+        (D.moments disk.old) (D.moments disk.new) }
+    ensures writes { WritesAs actor parts.old journal.old recalc.old (D.moments disk.old) (D.moments disk.new) }
     ensures quiet { HasNoWork (actor_of actor) → disk.new ≡ disk.old }
 {
     let moved = match actor {
@@ -46,9 +65,42 @@ pub fn step<D: Disk>(
         Actor::Place => journal.place(disk, &mut parts.tags)?,
         Actor::Settle => journal.settle(disk, &mut parts.tags)?,
         Actor::Clean => JournalMoved::Idle,
-        Actor::Recalc => JournalMoved::Idle,
+        Actor::Recalc => recalculate(disk, &mut parts.tags, &parts.maker, recalc)?,
     };
     Ok(moved_as(moved))
+}
+
+/// Recalculates the least region that awaits, and then moves the position.
+///
+/// # Errors
+///
+/// - `Failed`: the disk failed. Any part of it may have been done.
+fn recalculate<D: Disk>(
+    disk: &mut D,
+    tags: &mut Tags,
+    maker: &TagMaker,
+    recalc: &mut Recalculation,
+) -> Result<JournalMoved, Failed>
+    requires same { tags.old.geometry ≡ recalc.old.awaiting.geometry }
+    requires size { maker.now.size ≡ recalc.old.awaiting.geometry.shape.tag_size }
+    requires store { IsStore tags.old (D.identity disk.old) (D.moments disk.old) }
+
+    ensures stepped { IfOk result (λ moved. HasStepped moved maker.now recalc.old recalc.new tags.old tags.new
+        disk.old disk.new (D.moments disk.old) (D.moments disk.new)) }
+
+    ensures cause { HasCause (D.faults disk.old) (D.faults disk.new) result }
+    ensures err { OnErr result (StepsRegionIn maker.now recalc.old tags.old (D.moments disk.old) (D.moments disk.new)) }
+
+    ensures stays { StaysOnDisk recalc.old recalc.new tags.old tags.new (D.identity disk.old)
+        (D.identity disk.new) (D.moments disk.new) }
+
+    ensures writes { EachSince (OnlyAdds (IsOfTagsOrHead tags.old.geometry))
+        (D.moments disk.old) (D.moments disk.new) }
+{
+    match recalc.step(disk, tags, maker)? {
+        Some(_) => Ok(JournalMoved::Did),
+        None => Ok(JournalMoved::Idle),
+    }
 }
 
 /// What a step of the journal did, as one of the device.

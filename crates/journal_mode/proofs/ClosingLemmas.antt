@@ -7,10 +7,11 @@ use Rattle.disk_model.specs.Moments.{EachMoment}
 use Rattle.image_model.specs.Cells.{recalculated_cell}
 use Rattle.image_model.specs.Section.{Entry}
 use Rattle.device_model.specs.History.{Flushed, cells_now, with_change}
-use Rattle.device_model.specs.Journal.{commit_all}
+use Rattle.device_model.specs.Journal.{JournalCounts, commit_all}
 use Rattle.journal_laws.proofs.FormatLemmas.{blocks-is}
 use Rattle.journal_laws.proofs.PromiseLemmas.{cell_is}
 use Rattle.journal_laws.proofs.RingLemmas.{freed_settled}
+use Rattle.journal_laws.proofs.StepLemmas.{flush_law}
 use Rattle.journal_model.specs.Entries.{cell_after}
 use Rattle.journal_model.specs.JournaledDisk.{JournaledDisk}
 use Rattle.journal_model.specs.Ring.{JournalRing, entries_of, unplaced_from}
@@ -28,7 +29,8 @@ use Rattle.journal_mode.specs.Closing.{HasClosed, HasContent, HasPlacedMore, IsA
 use Rattle.journal_mode.specs.Commits.{HasFlushed, after_batch_of, after_flush, after_one, with_disk}
 use Rattle.journal_mode.specs.Journal.{PlacedRing}
 use Rattle.journal_mode.specs.Moves.{PlacesAs, SettlesAs}
-use Rattle.journal_mode.specs.Standing.{IsLeftThrough, JournalStanding, StandsAs}
+use Rattle.journal_mode.specs.Standing.{IsLeftThrough, JournalStanding, StandsAs, TagsPlaced}
+use Rattle.journal_mode.proofs.GivesLemmas.{tags_then}
 use Rattle.journal_mode.proofs.CommitLemmas.{did_not_idle}
 use Rattle.journal_mode.proofs.MovesLemmas.{all_of_disk}
 
@@ -68,15 +70,15 @@ module _ (w : JournalStanding) (journal : PlacedRing) (store : Store) (moments :
   pub has_content : (c : Content) → EachImage (HasPlacedCells w.disk) c → EachImage (HasContent w) c
   has_content c each image is_image b low = each image is_image b low ∙ sym (content b low)
 
-module _ (w : JournalStanding) (flushed_at placed_at : PlacedRing) (store then_ : Store) (before middle : List Content) (idle : w.history.pending ≡ None) (flushed : HasFlushed w flushed_at store before) where
-  -- What the device stands for once all is flushed, and once all is placed.
+module _ (w : JournalStanding) (flushed_at placed_at : PlacedRing) (store then_ : Store) (start before middle : List Content) (idle : w.history.pending ≡ None) (flushed : HasFlushed w flushed_at store start before) where
+  -- What the device stands for once all is committed, and once all is placed.
   abbrev pub flushed_standing : JournalStanding
-  flushed_standing = record (with_disk (commit_all w.counts) flushed.disk w) { history = with_change w.history Flushed }
+  flushed_standing = with_disk (commit_all w.counts) flushed.disk w
 
-  abbrev pub placed_standing : HasPlacedMore flushed_standing placed_at then_ middle → JournalStanding
+  abbrev pub placed_standing : HasPlacedMore flushed_standing placed_at store then_ before middle → JournalStanding
   placed_standing placed = with_disk placed.counts (record flushed.disk { placed = placed.count }) flushed_standing
 
-  module _ (placed : HasPlacedMore flushed_standing placed_at then_ middle) (none : placed_at.ring.opened ≡ []) (all : placed_in placed_at.placement placed_at.ring ≡ length (entries_of placed_at.ring.committed)) where
+  module _ (placed : HasPlacedMore flushed_standing placed_at store then_ before middle) (none : placed_at.ring.opened ≡ []) (all : placed_in placed_at.placement placed_at.ring ≡ length (entries_of placed_at.ring.committed)) where
     all_there : placed.count ≡ length flushed.disk.entries
     all_there = all_of_disk (placed_standing placed) placed_at then_ middle placed.stands all
 
@@ -84,13 +86,28 @@ module _ (w : JournalStanding) (flushed_at placed_at : PlacedRing) (store then_ 
     same_content c each image is_image b =
         subst (λ (f : DiskFormat). b < f.geometry.blocks → recalculated_cell f.key f.superblock f.geometry image b ≡ cells_now w.format.blocks.tag w.history b) flushed.format (each image is_image b)
 
+    -- The tags are those of what is placed then.
+    placed_gives : TagsPlaced w.disk (placed_standing placed).disk store then_ start middle
+    placed_gives = tags_then w.disk flushed.disk (placed_standing placed).disk store store then_ start before middle flushed.format flushed.gives placed.gives
+
+    -- All that was written is flushed, where no section is opened.
+    all_flushed : (counts : JournalCounts) (d : JournaledDisk) (new : PlacedRing) (last : Store) (after : List Content) → StandsAs (with_disk counts d w) new last after → IsAllFree new.ring
+        → StandsAs (record (with_disk counts d w) { history = with_change w.history Flushed }) new last after
+    all_flushed counts d new last after stands free = record {
+      device = flush_law w.format w.history counts d new.ring stands.device free.none_opened idle;
+      placed = stands.placed;
+    }
+
     -- It is closed then by a settle, also where there is nothing to free.
-    pub closed_is : (moved : Moved) (new : PlacedRing) (last : Store) (after : List Content) → SettlesAs moved (placed_standing placed) new last after → IsAllFree new.ring → HasClosed w new last after
+    pub closed_is : (moved : Moved) (new : PlacedRing) (last : Store) (after : List Content) → SettlesAs moved (placed_standing placed) new then_ last middle after → IsAllFree new.ring
+        → HasClosed w new store last start after
     closed_is Did new last after has free = record {
       counts = has.counts;
       disk = after_settle (placed_standing placed).disk;
       format = flushed.format;
-      stands = has.stands;
+      committed = has.stands;
+      stands = all_flushed has.counts (after_settle (placed_standing placed).disk) new last after has.stands free;
+      gives = tags_then w.disk (placed_standing placed).disk (after_settle (placed_standing placed).disk) store then_ last start middle after flushed.format placed_gives has.gives;
       settled = all_there;
       images = λ c told. same_content c (has_content (placed_standing placed) placed_at then_ middle placed.stands idle none all_there c (has.images c told));
     }
@@ -103,7 +120,9 @@ module _ (w : JournalStanding) (flushed_at placed_at : PlacedRing) (store then_ 
           counts = placed.counts;
           disk = d;
           format = flushed.format;
-          stands = has.stands;
+          committed = has.stands;
+          stands = all_flushed placed.counts d new last after has.stands free;
+          gives = tags_then w.disk d d store then_ last start middle after flushed.format placed_gives has.gives;
           settled = settled;
           images = λ c told. same_content c (has_content (placed_standing placed) new last after has.stands idle free.none_opened all_there c
               (settled_cells_law d c (has.stands.placed.cells.now c told).stands (settled ∙ sym all_there)));
@@ -111,13 +130,23 @@ module _ (w : JournalStanding) (flushed_at placed_at : PlacedRing) (store then_ 
 
 -- ---- entry by entry
 
-pub placed_one : (w : JournalStanding) (old new : PlacedRing) (store then_ : Store) (before after : List Content) (moved : Moved) → HasPlacedMore w old store before
-    → ((x : JournalStanding) → StandsAs x old store before → PlacesAs moved x new then_ after) → HasPlacedMore w new then_ after
-placed_one w old new store then_ before after moved has places = by moved (places (with_disk has.counts (record w.disk { placed = has.count }) w) has.stands)
+pub placed_one : (w : JournalStanding) (old new : PlacedRing) (first store then_ : Store) (start before after : List Content) (moved : Moved) → HasPlacedMore w old first store start before
+    → ((x : JournalStanding) → StandsAs x old store before → PlacesAs moved x new store then_ before after) → HasPlacedMore w new first then_ start after
+placed_one w old new first store then_ start before after moved has places = by moved (places (with_disk has.counts (record w.disk { placed = has.count }) w) has.stands)
   where
-    by : (moved : Moved) → PlacesAs moved (with_disk has.counts (record w.disk { placed = has.count }) w) new then_ after → HasPlacedMore w new then_ after
-    by Did one = record { counts = one.counts; count = has.count + 1; stands = one.stands }
-    by Idle none = record { counts = has.counts; count = has.count; stands = none.stands }
+    by : (moved : Moved) → PlacesAs moved (with_disk has.counts (record w.disk { placed = has.count }) w) new store then_ before after → HasPlacedMore w new first then_ start after
+    by Did one = record {
+      counts = one.counts;
+      count = has.count + 1;
+      stands = one.stands;
+      gives = tags_then w.disk (record w.disk { placed = has.count }) (record w.disk { placed = has.count + 1 }) first store then_ start before after refl has.gives one.gives;
+    }
+    by Idle none = record {
+      counts = has.counts;
+      count = has.count;
+      stands = none.stands;
+      gives = tags_then w.disk (record w.disk { placed = has.count }) (record w.disk { placed = has.count }) first store then_ start before after refl has.gives none.gives;
+    }
 
 pub fewer_left : {A : Type 0} (old new : PlacedRing) (before after : Store) (moved : Moved) (first last : A) → HasPlaced moved old.placement new.placement old.ring before after first last → new.ring ≡ old.ring → moved ≡ Did
     → length (entries_of new.ring.committed) - placed_in new.placement new.ring < length (entries_of old.ring.committed) - placed_in old.placement old.ring
@@ -127,14 +156,14 @@ fewer_left old new before after Idle first last has same is = absurd (did_not_id
 
 -- ---- within a close
 
-pub left_flushed : (w : JournalStanding) (journal : PlacedRing) (store : Store) {before after : List Content} → HasFlushed w journal store before
+pub left_flushed : (w : JournalStanding) (journal : PlacedRing) (store : Store) {start before after : List Content} → HasFlushed w journal store start before
     → ((x : JournalStanding) → StandsAs x journal store before → IsLeftThrough x before after) → IsLeftThrough w before after
-left_flushed w journal store {before} {after} flushed left =
+left_flushed w journal store {start} {before} {after} flushed left =
     subst (λ (f : DiskFormat). EachMoment before after (EachImage (IsLeftInJournal f w.history))) flushed.format (left (with_disk (commit_all w.counts) flushed.disk w) flushed.committed)
 
-pub left_placed : (w : JournalStanding) (journal : PlacedRing) (store : Store) {before after : List Content} → HasPlacedMore w journal store before
+pub left_placed : (w : JournalStanding) (journal : PlacedRing) (first store : Store) {start before after : List Content} → HasPlacedMore w journal first store start before
     → ((x : JournalStanding) → StandsAs x journal store before → IsLeftThrough x before after) → IsLeftThrough w before after
-left_placed w journal store placed left = left (with_disk placed.counts (record w.disk { placed = placed.count }) w) placed.stands
+left_placed w journal first store placed left = left (with_disk placed.counts (record w.disk { placed = placed.count }) w) placed.stands
 
 one_geometry_then : (journal : PlacedRing) (opened : List (List Entry)) → (after_batch_of opened journal).ring.geometry ≡ journal.ring.geometry
 one_geometry_then journal [] = refl

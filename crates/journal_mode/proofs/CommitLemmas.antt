@@ -40,6 +40,7 @@ use Rattle.replay.specs.Placement.{IsPlacementOf}
 use Rattle.journal_mode.specs.Commits.{CommitsAs, HasBatch, HasCommitted, HasNoBatch, after_batch}
 use Rattle.journal_mode.specs.Journal.{IsJournal, PlacedRing, places_from, places_of, sections_of}
 use Rattle.journal_mode.specs.Standing.{IsLeftThrough, JournalStanding, StandsAs}
+use Rattle.journal_mode.proofs.GivesLemmas.{tags_committed, tags_same, told_changed}
 
 -- ---- the journal
 
@@ -176,7 +177,7 @@ module _ (w : JournalStanding) (journal : PlacedRing) (store : Store) {before af
       left_law w.disk (uncommitted_entries journal.ring) k w.history image stands.device.history (subst (λ (xs : List Entry). IsCutOf w.disk xs image) same (each image is_image))) m
 
   pub committed_as : (disk : DiskIdentity) → journal.ring.opened ≢ [] → HasWritten journal.ring before after → IsPlacementOf journal.placement journal.ring → IsStore store disk before → ReadsImage before → ReadsWhole disk before → ReadsWhole disk after
-      → HasBatch w journal (after_batch journal) store after
+      → HasBatch w journal (after_batch journal) store before after
   committed_as disk some written placement of image whole whole_after =
       let f = w.format in
       let device = stands.device in
@@ -184,30 +185,35 @@ module _ (w : JournalStanding) (journal : PlacedRing) (store : Store) {before af
         | inl none ↦ absurd (some ((idle_commit_law f w.history w.counts w.disk journal.ring device).1 none))
         | inr there ↦
             let law = commit_law f w.history w.counts there.0 w.disk journal.ring written.bytes device there.1 written.batch in
+            let placed = placed_commit_law w.disk journal.placement journal.ring store disk before after written placement of stands.placed image whole whole_after law.1.is_ring in
             record {
               counts = there.0;
               counts_are = there.1;
               bytes = written.bytes;
               stands = record {
                 device = law.1;
-                placed = (placed_commit_law w.disk journal.placement journal.ring store disk before after written placement of stands.placed image whole whole_after law.1.is_ring).1;
+                placed = placed.1;
               };
+              gives =
+                  tags_committed w.disk (next_batch journal.ring) written.bytes store before after device.sound.formed stands.placed.cells.geometry
+                  (told_changed (λ c. newest_only (with_run (section_at journal.ring.geometry journal.ring.next) written.bytes c)) before after written.written) placed.2;
             }
       ]
 
   pub left_by : ((d : JournaledDisk) → IsRingOf journal.ring d → HasNow (StandsFor d) before → EachMoment before after (EachImage (IsCutOf d (next_entries journal.ring)))) → IsLeftThrough w before after
   left_by cuts = left_committing (cuts w.disk stands.device.is_ring.of_disk (λ c told. (stands.placed.cells.now c told).stands))
 
-none_as : (w : JournalStanding) (journal : PlacedRing) (store : Store) (moments : List Content) → StandsAs w journal store moments → journal.ring.opened ≡ [] → HasNoBatch w journal store moments
+none_as : (w : JournalStanding) (journal : PlacedRing) (store : Store) (moments : List Content) → StandsAs w journal store moments → journal.ring.opened ≡ [] → HasNoBatch w journal store moments moments
 none_as w journal store moments stands none = record {
   none = (idle_commit_law w.format w.history w.counts w.disk journal.ring stands.device).0 none;
   stands = stands;
+  gives = tags_same w.disk store moments;
 }
 
 pub commits_as : (w : JournalStanding) (journal : PlacedRing) (store : Store) (disk : DiskIdentity) (moved : Moved) (before after : List Content) → StandsAs w journal store before
     → ((moved ≡ Idle) ↔ (journal.ring.opened ≡ [])) → HasMoved moved journal.ring before after → IsPlacementOf journal.placement journal.ring → IsStore store disk before → ReadsImage before → ReadsWhole disk before → ReadsWhole disk after
-    → CommitsAs moved w journal (record journal { ring = after_move moved journal.ring }) store after
+    → CommitsAs moved w journal (record journal { ring = after_move moved journal.ring }) store before after
 commits_as w journal store disk Did before after stands idle has placement of image whole whole_after =
     committed_as w journal store stands disk (λ none. did_not_idle (idle.1 none)) has placement of image whole whole_after
 commits_as w journal store disk Idle before after stands idle has placement of image whole whole_after =
-    subst (HasNoBatch w journal store) (sym has) (none_as w journal store before stands (idle.0 refl))
+    subst (HasNoBatch w journal store before) (sym has) (none_as w journal store before stands (idle.0 refl))

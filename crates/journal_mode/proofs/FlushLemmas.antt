@@ -21,7 +21,8 @@ use Rattle.place_model.specs.Left.{IsLeftInJournal}
 use Rattle.tag_store.specs.Store.{Store}
 use Rattle.journal_mode.specs.Commits.{CommitsAs, HasCommitted, HasFlushed, after_batch, after_batch_of, after_flush, after_one, with_disk}
 use Rattle.journal_mode.specs.Journal.{PlacedRing}
-use Rattle.journal_mode.specs.Standing.{IsLeftThrough, JournalStanding, StandsAs}
+use Rattle.journal_mode.specs.Standing.{IsLeftThrough, JournalStanding, StandsAs, TagsPlaced}
+use Rattle.journal_mode.proofs.GivesLemmas.{tags_same, tags_then}
 
 -- ---- the journal
 
@@ -54,21 +55,23 @@ none_left journal bounds = by journal.ring.opened refl
 
 -- ---- the device
 
--- After so many commits the device stands for the same history, over a disk of the same format.
-pub record HasCommits (w : JournalStanding) (journal : PlacedRing) (store : Store) (moments : List Content) : Type 0 where
+-- After so many commits the device stands for the same history, over a disk of the same format, with tags of what is
+-- placed.
+pub record HasCommits (w : JournalStanding) (journal : PlacedRing) (store : Store) (start moments : List Content) : Type 0 where
   pub count : ℕ
   pub disk : JournaledDisk
   pub format : disk.format ≡ w.disk.format
   pub stands : StandsAs (with_disk (commits w.format.sections count w.counts) disk w) journal store moments
+  pub gives : TagsPlaced w.disk disk store store start moments
 
-pub none_yet : (w : JournalStanding) (journal : PlacedRing) (store : Store) (moments : List Content) → StandsAs w journal store moments → HasCommits w journal store moments
-none_yet w journal store moments stands = record { count = 0; disk = w.disk; format = refl; stands = stands }
+pub none_yet : (w : JournalStanding) (journal : PlacedRing) (store : Store) (moments : List Content) → StandsAs w journal store moments → HasCommits w journal store moments moments
+none_yet w journal store moments stands = record { count = 0; disk = w.disk; format = refl; stands = stands; gives = tags_same w.disk store moments }
 
-pub one_more : (w : JournalStanding) (old new : PlacedRing) (store : Store) (moved : Moved) (before after : List Content) → (has : HasCommits w old store before)
-    → ((x : JournalStanding) → StandsAs x old store before → CommitsAs moved x old new store after) → HasCommits w new store after
-one_more w old new store moved before after has commits_ = by moved (commits_ (with_disk (commits w.format.sections has.count w.counts) has.disk w) has.stands)
+pub one_more : (w : JournalStanding) (old new : PlacedRing) (store : Store) (moved : Moved) (start before after : List Content) → (has : HasCommits w old store start before)
+    → ((x : JournalStanding) → StandsAs x old store before → CommitsAs moved x old new store before after) → HasCommits w new store start after
+one_more w old new store moved start before after has commits_ = by moved (commits_ (with_disk (commits w.format.sections has.count w.counts) has.disk w) has.stands)
   where
-    by : (moved : Moved) → CommitsAs moved (with_disk (commits w.format.sections has.count w.counts) has.disk w) old new store after → HasCommits w new store after
+    by : (moved : Moved) → CommitsAs moved (with_disk (commits w.format.sections has.count w.counts) has.disk w) old new store before after → HasCommits w new store start after
     by Did batch = record {
       count = suc has.count;
       disk = after_commit has.disk (next_batch old.ring) batch.bytes;
@@ -76,18 +79,25 @@ one_more w old new store moved before after has commits_ = by moved (commits_ (w
       stands =
           subst (λ (j : JournalCounts). StandsAs (with_disk j (after_commit has.disk (next_batch old.ring) batch.bytes) w) new store after)
           (sym (ap (λ o. unwrap_or o (commits w.format.sections has.count w.counts)) batch.counts_are)) batch.stands;
+      gives = tags_then w.disk has.disk (after_commit has.disk (next_batch old.ring) batch.bytes) store store store start before after has.format has.gives batch.gives;
     }
-    by Idle none = record { count = has.count; disk = has.disk; format = has.format; stands = none.stands }
+    by Idle none = record {
+      count = has.count;
+      disk = has.disk;
+      format = has.format;
+      stands = none.stands;
+      gives = tags_then w.disk has.disk has.disk store store store start before after has.format has.gives none.gives;
+    }
 
-pub left_again : (w : JournalStanding) (journal : PlacedRing) (store : Store) {before after : List Content} → HasCommits w journal store before
+pub left_again : (w : JournalStanding) (journal : PlacedRing) (store : Store) {start before after : List Content} → HasCommits w journal store start before
     → ((x : JournalStanding) → StandsAs x journal store before → IsLeftThrough x before after) → IsLeftThrough w before after
-left_again w journal store {before} {after} has left =
+left_again w journal store {start} {before} {after} has left =
     subst (λ (f : DiskFormat). EachMoment before after (EachImage (IsLeftInJournal f w.history))) has.format
     (left (with_disk (commits w.format.sections has.count w.counts) has.disk w) has.stands)
 
 -- All is flushed then.
-pub flushed_is : (w : JournalStanding) (journal : PlacedRing) (store : Store) (moments : List Content) → HasCommits w journal store moments → journal.ring.opened ≡ [] → HasFlushed w journal store moments
-flushed_is w journal store moments has none =
+pub flushed_is : (w : JournalStanding) (journal : PlacedRing) (store : Store) (start moments : List Content) → HasCommits w journal store start moments → journal.ring.opened ≡ [] → HasFlushed w journal store start moments
+flushed_is w journal store start moments has none =
     let f = w.format in
     let r = journal.ring in
     let d = has.disk in
@@ -96,6 +106,7 @@ flushed_is w journal store moments has none =
     record {
       disk = d;
       format = has.format;
+      gives = has.gives;
       committed = stands;
       flushed = λ idle. record { device = flush_law f w.history (commit_all w.counts) d r stands.device none idle; placed = stands.placed };
       written = λ h write is. record {

@@ -4,6 +4,7 @@ pub mod PutLemmas
 pub mod PutsLemmas
 pub mod NewestLemmas
 pub mod ReadsLemmas
+pub mod GivesLemmas
 pub mod CommitLemmas
 pub mod FlushLemmas
 pub mod MovesLemmas

@@ -1,6 +1,6 @@
 -- A place and a settle, as steps of the device.
 use Rattle.std.proofs.Common.{◌≡◌, inl, inr, ℕ, ◌-◌, ◌≤◌, leb, min, Bool, true, false, ◌||◌, if◌then◌else◌, refl, sym, ◌∙◌, ap, subst, arith, Some, None, List, [], ◌∷◌, ◌++◌, length, map}
-use Rattle.std.specs.Prelude.{Result, Ok, Err, IfOk}
+use Rattle.std.specs.Prelude.{Result, Ok, Err, IfOk, OnOk}
 use Rattle.std.specs.List.{AllByRecursion, list_any}
 use Rattle.std.proofs.lemmas.Bool.{cases_lt, false≢true, le-leb, lt-leb}
 use Rattle.std.proofs.lemmas.List.{length-map}
@@ -21,18 +21,25 @@ use Rattle.journal_model.specs.Steps.{after_settle}
 use Rattle.journal_model.proofs.HistoryLemmas.{left_law}
 use Rattle.journal_ring.specs.declared.ring.Moved.{Moved}
 use Rattle.journal_ring.specs.declared.ring.Moved.TheVariants.{Did, Idle}
-use Rattle.replay.specs.Moves.{HasPlaced, HasSettled, IsLeftOn, IsPlacedOn, StandsThrough, after_placing}
+use Rattle.direct_laws.specs.CallLaws.{GivesTags}
+use Rattle.replay.specs.Moves.{GivesNext, HasPlaced, HasSettled, IsLeftOn, IsPlacedOn, StandsThrough, after_placing}
 use Rattle.replay.specs.Placement.{placed_in}
 use Rattle.replay.specs.DeclaredPlacement.{Placement}
-use Rattle.tag_store.specs.Store.{Store}
+use Rattle.tag_store.specs.Store.{Store, given_tags}
 use Rattle.journal_mode.specs.Journal.{PlacedRing}
 use Rattle.journal_mode.specs.Moves.{PlacesAs, SettlesAs}
 use Rattle.journal_mode.specs.Standing.{IsLeftThrough, JournalStanding, StandsAs}
+use Rattle.journal_mode.proofs.GivesLemmas.{IsTold, tags_idle, tags_kept, tags_placed, tags_settled}
 
 -- What holds of what a call gives, by two clauses of it.
 pub if_ok_both : {T E : Type 0} (r : Result T E) (P Q S : T → Type 0) → ((x : T) → P x → Q x → S x) → IfOk r P → IfOk r Q → IfOk r S
 if_ok_both (Ok x) P Q S f p q = f x p q
 if_ok_both (Err e) P Q S f p q = tt
+
+-- And with a clause that names nothing of it.
+pub if_ok_and : {T E : Type 0} (r : Result T E) (P : T → Type 0) (Q : Type 0) → IfOk r P → OnOk r Q → IfOk r (λ x. P x × Q)
+if_ok_and (Ok x) P Q p q = (p, q)
+if_ok_and (Err e) P Q p q = tt
 
 -- ---- at each moment
 
@@ -62,18 +69,21 @@ module _ (w : JournalStanding) (journal : PlacedRing) (store : Store) (moments :
       omega (arith, all, stands.placed.placed, committed_low d ring device.sound device.is_ring)
 
   pub places_as : (moved : Moved) (new : Placement) (then_ : Store) (after : List Content) {A : Type 0} (first last : A) → HasPlaced moved journal.placement new ring store then_ first last
-      → IsPlacedOn (after_placing moved w.disk) new ring then_ after → PlacesAs moved w (record journal { placement = new }) then_ after
-  places_as Did new then_ after first last has on = elim (cases_option (place w.counts)) [
+      → IsPlacedOn (after_placing moved w.disk) new ring then_ after → ring.geometry ≡ store.geometry → IsTold moments after → GivesNext journal.placement ring store then_ moments after
+      → PlacesAs moved w (record journal { placement = new }) store then_ moments after
+  places_as Did new then_ after first last has on same told gives = elim (cases_option (place w.counts)) [
     | inl none ↦ absurd (let all = all_of_ring ((idle_place_law w.format w.history w.counts d ring stands.device).1 none) in omega (arith, all, has.more))
     | inr there ↦ record {
       counts = there.0;
       counts_are = there.1;
       stands = record { device = (place_law w.format w.history w.counts there.0 d ring stands.device there.1).1; placed = on };
+      gives = tags_placed d journal.placement ring store then_ moments after stands.placed same has.more told gives;
     }
   ]
-  places_as Idle new then_ after first last has on = record {
+  places_as Idle new then_ after first last has on same told gives = record {
     none = (idle_place_law w.format w.history w.counts d ring stands.device).0 (all_of_disk has.all);
     stands = record { device = stands.device; placed = on };
+    gives = tags_idle d journal.placement ring store then_ moments after stands.placed same has.all told gives;
   }
 
 -- ---- a settle
@@ -143,8 +153,8 @@ idle_counts f h j d r is same =
 
 pub settles_as : (w : JournalStanding) (journal : PlacedRing) (store : Store) (before : List Content) (moved : Moved) (new : Placement) (left : JournalRing) (then_ : Store) (after : List Content) {A : Type 0} (first last : A)
     → StandsAs w journal store before → HasSettled moved journal.placement new journal.ring left store then_ first last → IsLeftOn moved w.disk new left then_ after
-    → SettlesAs moved w (record { ring = left; placement = new }) then_ after
-settles_as w journal store before Did new left then_ after first last stands has on =
+    → IsTold before after → GivesTags store.geometry (given_tags store) (given_tags then_) before after → SettlesAs moved w (record { ring = left; placement = new }) store then_ before after
+settles_as w journal store before Did new left then_ after first last stands has on told gives =
     let d = w.disk in
     let ring = journal.ring in
     let part : left ≡ with_settle (placed_count d ring) ring = has.left_is ∙ ap (λ (q : ℕ). with_settle q ring) (sym stands.placed.placed) in
@@ -157,13 +167,15 @@ settles_as w journal store before Did new left then_ after first last stands has
           device = subst (IsJournalOf w.format w.history there.0 (after_settle d)) (sym part) (settle_law w.format w.history w.counts there.0 d ring stands.device there.1);
           placed = on.on;
         };
+        gives = tags_settled d store then_ before after stands.placed.cells.geometry told gives;
         images = on.images;
       }
     ]
-settles_as w journal store before Idle new left then_ after first last stands has on = record {
+settles_as w journal store before Idle new left then_ after first last stands has on told gives = record {
   none = idle_counts w.format w.history w.counts w.disk journal.ring stands.device (ap (λ (q : ℕ). with_settle q journal.ring) stands.placed.placed ∙ has.none);
   stands = record {
     device = subst (IsJournalOf w.format w.history w.counts w.disk) (sym has.ring_) stands.device;
     placed = on;
   };
+  gives = tags_kept w.disk w.disk store then_ before after stands.placed.cells.geometry (λ n low. refl) told gives;
 }

@@ -1,16 +1,16 @@
 -- What is read of a block, as the history of the device has it.
-use Rattle.std.proofs.Common.{◌≡◌, ℕ, ◌+◌, ◌*◌, ◌<◌, refl, sym, ◌∙◌, ap, subst, arith, Option, Some, None, List, ◌++◌, length, is_some}
+use Rattle.std.proofs.Common.{◌≡◌, ℕ, ◌+◌, ◌*◌, ◌<◌, Bool, false, refl, sym, ◌∙◌, ap, subst, arith, Option, Some, None, List, [], ◌++◌, length, is_some}
 use Rattle.std.proofs.lemmas.Option.{slice_get_within}
 use Rattle.disk_model.specs.Disk.{Content, last_image}
 use Rattle.disk_model.specs.Moments.{EachMoment, HasNow}
 use Rattle.disk_model.proofs.MomentsLemmas.{EachMoment-weaker}
 use Rattle.image_model.specs.Cells.{Cell, last_entry, salt_of}
-use Rattle.image_model.specs.Geometry.{Geometry, data_at}
+use Rattle.image_model.specs.Geometry.{Geometry, data_at, region_of}
 use Rattle.image_model.specs.Section.{Entry}
 use Rattle.image_model.proofs.SectorLemmas.{bytes_at_read}
 use Rattle.device_model.specs.History.{cells_now}
 use Rattle.place_model.proofs.EachLemmas.{all_append, all_flat}
-use Rattle.device_model.specs.Progress.{is_journaled}
+use Rattle.device_model.specs.Progress.{DeviceState, Working, is_journaled}
 use Rattle.journal_laws.specs.Device.{IsJournalOf}
 use Rattle.journal_laws.specs.PromiseLaws.{newest_entry}
 use Rattle.journal_laws.proofs.FormatLemmas.{blocks-is}
@@ -23,10 +23,12 @@ use Rattle.journal_model.proofs.PlaceLemmas.{cell_after-cells}
 use Rattle.journal_overlay.specs.Kept.{Places, newest_of}
 use Rattle.journal_overlay.specs.declared.place.Place.{Place}
 use Rattle.journal_ring.specs.Places.{entries_at}
+use Rattle.recalculate_laws.specs.Taking.{KeepsAwaitingNow}
+use Rattle.recalculate_laws.proofs.DeviceLemmas.{whole_read_law}
 use Rattle.replay.specs.DeclaredPlacement.{Placement}
 use Rattle.tag_store.specs.Store.{Store, given_tags}
 use Rattle.journal_mode.specs.Journal.{IsJournal, PlacedRing, sections_of}
-use Rattle.journal_mode.specs.Reads.{GivesBlock, ReadsPlaced, newest_in}
+use Rattle.journal_mode.specs.Reads.{GivesBlock, IsCellNow, ReadsPlaced, newest_in}
 use Rattle.journal_mode.specs.Standing.{IsLeftThrough, JournalStanding, StandsAs}
 use Rattle.journal_mode.proofs.NewestLemmas.{IsNewest, TellsNewest, tells_newest}
 
@@ -59,6 +61,14 @@ counts_hold w ring block device =
 
 -- ---- what the history says
 
+-- A device that works, with this history and these counts.
+abbrev state_of : JournalStanding → DeviceState
+state_of w = record {
+  history = w.history;
+  progress = record { requests = []; journal = w.counts; regions = record { set_bits = λ region. false; awaiting = λ region. false; fresh = λ region. false } };
+  condition = Working;
+}
+
 module _ (w : JournalStanding) (journal : PlacedRing) (store : Store) (moments : List Content) (block : ℕ)
     (stands : StandsAs w journal store moments) (idle : w.history.pending ≡ None) (low : block < journal.ring.geometry.blocks) where
   newest_same : newest_in journal.ring block ≡ newest_entry w.disk journal.ring block
@@ -76,6 +86,14 @@ module _ (w : JournalStanding) (journal : PlacedRing) (store : Store) (moments :
       record {
         bytes_ = sym (ap (λ (cell : Cell). cell.bytes) is);
         tag_ = λ rests. sym (ap (λ (cell : Cell). cell.tag) is);
+      }
+
+  pub entry_cell : (entry : Entry) → newest_in journal.ring block ≡ Some entry → IsCellNow w block entry.bytes entry.tag
+  entry_cell entry newest =
+      let is = journaled_read_law w.format w.history w.counts w.disk journal.ring block entry stands.device idle low_there (sym newest_same ∙ newest) in
+      record {
+        bytes_ = sym (ap (λ (cell : Cell). cell.bytes) is);
+        tag_ = sym (ap (λ (cell : Cell). cell.tag) is);
       }
 
   -- The cell has as many bytes as a block.
@@ -105,6 +123,16 @@ module _ (w : JournalStanding) (journal : PlacedRing) (store : Store) (moments :
             (λ k k_low. reads.data_ c told k (omega (arith, k_low, whole)) ∙ ap (λ (at : ℕ). last_image c (at + k)) at_)
             ∙ sym (bytes_at_read (last_image c) (data_at d.geometry block) spb cell.bytes cell_size (λ k k_low. sym (gives.data_ k k_low)));
         tag_ = λ rests. reads.tag_ c told ∙ gives.tag_ rests;
+      }
+
+  -- Where the tags of its region are made that is its cell, tag and all.
+  pub placed_cell : (awaiting : ℕ → Bool) (bytes tag : List ℕ) → length bytes ≡ 512 * store.geometry.shape.spb → newest_in journal.ring block ≡ None → KeepsAwaitingNow w.disk awaiting (given_tags store) moments
+      → awaiting (region_of w.disk.geometry block) ≡ false → ReadsPlaced block bytes tag store moments → HasNow (λ c. IsCellNow w block bytes tag) moments
+  placed_cell awaiting bytes tag size none keeps rested reads c told =
+      let whole = whole_read_law w.format (state_of w) w.disk journal.ring awaiting block (given_tags store c) c stands.device idle inside (sym newest_same ∙ none) rested (keeps c told) in
+      record {
+        bytes_ = (gives_placed bytes tag size none reads c told).bytes_;
+        tag_ = reads.tag_ c told ∙ whole.tag_;
       }
 
 -- ---- within a call

@@ -15,7 +15,7 @@ use Rattle.replay.specs.Writes.{IsOfPlacing}
 use Rattle.tag_store.specs.Store.{Store}
 use Rattle.journal_mode.specs.Commits.{WritesBatches, with_disk}
 use Rattle.journal_mode.specs.Journal.{PlacedRing, sections_of}
-use Rattle.journal_mode.specs.Standing.{JournalStanding, StandsAs}
+use Rattle.journal_mode.specs.Standing.{JournalStanding, StandsAs, TagsPlaced}
 
 -- Every section of the ring is free.
 pub record IsAllFree (ring : JournalRing) : Type 0 where
@@ -23,11 +23,12 @@ pub record IsAllFree (ring : JournalRing) : Type 0 where
   pub none_opened : ring.opened ≡ []
 
 -- The device stands for the same history over a disk with more of its entries placed.
-pub record HasPlacedMore (w : JournalStanding) (new : PlacedRing) (store : Store) (moments : List Content)
+pub record HasPlacedMore (w : JournalStanding) (new : PlacedRing) (tags store : Store) (before after : List Content)
     : Type 0 where
   pub counts : JournalCounts
   pub count : ℕ
-  pub stands : StandsAs (with_disk counts (record w.disk { placed = count }) w) new store moments
+  pub stands : StandsAs (with_disk counts (record w.disk { placed = count }) w) new store after
+  pub gives : TagsPlaced w.disk (record w.disk { placed = count }) tags store before after
 
 -- In an image each block has in its place the cell that the history gives it now, whatever the image's journal.
 abbrev pub HasContent : JournalStanding → Image → Type 0
@@ -35,17 +36,19 @@ HasContent w image = (b : ℕ) → b < w.disk.geometry.blocks
     → recalculated_cell w.disk.key w.disk.superblock w.disk.geometry image b
     ≡ cells_now w.format.blocks.tag w.history b
 
--- The device has all flushed, over a disk of the same format of which all entries are settled, and each image has the
--- content in its places.
-pub record HasClosed (w : JournalStanding) (new : PlacedRing) (store : Store) (moments : List Content)
+-- The device has all committed, and so flushed, over a disk of the same format of which all entries are settled, and
+-- each image has the content in its places.
+pub record HasClosed (w : JournalStanding) (new : PlacedRing) (tags store : Store) (before after : List Content)
     : Type 0 where
   pub counts : JournalCounts
   pub disk : JournaledDisk
   pub format : disk.format ≡ w.disk.format
+  pub committed : StandsAs (with_disk counts disk w) new store after
   pub stands : StandsAs (record (with_disk counts disk w) { history = with_change w.history Flushed })
-      new store moments
+      new store after
+  pub gives : TagsPlaced w.disk disk tags store before after
   pub settled : disk.settled ≡ length disk.entries
-  pub images : HasNow (EachImage (HasContent w)) moments
+  pub images : HasNow (EachImage (HasContent w)) after
 
 -- ---- what is written
 

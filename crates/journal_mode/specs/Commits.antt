@@ -12,7 +12,7 @@ use Rattle.journal_ring.specs.declared.ring.Moved.{Moved}
 use Rattle.journal_ring.specs.declared.ring.Moved.TheVariants.{Did, Idle}
 use Rattle.tag_store.specs.Store.{Store}
 use Rattle.journal_mode.specs.Journal.{PlacedRing}
-use Rattle.journal_mode.specs.Standing.{JournalStanding, StandsAs}
+use Rattle.journal_mode.specs.Standing.{JournalStanding, StandsAs, TagsPlaced}
 
 -- The journal with its next batch committed.
 abbrev pub after_batch : PlacedRing → PlacedRing
@@ -42,25 +42,28 @@ HasCommitted Idle old new first last before after = FindsNoneOpened old new firs
 abbrev pub with_disk : JournalCounts → JournaledDisk → JournalStanding → JournalStanding
 with_disk counts disk w = record w { counts = counts; disk = disk }
 
--- The counts are those after a commit, and the disk has the batch.
-pub record HasBatch (w : JournalStanding) (old new : PlacedRing) (store : Store) (moments : List Content)
+-- The counts are those after a commit, and the disk has the batch. The tags are those of what is placed.
+pub record HasBatch (w : JournalStanding) (old new : PlacedRing) (store : Store) (before after : List Content)
     : Type 0 where
   pub counts : JournalCounts
   pub counts_are : commit w.format.sections w.counts ≡ Some counts
   pub bytes : List ℕ
   pub stands : StandsAs (with_disk counts (after_commit w.disk (next_batch old.ring) bytes) w)
-      new store moments
+      new store after
+  pub gives : TagsPlaced w.disk (after_commit w.disk (next_batch old.ring) bytes) store store before after
 
 -- The counts have nothing to commit, and the device stands for the same.
-pub record HasNoBatch (w : JournalStanding) (new : PlacedRing) (store : Store) (moments : List Content)
+pub record HasNoBatch (w : JournalStanding) (new : PlacedRing) (store : Store) (before after : List Content)
     : Type 0 where
   pub none : commit w.format.sections w.counts ≡ None
-  pub stands : StandsAs w new store moments
+  pub stands : StandsAs w new store after
+  pub gives : TagsPlaced w.disk w.disk store store before after
 
 -- So the device has committed.
-abbrev pub CommitsAs : Moved → JournalStanding → (old new : PlacedRing) → Store → List Content → Type 0
-CommitsAs Did w old new store moments = HasBatch w old new store moments
-CommitsAs Idle w old new store moments = HasNoBatch w new store moments
+abbrev pub CommitsAs : Moved → JournalStanding → (old new : PlacedRing) → Store → (before after : List Content)
+    → Type 0
+CommitsAs Did w old new store before after = HasBatch w old new store before after
+CommitsAs Idle w old new store before after = HasNoBatch w new store before after
 
 -- ---- all is committed
 
@@ -79,19 +82,20 @@ after_flush journal = after_one (after_one journal)
 
 -- The device has committed all, over a disk of the same format. So all is flushed: after its last write, or at the
 -- end of the one under way.
-pub record HasFlushed (w : JournalStanding) (new : PlacedRing) (store : Store) (moments : List Content)
+pub record HasFlushed (w : JournalStanding) (new : PlacedRing) (store : Store) (before after : List Content)
     : Type 0 where
   pub disk : JournaledDisk
   pub format : disk.format ≡ w.disk.format
-  pub committed : StandsAs (with_disk (commit_all w.counts) disk w) new store moments
+  pub gives : TagsPlaced w.disk disk store store before after
+  pub committed : StandsAs (with_disk (commit_all w.counts) disk w) new store after
   pub flushed : w.history.pending ≡ None
       → StandsAs (record (with_disk (commit_all w.counts) disk w) { history = with_change w.history Flushed })
-      new store moments
+      new store after
   pub written : (h : History) (write : BlockWrite) → w.history ≡ with_change h (Begun write)
       → StandsAs (record (with_disk (commit_all w.counts) disk w) {
         history = with_change (with_change h (Written write)) Flushed;
       })
-      new store moments
+      new store after
 
 -- One batch was written, or it and then the next one: no sector gets a candidate but those of them.
 pub record WritesTwo (journal : PlacedRing) (before after : List Content) : Type 0 where

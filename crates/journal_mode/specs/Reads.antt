@@ -11,7 +11,7 @@ use Rattle.journal_model.specs.JournaledDisk.{StandsFor}
 use Rattle.journal_model.specs.Ring.{JournalRing, entries_of}
 use Rattle.tag_store.specs.Store.{Store, given_tags}
 use Rattle.journal_mode.specs.Journal.{PlacedRing, sections_of}
-use Rattle.journal_mode.specs.Standing.{IsLeftThrough, JournalStanding, StandsAs}
+use Rattle.journal_mode.specs.Standing.{IsLeftThrough, JournalStanding, StandsAs, TagsPlaced}
 
 -- The newest entry of a block in the sections that are not free.
 abbrev pub newest_in : JournalRing → ℕ → Option Entry
@@ -44,9 +44,15 @@ pub record GivesBlock (w : JournalStanding) (block : ℕ) (bytes tag : List ℕ)
   pub tag_ : is_to_recalculate w.disk.superblock w.disk.geometry block ≡ false
       → tag ≡ (cells_now w.format.blocks.tag w.history block).tag
 
--- The device stands for the same at each moment of a call, and at its end.
-pub record KeepsStanding (w : JournalStanding) (journal : PlacedRing) (store : Store)
+-- These are the bytes and the tag of the block's cell now.
+pub record IsCellNow (w : JournalStanding) (block : ℕ) (bytes tag : List ℕ) : Type 0 where
+  pub bytes_ : bytes ≡ (cells_now w.format.blocks.tag w.history block).bytes
+  pub tag_ : tag ≡ (cells_now w.format.blocks.tag w.history block).tag
+
+-- The device stands for the same at each moment of a call, and at its end, and the store gives the same tags.
+pub record KeepsStanding (w : JournalStanding) (journal : PlacedRing) (old new : Store)
     (before after : List Content) : Type 0 where
   pub stands : EachMoment before after (StandsFor w.disk)
   pub left : IsLeftThrough w before after
-  pub now : StandsAs w journal store after
+  pub now : StandsAs w journal new after
+  pub gives : TagsPlaced w.disk w.disk old new before after

@@ -9,7 +9,8 @@ use Rattle.place_model.specs.Left.{IsLeftInJournal}
 use Rattle.journal_laws.specs.Device.{IsJournalOf}
 use Rattle.journal_model.specs.JournaledDisk.{JournaledDisk}
 use Rattle.replay.specs.Moves.{IsPlacedOn}
-use Rattle.tag_store.specs.Store.{Store}
+use Rattle.recalculate_laws.specs.Placing.{GivesPlaced}
+use Rattle.tag_store.specs.Store.{Store, given_tags}
 use Rattle.journal_mode.specs.Journal.{PlacedRing}
 
 -- What a device in journal mode stands for: its format, its history, its counts, and its disk.
@@ -24,6 +25,13 @@ pub record StandsAs (w : JournalStanding) (journal : PlacedRing) (store : Store)
     : Type 0 where
   pub device : IsJournalOf w.format w.history w.counts w.disk journal.ring
   pub placed : IsPlacedOn w.disk journal.placement journal.ring store moments
+
+-- ---- what the store gives
+
+-- After a call in which one disk became another one, the store gives of each block the tag that it gave before, where
+-- the same cell is placed then as was before, or else the tag of the cell that is placed then.
+abbrev pub TagsPlaced : (d then_ : JournaledDisk) → (old new : Store) → (before after : List Content) → Type 0
+TagsPlaced d then_ old new before after = GivesPlaced d then_ (given_tags old) (given_tags new) before after
 
 -- ---- within a call
 

@@ -51,7 +51,7 @@ impl<'p> Model for Journal<'p> {
 impl<'p> Journal<'p> {
     ghost use Rattle.journal_mode.specs.Journal.{after_put, empty_journal};
     ghost use Rattle.journal_mode.specs.Standing.{IsLeftThrough, JournalStanding, StandsAs};
-    ghost use Rattle.journal_mode.specs.Calls.{ClosesEach, CommitsEach, CountsEach, FlushesEach, KeepsEach};
+    ghost use Rattle.journal_mode.specs.Calls.{ClosesEach, CommitsEach, CountsEach, FlushesEach, GivesEach, KeepsEach};
     ghost use Rattle.journal_mode.specs.Calls.{PlacesAll, PlacesEach, PutsEach, ReadsEach, SettlesEach};
     ghost use Rattle.journal_mode.specs.Commits.{HasCommitted, WritesBatches, after_flush, after_one};
     ghost use Rattle.journal_mode.specs.Closing.{IsAllFree, WritesAll, WritesEntries, committed_to_place};
@@ -107,6 +107,7 @@ impl<'p> Journal<'p> {
         ensures read { IfOk result (λ tag. HasRead (newest_in self.now.ring block) block out.new tag
             tags.old tags.new disk.old disk.new (D.moments disk.old)) }
         ensures cell { IfOk result (λ tag. ReadsEach self.now block out.new tag tags.old (D.moments disk.old)) }
+        ensures whole { IfOk result (λ tag. GivesEach self.now block out.new tag tags.old (D.moments disk.old)) }
 
         ensures journaled { (entry : Entry) → newest_in self.now.ring block ≡ Some entry → IsOk result }
         ensures cause { HasCause (D.faults disk.old) (D.faults disk.new) result }

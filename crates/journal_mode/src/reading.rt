@@ -5,11 +5,12 @@ ghost use Rattle.disk_model.specs.Disk.{OnlyAdds};
 ghost use Rattle.disk_model.specs.Moments.{EachMoment, EachSince};
 ghost use Rattle.replay.specs.DirectModeCells.{IsBlock};
 ghost use Rattle.image_model.specs.Section.{Entry};
+ghost use Rattle.direct_laws.specs.CallLaws.{GivesTags};
 ghost use Rattle.journal_model.specs.JournaledDisk.{JournaledDisk, StandsFor};
 ghost use Rattle.journal_mode.specs.Reads.{ReadsPlaced};
 ghost use Rattle.journal_ring.specs.Places.{entries_at};
 ghost use Rattle.replay.specs.Cells.{HasCells};
-ghost use Rattle.tag_store.specs.Store.{IsOutForTag, IsStore};
+ghost use Rattle.tag_store.specs.Store.{IsOutForTag, IsStore, given_tags};
 
 use hmac_tag::Tag;
 use journal_overlay::Place;
@@ -52,6 +53,8 @@ pub(crate) fn read_placed<D: Disk>(
 
     ensures cells { (d : JournaledDisk) → HasCells d tags.old (D.moments disk.old)
         → HasCells d tags.new (D.moments disk.new) }
+    ensures tags { GivesTags tags.old.geometry (given_tags tags.old) (given_tags tags.new)
+        (D.moments disk.old) (D.moments disk.new) }
     ensures store { IsStore tags.new (D.identity disk.new) (D.moments disk.new) }
     ensures geometry { tags.new.geometry ≡ tags.old.geometry }
     ensures identity { D.identity disk.new ≡ D.identity disk.old }

@@ -1,5 +1,6 @@
 -- What a commit leaves of the tags in memory, and of what is placed.
 use Rattle.std.proofs.Common.{◌≡◌, ℕ, ◌<◌, refl, sym, ◌∙◌, ap, subst, arith, Option, Some, None, List, length, length-append, take}
+use Rattle.std.proofs.lemmas.Option.{same_Some}
 use Rattle.disk_model.specs.Disk.{Content, last_image, newest_only, with_run}
 use Rattle.disk_model.specs.Identity.{DiskIdentity}
 use Rattle.disk_model.specs.Moments.{IsChangedBy, content_now}
@@ -9,6 +10,7 @@ use Rattle.buffer_cache.specs.Cached.{held_or}
 use Rattle.buffer_cache.specs.HeldSectors.{held_in}
 use Rattle.buffer_cache.proofs.CachedLemmas.{changed_now}
 use Rattle.journal_laws.specs.Device.{placed_count}
+use Rattle.direct_mode.specs.CallLaws.{GivesTags}
 use Rattle.journal_model.specs.JournaledDisk.{JournaledDisk, IsSound}
 use Rattle.journal_model.specs.Ring.{entries_of, next_batch, with_commit}
 use Rattle.journal_model.specs.Steps.{IsBatch, KeepsCells, after_commit, batch_entries}
@@ -51,7 +53,14 @@ committed_cells_law d batch bytes store disk before after rests is of has image 
     elsewhere_law store disk before after of
     (λ x told.
     let start = changed_now change (content_now before) (content_now after) changed x told in
-    (start.0, start.1, λ sector holds. ap (λ (c : Content). last_image c sector) start.2 ∙ alike start.0 sector holds)) in (
+    (start.0, start.1, λ sector holds. ap (λ (c : Content). last_image c sector) start.2 ∙ alike start.0 sector holds)) in
+    let gives : GivesTags store.geometry (given_tags store) (given_tags store) before after =
+    λ first told_first x told b low.
+    let start = changed_now change (content_now before) (content_now after) changed x told in
+    let c = start.0 in
+    same_tags_law store disk before c x of (given-whole store disk before c of (whole c start.1)) (given-whole store disk after x then (whole_after x told))
+    (λ sector holds. ap (λ (y : Content). last_image y sector) start.2 ∙ alike c sector holds) b low
+    ∙ ap (λ (y : Content). given_tags store y b) (same_Some c first (sym start.1 ∙ told_first)) in (
       then,
       record {
         sound = sound_after d batch bytes has.sound rests is;
@@ -60,14 +69,12 @@ committed_cells_law d batch bytes store disk before after rests is of has image 
             let start = changed_now change (content_now before) (content_now after) changed x told in
             let c = start.0 in
             let same : (b : ℕ) → b < d.geometry.blocks → given_tags store x b ≡ given_tags store c b =
-            λ b low.
-            same_tags_law store disk before c x of (given-whole store disk before c of (whole c start.1)) (given-whole store disk after x then (whole_after x told))
-            (λ sector holds. ap (λ (y : Content). last_image y sector) start.2 ∙ alike c sector holds) b
-            (subst (λ (y : Geometry). b < y.blocks) has.geometry low) in
+            λ b low. gives c start.1 x told b (subst (λ (y : Geometry). b < y.blocks) has.geometry low) in
             keeps_same (after_commit d batch bytes) (given_tags store c) (given_tags store x) x same
             (subst (KeepsCells (after_commit d batch bytes) (given_tags store c)) (sym start.2)
             (keeps_committed d batch bytes (given_tags store c) c rests is (image c start.1) (has.now c start.1)));
       },
+      gives,
     )
 
 -- ---- what is placed of the ring
@@ -90,4 +97,5 @@ placed_commit_law d p ring store disk before after written placement of on image
         placed = same ∙ on.placed ∙ sym (commit_law p ring placement).1;
         cells = cells.1;
       },
+      cells.2,
     )

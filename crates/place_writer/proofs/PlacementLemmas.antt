@@ -22,9 +22,11 @@ use Rattle.journal_ring.specs.RoomLaws.{HasBounds}
 use Rattle.journal_ring.specs.Sections.{wrap}
 use Rattle.journal_ring.proofs.PlacesLemmas.{used_there}
 use Rattle.journal_ring.proofs.WrapLemmas.{wrap-above, wrap-below, wrap-inside}
-use Rattle.place_writer.specs.Moves.{FreesPlaced, PlacesOne, WritesEntry, WritesNext}
+use Rattle.tag_store.specs.Store.{Store, given_tags}
+use Rattle.place_writer.specs.Moves.{FreesPlaced, GivesEntry, GivesNext, PlacesOne, WritesEntry, WritesNext}
 use Rattle.place_writer.specs.Placement.{IsPlacementOf, IsWholeEntry, after_next, next_place, placed_in, without}
 use Rattle.place_writer.specs.declared.placement.Placement.{Placement}
+use Rattle.place_writer.proofs.WritingLemmas.{gives_still}
 
 -- ---- where sections lie
 
@@ -267,3 +269,16 @@ writes_next p ring entry {a} {b} told m = subst (λ (next : Option Entry). Write
 pub writes_none : (p : Placement) (ring : JournalRing) (a : List Content) → placed_in p ring ≡ length (entries_of ring.committed) → WritesNext p ring a a
 writes_none p ring a all =
     subst (λ (next : Option Entry). WritesEntry ring.geometry next a a) (sym (slice_get_past (entries_of ring.committed) (placed_in p ring) (omega (arith, all)))) refl
+
+-- ---- the tags that the store gives
+
+-- The store gives the tag of the next entry then,
+pub gives_next : (p : Placement) (ring : JournalRing) (entry : Entry) (old new : Store) (a b : List Content) → slice_get (entries_of ring.committed) (placed_in p ring) ≡ Some entry
+    → GivesEntry ring.geometry (Some entry) old new a b → GivesNext p ring old new a b
+gives_next p ring entry old new a b told gives = subst (λ (next : Option Entry). GivesEntry ring.geometry next old new a b) (sym told) gives
+
+-- and where all are placed what it gave.
+pub gives_none : (p : Placement) (ring : JournalRing) (store : Store) (a : List Content) → placed_in p ring ≡ length (entries_of ring.committed) → GivesNext p ring store store a a
+gives_none p ring store a all =
+    subst (λ (next : Option Entry). GivesEntry ring.geometry next store store a a) (sym (slice_get_past (entries_of ring.committed) (placed_in p ring) (omega (arith, all))))
+    (gives_still ring.geometry (given_tags store) a)

@@ -1,8 +1,9 @@
--- What the calls below leave while an entry is placed, and while the tags are written back, as what the disk stands for.
-use Rattle.std.proofs.Common.{◌≡◌, inl, inr, ℕ, ◌<◌, refl, sym, ◌∙◌, subst, arith, Some, List, [], ◌∷◌}
+-- What the calls below leave while an entry is placed, and while the tags are written back, as what the disk stands
+-- for.
+use Rattle.std.proofs.Common.{◌≡◌, inl, inr, ℕ, ◌<◌, ◌==◌, if◌then◌else◌, refl, sym, ◌∙◌, ap, subst, arith, Some, List, [], ◌∷◌}
 use Rattle.std.specs.List.{Contains}
 use Rattle.std.specs.Option.{ForSome}
-use Rattle.std.proofs.lemmas.Option.{slice_get_within}
+use Rattle.std.proofs.lemmas.Option.{same_Some, slice_get_within}
 use Rattle.disk_model.specs.Disk.{AddsSome, Content, IsOfRun, OnlyAdds, last_image, newest_only, with_run}
 use Rattle.disk_model.specs.Moments.{EachMoment, EachSince, FromStart, HasNow, IsChangedBy, content_now}
 use Rattle.disk_model.proofs.DiskLemmas.{AddsSome-adds, AddsSome-all, OnlyAdds-join, OnlyAdds-none, OnlyAdds-wider, only_candidate}
@@ -147,6 +148,27 @@ module _ (d : JournaledDisk) (tags : Content → ℕ → List ℕ) where
       subst (KeepsCells (after_settle d) (now c)) (sym first.2)
       (keeps_same (after_settle d) (tags start) (now c) (newest_only start) (gives start first.1 c told)
       (keeps_settled d (tags start) start (keeps start first.1) (image start first.1) (reads start first.1)))
+
+-- ---- the tags that a store gives
+
+-- It gives the same where nothing is done.
+pub gives_still : (g : Geometry) (tags : Content → ℕ → List ℕ) (a : List Content) → GivesTags g tags tags a a
+gives_still g tags a start told_start c told_c n low = ap (λ (x : Content). tags x n) (same_Some c start (sym told_c ∙ told_start))
+
+-- The bytes of a block are written, and then a tag is put.
+pub gives_put : (g : Geometry) (block : ℕ) (tag : List ℕ) (tags now : Content → ℕ → List ℕ) (a m b : List Content) → GivesTags g tags tags a m → PutsTag g block tag tags now m b
+    → GivesTags g (λ c. with_block_tag block tag (tags c)) now a b
+gives_put g block tag tags now a m b first puts start told_start c told_c n low =
+    let P : Content → Content → Type 0 = λ x. OnlyAdds (IsOfTags g (tags x) (with_block_tag block tag (tags x))) x in
+    let middle = (told_at_end P (λ x. OnlyAdds-none (IsOfTags g (tags x) (with_block_tag block tag (tags x))) x) puts.adds).each c told_c in
+    puts.gives middle.0 middle.1 c told_c n low
+    ∙ ap (λ (old : List ℕ). if block == n then tag else old) (first start told_start middle.0 middle.1 n low)
+
+-- Tags are written back, and all is synced.
+pub gives_flushed : (g : Geometry) (tags mid : Content → ℕ → List ℕ) (a m b : List Content) → GivesTags g tags mid a m → IsChangedBy newest_only m b → GivesTags g mid mid m b → GivesTags g tags mid a b
+gives_flushed g tags mid a m b first synced second start told_start c told_c n low =
+    let middle = changed_now newest_only (content_now m) (content_now b) synced c told_c in
+    second middle.0 middle.1 c told_c n low ∙ first start told_start middle.0 middle.1 n low
 
 -- ---- the same with a store
 

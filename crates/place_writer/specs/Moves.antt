@@ -6,13 +6,15 @@ use Rattle.image_model.specs.Cells.{recalculated_cell}
 use Rattle.image_model.specs.Geometry.{Geometry}
 use Rattle.image_model.specs.Section.{Entry}
 use Rattle.journal_laws.specs.Device.{IsJournalRing, block_of, placed_count}
+use Rattle.place_model.specs.Tags.{with_block_tag}
+use Rattle.direct_mode.specs.CallLaws.{GivesTags}
 use Rattle.direct_mode.specs.Cells.{IsOfBlockOrTags}
 use Rattle.journal_model.specs.JournaledDisk.{JournaledDisk, IsCutOf, StandsFor, cell_at}
 use Rattle.journal_model.specs.Ring.{JournalRing, entries_of, with_settle}
 use Rattle.journal_model.specs.Steps.{after_place, after_settle}
 use Rattle.journal_ring.specs.declared.ring.Moved.{Moved}
 use Rattle.journal_ring.specs.declared.ring.Moved.TheVariants.{Did, Idle}
-use Rattle.tag_store.specs.Store.{IsMarkedTags, Store}
+use Rattle.tag_store.specs.Store.{IsMarkedTags, Store, given_tags}
 use Rattle.place_writer.specs.Cells.{HasCells}
 use Rattle.place_writer.specs.Placement.{placed_in}
 use Rattle.place_writer.specs.declared.placement.Placement.{Placement}
@@ -67,6 +69,18 @@ WritesEntry g None before after = after ≡ before
 abbrev pub WritesNext : Placement → JournalRing → (before after : List Content) → Type 0
 WritesNext p ring before after =
     WritesEntry ring.geometry (slice_get (entries_of ring.committed) (placed_in p ring)) before after
+
+-- The store gives for the entry's block the entry's tag then, and for each other block the tag that it gave. Where
+-- there is no entry it gives for each the tag that it gave.
+abbrev pub GivesEntry : Geometry → Option Entry → (old new : Store) → (before after : List Content) → Type 0
+GivesEntry g (Some entry) old new before after =
+    GivesTags g (λ c. with_block_tag (block_of g entry) entry.tag (given_tags old c)) (given_tags new) before after
+GivesEntry g None old new before after = GivesTags g (given_tags old) (given_tags new) before after
+
+-- So for the oldest committed entry that is not placed.
+abbrev pub GivesNext : Placement → JournalRing → (old new : Store) → (before after : List Content) → Type 0
+GivesNext p ring old new before after =
+    GivesEntry ring.geometry (slice_get (entries_of ring.committed) (placed_in p ring)) old new before after
 
 -- ---- what is placed is settled
 

@@ -10,6 +10,7 @@ ghost use Rattle.journal_model.specs.JournaledDisk.{JournaledDisk, StandsFor};
 ghost use Rattle.journal_model.specs.Steps.{after_place};
 ghost use Rattle.journal_ring.specs.Places.{entries_at};
 ghost use Rattle.place_writer.specs.Cells.{HasCells};
+ghost use Rattle.place_writer.specs.Moves.{GivesEntry};
 ghost use Rattle.place_writer.specs.Placement.{IsWholeEntry};
 ghost use Rattle.tag_store.specs.Store.{IsStore};
 
@@ -46,6 +47,9 @@ pub(crate) fn place_entry<D: Disk>(
         → slice_get (entries_at ring.now place.section) place.entry ≡ Some entry
         → slice_get d.entries d.placed ≡ Some entry → HasCells d tags.old (D.moments disk.old)
         → HasCells (after_place d) tags.new (D.moments disk.new)) }
+    ensures tags { OnOk result ((entry : Entry)
+        → slice_get (entries_at ring.now place.section) place.entry ≡ Some entry
+        → GivesEntry tags.old.geometry (Some entry) tags.old tags.new (D.moments disk.old) (D.moments disk.new)) }
 
     ensures cause { HasCause (D.faults disk.old) (D.faults disk.new) result }
 

@@ -4,10 +4,11 @@ ghost use Rattle.buffer_cache.specs.Cached.{HasNoMark};
 ghost use Rattle.disk_model.specs.Causes.{HasCause};
 ghost use Rattle.disk_model.specs.Disk.{HasNothingPending, OnlyAdds, newest_only};
 ghost use Rattle.disk_model.specs.Moments.{EachMoment, EachSince, HasNow};
+ghost use Rattle.direct_mode.specs.CallLaws.{GivesTags};
 ghost use Rattle.journal_model.specs.JournaledDisk.{JournaledDisk, StandsFor};
 ghost use Rattle.journal_model.specs.Steps.{after_settle};
 ghost use Rattle.place_writer.specs.Cells.{HasCells};
-ghost use Rattle.tag_store.specs.Store.{IsMarkedTags, IsStore};
+ghost use Rattle.tag_store.specs.Store.{IsMarkedTags, IsStore, given_tags};
 
 use sector_disk::{Disk, Failed};
 use tag_store::Tags;
@@ -25,6 +26,8 @@ pub fn flush<D: Disk>(disk: &mut D, tags: &mut Tags) -> Result<(), Failed>
     ensures settled { OnOk result ((d : JournaledDisk) → HasCells d tags.old (D.moments disk.old)
         → HasCells (after_settle d) tags.new (D.moments disk.new)) }
     ensures pending { OnOk result (HasNow HasNothingPending (D.moments disk.new)) }
+    ensures tags { OnOk result (GivesTags tags.old.geometry (given_tags tags.old) (given_tags tags.new)
+        (D.moments disk.old) (D.moments disk.new)) }
 
     ensures cause { HasCause (D.faults disk.old) (D.faults disk.new) result }
 

@@ -1,11 +1,12 @@
 //! Which entries are placed, and which sections are free then.
-ghost use Rattle.std.specs.Prelude.{◌≡◌, IfOk, OnErr};
+ghost use Rattle.std.specs.Prelude.{◌≡◌, IfOk, OnErr, OnOk};
 ghost use Rattle.disk_model.specs.Causes.{HasCause};
 ghost use Rattle.journal_model.specs.JournaledDisk.{JournaledDisk};
 ghost use Rattle.journal_model.specs.Steps.{after_place};
-ghost use Rattle.place_writer.specs.Moves.{HasPlaced, HasSettled, IsLeftOn, IsPlacedOn, StandsThrough, WritesNext, WritesTags, after_placing};
+ghost use Rattle.direct_mode.specs.CallLaws.{GivesTags};
+ghost use Rattle.place_writer.specs.Moves.{GivesNext, HasPlaced, HasSettled, IsLeftOn, IsPlacedOn, StandsThrough, WritesNext, WritesTags, after_placing};
 ghost use Rattle.place_writer.specs.Placement.{IsPlacementOf};
-ghost use Rattle.tag_store.specs.Store.{IsStore};
+ghost use Rattle.tag_store.specs.Store.{IsStore, given_tags};
 
 use crate::entry::place_entry;
 use crate::flushing::flush;
@@ -69,6 +70,8 @@ impl Placer {
         ensures placed { IfOk result (λ moved. (d : JournaledDisk)
             → IsPlacedOn d self.old ring.now tags.old (D.moments disk.old)
             → IsPlacedOn (after_placing moved d) self.new ring.now tags.new (D.moments disk.new)) }
+        ensures tags { OnOk result (GivesNext self.old ring.now tags.old tags.new
+            (D.moments disk.old) (D.moments disk.new)) }
 
         ensures cause { HasCause (D.faults disk.old) (D.faults disk.new) result }
         ensures err { OnErr result (self.new ≡ self.old) }
@@ -112,6 +115,8 @@ impl Placer {
         ensures settled { IfOk result (λ moved. (d : JournaledDisk)
             → IsPlacedOn d self.old ring.old tags.old (D.moments disk.old)
             → IsLeftOn moved d self.new ring.new tags.new (D.moments disk.new)) }
+        ensures tags { OnOk result (GivesTags tags.old.geometry (given_tags tags.old) (given_tags tags.new)
+            (D.moments disk.old) (D.moments disk.new)) }
 
         ensures cause { HasCause (D.faults disk.old) (D.faults disk.new) result }
         ensures err { OnErr result ((self.new ≡ self.old) × (ring.new ≡ ring.old)) }

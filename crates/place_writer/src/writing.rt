@@ -3,12 +3,14 @@ ghost use Rattle.std.specs.Prelude.{◌≡◌, ◌*◌, ◌<◌, length, OnOk};
 ghost use Rattle.disk_model.specs.Causes.{HasCause};
 ghost use Rattle.disk_model.specs.Disk.{OnlyAdds};
 ghost use Rattle.disk_model.specs.Moments.{EachMoment, EachSince};
+ghost use Rattle.place_model.specs.Tags.{with_block_tag};
+ghost use Rattle.direct_mode.specs.CallLaws.{GivesTags};
 ghost use Rattle.direct_mode.specs.Cells.{IsOfBlockOrTags};
 ghost use Rattle.journal_model.specs.JournaledDisk.{JournaledDisk, StandsFor};
 ghost use Rattle.journal_model.specs.Steps.{after_place, IsNextEntry};
 ghost use Rattle.journal_ring.specs.Places.{entry_of};
 ghost use Rattle.place_writer.specs.Cells.{HasCells};
-ghost use Rattle.tag_store.specs.Store.{IsStore};
+ghost use Rattle.tag_store.specs.Store.{IsStore, given_tags};
 
 use hmac_tag::Tag;
 use sector_disk::{Disk, Failed};
@@ -38,6 +40,9 @@ pub fn write_entry<D: Disk>(
         → IsNextEntry d block (entry_of tags.old.geometry block bytes.now tag.now)
         → HasCells d tags.old (D.moments disk.old)
         → HasCells (after_place d) tags.new (D.moments disk.new)) }
+    ensures tags { OnOk result (GivesTags tags.old.geometry
+        (λ c. with_block_tag block tag.now (given_tags tags.old c)) (given_tags tags.new)
+        (D.moments disk.old) (D.moments disk.new)) }
 
     ensures cause { HasCause (D.faults disk.old) (D.faults disk.new) result }
 

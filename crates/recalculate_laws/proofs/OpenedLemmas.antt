@@ -5,7 +5,7 @@ use Rattle.std.proofs.lemmas.Nat.{div-add-mod'}
 use Rattle.std.proofs.Math.Nat.{mul-le-mul_right}
 use Rattle.disk_model.specs.Disk.{Image}
 use Rattle.image_model.specs.declared.flags.TheConstants.{DIRTY_BITMAP, RECALCULATING}
-use Rattle.image_model.specs.Bitmap.{is_to_recalculate, region_awaits}
+use Rattle.image_model.specs.Bitmap.{is_to_recalculate, region_awaits, some_await}
 use Rattle.image_model.specs.Cells.{Cell}
 use Rattle.image_model.specs.Geometry.{Geometry, geometry_of, layout_of, region_of, regions}
 use Rattle.image_model.specs.Superblock.{IsAccepted, Superblock, has_flag}
@@ -15,7 +15,7 @@ use Rattle.image_model.proofs.Regions.{region_of-lt}
 use Rattle.device_model.specs.Regions.{least_region}
 use Rattle.place_model.proofs.PlacedLemmas.{cells_of-none, recalculated-computed}
 use Rattle.bitmap_laws.proofs.LeastLemmas.{find_none, least_found}
-use Rattle.recalculate_laws.specs.Opened.{FromStartLaw, SomeAwaitLaw, some_await}
+use Rattle.recalculate_laws.specs.Opened.{FromStartLaw, SomeAwaitLaw}
 
 module _ (s : Superblock) (sectors : ℕ) (g : Geometry) (image : Image) (accepted : IsAccepted s) (e : geometry_of s sectors ≡ Ok g) (clear : has_flag DIRTY_BITMAP s.flags ≡ false) where
   is_layout : g ≡ layout_of s

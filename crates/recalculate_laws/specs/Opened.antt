@@ -1,18 +1,14 @@
 -- What awaits when an image without a bitmap is opened: whether some block does, and all blocks of a new one.
 -- Own: consent is asked by the fields alone, before the journal is looked at.
-use Rattle.std.specs.Prelude.{◌≡◌, ℕ, ◌<◌, nat_lt, Bool, true, false, ◌&&◌, is_some, None, Ok}
+use Rattle.std.specs.Prelude.{◌≡◌, ℕ, ◌<◌, true, false, is_some, None, Ok}
 use Rattle.disk_model.specs.Disk.{Image}
 use Rattle.image_model.specs.declared.flags.TheConstants.{DIRTY_BITMAP, RECALCULATING}
-use Rattle.image_model.specs.Bitmap.{awaits, region_awaits}
+use Rattle.image_model.specs.Bitmap.{awaits, region_awaits, some_await}
 use Rattle.image_model.specs.Cells.{counted_entries, last_entry, placed_cells_of}
 use Rattle.image_model.specs.Geometry.{Geometry, IsGeometry, geometry_of, regions}
 use Rattle.image_model.specs.Superblock.{IsAccepted, Superblock, has_flag}
 use Rattle.device_model.specs.Regions.{least_region}
 use Rattle.place_model.specs.Format.{DiskFormat, cells_on, tagger_of}
-
--- Tags are to be recalculated from a sector of the device on.
-abbrev pub some_await : Superblock → Bool
-some_await s = has_flag RECALCULATING s.flags && nat_lt s.recalc_sector s.provided
 
 -- Without a bitmap some region awaits exactly then.
 abbrev pub SomeAwaitLaw : Type 0
@@ -20,8 +16,8 @@ SomeAwaitLaw = (s : Superblock) (sectors : ℕ) (g : Geometry) (image : Image) �
     → geometry_of s sectors ≡ Ok g → has_flag DIRTY_BITMAP s.flags ≡ false
     → is_some (least_region (regions g) (region_awaits s g image)) ≡ some_await s
 
--- Of an image that is to be recalculated from its first sector on each block awaits, and each region, and the tag of a block
--- of which no entry is replayed is that of its bytes.
+-- Of an image that is to be recalculated from its first sector on each block awaits, and each region, and the tag of a
+-- block of which no entry is replayed is that of its bytes.
 abbrev pub FromStartLaw : Type 0
 FromStartLaw = (d : DiskFormat) (image : Image) → IsGeometry d.geometry d.sectors
     → has_flag DIRTY_BITMAP d.superblock.flags ≡ false → has_flag RECALCULATING d.superblock.flags ≡ true

@@ -2,7 +2,12 @@ pub mod PlacesLemmas
 pub mod RunLemmas
 pub mod RestLemmas
 pub mod TakingLemmas
+pub mod FindLemmas
 pub mod AwaitingLemmas
 pub mod LawsLemmas
+pub mod PositionLemmas
+pub mod HeadLemmas
+pub mod StepLemmas
+pub mod KeptLemmas
 pub mod Worked
 mod ScratchServes

@@ -2,7 +2,7 @@
 use Rattle.std.proofs.Common.{◌≡◌, inl, inr, ℕ, zero, suc, ◌+◌, ◌-◌, ◌*◌, ◌/◌, ◌%◌, ◌^◌, ◌<◌, ◌≤◌, min, max, sym, ◌∙◌, ap, arith}
 use Rattle.std.proofs.lemmas.Bool.{cases_lt}
 use Rattle.std.proofs.lemmas.Nat.{div-mul-add, mod-mul-add, div-add-mod', mod_below, pow-add, pow_pos}
-use Rattle.std.proofs.Math.Nat.{mul-div_cancel, mul-le-mul_left, pow-le-pow_right}
+use Rattle.std.proofs.Math.Nat.{mul-div_cancel, mul-le-mul_left, mul-le-mul_right, pow-le-pow_right}
 use Rattle.image_model.specs.Geometry.{Geometry, IsGeometry, area_at, data_at, layout_of, region_of, regions}
 use Rattle.image_model.specs.Superblock.{Superblock}
 use Rattle.image_model.proofs.GeometryLemmas.{area_blocks_some, data_at-inside, placed}
@@ -35,6 +35,23 @@ module _ (g : Geometry) (few : g.blocks ≤ 2 ^ 48) where
       let less : 2 ^ min g.log2_region 48 ≤ 2 ^ g.log2_region = pow-le-pow_right (omega arith) (omega arith) in
       let row : region * 2 ^ min g.log2_region 48 ≤ region * 2 ^ g.log2_region = mul-le-mul_left region less in
       omega (arith, real, row)
+
+  -- The first block of one is the same.
+  pub start_is : (region : ℕ) → region < regions g → region * 2 ^ min g.log2_region 48 ≡ region * 2 ^ g.log2_region
+  start_is region low = elim (cases_lt g.log2_region 48) [
+    | inl short ↦ let e : min g.log2_region 48 ≡ g.log2_region = omega arith in ap (λ n. region * 2 ^ n) e
+    | inr long ↦ elim (cases_lt 0 region) [
+      | inl some ↦
+          let real = region-begins g region low in
+          let more : 2 ^ 48 ≤ 2 ^ g.log2_region = pow-le-pow_right (omega arith) long in
+          let row : 1 * 2 ^ g.log2_region ≤ region * 2 ^ g.log2_region = mul-le-mul_right (2 ^ g.log2_region) some in
+          absurd (omega (arith, few, real, more, row))
+      | inr none ↦
+          let first : region ≡ 0 = omega (arith, none) in
+          let same : 0 * 2 ^ min g.log2_region 48 ≡ 0 * 2 ^ g.log2_region = omega arith in
+          ap (λ n. n * 2 ^ min g.log2_region 48) first ∙ same ∙ ap (λ n. n * 2 ^ g.log2_region) (sym first)
+    ]
+  ]
 
   -- The blocks of a region that are not below some first one.
   pub span_is : (first region : ℕ) → IsSpan g first region (max (region * 2 ^ min g.log2_region 48) first) (min (region * 2 ^ min g.log2_region 48 + 2 ^ min g.log2_region 48) g.blocks)

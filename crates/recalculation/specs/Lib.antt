@@ -5,3 +5,5 @@ pub mod Rule
 pub mod Rest
 pub mod Taking
 pub mod Laws
+pub mod Position
+pub mod Recalculation

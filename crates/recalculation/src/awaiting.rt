@@ -1,12 +1,13 @@
 //! The regions that await.
 ghost use Rattle.std.specs.Prelude.{◌≡◌, ◌<◌, ◌≤◌, ◌*◌, ℕ, None, false, Some, option_map, IfOk, IfSome};
-ghost use Rattle.std.specs.Prelude.{IsOk, OnErr, OnOk};
+ghost use Rattle.std.specs.Prelude.{◌&&◌, nat_lt, IsOk, OnErr, OnOk};
 ghost use Rattle.disk_model.specs.Causes.{HasCause};
 ghost use Rattle.image_model.specs.Geometry.{layout_of, region_of, regions};
 ghost use Rattle.device_model.specs.Regions.{least_region, with_region};
 ghost use Rattle.direct_laws.specs.CallLaws.{AddsTags};
 ghost use Rattle.bitmap_laws.specs.CallLaws.{AreSameBits, region_tags};
 ghost use Rattle.bitmap_laws.specs.ServeLaws.{Recalculates};
+ghost use Rattle.recalculate_laws.specs.Position.{region_end, region_start};
 ghost use Rattle.dirty_bitmap.specs.Bits.{RegionBits};
 ghost use Rattle.tag_store.specs.Store.{IsStore, given_tags};
 ghost use Rattle.recalculation.specs.Awaiting.{IsOpening, NoneAwaits, awaiting_blocks, awaiting_of};
@@ -102,6 +103,15 @@ impl Awaiting {
         }
     }
 
+    /// The region of a block.
+    pub fn region_of(&self, block: u64) -> u64
+        requires { block < self.now.geometry.blocks }
+
+        ensures { result ≡ region_of self.now.geometry block }
+    {
+        self.places.geometry.region_of(block)
+    }
+
     /// Recalculates a region: each of its blocks that awaits gets the tag of the bytes in its place, and no other block
     /// does. Then the region does not await any more. No data are written, nothing is synced, and every byte that no
     /// tag takes stays.
@@ -149,6 +159,31 @@ impl Awaiting {
             Some(left) => left.take(disk, tags, maker, &self.places, region),
             None => Ok(()),
         }
+    }
+
+    /// The least region that awaits and has a sector at or above sector `at` of the device.
+    pub(crate) fn next_above(&self, at: u64) -> Option<u64>
+        ensures { let g = self.now.geometry in result ≡ least_region (regions g)
+            (λ region. awaiting_of self.now region && nat_lt at (region_end g region)) }
+    {
+        let Some(left) = &self.left else {
+            return None;
+        };
+        let geometry = &self.places.geometry;
+        let block = at / geometry.shape().spb;
+        if block >= geometry.blocks() {
+            return None;
+        }
+        left.set.next(geometry.region_of(block))
+    }
+
+    /// The first sector of a region of the device.
+    pub(crate) fn start_of(&self, region: u64) -> u64
+        requires { region < regions self.now.geometry }
+
+        ensures { result ≡ region_start self.now.geometry region }
+    {
+        self.places.start_of(region)
     }
 
     /// The regions whose bit is set.

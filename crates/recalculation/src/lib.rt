@@ -1,7 +1,8 @@
-//! Which regions await the tags of their blocks, and the recalculation of one.
+//! Which regions await the tags of their blocks, the recalculation of one, and the position that tells how far that is.
 //!
 //! A contract sees the regions that await as the geometry, the first block that may await and a test of regions
-//! (`specs/Awaiting.antt` first). Nothing but tags is written.
+//! (`specs/Awaiting.antt` first), and the position as the fields of sector 0 (`specs/Position.antt`). Nothing is
+//! written but tags, and sector 0 where the position moves.
 #![tactic(auto)]
 
 mod awaiting;
@@ -9,7 +10,11 @@ mod block_run;
 mod laws;
 mod left;
 mod places;
+mod position;
+mod recalculating;
 mod taking;
 
 pub use awaiting::Awaiting;
 pub use laws::{region_is_recalculated, regions_await};
+pub use position::Position;
+pub use recalculating::Recalculation;

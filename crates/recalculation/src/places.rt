@@ -1,6 +1,7 @@
 //! Which blocks of a region are recalculated, and which of them are read by one call.
 ghost use Rattle.std.specs.Prelude.{◌≡◌, ◌*◌, ◌+◌, ◌<◌, ◌≤◌};
 ghost use Rattle.image_model.specs.Geometry.{layout_of, regions};
+ghost use Rattle.recalculate_laws.specs.Position.{region_start};
 ghost use Rattle.recalculation.specs.Places.{IsPlaces, IsSideBySide, IsSpan, TellsAreas};
 
 use image_model::Super;
@@ -57,6 +58,16 @@ impl Places {
         let begin = region * self.of_region;
         let end = (begin + self.of_region).min(self.blocks);
         (begin.max(self.first), end)
+    }
+
+    /// The first sector of a region of the device.
+    pub(crate) fn start_of(&self, region: u64) -> u64
+        requires places { IsPlaces self.now }
+        requires region { region < regions self.now.geometry }
+
+        ensures { result ≡ region_start self.now.geometry region }
+    {
+        region * self.of_region * self.geometry.shape().spb
     }
 
     /// How many blocks from `block` on, before `end`, are read by one call: those that lie side by side, and fit.

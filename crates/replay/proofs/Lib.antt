@@ -1,4 +1,5 @@
 pub use Rattle.place_writer.proofs.CommitLawsLemmas
+pub use Rattle.place_writer.proofs.PlacedOnLemmas
 pub use Rattle.place_writer.proofs.PlacementLemmas
 pub use Rattle.place_writer.proofs.PlacingLawsLemmas
 pub use Rattle.place_writer.proofs.StoreCalls

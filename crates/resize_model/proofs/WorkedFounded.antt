@@ -180,7 +180,7 @@ resized = growth_done_law longer (cells_before w) fresh_journal (newest_only hea
 
 -- What stood there besides the cells is kept.
 stored : EachImage (KeepsStored longer fresh_journal) (newest_only headed)
-stored = stored_law longer fresh_journal fresh_journal (newest_only headed) (record { rest = λ clear rests sector on. refl; awaiting = λ b low none waits. refl }) founded
+stored = stored_law longer fresh_journal fresh_journal (newest_only headed) (record { rest = λ clear rests sector on. refl; awaiting = λ set b low waits. refl }) founded
 
 -- Its image opens by its own fields, which are the resized ones, with sixteen blocks.
 abbrev image : Image

@@ -5,7 +5,7 @@ ghost use Rattle.device_parts.specs.declared.condition.Condition.TheVariants.{Wo
 ghost use Rattle.device.specs.Calls.{Works};
 ghost use Rattle.device.specs.Device.{IsReady};
 
-use device::{Device, OpenMode};
+use device::{Consent, Device, OpenMode};
 use device_exercise::exercise;
 use hmac_tag::Hash;
 use image_formatting::{ImageMode, NewImage, Padding, Wipe, format};
@@ -86,13 +86,13 @@ fn told_of(alloc: Global, mode: OpenMode, seed: u64, count: u64) -> Result<Vec<u
 fn an_exercise_counts_requests_and_replies(rt: HostRuntime) -> Result<(), Fail> {
     let rows = [
         (
-            OpenMode::Journal,
+            OpenMode::Journal(Consent::Withheld),
             0,
             1,
             "fills 1 reads 0 flushes 0 faults 0 sum 264192\n",
         ),
         (
-            OpenMode::Direct,
+            OpenMode::Direct(Consent::Withheld),
             7,
             0,
             "fills 0 reads 0 flushes 0 faults 0 sum 0\n",

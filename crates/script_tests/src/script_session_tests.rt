@@ -1,7 +1,7 @@
 //! Lines on small images in memory, in each mode, and what they tell.
 ghost use Rattle.disk_model.specs.Identity.{IsBound};
 
-use device::{Device, OpenMode};
+use device::{Consent, Device, OpenMode};
 use hmac_tag::Hash;
 use image_formatting::{ImageMode, NewImage, Padding, Wipe, format};
 use script_session::{LineEnd, TagsFound, Tickets, run_line};
@@ -92,7 +92,13 @@ fn a_request_in_flight_is_told_when_it_is_taken(rt: HostRuntime) -> Result<(), F
         Line::Serve { ticket: 2 },
         Line::Take { ticket: 2 },
     ];
-    let ended = run_lines(rt.alloc(), &mut disk, OpenMode::Direct, &lines, &mut out);
+    let ended = run_lines(
+        rt.alloc(),
+        &mut disk,
+        OpenMode::Direct(Consent::Withheld),
+        &lines,
+        &mut out,
+    );
     assert_eq!(rt; ended, Some(Ok(TagsFound::Matching)));
     let told = "ok write 5 1\nticket 2\nnot done\ndone\nok read 5 1 aa*512\n";
     assert_eq!(rt; out.bytes(), told.as_bytes());
@@ -118,7 +124,13 @@ fn steps_in_journal_mode_are_told(rt: HostRuntime) -> Result<(), Fail> {
             ask: Ask::Read { first: 5, count: 1 },
         },
     ];
-    let ended = run_lines(rt.alloc(), &mut disk, OpenMode::Journal, &lines, &mut out);
+    let ended = run_lines(
+        rt.alloc(),
+        &mut disk,
+        OpenMode::Journal(Consent::Withheld),
+        &lines,
+        &mut out,
+    );
     assert_eq!(rt; ended, Some(Ok(TagsFound::Matching)));
     let told = "ok write 5 1\ndid\nidle\nok read 5 1 aa*512\n";
     assert_eq!(rt; out.bytes(), told.as_bytes());

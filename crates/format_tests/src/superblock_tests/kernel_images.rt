@@ -1,6 +1,6 @@
 //! Superblocks that Linux 6.1 wrote, formatted by integritysetup 2.6.1, and what `integritysetup dump`
 //! printed of them.
-use image_model::{DIRTY_BITMAP, FIXED_HMAC, FIXED_PADDING};
+use image_model::{DIRTY_BITMAP, FIXED_HMAC, FIXED_PADDING, RECALCULATING};
 use superblock::Super;
 
 /// Bytes 0 to 63 of an image, and the fields that were printed.
@@ -16,6 +16,7 @@ pub(super) struct KernelImage {
     sector_size: u32,
     log2_region: u8,
     flags: u32,
+    recalc_sector: u64,
 }
 
 impl KernelImage {
@@ -30,13 +31,13 @@ impl KernelImage {
             flags: self.flags,
             log2_spb: (self.sector_size / 512).trailing_zeros() as u8,
             log2_region: self.log2_region,
-            recalc_sector: 0,
+            recalc_sector: self.recalc_sector,
             salt,
         }
     }
 }
 
-pub(super) const KERNEL_IMAGES: [KernelImage; 14] = [
+pub(super) const KERNEL_IMAGES: [KernelImage; 16] = [
     KernelImage {
         bytes: [
             0x69, 0x6e, 0x74, 0x65, 0x67, 0x72, 0x74, 0x00, 0x05, 0x03, 0x20, 0x00, 0x01, 0x00,
@@ -53,6 +54,7 @@ pub(super) const KERNEL_IMAGES: [KernelImage; 14] = [
         sector_size: 512,
         log2_region: 15,
         flags: FIXED_PADDING | FIXED_HMAC,
+        recalc_sector: 0,
     },
     KernelImage {
         bytes: [
@@ -70,6 +72,7 @@ pub(super) const KERNEL_IMAGES: [KernelImage; 14] = [
         sector_size: 1024,
         log2_region: 14,
         flags: FIXED_PADDING | FIXED_HMAC,
+        recalc_sector: 0,
     },
     KernelImage {
         bytes: [
@@ -87,6 +90,7 @@ pub(super) const KERNEL_IMAGES: [KernelImage; 14] = [
         sector_size: 2048,
         log2_region: 13,
         flags: FIXED_PADDING | FIXED_HMAC,
+        recalc_sector: 0,
     },
     KernelImage {
         bytes: [
@@ -104,6 +108,7 @@ pub(super) const KERNEL_IMAGES: [KernelImage; 14] = [
         sector_size: 512,
         log2_region: 15,
         flags: FIXED_PADDING | FIXED_HMAC,
+        recalc_sector: 0,
     },
     KernelImage {
         bytes: [
@@ -121,6 +126,7 @@ pub(super) const KERNEL_IMAGES: [KernelImage; 14] = [
         sector_size: 4096,
         log2_region: 12,
         flags: FIXED_PADDING | FIXED_HMAC,
+        recalc_sector: 0,
     },
     KernelImage {
         bytes: [
@@ -138,6 +144,7 @@ pub(super) const KERNEL_IMAGES: [KernelImage; 14] = [
         sector_size: 512,
         log2_region: 15,
         flags: FIXED_PADDING | FIXED_HMAC,
+        recalc_sector: 0,
     },
     KernelImage {
         bytes: [
@@ -155,6 +162,7 @@ pub(super) const KERNEL_IMAGES: [KernelImage; 14] = [
         sector_size: 512,
         log2_region: 15,
         flags: FIXED_PADDING | FIXED_HMAC,
+        recalc_sector: 0,
     },
     KernelImage {
         bytes: [
@@ -172,6 +180,7 @@ pub(super) const KERNEL_IMAGES: [KernelImage; 14] = [
         sector_size: 512,
         log2_region: 15,
         flags: FIXED_PADDING | FIXED_HMAC,
+        recalc_sector: 0,
     },
     KernelImage {
         bytes: [
@@ -189,6 +198,7 @@ pub(super) const KERNEL_IMAGES: [KernelImage; 14] = [
         sector_size: 512,
         log2_region: 15,
         flags: FIXED_PADDING,
+        recalc_sector: 0,
     },
     KernelImage {
         bytes: [
@@ -206,6 +216,7 @@ pub(super) const KERNEL_IMAGES: [KernelImage; 14] = [
         sector_size: 512,
         log2_region: 15,
         flags: FIXED_HMAC,
+        recalc_sector: 0,
     },
     KernelImage {
         bytes: [
@@ -223,6 +234,7 @@ pub(super) const KERNEL_IMAGES: [KernelImage; 14] = [
         sector_size: 512,
         log2_region: 15,
         flags: 0,
+        recalc_sector: 0,
     },
     KernelImage {
         bytes: [
@@ -240,6 +252,7 @@ pub(super) const KERNEL_IMAGES: [KernelImage; 14] = [
         sector_size: 512,
         log2_region: 4,
         flags: DIRTY_BITMAP | FIXED_PADDING | FIXED_HMAC,
+        recalc_sector: 0,
     },
     KernelImage {
         bytes: [
@@ -257,6 +270,7 @@ pub(super) const KERNEL_IMAGES: [KernelImage; 14] = [
         sector_size: 4096,
         log2_region: 1,
         flags: DIRTY_BITMAP | FIXED_PADDING | FIXED_HMAC,
+        recalc_sector: 0,
     },
     KernelImage {
         bytes: [
@@ -274,23 +288,42 @@ pub(super) const KERNEL_IMAGES: [KernelImage; 14] = [
         sector_size: 512,
         log2_region: 3,
         flags: DIRTY_BITMAP | FIXED_PADDING | FIXED_HMAC,
+        recalc_sector: 0,
     },
-];
-
-/// Images of which `recalculating` was printed.
-pub(super) const RECALCULATING_IMAGES: [[u8; 64]; 2] = [
-    [
-        0x69, 0x6e, 0x74, 0x65, 0x67, 0x72, 0x74, 0x00, 0x02, 0x08, 0x20, 0x00, 0x01, 0x00, 0x00,
-        0x00, 0xa0, 0x03, 0x00, 0x00, 0x00, 0x00, 0x00, 0x00, 0x02, 0x00, 0x00, 0x00, 0x00, 0x0f,
-        0x00, 0x00, 0xa0, 0x03, 0x00, 0x00, 0x00, 0x00, 0x00, 0x00, 0x00, 0x00, 0x00, 0x00, 0x00,
-        0x00, 0x00, 0x00, 0x00, 0x00, 0x00, 0x00, 0x00, 0x00, 0x00, 0x00, 0x00, 0x00, 0x00, 0x00,
-        0x00, 0x00, 0x00, 0x00,
-    ],
-    [
-        0x69, 0x6e, 0x74, 0x65, 0x67, 0x72, 0x74, 0x00, 0x03, 0x08, 0x20, 0x00, 0x01, 0x00, 0x00,
-        0x00, 0xa0, 0x03, 0x00, 0x00, 0x00, 0x00, 0x00, 0x00, 0x02, 0x00, 0x00, 0x00, 0x00, 0x03,
-        0x00, 0x00, 0xa0, 0x03, 0x00, 0x00, 0x00, 0x00, 0x00, 0x00, 0x00, 0x00, 0x00, 0x00, 0x00,
-        0x00, 0x00, 0x00, 0x00, 0x00, 0x00, 0x00, 0x00, 0x00, 0x00, 0x00, 0x00, 0x00, 0x00, 0x00,
-        0x00, 0x00, 0x00, 0x00,
-    ],
+    KernelImage {
+        bytes: [
+            0x69, 0x6e, 0x74, 0x65, 0x67, 0x72, 0x74, 0x00, 0x02, 0x08, 0x20, 0x00, 0x01, 0x00,
+            0x00, 0x00, 0xa0, 0x03, 0x00, 0x00, 0x00, 0x00, 0x00, 0x00, 0x02, 0x00, 0x00, 0x00,
+            0x00, 0x0f, 0x00, 0x00, 0xa0, 0x03, 0x00, 0x00, 0x00, 0x00, 0x00, 0x00, 0x00, 0x00,
+            0x00, 0x00, 0x00, 0x00, 0x00, 0x00, 0x00, 0x00, 0x00, 0x00, 0x00, 0x00, 0x00, 0x00,
+            0x00, 0x00, 0x00, 0x00, 0x00, 0x00, 0x00, 0x00,
+        ],
+        version: 2,
+        log2_interleave: 8,
+        tag_size: 32,
+        sections: 1,
+        provided: 928,
+        sector_size: 512,
+        log2_region: 15,
+        flags: RECALCULATING,
+        recalc_sector: 928,
+    },
+    KernelImage {
+        bytes: [
+            0x69, 0x6e, 0x74, 0x65, 0x67, 0x72, 0x74, 0x00, 0x03, 0x08, 0x20, 0x00, 0x01, 0x00,
+            0x00, 0x00, 0xa0, 0x03, 0x00, 0x00, 0x00, 0x00, 0x00, 0x00, 0x02, 0x00, 0x00, 0x00,
+            0x00, 0x03, 0x00, 0x00, 0xa0, 0x03, 0x00, 0x00, 0x00, 0x00, 0x00, 0x00, 0x00, 0x00,
+            0x00, 0x00, 0x00, 0x00, 0x00, 0x00, 0x00, 0x00, 0x00, 0x00, 0x00, 0x00, 0x00, 0x00,
+            0x00, 0x00, 0x00, 0x00, 0x00, 0x00, 0x00, 0x00,
+        ],
+        version: 3,
+        log2_interleave: 8,
+        tag_size: 32,
+        sections: 1,
+        provided: 928,
+        sector_size: 512,
+        log2_region: 3,
+        flags: RECALCULATING,
+        recalc_sector: 928,
+    },
 ];

@@ -2,7 +2,8 @@ use Rattle.std.proofs.Common.{inl, inr, sym, ◌∙◌, subst, arith}
 use Rattle.std.proofs.lemmas.Bool.{cases_lt}
 use Rattle.dirty_bitmap.specs.Regions.{Regions, has_region}
 use Rattle.bitmap_mode.specs.States.{AreToClean, counts_by}
-use Rattle.bitmap_mode.proofs.FindLemmas.{below_next, next_found, next_none}
+use Rattle.recalculation.proofs.FindLemmas.{next_found, next_none}
+use Rattle.bitmap_mode.proofs.FindLemmas.{below_next}
 use Rattle.bitmap_mode.proofs.StatesLemmas.{clean_if_set, clean_unless_awaiting, rested_in, rested_out}
 use Rattle.bitmap_mode.proofs.resting.rest_all.Goals as goal
 use Rattle.bitmap_mode.proofs.resting.rest_all.Goals.{then-is_set+then-not-awaits, else-is_set, else-is_set-via-then-is_set+else-not-awaits, else-is_set-via-else-is_set}

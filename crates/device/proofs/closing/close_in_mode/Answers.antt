@@ -1,7 +1,10 @@
 use Rattle.device_model.specs.Progress.{Close}
 use Rattle.device.specs.Answers.{KeepsClearTags}
 use Rattle.std.proofs.Common.{sym, subst, refl}
-use Rattle.direct_mode.specs.Places.{IsNoBlock}
+use Rattle.image_model.specs.declared.flags.TheConstants.{RECALCULATING}
+use Rattle.image_model.specs.Superblock.{has_flag}
+use Rattle.recalculation.specs.Recalculation.{IsOfTagsOrHead, fields_left}
+use Rattle.direct_device.specs.Device.{in_direct, kept as direct_kept}
 use Rattle.device_parts.specs.declared.condition.Condition.TheVariants.{Working}
 use Rattle.device.specs.declared.mode.Mode.{Mode}
 use Rattle.device.specs.Answers.{IsAtRest, WritesInClose}
@@ -9,25 +12,40 @@ use Rattle.device.specs.Device.{IsDeviceIn, IsReadyIn}
 use Rattle.device_model.specs.Mode as Model
 use Rattle.journal_device.specs.Device.{in_journal, kept}
 use Rattle.bitmap_device.specs.Device.{in_bitmap, kept as bitmap_kept}
-use Rattle.device.proofs.ModeLemmas.{ends_direct, ends_plain, in_bitmap_mode, in_journal_mode, on_ok_each, parts_in, plain_bitmap, plain_journal, stays_direct}
+use Rattle.device.proofs.AwaitingLemmas.{no_more_left}
+use Rattle.device.proofs.ModeLemmas.{ends_plain, in_bitmap_mode, in_direct_mode, in_journal_mode, on_ok_each, parts_in, plain_bitmap, plain_direct, plain_journal}
+use Rattle.device.proofs.MovingLemmas.{close_adds, direct_stays, direct_tags, head_outside, journal_tags}
 use Rattle.device.proofs.StepLemmas.{ends_recovery}
 use Rattle.device.proofs.closing.close_in_mode.Goals as goal
 
 pub returns-in-Direct-clause-ends : goal.returns-in-Direct-clause-ends
 returns-in-Direct-clause-ends g c =
     let parts = c.args.parts in
+    let r = c.in-Direct.recalculation in
+    let old = direct_kept parts.common r in
     let a = g.D.Disk.moments c.args.disk.now in
     let b = g.D.Disk.moments c.close.new.disk in
-    ends_direct parts.common c.close.new.parts a b
-    (λ w is. stays_direct w parts.common a b IsNoBlock (g.met.D.Disk.reads_an_image c.args.disk.now) c.close.ensures.writes is)
-    parts.mode c.in-Direct.is c.close.result c.close.ensures.ends
+    ends_plain in_direct Model.Direct in_direct_mode plain_direct old a b
+    (direct_stays old a b (g.met.D.Disk.reads_an_image c.args.disk.now) (fields_left r) (λ y. no_more_left y r) c.close.ensures.heads
+    (IsOfTagsOrHead parts.common.tags.geometry) (head_outside parts.common.tags.geometry)
+    (close_adds (has_flag RECALCULATING r.position.flags) parts.common.tags.geometry c.close.ensures.writes))
+    parts (parts_in parts c.in-Direct.is) c.close.result c.close.ensures.ends
+
+pub returns-in-Direct-clause-rests : goal.returns-in-Direct-clause-rests
+returns-in-Direct-clause-rests g c =
+    let parts = c.args.parts in
+    let a = g.D.Disk.moments c.args.disk.now in
+    on_ok_each c.close.result (λ left w is.
+    subst (λ (m : Mode). IsAtRest m w (g.D.Disk.moments c.close.new.disk)) (sym c.in-Direct.is)
+    (left w (subst (λ (m : Mode). IsDeviceIn m w Working parts.common a) c.in-Direct.is is).direct))
+    c.close.ensures.fields
 
 pub returns-in-Journal-clause-ends : goal.returns-in-Journal-clause-ends
 returns-in-Journal-clause-ends g c =
     let parts = c.args.parts in
-    ends_plain in_journal Model.Journal in_journal_mode plain_journal (kept parts.common c.in-Journal.journal)
-    (kept c.close-in-Journal.new.parts c.close-in-Journal.new.journal)
-    (g.D.Disk.moments c.args.disk.now) (g.D.Disk.moments c.close-in-Journal.new.disk)
+    let state = c.in-Journal.state in
+    ends_plain in_journal Model.Journal in_journal_mode plain_journal (kept parts.common state.journal state.recalculation)
+    (g.D.Disk.moments c.args.disk.now) (g.D.Disk.moments c.close-in-Journal.new.disk) (λ w is. tt)
     parts (parts_in parts c.in-Journal.is) c.close-in-Journal.result c.close-in-Journal.ensures.ends
 
 pub returns-in-Journal-clause-rests : goal.returns-in-Journal-clause-rests
@@ -36,15 +54,14 @@ returns-in-Journal-clause-rests g c =
     let a = g.D.Disk.moments c.args.disk.now in
     on_ok_each c.close-in-Journal.result (λ placed w is.
     subst (λ (m : Mode). IsAtRest m w (g.D.Disk.moments c.close-in-Journal.new.disk)) (sym c.in-Journal.is)
-    (placed w (subst (λ (m : Mode). IsDeviceIn m w Working parts.common a) c.in-Journal.is is)))
+    (placed w (subst (λ (m : Mode). IsDeviceIn m w Working parts.common a) c.in-Journal.is is).journaled))
     c.close-in-Journal.ensures.placed
 
 pub returns-in-Bitmap-clause-ends : goal.returns-in-Bitmap-clause-ends
 returns-in-Bitmap-clause-ends g c =
     let parts = c.args.parts in
     ends_plain in_bitmap Model.Bitmap in_bitmap_mode plain_bitmap (bitmap_kept parts.common c.in-Bitmap.regions)
-    (bitmap_kept c.close-in-Bitmap.new.parts c.close-in-Bitmap.new.regions)
-    (g.D.Disk.moments c.args.disk.now) (g.D.Disk.moments c.close-in-Bitmap.new.disk)
+    (g.D.Disk.moments c.args.disk.now) (g.D.Disk.moments c.close-in-Bitmap.new.disk) (λ w is. tt)
     parts (parts_in parts c.in-Bitmap.is) c.close-in-Bitmap.result c.close-in-Bitmap.ensures.ends
 
 pub returns-in-Bitmap-clause-rests : goal.returns-in-Bitmap-clause-rests
@@ -66,11 +83,22 @@ returns-in-Bitmap-clause-writes g c =
 
 pub returns-in-Direct-clause-tags : goal.returns-in-Direct-clause-tags
 returns-in-Direct-clause-tags g c =
-    subst (λ (m : Mode). KeepsClearTags m c.args.parts.common Close (g.D.Disk.moments c.args.disk.now) (g.D.Disk.moments c.close.new.disk)) (sym c.in-Direct.is) tt
+    let common = c.args.parts.common in
+    let r = c.in-Direct.recalculation in
+    let a = g.D.Disk.moments c.args.disk.now in
+    let b = g.D.Disk.moments c.close.new.disk in
+    subst (λ (m : Mode). KeepsClearTags m common Close a b) (sym c.in-Direct.is)
+    (direct_tags (direct_kept common r) a b (g.met.D.Disk.reads_an_image c.args.disk.now) (fields_left r) (λ y. no_more_left y r) c.close.ensures.heads)
 
 pub returns-in-Journal-clause-tags : goal.returns-in-Journal-clause-tags
 returns-in-Journal-clause-tags g c =
-    subst (λ (m : Mode). KeepsClearTags m c.args.parts.common Close (g.D.Disk.moments c.args.disk.now) (g.D.Disk.moments c.close-in-Journal.new.disk)) (sym c.in-Journal.is) tt
+    let common = c.args.parts.common in
+    let state = c.in-Journal.state in
+    let r = state.recalculation in
+    let a = g.D.Disk.moments c.args.disk.now in
+    let b = g.D.Disk.moments c.close-in-Journal.new.disk in
+    subst (λ (m : Mode). KeepsClearTags m common Close a b) (sym c.in-Journal.is)
+    (journal_tags (kept common state.journal r) a b (fields_left r) (λ y. no_more_left y r) c.close-in-Journal.ensures.heads)
 
 pub returns-in-Bitmap-clause-tags : goal.returns-in-Bitmap-clause-tags
 returns-in-Bitmap-clause-tags g c =

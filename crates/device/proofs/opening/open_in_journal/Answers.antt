@@ -10,14 +10,14 @@ pub returns-in_err-opened-clause-refused : goal.returns-in_err-opened-clause-ref
 returns-in_err-opened-clause-refused g c =
     let p = err_from_is_err_and c.from_residual.result c.from_residual.ensures.1 in
     let old = c.args.disk.now in
-    rw (p.1, p.2) (refused JournalParts Journal (key_of c.args.hash) (g.D.Disk.identity old) (g.D.Disk.moments old)
+    rw (p.1, p.2) (refused JournalParts (Journal c.args.consent) (key_of c.args.hash) (g.D.Disk.identity old) (g.D.Disk.moments old)
     (g.D.Disk.moments c.open_journal.new.disk) c.in_err-opened.field-0.0 c.in_err-opened.ensures.refused)
 
 pub returns-clause-opened : goal.returns-clause-opened
 returns-clause-opened g c =
     let old = c.args.disk.now in
     opened_journal (key_of c.args.hash) (g.D.Disk.identity old) (g.D.Disk.moments old) (g.D.Disk.moments c.open_journal.new.disk)
-    c.in_ok-opened.opened c.in_ok-opened.ensures.opened
+    c.in_ok-opened.opened (g.met.D.Disk.reads_an_image c.open_journal.new.disk) c.in_ok-opened.ensures.opened c.open_journal.ensures.moments
 
 pub returns-clause-cause : goal.returns-clause-cause
 returns-clause-cause g c =

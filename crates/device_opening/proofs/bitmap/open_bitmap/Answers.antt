@@ -1,12 +1,11 @@
-use Rattle.std.proofs.Common.{List, Option, ◌∙◌, subst}
-use Rattle.disk_model.proofs.MomentsLemmas.{EachMoment-kept}
+use Rattle.std.proofs.Common.{List, Option, subst}
 use Rattle.device_model.specs.Mode as Model
 use Rattle.hmac_tag.specs.TagMaker.{key_of}
 use Rattle.image_judging.specs.Faults.{bitmap_fault_of}
 use Rattle.bitmap_device.specs.declared.parts.BitmapParts.{BitmapParts}
 use Rattle.device_opening.specs.Opening.{LeavesOpenable}
 use Rattle.device_opening.proofs.JudgedLemmas.{done_cause, shift}
-use Rattle.device_opening.proofs.RefusedLemmas.{disk_refuses, open_refuses}
+use Rattle.device_opening.proofs.RefusedLemmas.{open_refuses}
 use Rattle.device_opening.proofs.bitmap.open_bitmap.Goals as goal
 
 pub returns-clause-refused : goal.returns-clause-refused

@@ -1,4 +1,4 @@
-use Rattle.std.proofs.Common.{◌≡◌, Bool, true, false, sym, ◌∙◌, ap, subst, List}
+use Rattle.std.proofs.Common.{true, false, sym, ◌∙◌, ap, subst, List}
 use Rattle.disk_model.specs.Disk.{Content}
 use Rattle.hmac_tag.specs.TagMaker.{TagRule, key_of}
 use Rattle.image_judging.specs.Faults.{lacks_consent}

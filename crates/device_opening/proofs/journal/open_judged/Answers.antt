@@ -16,16 +16,17 @@ returns-clause-opened g c start told =
     let f = judged_format (g.D.Disk.identity old).sectors c.args.image in
     let image = c.in_ok-recovered.recovered in
     let done = c.in_ok-recovered.ensures in
-    let device : JournalParts = record { parts = parts_of image c.args.room.device c.shape-spb.result.spb; journal = c.new.result } in
+    let device : JournalParts = record { parts = parts_of image c.args.room.device c.shape-spb.result.spb; journal = c.new.result; recalc = c.args.room.recalculation } in
     let now = now_told c.recover_image.ensures.leaves.writes start told in
     open_on f (last_image start) image.at device (g.D.Disk.moments new) now.0 now.1 c.requires.judged.format.no_bitmap (sym done.made.geometry) (done.recovered.next start told)
     (done.recovered.left start told now.0 now.1)
     (c.new.ensures ∙ ap (λ (x : Geometry). empty_journal x image.at.next image.at.number) c.requires.journal)
-    (done.made.maker ∙ c.requires.judged.maker)
+    (done.made.maker ∙ c.requires.judged.maker) c.requires.room.recalculation_
 
 pub returns-clause-unasked : goal.returns-clause-unasked
 returns-clause-unasked g c =
-    unasked c.args.image c.in_ok-recovered.recovered c.args.room.device c.shape-spb.result.spb (g.D.Disk.identity c.args.disk.now).sectors (g.D.Disk.identity c.recover_image.new.disk) c.requires.judged c.requires.room.device
+    unasked c.args.image c.in_ok-recovered.recovered c.args.room.device c.args.room.recalculation c.shape-spb.result.spb (g.D.Disk.identity c.args.disk.now).sectors (g.D.Disk.identity c.recover_image.new.disk)
+    c.requires.judged c.requires.room.device c.requires.room.recalculation_
     c.in_ok-recovered.ensures.made (ap (λ (x : Shape). x.spb) c.shape-spb.ensures.shape ∙ ap (λ (x : Geometry). x.shape.spb) c.geometry.ensures)
 
 pub returns-clause-empty : goal.returns-clause-empty

@@ -1,4 +1,4 @@
-use Rattle.std.proofs.Common.{◌≡◌, ℕ, Option, List, None, Err, sym, ◌∙◌, ap, subst}
+use Rattle.std.proofs.Common.{◌≡◌, ℕ, Option, List, None, Err, refl, sym, ◌∙◌, ap, subst}
 use Rattle.std.proofs.lemmas.Result.{err_from_is_err_and}
 use Rattle.disk_model.specs.Moments.{content_now}
 use Rattle.hmac_tag.specs.TagMaker.{TagRule, key_of}
@@ -18,8 +18,8 @@ returns-in_err-journal-clause-refused g c =
     let p = err_from_is_err_and c.from_residual-in_err-journal.result c.from_residual-in_err-journal.ensures.1 in
     rw (p.1, p.2) (λ not_memory not_disk content told.
     told_journal JudgedJournal JudgedImage c.in_err-journal.field-0.0
-    ∙ fault_now (key_of c.args.hash) (g.D.Disk.identity c.args.disk.now) c.in_ok-format.format c.maker_of-maker.result (g.D.Disk.moments c.args.disk.now) c.maker_of-maker.ensures
-    (c.in_ok-format.ensures.told (λ e. cc)) (refusal_in {T = JudgedJournal} (Err c.in_err-journal.field-0.0))
+    ∙ fault_now (key_of c.args.hash) c.args.consent (g.D.Disk.identity c.args.disk.now) c.in_ok-format.format (g.D.Disk.moments c.args.disk.now) (c.in_ok-format.ensures.told (λ e. cc))
+    c.maker_of-maker.result c.maker_of-maker.ensures (c.in_ok-judge_consent.ensures.given.0 refl) (refusal_in {T = JudgedJournal} (Err c.in_err-journal.field-0.0))
     (λ x at. c.in_err-journal.ensures.refused (λ e. not_memory (same_replay e)) (λ e. not_disk (same_replay e)) x (ap content_now c.read_direct_format.ensures.kept ∙ at)) content told)
 
 pub returns-clause-judged : goal.returns-clause-judged
@@ -46,6 +46,6 @@ returns-clause-judged g c =
 
 pub returns-clause-refused : goal.returns-clause-refused
 returns-clause-refused g c not_memory not_disk =
-    fault_now (key_of c.args.hash) (g.D.Disk.identity c.args.disk.now) c.in_ok-format.format c.maker_of-maker.result (g.D.Disk.moments c.args.disk.now) c.maker_of-maker.ensures
-    (c.in_ok-format.ensures.told (λ e. cc)) None
+    fault_now (key_of c.args.hash) c.args.consent (g.D.Disk.identity c.args.disk.now) c.in_ok-format.format (g.D.Disk.moments c.args.disk.now) (c.in_ok-format.ensures.told (λ e. cc))
+    c.maker_of-maker.result c.maker_of-maker.ensures (c.in_ok-judge_consent.ensures.given.0 refl) None
     (λ x at. sym (c.in_ok-journal.ensures.judged x (ap content_now c.read_direct_format.ensures.kept ∙ at)).right)

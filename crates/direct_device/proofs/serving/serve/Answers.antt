@@ -16,8 +16,8 @@ returns-in-Finished-clause-next g c =
     record {
       does = record {
         done = λ w is.
-            served_on w is.disk is.format ticket Serves.Done parts a a
-            (serve_finished (standing_on w is.disk) parts a is.device ticket c.requires.there a refl
+            served_on w is.disk is.format ticket Serves.Done parts c.args.recalculation.now a a
+            (serve_finished (standing_on w is.disk) parts c.args.recalculation.now a is.over ticket c.requires.there
             (sym c.turn.ensures.turn ∙ c.in-Finished.is));
         err = tt;
       };
@@ -34,8 +34,8 @@ returns-in-Held-clause-next g c =
     record {
       does = record {
         done = λ w is.
-            served_on w is.disk is.format ticket (Serves.Held c.in-Held.by) parts a a
-            (serve_held (standing_on w is.disk) parts a is.device ticket c.requires.there a c.in-Held.by refl
+            served_on w is.disk is.format ticket (Serves.Held c.in-Held.by) parts c.args.recalculation.now a a
+            (serve_held (standing_on w is.disk) parts c.args.recalculation.now a is.over ticket c.requires.there c.in-Held.by
             (sym c.turn.ensures.turn ∙ c.in-Held.is));
         err = tt;
       };

@@ -24,9 +24,9 @@ returns-in_err-flush-clause-next g c =
       does = record {
         done = search rules;
         err = on_err_always c.from_residual.result (λ w is.
-            done_on w is.disk is.format (FailedServe ticket) a b Broken new
-            (serve_flush_failed (standing_on w is.disk) parts a is.device ticket c.requires.there c.requires.turn new b refl refl
-            (c.flush.ensures.through is.disk w.state.progress.regions.awaiting (is.device.cells refl))));
+            done_on w is.disk is.format (FailedServe ticket) a b Broken new c.args.recalculation.now
+            (serve_flush_failed (standing_on w is.disk) parts c.args.recalculation.now a is.over ticket c.requires.there c.requires.turn new b refl refl
+            (c.flush.ensures.through is.disk w.state.progress.regions.awaiting (is.over.works refl).cells)));
       };
       goes_on = search rules;
       waiting = search rules;
@@ -43,9 +43,9 @@ returns-clause-next g c =
     record {
       does = record {
         done = λ w is.
-            let cells = is.device.cells refl in
-            served_on w is.disk is.format ticket Serves.Done new a b
-            (serve_flush_done (standing_on w is.disk) parts a is.device ticket c.requires.there c.requires.turn new b c.finish.ensures refl
+            let cells = (is.over.works refl).cells in
+            served_on w is.disk is.format ticket Serves.Done new c.args.recalculation.now a b
+            (serve_flush_done (standing_on w is.disk) parts c.args.recalculation.now a is.over ticket c.requires.there c.requires.turn new b c.finish.ensures refl
             (c.flush.ensures.through is.disk w.state.progress.regions.awaiting cells)
             (c.in_ok-flush.ensures.flushed is.disk w.state.progress.regions.awaiting cells));
         err = tt;

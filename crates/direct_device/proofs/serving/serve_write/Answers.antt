@@ -21,12 +21,12 @@ use Rattle.direct_device.proofs.ServeLemmas.{block-is, serve_write_done, serve_w
 use Rattle.direct_device.proofs.serving.serve_write.Goals as goal
 
 pub overflow_mul-block : goal.overflow_mul-block
-overflow_mul-block g c = let low = sector-low c.args.parts.now (g.D.Disk.identity c.args.disk.now) (g.D.Disk.moments c.args.disk.now) c.requires.ready c.args.block c.requires.within in omega (arith, low)
+overflow_mul-block g c = let low = sector-low c.args.parts.now (g.D.Disk.identity c.args.disk.now) (g.D.Disk.moments c.args.disk.now) c.requires.ready.parts_ c.args.block c.requires.within in omega (arith, low)
 
 pub serve_block-requires-clause-block : goal.serve_block-requires-clause-block
 serve_block-requires-clause-block g c =
     subst (λ (x : List ℕ). IsTaggedBlock c.args.parts.now.tags.geometry c.args.block c.next_bytes-bytes.result.now x) (sym c.tag-tag.ensures)
-    (tagged-is c.args.parts.now (g.D.Disk.identity c.args.disk.now) (g.D.Disk.moments c.args.disk.now) c.requires.ready c.args.block c.next_bytes-bytes.result.now c.requires.within c.next_bytes-bytes.ensures.size)
+    (tagged-is c.args.parts.now (g.D.Disk.identity c.args.disk.now) (g.D.Disk.moments c.args.disk.now) c.requires.ready.parts_ c.args.block c.next_bytes-bytes.result.now c.requires.within c.next_bytes-bytes.ensures.size)
 
 pub returns-in_err-serve_block-clause-next : goal.returns-in_err-serve_block-clause-next
 returns-in_err-serve_block-clause-next g c =
@@ -39,9 +39,9 @@ returns-in_err-serve_block-clause-next g c =
       does = record {
         done = search rules;
         err = on_err_always c.from_residual.result (λ w is.
-            done_on w is.disk is.format (FailedServe ticket) a b Broken new
-            (serve_write_failed (standing_on w is.disk) parts a is.device ticket c.requires.there c.args.block c.args.is_flushed c.requires.turn
-            (g.D.Disk.identity c.args.disk.now) c.requires.ready c.next_bytes-bytes.result.now c.next_bytes-bytes.ensures.bytes c.tag-tag.result c.tag-tag.ensures
+            done_on w is.disk is.format (FailedServe ticket) a b Broken new c.args.recalculation.now
+            (serve_write_failed (standing_on w is.disk) parts c.args.recalculation.now a is.over ticket c.requires.there c.args.block c.args.is_flushed c.requires.turn
+            (g.D.Disk.identity c.args.disk.now) c.requires.ready.parts_ c.next_bytes-bytes.result.now c.next_bytes-bytes.ensures.bytes c.tag-tag.result c.tag-tag.ensures
             new b c.in_err-serve_block.ensures.err refl refl));
       };
       goes_on = search rules;
@@ -65,10 +65,10 @@ returns-clause-next g c =
       does = record {
         done = λ w is.
             let v = standing_on w is.disk in
-            served_on w is.disk is.format ticket c.served.result new a b
-            (subst (λ (x : Served). IsServedAs v ticket x new a b) (sym c.served.ensures)
-            (serve_write_done v parts a is.device ticket c.requires.there c.args.block c.args.is_flushed c.requires.turn
-            (g.D.Disk.identity c.args.disk.now) c.requires.ready c.next_bytes-bytes.result.now c.next_bytes-bytes.ensures.bytes c.tag-tag.result c.tag-tag.ensures
+            served_on w is.disk is.format ticket c.served.result new c.args.recalculation.now a b
+            (subst (λ (x : Served). IsServedAs v ticket x new c.args.recalculation.now a b) (sym c.served.ensures)
+            (serve_write_done v parts c.args.recalculation.now a is.over ticket c.requires.there c.args.block c.args.is_flushed c.requires.turn
+            (g.D.Disk.identity c.args.disk.now) c.requires.ready.parts_ c.next_bytes-bytes.result.now c.next_bytes-bytes.ensures.bytes c.tag-tag.result c.tag-tag.ensures
             new b c.in_ok-serve_block.ensures.done c.count_block.ensures refl));
         err = tt;
       };
@@ -86,7 +86,7 @@ returns-in_err-serve_block-clause-writes g c =
     let bytes = c.next_bytes-bytes.result.now in
     block_places (IsWrittenNext parts.slots c.args.ticket.now) parts.tags c.serve_block.new.tags
     c.serve_block.ensures.geometry c.args.block bytes
-    (block-is parts (g.D.Disk.identity disk) (g.D.Disk.moments disk) c.requires.ready c.args.block bytes
+    (block-is parts (g.D.Disk.identity disk) (g.D.Disk.moments disk) c.requires.ready.parts_ c.args.block bytes
     c.requires.within c.next_bytes-bytes.ensures.size)
     (record { is_flushed = c.args.is_flushed; turn = c.requires.turn }) c.serve_block.ensures.moments
 
@@ -97,6 +97,6 @@ returns-clause-writes g c =
     let bytes = c.next_bytes-bytes.result.now in
     block_places (IsWrittenNext parts.slots c.args.ticket.now) parts.tags c.serve_block.new.tags
     c.serve_block.ensures.geometry c.args.block bytes
-    (block-is parts (g.D.Disk.identity disk) (g.D.Disk.moments disk) c.requires.ready c.args.block bytes
+    (block-is parts (g.D.Disk.identity disk) (g.D.Disk.moments disk) c.requires.ready.parts_ c.args.block bytes
     c.requires.within c.next_bytes-bytes.ensures.size)
     (record { is_flushed = c.args.is_flushed; turn = c.requires.turn }) c.serve_block.ensures.moments

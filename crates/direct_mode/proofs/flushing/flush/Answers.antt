@@ -11,6 +11,7 @@ use Rattle.tag_store.proofs.StoreLemmas.{marked_adds}
 use Rattle.direct_laws.specs.CallLaws.{GivesTags}
 use Rattle.direct_laws.proofs.CallLemmas.{back_law}
 use Rattle.direct_laws.proofs.ServeLemmas.{all_flushed_law, sync_failed_law}
+use Rattle.direct_mode.specs.Settling.{Back, Syncing}
 use Rattle.direct_mode.proofs.StoreCalls.{adds_back, changed_then, gives_synced, reads_tags, reads_whole, writes_back}
 use Rattle.direct_mode.proofs.flushing.flush.Goals as goal
 
@@ -74,4 +75,50 @@ returns-clause-flushed g c = on_ok_weaker c.sync.result (λ synced d awaiting ha
             gives = subst (λ (y : Geometry). GivesTags y (given_tags new) (given_tags new) (g.D.Disk.moments middle) (g.D.Disk.moments c.sync.new.self)) c.write_back.ensures.keeps.geometry
                 (gives_synced new (g.D.Disk.identity middle) (g.D.Disk.moments middle) (g.D.Disk.moments c.sync.new.self) c.write_back.ensures.store whole_middle synced);
           })).1;
+    }) c.sync.ensures.synced
+
+pub returns-in_err-write_back-clause-settling : goal.returns-in_err-write_back-clause-settling
+returns-in_err-write_back-clause-settling g c =
+    let store = c.args.tags.now in
+    let disk = c.args.disk.now in
+    let middle = c.write_back.new.disk in
+    Back
+    (adds_back store c.write_back.new.self (g.D.Disk.identity disk) (g.D.Disk.identity middle) c.requires.store c.write_back.ensures.store
+    (reads_whole (g.D.Disk.identity disk) (g.D.Disk.moments disk) (g.met.D.Disk.reads_an_image disk) (g.met.D.Disk.whole_sectors disk))
+    c.write_back.ensures.moments)
+
+pub returns-clause-settling : goal.returns-clause-settling
+returns-clause-settling g c =
+    let store = c.args.tags.now in
+    let new = c.write_back.new.self in
+    let disk = c.args.disk.now in
+    let middle = c.write_back.new.disk in
+    let whole = reads_whole (g.D.Disk.identity disk) (g.D.Disk.moments disk) (g.met.D.Disk.reads_an_image disk) (g.met.D.Disk.whole_sectors disk) in
+    Syncing (given_tags new) (g.D.Disk.moments middle)
+    (writes_back store new (g.D.Disk.identity disk) (g.D.Disk.identity middle) c.requires.store c.write_back.ensures.store whole c.write_back.ensures.keeps c.write_back.ensures.moments)
+    (reads_tags store new (g.D.Disk.identity disk) (g.D.Disk.identity middle) c.requires.store c.write_back.ensures.store whole c.write_back.ensures.keeps c.in_ok-write_back.ensures.unmarked
+    (λ x told. let first = changed_now _ (content_now (g.D.Disk.moments disk)) (content_now (g.D.Disk.moments middle)) c.in_ok-write_back.ensures.written x told in (first.0, first.1)))
+    (g.met.D.Disk.reads_an_image middle) c.sync.ensures.moments
+
+pub returns-clause-settled : goal.returns-clause-settled
+returns-clause-settled g c = on_ok_weaker c.sync.result (λ synced.
+    let store = c.args.tags.now in
+    let new = c.write_back.new.self in
+    let disk = c.args.disk.now in
+    let middle = c.write_back.new.disk in
+    let whole = reads_whole (g.D.Disk.identity disk) (g.D.Disk.moments disk) (g.met.D.Disk.reads_an_image disk) (g.met.D.Disk.whole_sectors disk) in
+    let whole_middle = reads_whole (g.D.Disk.identity middle) (g.D.Disk.moments middle) (g.met.D.Disk.reads_an_image middle) (g.met.D.Disk.whole_sectors middle) in
+    record {
+      back = given_tags new;
+      between = g.D.Disk.moments middle;
+      writes_back = writes_back store new (g.D.Disk.identity disk) (g.D.Disk.identity middle) c.requires.store c.write_back.ensures.store whole c.write_back.ensures.keeps c.write_back.ensures.moments;
+      reads_back = reads_tags store new (g.D.Disk.identity disk) (g.D.Disk.identity middle) c.requires.store c.write_back.ensures.store whole c.write_back.ensures.keeps c.in_ok-write_back.ensures.unmarked
+          (λ x told. let first = changed_now _ (content_now (g.D.Disk.moments disk)) (content_now (g.D.Disk.moments middle)) c.in_ok-write_back.ensures.written x told in (first.0, first.1));
+      syncs = record {
+        image = g.met.D.Disk.reads_an_image middle;
+        synced = synced;
+        adds = c.sync.ensures.moments;
+        gives = subst (λ (y : Geometry). GivesTags y (given_tags new) (given_tags new) (g.D.Disk.moments middle) (g.D.Disk.moments c.sync.new.self)) c.write_back.ensures.keeps.geometry
+            (gives_synced new (g.D.Disk.identity middle) (g.D.Disk.moments middle) (g.D.Disk.moments c.sync.new.self) c.write_back.ensures.store whole_middle synced);
+      };
     }) c.sync.ensures.synced

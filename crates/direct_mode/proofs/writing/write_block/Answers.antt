@@ -4,7 +4,11 @@ use Rattle.tag_store.specs.Store.{given_tags}
 use Rattle.direct_laws.proofs.CallLemmas.{data_law}
 use Rattle.direct_laws.proofs.ServeLemmas.{block_written_law, put_failed_law}
 use Rattle.direct_mode.specs.Cells.{block_write}
-use Rattle.direct_mode.proofs.StoreCalls.{adds_block, adds_data, adds_put, is_block_write, puts_tag, reads_block, reads_whole}
+use Rattle.disk_model.specs.Disk.{OnlyAdds}
+use Rattle.disk_model.proofs.DiskLemmas.{OnlyAdds-none}
+use Rattle.buffer_cache.proofs.CachedLemmas.{told_at_end}
+use Rattle.tag_store.specs.Store.{IsOfPut}
+use Rattle.direct_mode.proofs.StoreCalls.{adds_block, adds_data, adds_put, gives_put, is_block_write, puts_tag, reads_block, reads_whole}
 use Rattle.direct_mode.proofs.writing.write_block.Goals as goal
 
 pub returns-in_err-write_block-clause-through : goal.returns-in_err-write_block-clause-through
@@ -61,3 +65,14 @@ returns-clause-read g c = on_ok_weaker c.put.result (λ stored.
     (puts_tag store c.put.new.self (g.D.Disk.identity middle) (g.D.Disk.identity c.put.new.disk) c.write_block.ensures.store c.put.ensures.store
     (reads_whole (g.D.Disk.identity middle) (g.D.Disk.moments middle) (g.met.D.Disk.reads_an_image middle) (g.met.D.Disk.whole_sectors middle))
     c.args.block c.args.tag.now c.requires.block.block_.low c.requires.block.tag_size stored c.put.ensures.keeps c.put.ensures.moments)) c.put.ensures.stored
+
+pub returns-clause-gives : goal.returns-clause-gives
+returns-clause-gives g c = on_ok_weaker c.put.result (λ stored.
+    let store = c.args.tags.now in
+    let middle = c.write_block.new.disk in
+    gives_put store.geometry c.args.block c.args.tag.now (given_tags store) (given_tags c.put.new.self) (g.D.Disk.moments c.args.disk.now) (g.D.Disk.moments middle) (g.D.Disk.moments c.put.new.disk)
+    c.write_block.ensures.tags.each
+    (λ x told. let start = (told_at_end (λ y. OnlyAdds (IsOfPut c.args.block c.args.tag.now store y) y) (λ y. OnlyAdds-none (IsOfPut c.args.block c.args.tag.now store y) y) c.put.ensures.moments).each x told in (start.0, start.1))
+    (puts_tag store c.put.new.self (g.D.Disk.identity middle) (g.D.Disk.identity c.put.new.disk) c.write_block.ensures.store c.put.ensures.store
+    (reads_whole (g.D.Disk.identity middle) (g.D.Disk.moments middle) (g.met.D.Disk.reads_an_image middle) (g.met.D.Disk.whole_sectors middle))
+    c.args.block c.args.tag.now c.requires.block.block_.low c.requires.block.tag_size stored c.put.ensures.keeps c.put.ensures.moments).gives) c.put.ensures.stored

@@ -1,9 +1,8 @@
 use Rattle.std.proofs.Common.{sym, ◌∙◌}
 use Rattle.std.proofs.lemmas.Result.{IfOk-weaker}
 use Rattle.disk_model.specs.Disk.{last_image}
-use Rattle.image_model.proofs.BitmapLemmas.{awaits-bitmap}
+use Rattle.image_model.proofs.BitmapLemmas.{awaits-bitmap, awaits-journal}
 use Rattle.bitmap_model.proofs.BitLemmas.{bitmap_fits_at}
-use Rattle.image_check.proofs.CheckedLemmas.{no_awaits}
 use Rattle.image_check.proofs.passing.is_awaiting.Goals as goal
 
 pub is_dirty-requires-clause-geometry : goal.is_dirty-requires-clause-geometry
@@ -24,4 +23,5 @@ returns-then-has_bitmap-clause-awaiting g c =
 pub returns-clause-awaiting : goal.returns-clause-awaiting
 returns-clause-awaiting g c x told =
     let format = c.args.format.now in
-    sym (no_awaits format.fields format.geometry (last_image x) c.args.block c.requires.format.fields (sym c.has_bitmap.ensures ∙ c.if-has_bitmap.false))
+    c.is_to_recalculate.ensures
+    ∙ sym (awaits-journal format.fields format.geometry (last_image x) c.args.block (sym c.has_bitmap.ensures ∙ c.if-has_bitmap.false))

@@ -4,7 +4,7 @@ use Rattle.image_model.specs.Geometry.{Geometry, Shape}
 use Rattle.journal_section.specs.declared.entries.EntryView.{EntryView}
 use Rattle.journal_ring.specs.Places.{entries_at}
 use Rattle.journal_ring.proofs.PlacesLemmas.{used_there}
-use Rattle.place_writer.proofs.EntryLemmas.{block_inside, next_entry}
+use Rattle.place_writer.proofs.EntryLemmas.{block_inside, gives_entry, next_entry}
 use Rattle.place_writer.specs.Placement.{IsWholeEntry}
 use Rattle.place_writer.proofs.entry.place_entry.Goals as goal
 
@@ -33,6 +33,13 @@ returns-clause-placed g c = on_ok_weaker c.write_entry.result (λ placed d entry
     placed d (next_entry geometry entry (subst (λ (x : Geometry). IsWholeEntry x entry) c.requires.geometry (c.requires.whole entry there)) d _ _ _
     (ap (λ (n : ℕ). n / c.shape-spb.result.spb) (ap (λ (x : EntryView). x.sector) (c.view-sector.ensures entry there)) ∙ ap (λ (n : ℕ). entry.sector / n) (ap (λ (x : Shape). x.spb) c.shape-spb.ensures.shape ∙ ap (λ (x : Geometry). x.shape.spb) c.requires.geometry))
     (c.content.ensures entry there) (ap (λ (x : EntryView). x.tag) (c.view-sector.ensures entry there)) has.geometry next) has) c.write_entry.ensures.placed
+
+pub returns-clause-tags : goal.returns-clause-tags
+returns-clause-tags g c = on_ok_weaker c.write_entry.result (λ gives entry there.
+    let geometry = c.args.tags.now.geometry in
+    gives_entry geometry entry (subst (λ (x : Geometry). IsWholeEntry x entry) c.requires.geometry (c.requires.whole entry there)) c.args.tags.now c.write_entry.new.tags _ _ (g.D.Disk.moments c.args.disk.now) (g.D.Disk.moments c.write_entry.new.disk)
+    (ap (λ (n : ℕ). n / c.shape-spb.result.spb) (ap (λ (x : EntryView). x.sector) (c.view-sector.ensures entry there)) ∙ ap (λ (n : ℕ). entry.sector / n) (ap (λ (x : Shape). x.spb) c.shape-spb.ensures.shape ∙ ap (λ (x : Geometry). x.shape.spb) c.requires.geometry))
+    (ap (λ (x : EntryView). x.tag) (c.view-sector.ensures entry there)) gives) c.write_entry.ensures.tags
 
 pub returns-clause-stands : goal.returns-clause-stands
 returns-clause-stands g c d entry there next has =

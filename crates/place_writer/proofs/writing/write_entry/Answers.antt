@@ -3,7 +3,8 @@ use Rattle.disk_model.proofs.MomentsLemmas.{EachMoment-then}
 use Rattle.direct_mode.proofs.StoreCalls.{adds_block, adds_data, adds_put, puts_tag, reads_whole}
 use Rattle.direct_mode.proofs.ServingLemmas.{writes_in_place}
 use Rattle.direct_mode.specs.Cells.{IsBlock}
-use Rattle.place_writer.proofs.WritingLemmas.{data_in, placed_by, put_in}
+use Rattle.tag_store.specs.Store.{given_tags}
+use Rattle.place_writer.proofs.WritingLemmas.{data_in, gives_put, placed_by, put_in}
 use Rattle.place_writer.proofs.writing.write_entry.Goals as goal
 
 pub returns-in_err-write_block-clause-stands : goal.returns-in_err-write_block-clause-stands
@@ -27,6 +28,15 @@ returns-clause-placed g c = on_ok_weaker c.put.result (λ stored d next has.
     (puts_tag store c.put.new.self (g.D.Disk.identity middle) (g.D.Disk.identity c.put.new.disk) c.write_block.ensures.store c.put.ensures.store
     (reads_whole (g.D.Disk.identity middle) (g.D.Disk.moments middle) (g.met.D.Disk.reads_an_image middle) (g.met.D.Disk.whole_sectors middle))
     c.args.block c.args.tag.now c.requires.block c.requires.tag stored c.put.ensures.keeps c.put.ensures.moments) c.put.ensures.keeps.geometry) c.put.ensures.stored
+
+pub returns-clause-tags : goal.returns-clause-tags
+returns-clause-tags g c = on_ok_weaker c.put.result (λ stored.
+    let store = c.args.tags.now in
+    let middle = c.write_block.new.disk in
+    gives_put store.geometry c.args.block c.args.tag.now (given_tags store) (given_tags c.put.new.self) (g.D.Disk.moments c.args.disk.now) (g.D.Disk.moments middle) (g.D.Disk.moments c.put.new.disk) c.write_block.ensures.tags.each
+    (puts_tag store c.put.new.self (g.D.Disk.identity middle) (g.D.Disk.identity c.put.new.disk) c.write_block.ensures.store c.put.ensures.store
+    (reads_whole (g.D.Disk.identity middle) (g.D.Disk.moments middle) (g.met.D.Disk.reads_an_image middle) (g.met.D.Disk.whole_sectors middle))
+    c.args.block c.args.tag.now c.requires.block c.requires.tag stored c.put.ensures.keeps c.put.ensures.moments)) c.put.ensures.stored
 
 pub returns-in_err-write_block-clause-moments : goal.returns-in_err-write_block-clause-moments
 returns-in_err-write_block-clause-moments g c =

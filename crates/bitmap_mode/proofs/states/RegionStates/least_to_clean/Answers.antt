@@ -2,7 +2,8 @@ use Rattle.std.proofs.Common.{arith}
 use Rattle.image_model.specs.Geometry.{regions}
 use Rattle.bitmap_mode.specs.Cleaning.{is_held}
 use Rattle.bitmap_mode.specs.States.{counts_of, may_be_clean}
-use Rattle.bitmap_mode.proofs.FindLemmas.{least_free, least_none, next_found, pass_held}
+use Rattle.recalculation.proofs.FindLemmas.{next_found}
+use Rattle.bitmap_mode.proofs.FindLemmas.{least_free, least_none, pass_held}
 use Rattle.bitmap_mode.proofs.states.RegionStates.least_to_clean.Goals as goal
 
 pub returns-in-None : goal.returns-in-None

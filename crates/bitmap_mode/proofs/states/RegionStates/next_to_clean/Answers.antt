@@ -3,7 +3,7 @@ use Rattle.std.specs.List.{range_with_len}
 use Rattle.image_model.specs.Geometry.{regions}
 use Rattle.dirty_bitmap.specs.Regions.{has_region}
 use Rattle.bitmap_mode.specs.States.{States, counts_by, counts_of, may_be_clean}
-use Rattle.bitmap_mode.proofs.FindLemmas.{find_same}
+use Rattle.recalculation.proofs.FindLemmas.{find_same}
 use Rattle.bitmap_mode.proofs.states.RegionStates.next_to_clean.Goals as goal
 
 pub returns : goal.returns

@@ -25,7 +25,7 @@ returns-in_err-moved-clause-left g c w stands =
     EachMoment-then (c.flush.ensures.left w stands)
     (left_flushed w c.flush.new.self c.args.tags.now flushed (λ x there.
     EachMoment-then (c.place_all.ensures.left x there)
-    (left_placed x c.place_all.new.self c.place_all.new.tags (c.in_ok-place_all.ensures.placed x there) c.settle.ensures.left)))
+    (left_placed x c.place_all.new.self c.args.tags.now c.place_all.new.tags (c.in_ok-place_all.ensures.placed x there) c.settle.ensures.left)))
 
 pub returns-clause-left : goal.returns-clause-left
 returns-clause-left g c w stands =
@@ -33,7 +33,7 @@ returns-clause-left g c w stands =
     EachMoment-then (c.flush.ensures.left w stands)
     (left_flushed w c.flush.new.self c.args.tags.now flushed (λ x there.
     EachMoment-then (c.place_all.ensures.left x there)
-    (left_placed x c.place_all.new.self c.place_all.new.tags (c.in_ok-place_all.ensures.placed x there) c.settle.ensures.left)))
+    (left_placed x c.place_all.new.self c.args.tags.now c.place_all.new.tags (c.in_ok-place_all.ensures.placed x there) c.settle.ensures.left)))
 
 pub returns-clause-free : goal.returns-clause-free
 returns-clause-free g c =
@@ -42,17 +42,18 @@ returns-clause-free g c =
 
 pub returns-clause-closed : goal.returns-clause-closed
 returns-clause-closed g c w stands idle =
+    let start = g.D.Disk.moments c.args.disk.now in
     let before = g.D.Disk.moments c.flush.new.disk in
     let middle = g.D.Disk.moments c.place_all.new.disk in
     let after = g.D.Disk.moments c.settle.new.disk in
     let store = c.args.tags.now in
     let then_ = c.place_all.new.tags in
     let flushed = c.in_ok-flush.ensures.flushed w stands in
-    let placed = c.in_ok-place_all.ensures.placed (flushed_standing w c.flush.new.self c.place_all.new.self store then_ before middle idle flushed) (flushed.flushed idle) in
-    closed_is w c.flush.new.self c.place_all.new.self store then_ before middle idle flushed placed
+    let placed = c.in_ok-place_all.ensures.placed (flushed_standing w c.flush.new.self c.place_all.new.self store then_ start before middle idle flushed) flushed.committed in
+    closed_is w c.flush.new.self c.place_all.new.self store then_ start before middle idle flushed placed
     (ap (λ (r : JournalRing). r.opened) c.place_all.ensures.ring ∙ c.in_ok-flush.ensures.all) c.in_ok-place_all.ensures.all
     c.in_ok-moved.moved c.settle.new.self c.settle.new.tags after
-    (c.in_ok-moved.ensures.settled (placed_standing w c.flush.new.self c.place_all.new.self store then_ before middle idle flushed placed) placed.stands)
+    (c.in_ok-moved.ensures.settled (placed_standing w c.flush.new.self c.place_all.new.self store then_ start before middle idle flushed placed) placed.stands)
     (returns-clause-free g c)
 
 pub returns-in_err-flush-clause-geometry : goal.returns-in_err-flush-clause-geometry

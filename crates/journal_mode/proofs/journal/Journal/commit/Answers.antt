@@ -40,8 +40,8 @@ returns-clause-committed g c w stands =
     let whole_after : ReadsWhole disk after =
     subst (λ (i : DiskIdentity). ReadsWhole i after) c.commit.ensures.identity
     (reads_whole (g.D.Disk.identity c.commit.new.disk) after (g.met.D.Disk.reads_an_image c.commit.new.disk) (g.met.D.Disk.whole_sectors c.commit.new.disk)) in
-    subst (λ (j : PlacedRing). CommitsAs moved w j (let new : PlacedRing = record { ring = c.commit.new.self; placement = c.self.inside.placer } in new) store after) c.self.view_is
-    (subst (λ (r : JournalRing). CommitsAs moved w view (let new : PlacedRing = record { ring = r; placement = c.self.inside.placer } in new) store after) (sym c.in_ok-moved.ensures.ring)
+    subst (λ (j : PlacedRing). CommitsAs moved w j (let new : PlacedRing = record { ring = c.commit.new.self; placement = c.self.inside.placer } in new) store before after) c.self.view_is
+    (subst (λ (r : JournalRing). CommitsAs moved w view (let new : PlacedRing = record { ring = r; placement = c.self.inside.placer } in new) store before after) (sym c.in_ok-moved.ensures.ring)
     (commits_as w view store disk moved before after
     (subst (λ (j : PlacedRing). StandsAs w j store before) (sym c.self.view_is) stands)
     c.in_ok-moved.ensures.moved c.in_ok-moved.ensures.written c.self.invariant.placement c.requires.store

@@ -13,7 +13,7 @@ returns-in_err-second-clause-left g c w stands =
     let middle = g.D.Disk.moments c.commit.new.disk in
     EachMoment-then (c.commit.ensures.left w stands)
     (left_again w c.commit.new.self store
-    (one_more w c.args.self.now c.commit.new.self store c.in_ok-first.first before middle (none_yet w c.args.self.now store before stands) c.in_ok-first.ensures.committed)
+    (one_more w c.args.self.now c.commit.new.self store c.in_ok-first.first before before middle (none_yet w c.args.self.now store before stands) c.in_ok-first.ensures.committed)
     c.commit-2.ensures.left)
 
 pub returns-clause-all : goal.returns-clause-all
@@ -28,9 +28,9 @@ returns-clause-flushed g c w stands =
     let before = g.D.Disk.moments c.args.disk.now in
     let middle = g.D.Disk.moments c.commit.new.disk in
     let after = g.D.Disk.moments c.commit-2.new.disk in
-    let first = one_more w c.args.self.now c.commit.new.self store c.in_ok-first.first before middle (none_yet w c.args.self.now store before stands) c.in_ok-first.ensures.committed in
-    let second = one_more w c.commit.new.self c.commit-2.new.self store c.in_ok-second.second middle after first c.in_ok-second.ensures.committed in
-    flushed_is w c.commit-2.new.self store after second (returns-clause-all g c)
+    let first = one_more w c.args.self.now c.commit.new.self store c.in_ok-first.first before before middle (none_yet w c.args.self.now store before stands) c.in_ok-first.ensures.committed in
+    let second = one_more w c.commit.new.self c.commit-2.new.self store c.in_ok-second.second before middle after first c.in_ok-second.ensures.committed in
+    flushed_is w c.commit-2.new.self store before after second (returns-clause-all g c)
 
 pub returns-clause-left : goal.returns-clause-left
 returns-clause-left g c w stands =
@@ -39,7 +39,7 @@ returns-clause-left g c w stands =
     let middle = g.D.Disk.moments c.commit.new.disk in
     EachMoment-then (c.commit.ensures.left w stands)
     (left_again w c.commit.new.self store
-    (one_more w c.args.self.now c.commit.new.self store c.in_ok-first.first before middle (none_yet w c.args.self.now store before stands) c.in_ok-first.ensures.committed)
+    (one_more w c.args.self.now c.commit.new.self store c.in_ok-first.first before before middle (none_yet w c.args.self.now store before stands) c.in_ok-first.ensures.committed)
     c.commit-2.ensures.left)
 
 pub returns-clause-moments : goal.returns-clause-moments

@@ -1,12 +1,13 @@
-use Rattle.std.proofs.Common.{sym, ◌∙◌, ap, subst}
+use Rattle.std.proofs.Common.{◌≡◌, sym, ◌∙◌, ap, subst}
 use Rattle.std.specs.Prelude.{IfOk}
 use Rattle.journal_model.specs.JournaledDisk.{JournaledDisk}
 use Rattle.journal_model.specs.Steps.{after_place}
-use Rattle.replay.specs.Moves.{HasPlaced, IsPlacedOn, WritesNext, after_placing}
+use Rattle.replay.specs.Moves.{GivesNext, HasPlaced, IsPlacedOn, WritesNext, after_placing}
 use Rattle.journal_mode.specs.Journal.{PlacedRing}
 use Rattle.journal_mode.specs.Moves.{PlacesAs}
 use Rattle.journal_mode.specs.Standing.{JournalStanding, StandsAs}
-use Rattle.journal_mode.proofs.MovesLemmas.{if_ok_both, left_cut, places_as}
+use Rattle.journal_mode.proofs.GivesLemmas.{told_next}
+use Rattle.journal_mode.proofs.MovesLemmas.{if_ok_and, if_ok_both, left_cut, places_as}
 use Rattle.journal_mode.proofs.journal.Journal.place.Goals as goal
 
 pub place-requires-clause-geometry : goal.place-requires-clause-geometry
@@ -35,13 +36,18 @@ returns-clause-placed g c =
     let before = g.D.Disk.moments c.args.disk.now in
     let after = g.D.Disk.moments c.place.new.disk in
     let new : PlacedRing = record { ring = c.self.inside.ring; placement = c.place.new.self } in
+    let same : view.ring.geometry ≡ store.geometry = ap (λ (j : PlacedRing). j.ring.geometry) c.self.view_is ∙ c.requires.geometry in
     if_ok_both c.place.result (λ moved. HasPlaced moved c.self.inside.placer c.place.new.self c.self.inside.ring store then_ c.args.disk.now c.place.new.disk)
-    (λ moved. (d : JournaledDisk) → IsPlacedOn d c.self.inside.placer c.self.inside.ring store before → IsPlacedOn (after_placing moved d) c.place.new.self c.self.inside.ring then_ after)
-    (λ moved. (w : JournalStanding) → StandsAs w c.args.self.now store before → PlacesAs moved w new then_ after)
+    (λ moved. ((d : JournaledDisk) → IsPlacedOn d c.self.inside.placer c.self.inside.ring store before → IsPlacedOn (after_placing moved d) c.place.new.self c.self.inside.ring then_ after)
+    × GivesNext c.self.inside.placer c.self.inside.ring store then_ before after)
+    (λ moved. (w : JournalStanding) → StandsAs w c.args.self.now store before → PlacesAs moved w new store then_ before after)
     (λ moved has on w stands.
     let there : StandsAs w view store before = subst (λ (j : PlacedRing). StandsAs w j store before) (sym c.self.view_is) stands in
-    places_as w view store before there moved c.place.new.self then_ after c.args.disk.now c.place.new.disk has (on w.disk there.placed))
-    c.place.ensures.moved c.place.ensures.placed
+    places_as w view store before there moved c.place.new.self then_ after c.args.disk.now c.place.new.disk has (on.0 w.disk there.placed) same
+    (told_next c.self.inside.placer c.self.inside.ring before after c.place.ensures.moments) on.1)
+    c.place.ensures.moved
+    (if_ok_and c.place.result (λ moved. (d : JournaledDisk) → IsPlacedOn d c.self.inside.placer c.self.inside.ring store before → IsPlacedOn (after_placing moved d) c.place.new.self c.self.inside.ring then_ after)
+    (GivesNext c.self.inside.placer c.self.inside.ring store then_ before after) c.place.ensures.placed c.place.ensures.tags)
 
 pub returns-clause-left : goal.returns-clause-left
 returns-clause-left g c w stands =

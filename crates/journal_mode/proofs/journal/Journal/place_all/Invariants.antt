@@ -9,7 +9,7 @@ use Rattle.journal_mode.proofs.journal.Journal.place_all.Given as goal
 abbrev pub invariant-entries : goal.invariant-entries
 invariant-entries g l = record {
   ring : l.self.ring ≡ l.fn.self.ring;
-  placed : (w : JournalStanding) → StandsAs w l.fn.self l.fn.tags (g.D.Disk.moments l.fn.disk) → HasPlacedMore w l.self l.tags (g.D.Disk.moments l.disk);
+  placed : (w : JournalStanding) → StandsAs w l.fn.self l.fn.tags (g.D.Disk.moments l.fn.disk) → HasPlacedMore w l.self l.fn.tags l.tags (g.D.Disk.moments l.fn.disk) (g.D.Disk.moments l.disk);
   faults : g.D.Counted.faults l.disk ≡ g.D.Counted.faults l.fn.disk;
   store : IsStore l.tags (g.D.Disk.identity l.disk) (g.D.Disk.moments l.disk);
   geometry : l.tags.geometry ≡ l.fn.tags.geometry;

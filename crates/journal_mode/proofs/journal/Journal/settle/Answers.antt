@@ -4,6 +4,8 @@ use Rattle.replay.specs.Moves.{HasSettled}
 use Rattle.replay.specs.DeclaredPlacement.{Placement}
 use Rattle.journal_mode.specs.Journal.{IsJournal, PlacedRing}
 use Rattle.journal_mode.specs.Standing.{StandsAs}
+use Rattle.tag_store.specs.Store.{IsMarkedTags}
+use Rattle.journal_mode.proofs.GivesLemmas.{told_adds}
 use Rattle.journal_mode.proofs.FreeingLemmas.{freed_by, freed_is}
 use Rattle.journal_mode.proofs.MovesLemmas.{left_cut, settles_as}
 use Rattle.journal_mode.proofs.journal.Journal.settle.Goals as goal
@@ -38,6 +40,7 @@ returns-clause-settled g c w stands =
     let there : StandsAs w view c.args.tags.now before = subst (λ (j : PlacedRing). StandsAs w j c.args.tags.now before) (sym c.self.view_is) stands in
     settles_as w view c.args.tags.now before c.in_ok-moved.moved c.settle.new.self c.settle.new.ring c.settle.new.tags (g.D.Disk.moments c.settle.new.disk) c.args.disk.now c.settle.new.disk
     there c.in_ok-moved.ensures.moved (c.in_ok-moved.ensures.settled w.disk there.placed)
+    (told_adds (IsMarkedTags c.args.tags.now) before (g.D.Disk.moments c.settle.new.disk) c.settle.ensures.moments.tags) c.in_ok-moved.ensures.tags
 
 pub returns-clause-left : goal.returns-clause-left
 returns-clause-left g c w stands =

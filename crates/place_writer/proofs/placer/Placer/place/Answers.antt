@@ -1,4 +1,4 @@
-use Rattle.std.proofs.Common.{length, sym, ◌∙◌, ap, subst, arith}
+use Rattle.std.proofs.Common.{Some, length, sym, ◌∙◌, ap, subst, arith}
 use Rattle.std.proofs.lemmas.Option.{same_Some}
 use Rattle.disk_model.specs.Disk.{OnlyAdds}
 use Rattle.disk_model.specs.Moments.{EachSince}
@@ -6,10 +6,10 @@ use Rattle.image_model.specs.Geometry.{Geometry}
 use Rattle.image_model.specs.Section.{Entry}
 use Rattle.journal_laws.specs.Device.{block_of}
 use Rattle.direct_mode.specs.Cells.{IsOfBlockOrTags}
-use Rattle.place_writer.specs.Moves.{PlacesOne}
+use Rattle.place_writer.specs.Moves.{GivesEntry, PlacesOne}
 use Rattle.place_writer.specs.Placement.{IsPlacementOf, IsWholeEntry, after_next, next_place}
 use Rattle.place_writer.specs.declared.placement.Placement.{Placement}
-use Rattle.place_writer.proofs.PlacementLemmas.{after_is, entry_low, next_found, places_one, sections_few, writes_next}
+use Rattle.place_writer.proofs.PlacementLemmas.{after_is, entry_low, gives_next, next_found, places_one, sections_few, writes_next}
 use Rattle.place_writer.proofs.PlacedOnLemmas.{cuts_placed, next_on, placed_on}
 use Rattle.place_writer.proofs.placer.Placer.place.Goals as goal
 
@@ -82,6 +82,17 @@ returns-clause-placed g c d on =
     let moved : PlacesOne c.args.self.now c.after_next-self-inside.result ring = returns-clause-moved g c in
     placed_on d c.args.self.now ring c.args.tags.now on c.after_next-self-inside.result c.place_entry.new.tags moved.next
     (c.in_ok-place_entry.ensures.placed d found.entry found.is (next_on d c.args.self.now ring c.args.tags.now on found.entry found.told) on.cells)
+
+pub returns-clause-tags : goal.returns-clause-tags
+returns-clause-tags g c =
+    let ring = c.args.ring.now in
+    let found = next_found c.args.self.now ring c.in-Some.place c.requires.placement c.next.ensures.bounds
+    (ap (λ (p : Placement). next_place p ring) (sym c.self.view_is) ∙ sym c.next.ensures.place ∙ c.in-Some.is) in
+    let old = c.args.tags.now in
+    let new = c.place_entry.new.tags in
+    gives_next c.args.self.now ring found.entry old new (g.D.Disk.moments c.args.disk.now) (g.D.Disk.moments c.place_entry.new.disk) found.told
+    (subst (λ (y : Geometry). GivesEntry y (Some found.entry) old new (g.D.Disk.moments c.args.disk.now) (g.D.Disk.moments c.place_entry.new.disk)) (sym c.requires.geometry)
+    (c.in_ok-place_entry.ensures.tags found.entry found.is))
 
 pub returns-clause-cuts : goal.returns-clause-cuts
 returns-clause-cuts g c d on =

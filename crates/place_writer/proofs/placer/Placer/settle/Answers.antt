@@ -1,4 +1,4 @@
-use Rattle.std.proofs.Common.{◌≡◌, ◌≢◌, ◌≤◌, ℕ, refl, sym, ◌∙◌, ap, subst, arith}
+use Rattle.std.proofs.Common.{◌≢◌, ◌≤◌, ℕ, refl, sym, ◌∙◌, ap, subst, arith}
 use Rattle.disk_model.proofs.MomentsLemmas.{no_moment}
 use Rattle.journal_model.specs.Ring.{JournalRing, with_settle}
 use Rattle.journal_model.specs.Steps.{after_settle}
@@ -6,6 +6,8 @@ use Rattle.place_writer.specs.Moves.{FreesPlaced, IsPlacedOn}
 use Rattle.place_writer.specs.Placement.{IsPlacementOf, placed_in, without}
 use Rattle.place_writer.specs.declared.placement.Placement.{Placement}
 use Rattle.place_writer.proofs.PlacementLemmas.{frees, none_to_free, without_is}
+use Rattle.tag_store.specs.Store.{given_tags}
+use Rattle.place_writer.proofs.WritingLemmas.{gives_still}
 use Rattle.place_writer.proofs.PlacedOnLemmas.{cuts_kept, settled_on}
 use Rattle.place_writer.proofs.PlacingLawsLemmas.{settled_cells_law}
 use Rattle.place_writer.proofs.placer.Placer.settle.Goals as goal
@@ -20,6 +22,9 @@ returns-then-self-eq0-clause-moments g c = record {
   tags = no_moment (g.D.Disk.moments c.args.disk.now) _;
   none = λ none. refl;
 }
+
+pub returns-then-self-eq0-clause-tags : goal.returns-then-self-eq0-clause-tags
+returns-then-self-eq0-clause-tags g c = gives_still c.args.tags.now.geometry (given_tags c.args.tags.now) (g.D.Disk.moments c.args.disk.now)
 
 pub returns-in_err-flush-clause-moments : goal.returns-in_err-flush-clause-moments
 returns-in_err-flush-clause-moments g c =

@@ -1,0 +1,8 @@
+use Rattle.std.proofs.Common.{◌∙◌, sym, subst}
+use Rattle.image_model.specs.Superblock.{Superblock}
+use Rattle.recalculation.specs.Position.{CanBeWritten}
+use Rattle.recalculation.proofs.PositionLemmas.{can_end}
+use Rattle.recalculation.proofs.position.without_position.Goals as goal
+
+pub returns-clause-can : goal.returns-clause-can
+returns-clause-can c = rw c.version_for.ensures (can_end c.args.fields.now c.requires)
