@@ -11,7 +11,7 @@ use Rattle.mirror_calls.specs.declared.fault.MirrorFault.{MirrorFault}
 use Rattle.mirror_calls.specs.declared.fault.MirrorFault.TheVariants.{Broken, Memory}
 use Rattle.mirror_calls.specs.declared.reading.MirrorReply.{MirrorReply}
 use Rattle.mirror_calls.specs.Faults.{IsOfDisk}
-use Rattle.mirror_calls.specs.Given.{given_as, reply_as}
+use Rattle.mirror_calls.specs.Given.{given_as, reply_as, rest_as}
 use Rattle.mirror_calls.specs.Leg.{IsLeftSince, KeepsBlocks, LegOn}
 use Rattle.mirror_calls.specs.State.{AreLegs, AreReady, HasDone, format_of}
 
@@ -85,6 +85,14 @@ ReadsBlocks a_stands b_stands first count result a_old b_old a_new b_new = IfOk 
     (m : MirrorState) → AreLegs (a_stands a_old) (b_stands b_old) a b m
     → HasDone (a_stands a_new) (b_stands b_new) a b m (Model.mirror_read (format_of a b) m first count) (reply_as reply))
 
+-- the rest of them is, into the buffer from this byte on,
+abbrev pub ReadsRest : {A B E : Type 0} → (A → LegOn → Session → Type 0) → (B → LegOn → Session → Type 0)
+    → (first count from : ℕ) → Result MirrorReply E → A → B → A → B → Type 0
+ReadsRest a_stands b_stands first count from result a_old b_old a_new b_new = IfOk result (λ reply. (a b : LegOn)
+    (m : MirrorState) → AreLegs (a_stands a_old) (b_stands b_old) a b m
+    → HasDone (a_stands a_new) (b_stands b_new) a b m (Model.mirror_read (format_of a b) m first count)
+    (rest_as from reply))
+
 -- all are levelled,
 abbrev pub LevelsAll : {A B E : Type 0} → (A → LegOn → Session → Type 0) → (B → LegOn → Session → Type 0)
     → Result ℕ E → A → B → A → B → Type 0
@@ -99,9 +107,16 @@ LevelsBlock a_stands b_stands block written a_old b_old a_new b_new = (a b : Leg
     → AreLegs (a_stands a_old) (b_stands b_old) a b m
     → HasDone (a_stands a_new) (b_stands b_new) a b m (Model.level_block (format_of a b) m block) written
 
--- at most one, and both buffers are as long as a block,
-pub record IsLevelled (written : ℕ) (buffer other : List ℕ) (size : ℕ) : Type 0 where
-  pub few : written ≤ 1
+-- so many are, which took so many,
+abbrev pub LevelsBlocks : {A B : Type 0} → (A → LegOn → Session → Type 0) → (B → LegOn → Session → Type 0)
+    → (first count written : ℕ) → A → B → A → B → Type 0
+LevelsBlocks a_stands b_stands first count written a_old b_old a_new b_new = (a b : LegOn) (m : MirrorState)
+    → AreLegs (a_stands a_old) (b_stands b_old) a b m
+    → HasDone (a_stands a_new) (b_stands b_new) a b m (Model.level_blocks (format_of a b) m first count) written
+
+-- at most one a block, and both buffers are as long as a block,
+pub record IsLevelled (count written : ℕ) (buffer other : List ℕ) (size : ℕ) : Type 0 where
+  pub few : written ≤ count
   pub buffer_ : length buffer ≡ size
   pub other_ : length other ≡ size
 
@@ -133,6 +148,10 @@ reading_blocks first count f m = (Model.mirror_read f m first count).changes
 -- of the levelling of one,
 abbrev pub levelling_block : (block : ℕ) → MirrorFormat → MirrorState → List MirrorChange
 levelling_block block f m = (Model.level_block f m block).changes
+
+-- of that of so many,
+abbrev pub levelling_blocks : (first count : ℕ) → MirrorFormat → MirrorState → List MirrorChange
+levelling_blocks first count f m = (Model.level_blocks f m first count).changes
 
 -- and of that of all.
 abbrev pub levelling_all : MirrorFormat → MirrorState → List MirrorChange
