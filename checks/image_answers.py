@@ -103,6 +103,17 @@ class Geometry:
     def region_count(self):
         return up(self.blocks, 1 << self.fields.log2_region)
 
+    def fitting_region(self):
+        """The log of the blocks of a region: the least from that of the fields on whose bitmap fits."""
+        log2_region = self.fields.log2_region
+        while up(up(self.blocks, 1 << log2_region), 32768) * 8 > self.journal:
+            log2_region += 1
+        return log2_region
+
+    def fitting_bitmap(self):
+        """The sectors of a bitmap of such regions."""
+        return up(up(self.blocks, 1 << self.fitting_region()), 32768) * 8
+
     def sector_at(self, sector):
         """Where a sector of the device lies."""
         area, within = divmod(sector, self.interleave)
@@ -142,11 +153,21 @@ def commit_id(section, sector, number):
     return struct.pack("<Q", BASES[number] ^ (section << 32 ^ sector))
 
 
+def number_of(section, sector, content):
+    """The commit number that a sector bears in its place, if it bears one."""
+    ids = [commit_id(section, sector, number) for number in range(4)]
+    return ids.index(content[504:]) if content[504:] in ids else None
+
+
 class Journal:
     """The numbers of a journal, and the sections that are replayed, or why it has none."""
 
     def __init__(self, geometry):
         self.geometry, self.sections = geometry, geometry.fields.sections
+        blank = self.blank_number()
+        if blank is not None:
+            self.newest, self.state, self.next, self.walk = blank, "blank", 0, []
+            return
         self.whole = [self.numbers_of(section) for section in range(self.sections)]
         used = set().union(*self.whole)
         if len(used) == 4:
@@ -154,17 +175,38 @@ class Journal:
         self.newest, self.state, self.next = self.judged(used)
         self.walk = [] if self.state == "erasing" else self.walked(used)
 
+    def blank_number(self):
+        """The number of a blank journal, if it is one. Some sectors are zero where a bitmap that fits would stand; the
+        others bear one number, and no entry in them is used. Where there are no others it is 0."""
+        numbers, has_zeros, bitmap = set(), False, self.geometry.fitting_bitmap()
+        for place in range(self.geometry.journal):
+            content = self.geometry.disk.read(8 + place)
+            section, sector = divmod(place, self.geometry.section)
+            if place < bitmap and not any(content):
+                has_zeros = True
+            elif self.has_used(sector, content) or not has_zeros and place >= bitmap:
+                return None
+            else:
+                numbers.add(number_of(section, sector, content))
+                if len(numbers) > 1 or None in numbers:
+                    return None
+        return (numbers or {0}).pop()
+
+    def has_used(self, sector, content):
+        """Whether an entry that stands in a sector of a section is used."""
+        if sector >= 8:
+            return False
+        entries = range(self.geometry.entries // 8)
+        return any(content[n * self.geometry.entry + 4:n * self.geometry.entry + 8] != b"\xff" * 4 for n in entries)
+
     def numbers_of(self, section):
         """The numbers that the sectors of a section bear."""
-        numbers = set()
         content = self.geometry.disk.read(8 + section * self.geometry.section, self.geometry.section)
-        for sector in range(self.geometry.section):
-            found = content[sector * SECTOR + 504:(sector + 1) * SECTOR]
-            ids = [commit_id(section, sector, number) for number in range(4)]
-            if found not in ids:
-                raise Refused(f"number {section} {sector}")
-            numbers.add(ids.index(found))
-        return numbers
+        numbers = [number_of(section, sector, content[sector * SECTOR:(sector + 1) * SECTOR])
+                   for sector in range(self.geometry.section)]
+        if None in numbers:
+            raise Refused(f"number {section} {numbers.index(None)}")
+        return set(numbers)
 
     def judged(self, used):
         """The newest number, the state, and which section is next where the journal is at rest."""
@@ -194,6 +236,8 @@ class Journal:
 
     def text(self):
         """Its line in a dump."""
+        if self.state == "blank":
+            return f"journal blank number {self.newest}"
         if self.state != "rest":
             return f"journal {self.state} newest {self.newest}"
         number = self.newest if self.next else (self.newest + 1) % 4
@@ -246,9 +290,9 @@ class Answers:
     def check(self):
         return self.answered(self.checked)
 
-    def run(self, blocks):
-        """That of a run in journal or direct mode which reads these blocks, one by one."""
-        return self.answered(lambda g: self.read(g, blocks))
+    def run(self, blocks, mode="J", consents=False):
+        """That of a run in a mode which reads these blocks, one by one, and consents to tags that are made anew."""
+        return self.answered(lambda g: self.read(g, blocks, mode, consents))
 
     def cells(self):
         """The bytes and the tag of each block, as an opening gives them: one that awaits has the tag of its bytes."""
@@ -286,11 +330,11 @@ class Answers:
         lines.append(f"blocks {g.blocks} bad {len(lines)} awaiting {len(awaiting)}\n")
         return int(len(lines) > 1), "".join(lines)
 
-    def read(self, g, blocks):
-        if g.has_bitmap:
+    def read(self, g, blocks, mode, consents):
+        if g.has_bitmap and mode != "B":
             raise Refused(f"mode 0x{g.fields.flags:x}")
         awaiting = g.awaiting()
-        if self.key and awaiting:
+        if self.key and awaiting and not consents:
             raise Refused(f"consent 0x{g.fields.flags:x}")
         entries = self.entries(g)
         lines, bad = [], 0

@@ -4,7 +4,6 @@ pub mod EventLemmas
 pub mod DoneLemmas
 pub mod ServeLemmas
 pub mod HeldLemmas
-pub mod CountLemmas
 pub mod StepLemmas
 pub mod EndLemmas
 mod Worked

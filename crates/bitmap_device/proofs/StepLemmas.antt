@@ -32,7 +32,7 @@ use Rattle.device_model.specs.Regions.{recalculated_region}
 use Rattle.bitmap_mode.proofs.DeviceLemmas.{clean_chosen, cleaned, recalculated, recalculated_chosen}
 use Rattle.bitmap_device.specs.Answers.{is_held_by, is_to_clean, least_to_clean, steps_left}
 use Rattle.bitmap_device.specs.Device.{BitmapStanding, IsOverDisk, IsReady, KeepsTagsBy, kept, marked_on, standing_on}
-use Rattle.bitmap_device.proofs.CountLemmas.{regions_fewer}
+use Rattle.recalculation.proofs.StepLemmas.{regions_fewer}
 use Rattle.bitmap_device.proofs.HeldLemmas.{held_is_used}
 use Rattle.bitmap_device.proofs.OverDisk.{IsAfter, IsDoneOver, done, not_working, only_done, stands, stands_with, still, works}
 use Rattle.bitmap_device.proofs.TagLemmas.{tags_through, tags_unwritten}

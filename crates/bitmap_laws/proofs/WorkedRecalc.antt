@@ -18,8 +18,10 @@ use Rattle.device_model.specs.Reply.{block_reply}
 use Rattle.device_model.specs.Request.{Request, Asked, newly_asked}
 use Rattle.device_model.specs.Serial.{readable_cells}
 use Rattle.device_model.specs.Submission.{Submission}
-use Rattle.place_model.specs.Format.{HasWholeSectors, format_on, tagger_of}
-use Rattle.place_model.specs.Kind.{CanOpenIn, kind_in}
+use Rattle.image_model.specs.declared.flags.TheConstants.{DIRTY_BITMAP}
+use Rattle.image_model.specs.Superblock.{has_flag}
+use Rattle.place_model.specs.Format.{DiskFormat, HasWholeSectors, format_on, tagger_of}
+use Rattle.place_model.specs.Kind.{kind_in}
 use Rattle.place_model.specs.Opened.{blocks_of, opened_on}
 use Rattle.place_model.specs.Tags.{with_block_tag}
 use Rattle.place_model.proofs.FormatLemmas.{format_on-is, opens_tells}
@@ -36,7 +38,7 @@ use Rattle.bitmap_laws.specs.CallLaws.{KeepsNow, StandsThrough, every_block, reg
 use Rattle.bitmap_laws.specs.CloseLaws.{cleared_below}
 use Rattle.bitmap_laws.specs.Device.{IsBitmapDevice}
 use Rattle.bitmap_laws.specs.EventLaws.{after_read}
-use Rattle.bitmap_laws.specs.MomentLaws.{CanOpenNow, HasBlocksOf, IsOpenedOn}
+use Rattle.bitmap_laws.specs.MomentLaws.{CanOpenNow, HasBitmap, HasBlocksOf, IsOpenedOn}
 use Rattle.bitmap_laws.specs.OwnTags.{KeepsDisk, KeepsTagsOf}
 use Rattle.bitmap_laws.specs.RecalcLaws.{TakesBelow}
 use Rattle.bitmap_laws.specs.ServeLaws.{KeepsDevice, Recalculates}
@@ -108,8 +110,11 @@ abbrev found_tags : Content → ℕ → List ℕ
 found_tags c n = (placed_cells_of (format_on None 112 (last_image c)).geometry (last_image c) n).tag
 
 CanOpenNow-left : CanOpenNow None 112 start
-CanOpenNow-left c told = subst (λ (x : Content). CanOpenIn Bitmap None 112 (last_image x) × HasWholeSectors (format_on None 112 (last_image x)) (last_image x)) (same_Some left c told)
-    (reopens_law (with_dirty fresh 0) left KeepsCells-dirty.stands entry (newest_only-last marked_dirty), HasWholeSectors-left)
+CanOpenNow-left c told = subst (λ (x : Content). HasBitmap None 112 (last_image x)) (same_Some left c told) (record {
+  opens = reopens_law (with_dirty fresh 0) left KeepsCells-dirty.stands entry (newest_only-last marked_dirty);
+  set = ap (λ (x : DiskFormat). has_flag DIRTY_BITMAP x.superblock.flags) (format_on-is bitmap_format entry cut.opens);
+  whole = HasWholeSectors-left;
+})
 
 pub IsOpenedOn-left : HasNow (λ c. IsOpenedOn None 112 (last_image c) found_tags (newest_only left ∷ start)) start
 IsOpenedOn-left = opening_done_law None 112 found_tags start (newest_only left ∷ start) (λ c told. subst (λ (x : Content). IsImage x (last_image x)) (same_Some left c told) (newest_only-last marked_dirty)) CanOpenNow-left refl

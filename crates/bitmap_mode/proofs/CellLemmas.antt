@@ -1,15 +1,12 @@
 -- What calls on a block and its tag leave.
-use Rattle.std.proofs.Common.{◌≡◌, ℕ, refl, sym, ◌∙◌, ap, subst, List, Some, slice_index}
-use Rattle.std.proofs.lemmas.Option.{same_Some}
+use Rattle.std.proofs.Common.{◌≡◌, ℕ, sym, ap, subst, List, slice_index}
 use Rattle.disk_model.specs.Disk.{Content, OnlyAdds}
-use Rattle.disk_model.specs.Moments.{EachSince, content_now}
+use Rattle.disk_model.specs.Moments.{EachSince}
 use Rattle.disk_model.specs.Identity.{DiskIdentity}
-use Rattle.disk_model.proofs.MomentsLemmas.{EachMoment-kept, adds_told}
+use Rattle.disk_model.proofs.MomentsLemmas.{adds_told}
 use Rattle.image_model.specs.Geometry.{Geometry}
 use Rattle.place_model.specs.Blocks.{IsBlockWrite}
-use Rattle.place_model.specs.Tags.{KeepsOthers}
 use Rattle.bitmap_model.specs.BitmapDisk.{BitmapDisk}
-use Rattle.direct_laws.specs.ServeLaws.{WritesBack}
 use Rattle.direct_mode.specs.Cells.{IsBlock, block_write}
 use Rattle.direct_mode.proofs.StoreCalls.{ReadsWhole}
 use Rattle.recalculation.specs.Rest.{HasRest, KeepsRest}
@@ -20,17 +17,6 @@ use Rattle.bitmap_mode.proofs.MarkingLemmas.{given_whole}
 -- The write of a block of the layout is one of the disk.
 pub is_write : (g : Geometry) (d : BitmapDisk) (ticket block : ℕ) (bytes : List ℕ) → d.geometry ≡ g → IsBlock g block bytes → IsBlockWrite d.geometry (block_write ticket block bytes)
 is_write g d ticket block bytes e is = subst (λ (y : Geometry). IsBlockWrite y (block_write ticket block bytes)) (sym e) (record { block = is.low; bytes = is.size })
-
--- A call that keeps the moments writes no tag back.
-pub back_kept : (g : Geometry) (tags : Content → ℕ → List ℕ) (a b : List Content) → b ≡ a → WritesBack g tags tags a b
-back_kept g tags a b same = record {
-  adds = EachMoment-kept _ same;
-  others = λ start told c told_c. subst (KeepsOthers g start) (one start c told told_c) (record { each = λ sector none. refl });
-  gives = λ start told c told_c n low. subst (λ (x : Content). tags x n ≡ tags start n) (one start c told told_c) refl;
-}
-  where
-    one : (start c : Content) → content_now a ≡ Some start → content_now b ≡ Some c → start ≡ c
-    one start c told told_c = same_Some start c (sym told ∙ ap content_now (sym same) ∙ told_c)
 
 -- A call that gets a tag keeps every byte that no tag takes.
 pub rest_kept : (store new : Store) (disk : DiskIdentity) (block : ℕ) {a b : List Content} → IsStore store disk a → ReadsWhole disk a → KeepsStore store new a b → EachSince (OnlyAdds (IsOutForTag block store)) a b → KeepsRest store new a b

@@ -1,11 +1,9 @@
 -- The least region that may be cleaned, and is not held.
-use Rattle.std.proofs.Common.{◌≡◌, ◌≢◌, inl, inr, ℕ, zero, suc, ◌+◌, ◌-◌, ◌<◌, ◌≤◌, Bool, true, false, not, refl, sym, ◌∙◌, arith, Option, Some, None, find}
+use Rattle.std.proofs.Common.{◌≡◌, ◌≢◌, inl, inr, ℕ, ◌+◌, ◌-◌, ◌<◌, ◌≤◌, Bool, true, false, not, sym, ◌∙◌, arith, Option, Some, None, find}
 use Rattle.std.specs.List.{range_with_len}
-use Rattle.std.proofs.lemmas.Bool.{and_from, and_left, and_right, cases_Bool, cases_eq, cases_lt, not_from_false, not_from_true}
-use Rattle.std.proofs.lemmas.Option.{none-some, same_Some}
+use Rattle.std.proofs.lemmas.Bool.{and_from, and_left, and_right, cases_eq, cases_lt, not_from_false, not_from_true}
 use Rattle.device_model.specs.Regions.{RegionCounts, least_region, with_region}
 use Rattle.bitmap_model.proofs.BitLemmas.{with_region-here, with_region-other}
-use Rattle.bitmap_laws.proofs.LeastLemmas.{find_least, find_none}
 use Rattle.dirty_bitmap.proofs.RangeLemmas.{find_none_is, find_some_is}
 use Rattle.recalculation.proofs.FindLemmas.{IsNext, next_none}
 use Rattle.bitmap_mode.specs.Cleaning.{may_be_cleaned}

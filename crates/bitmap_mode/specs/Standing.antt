@@ -1,9 +1,12 @@
 -- A disk in bitmap mode between the calls of its work, with what stands in memory of it.
-use Rattle.std.specs.Prelude.{◌≡◌, ◌⊎◌, ℕ, Bool, List}
+use Rattle.std.specs.Prelude.{◌≡◌, ◌⊎◌, ℕ, ◌<◌, Bool, false, List}
 use Rattle.disk_model.specs.Disk.{Content, last_image}
 use Rattle.disk_model.specs.Moments.{HasNow}
+use Rattle.image_model.specs.Geometry.{regions}
+use Rattle.device_model.specs.Mode.{Bitmap}
 use Rattle.journal_laws.specs.RegionLaws.{AreRegions}
 use Rattle.place_model.specs.Format.{DiskFormat}
+use Rattle.place_model.specs.Opened.{set_bits_on}
 use Rattle.bitmap_model.specs.BitmapDisk.{BitmapDisk}
 use Rattle.bitmap_model.specs.Opening.{opened_disk}
 use Rattle.bitmap_laws.specs.CallLaws.{IsTaggerOf, KeepsNow, StandsThrough}
@@ -29,6 +32,10 @@ pub record StandsWith (d : BitmapDisk) (marked : ℕ → Bool) (rule : TagRule) 
 -- The regions are those of the disk that is opened on the image that reads give.
 abbrev pub AreOpened : DiskFormat → States → List Content → Type 0
 AreOpened d s moments = HasNow (λ c. AreRegions (counts_of s) (opened_disk d (last_image c))) moments
+
+-- No region of the image that reads give has its bit set.
+abbrev pub HasNoBits : DiskFormat → Content → Type 0
+HasNoBits d c = (region : ℕ) → region < regions d.geometry → set_bits_on Bitmap d (last_image c) region ≡ false
 
 -- ---- calls, over any disk that stands so before them
 

@@ -42,6 +42,10 @@ MayHaveCounts new old counts = HasCounts new old.geometry (counts_of old) ⊎ Ha
 abbrev pub least_awaiting : States → Option ℕ
 least_awaiting s = least_region (regions s.geometry) (awaiting_of s.awaiting)
 
+-- At opening each region whose bit is set awaits, and none is fresh.
+abbrev pub counts_opened : (bits : ℕ → Bool) → RegionCounts
+counts_opened bits = record { set_bits = bits; awaiting = bits; fresh = λ region. false }
+
 -- ---- what changes
 
 -- Once a block is written, and all is flushed where that is asked,

@@ -1,9 +1,9 @@
 //! The states of the regions of a device in bitmap mode, and the calls of a device over them.
-ghost use Rattle.std.specs.Prelude.{◌≡◌, ◌⊎◌, ◌+◌, ◌-◌, ◌<◌, ◌≤◌, ℕ};
+ghost use Rattle.std.specs.Prelude.{◌≡◌, ◌⊎◌, ◌+◌, ◌-◌, ◌<◌, ◌≤◌, ℕ, List};
 ghost use Rattle.std.specs.Prelude.{Ok, None, false, true, find, is_some, IfOk, IfSome, OnErr, OnOk};
 ghost use Rattle.std.specs.List.{range_with_len};
 ghost use Rattle.disk_model.specs.Causes.{HasCause};
-ghost use Rattle.disk_model.specs.Disk.{OnlyAdds, Reads, newest_only};
+ghost use Rattle.disk_model.specs.Disk.{Content, OnlyAdds, Reads, newest_only};
 ghost use Rattle.disk_model.specs.Identity.{IsBound};
 ghost use Rattle.disk_model.specs.Moments.{EachSince, HasNow, IsChangedBy};
 ghost use Rattle.image_model.specs.Geometry.{IsGeometry, bitmap_sectors, data_at, journal_sectors, layout_of};
@@ -31,7 +31,7 @@ use hmac_tag::{Tag, TagMaker};
 use image_model::Super;
 use layout::Geometry;
 use recalculation::Awaiting;
-use sector_disk::{Disk, Failed};
+use sector_disk::{Disk, Failed, Memory};
 use std::alloc::Global;
 use std::marker::Model;
 use tag_store::Tags;
@@ -67,9 +67,9 @@ impl RegionStates {
     ghost use Rattle.bitmap_mode.specs.Closing.{MayClose, StandsInClearing};
     ghost use Rattle.bitmap_mode.specs.Reading.{AddsToRead, IsTagToRead, IsTaken, LeavesToRead, MayReadBlock};
     ghost use Rattle.bitmap_mode.specs.Reading.{ReadsBlock, StandsInTaking, TakesRegion, TakesToRead, tags_taken};
-    ghost use Rattle.bitmap_mode.specs.Standing.{AreOpened, Leaves, StandsIn};
-    ghost use Rattle.bitmap_mode.specs.States.{HasCounts, MayHaveCounts, counts_cleaned, counts_of, counts_taken};
-    ghost use Rattle.bitmap_mode.specs.States.{counts_written, least_awaiting, may_be_clean};
+    ghost use Rattle.bitmap_mode.specs.Standing.{AreOpened, HasNoBits, Leaves, StandsIn};
+    ghost use Rattle.bitmap_mode.specs.States.{HasCounts, MayHaveCounts, counts_cleaned, counts_of, counts_opened};
+    ghost use Rattle.bitmap_mode.specs.States.{counts_taken, counts_written, least_awaiting, may_be_clean};
     ghost use Rattle.bitmap_mode.specs.Staying.{FitsDisk, StaysButBits, StaysOnDisk};
     ghost use Rattle.bitmap_mode.specs.Writing.{IsOfMarkedBlock, MayWriteBlock, WritesBlock};
 
@@ -102,16 +102,28 @@ impl RegionStates {
         ensures kept { D.moments disk.new ≡ D.moments disk.old }
     {
         let bits = Bits::load(alloc, disk, geometry)?;
-        let awaiting = Awaiting::of(alloc, fields, &geometry, Some(&bits))?;
-        let fresh = RegionSet::none(alloc, geometry.regions())?;
-        let to_clean = fresh.copy(alloc)?;
-        Ok(RegionStates {
-            geometry,
-            bits,
-            awaiting,
-            fresh,
-            to_clean,
-        })
+        let states = RegionStates::opened(alloc, fields, geometry, bits)?;
+        Ok(states)
+    }
+
+    /// The regions of an image that has a bitmap in which no bit is set: none awaits, and none is fresh. No disk is
+    /// called.
+    ///
+    /// # Errors
+    ///
+    /// - `Memory`: there is none for a bit of each region, three times over.
+    pub fn none(alloc: Global, fields: &Super, geometry: Geometry) -> Result<RegionStates, Memory>
+        requires fits { bitmap_sectors geometry ≤ journal_sectors geometry }
+        requires fields { TellsAreas fields.now }
+        requires layout { geometry ≡ layout_of fields.now }
+
+        ensures geometry { IfOk result (λ states. states.geometry ≡ geometry) }
+        ensures counts { IfOk result (λ states. HasCounts states geometry (counts_opened (λ region. false))) }
+        ensures opened { IfOk result (λ states. (d : DiskFormat) (moments : List Content) → d.geometry ≡ geometry
+            → HasNow (HasNoBits d) moments → AreOpened d states moments) }
+    {
+        let bits = Bits::none(alloc, geometry)?;
+        RegionStates::opened(alloc, fields, geometry, bits)
     }
 
     /// Whether a region awaits.
@@ -490,6 +502,37 @@ impl RegionStates {
             return self.take(disk, tags, maker, region);
         }
         Ok(())
+    }
+
+    /// The regions of an image with these bits: each whose bit is set awaits, and none is fresh.
+    ///
+    /// # Errors
+    ///
+    /// - `Memory`: there is none for a bit of each region, three times over, or for the 64 KiB of a recalculation.
+    fn opened(
+        alloc: Global,
+        fields: &Super,
+        geometry: Geometry,
+        bits: Bits,
+    ) -> Result<RegionStates, Memory>
+        requires fits { bitmap_sectors geometry ≤ journal_sectors geometry }
+        requires fields { TellsAreas fields.now }
+        requires layout { geometry ≡ layout_of fields.now }
+        requires bits { bits.geometry ≡ geometry }
+
+        ensures geometry { IfOk result (λ states. states.geometry ≡ geometry) }
+        ensures counts { IfOk result (λ states. HasCounts states geometry (counts_opened (bits_of bits))) }
+    {
+        let awaiting = Awaiting::of(alloc, fields, &geometry, Some(&bits))?;
+        let fresh = RegionSet::none(alloc, geometry.regions())?;
+        let to_clean = fresh.copy(alloc)?;
+        Ok(RegionStates {
+            geometry,
+            bits,
+            awaiting,
+            fresh,
+            to_clean,
+        })
     }
 
     /// The least region not below `from` whose bit is set, and that needs none.

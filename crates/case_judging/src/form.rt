@@ -134,8 +134,8 @@ pub(crate) fn form_with(bytes: &[u8], flags: u64) -> Form {
     }
 }
 
-/// Whether bytes begin as the superblock of an image does that has these flags and a journal. Its tags may be to be made
-/// anew.
+/// Whether bytes begin as the superblock of an image does that has these flags and a journal. Its tags may be to be
+/// made anew.
 fn is_image(bytes: &[u8], flags: u64) -> bool {
     let version = number_in(bytes, 8, 1);
     let interleave = number_in(bytes, 9, 1);

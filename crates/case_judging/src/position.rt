@@ -64,9 +64,9 @@ pub fn is_recalculating(bytes: &[u8]) -> bool {
     }
 }
 
-/// The image without that flag that reads as this one does: each block that awaits has the tag of its data. No entry of
-/// a journal is looked at. The version is the highest, and the position 0, whatever they were.
-pub fn with_tags_made(alloc: Global, image: &[u8]) -> Result<Vec<u8>, AllocError> {
+/// The image of a form without that flag that reads as this one does: each block that awaits has the tag of its data. No
+/// entry of a journal is looked at. The version is the highest, and the position 0, whatever they were.
+pub fn with_tags_made(alloc: Global, form: &Form, image: &[u8]) -> Result<Vec<u8>, AllocError> {
     let mut bytes = Vec::from_slice(alloc, image)?;
     let Some(position) = position_of(image) else {
         return Ok(bytes);
@@ -75,7 +75,6 @@ pub fn with_tags_made(alloc: Global, image: &[u8]) -> Result<Vec<u8>, AllocError
     put_at(&mut bytes, FLAGS_AT, run_at(&flags.to_le_bytes(), 0, 4));
     put_at(&mut bytes, VERSION_AT, &[5]);
     put_at(&mut bytes, POSITION_AT, &[0; 8]);
-    let form = &position.form;
     for block in 0..form.blocks {
         if position.awaits(block) {
             let digest = form.digest_of(block, form.data_of(image, block));
@@ -128,8 +127,8 @@ impl Position {
         Ok(regions)
     }
 
-    /// The position behind a step or a close, where these regions await: at the least of them that has a sector from the
-    /// position on, but not before it; and none where there is no such region.
+    /// The position behind a step or a close, where these regions await: at the least of them that has a sector from
+    /// the position on, but not before it; and none where there is no such region.
     fn moved(&self, awaiting: &[bool]) -> Position {
         let Some(sector) = self.sector else {
             return *self;

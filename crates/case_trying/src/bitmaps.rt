@@ -3,7 +3,9 @@
 use crate::reads::Reads;
 use crate::trying::Counts;
 use anyhow::{Result, bail};
-use case_judging::{Bitmap, Images, Known, bitmap_of, judge_bitmapped, judge_bits};
+use case_judging::{
+    Bitmap, Images, Known, bitmap_of, is_same_outside_journal, judge_bitmapped, judge_bits,
+};
 use case_running::{Command, Ended, is_bitmapped, is_keyed};
 use case_text::Case;
 use std::alloc::Global;
@@ -51,6 +53,40 @@ pub fn bitmapped_by(
         consenting: Reads::by_words(alloc, &form, words, CONSENT, &case.key)?,
         is_keyed,
     }))
+}
+
+/// Looks at an image that is left and has no bitmap yet, where the undisturbed opening makes this one of the image that
+/// runs begin with. A run in bitmap mode makes the same of it, outside of the journal, and reads its blocks.
+pub fn judge_unmade<C: Command>(
+    alloc: Global,
+    command: &C,
+    counts: &mut Counts,
+    bitmapped: &Bitmapped,
+    made: &[u8],
+    left: &[u8],
+) -> Result<()> {
+    counts.runs = counts.runs.saturating_add(1);
+    let Bitmapped { bitmap, base, .. } = bitmapped;
+    let blocks = base.bytes();
+    let ended = bitmapped
+        .consenting
+        .judge(alloc, command, base, left, blocks)?;
+    let after = ended.disk.bytes();
+    if !has_clear_bitmap(after) {
+        bail!("a run in bitmap mode does not make a bitmap of which no bit is set");
+    }
+    if !is_same_outside_journal(&bitmap.form, after, made) {
+        bail!("a run in bitmap mode makes another image of what is left");
+    }
+    Ok(())
+}
+
+/// Whether an image has a bitmap, and no bit of it is set.
+pub fn has_clear_bitmap(image: &[u8]) -> bool {
+    match bitmap_of(image) {
+        Some(bitmap) => !bitmap.has_set(image),
+        None => false,
+    }
 }
 
 /// The words of a run in bitmap mode under a key, from its mode on.

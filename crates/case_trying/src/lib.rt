@@ -4,6 +4,7 @@
 #![tactic(auto)]
 
 mod bitmaps;
+mod changing;
 mod input;
 mod reads;
 mod recovering;

@@ -4,8 +4,9 @@ use crate::reads::Reads;
 use crate::trying::Counts;
 use anyhow::{Result, bail};
 use case_judging::{
-    Form, Images, Known, Reading, Writes, form_of, has_empty_journal, is_recalculating,
-    is_same_outside_journal, judge_left, judge_position, with_journal_placed, with_tags_made,
+    Form, Images, Known, Reading, Writes, behind_journal, form_of, has_empty_journal,
+    is_recalculating, is_same_outside_journal, judge_left, judge_position, with_journal_placed,
+    with_tags_made,
 };
 use case_running::{Command, Ended, is_journaled};
 use case_text::Case;
@@ -20,9 +21,31 @@ pub struct Recovered {
     script: String,
     /// Which reads recalculate, where tags of it are to be made anew.
     position: Option<Reading>,
-    /// Reads of all blocks, in journal mode and in direct mode.
+    later: Later,
+}
+
+/// Reads of all blocks of what is left, in journal mode and in direct mode.
+#[derive(Drop)]
+pub(crate) struct Later {
     journaled: Reads,
     direct: Reads,
+}
+
+impl Later {
+    /// These of an image of a form by runs with a key, whose words behind the mode are others.
+    pub(crate) fn by_words(alloc: Global, form: &Form, others: &str, key: &[u8]) -> Result<Later> {
+        Ok(Later {
+            journaled: Reads::by_words(alloc, form, "J", others, key)?,
+            direct: Reads::by_words(alloc, form, "D", others, key)?,
+        })
+    }
+}
+
+/// A script, and what its undisturbed run has printed.
+#[derive(Clone, Copy)]
+pub(crate) struct Lines<'l> {
+    pub(crate) script: &'l str,
+    pub(crate) text: &'l str,
 }
 
 /// What is to be left of the blocks.
@@ -52,23 +75,44 @@ pub fn recovered_by<C: Command>(
     if form.blocks == 0 || (is_plain && has_empty_journal(alloc, &form, base)?) {
         return Ok(None);
     }
-    let journaled = Reads::in_mode(alloc, &form, "J")?;
-    let opened = journaled.run_alone(alloc, command, base)?;
-    let position = reading_on(base, is_direct);
+    let later = Later::by_words(alloc, &form, "", &[])?;
+    let lines = Lines { script, text };
+    Ok(Some(recovered_on(alloc, command, case, form, base, lines, later)?))
+}
+
+/// What runs of a case recover on an image of a form, where later runs read so what is left.
+pub(crate) fn recovered_on<C: Command>(
+    alloc: Global,
+    command: &C,
+    case: &Case,
+    form: Form,
+    base: &[u8],
+    lines: Lines<'_>,
+    later: Later,
+) -> Result<Recovered> {
+    let opened = later.journaled.run_alone(alloc, command, base)?;
+    let position = reading_on(base, !is_journaled(case));
     let base = with_all_placed(alloc, &form, base, position)?;
     let judged = if is_refused(&opened) {
         Judged::Refused
     } else {
-        judged_by(alloc, case, form, &base, script, text)?
+        judged_by(alloc, case, form, &base, lines)?
     };
-    Ok(Some(Recovered {
+    Ok(Recovered {
         base: Known::new(alloc, form, base)?,
         judged,
-        script: script.to_string(alloc)?,
+        script: lines.script.to_string(alloc)?,
         position,
-        journaled,
-        direct: Reads::in_mode(alloc, &form, "D")?,
-    }))
+        later,
+    })
+}
+
+impl Recovered {
+    /// Whether another image has the blocks of the one that each run begins with, and their tags, in their places.
+    pub(crate) fn is_same_behind(&self, other: &[u8]) -> bool {
+        let form = &self.base.form;
+        behind_journal(form, self.base.bytes()) == behind_journal(form, other)
+    }
 }
 
 /// Which reads of a run recalculate, where tags of the image that it begins with are to be made anew.
@@ -92,7 +136,7 @@ fn with_all_placed(
     if position.is_none() {
         return Ok(placed);
     }
-    Ok(with_tags_made(alloc, &placed)?)
+    Ok(with_tags_made(alloc, form, &placed)?)
 }
 
 /// What the blocks are judged by that are left of a script.
@@ -101,9 +145,9 @@ fn judged_by(
     case: &Case,
     form: Form,
     base: &[u8],
-    script: &str,
-    text: &str,
+    lines: Lines<'_>,
 ) -> Result<Judged> {
+    let Lines { script, text } = lines;
     if is_journaled(case) {
         let writes = Writes::of_script(alloc, form, script, text)?;
         return Ok(Judged::Journaled(writes));
@@ -144,7 +188,7 @@ pub fn judge_recovered<C: Command>(
         judge_position(alloc, base, left, recovered.script.as_str(), text, reading)?;
     }
     if counts.images % 4 != 0 {
-        let reads = &recovered.journaled;
+        let reads = &recovered.later.journaled;
         read_again(alloc, command, counts, recovered, reads, left, &blocks)?;
         return Ok(());
     }
@@ -160,9 +204,9 @@ fn judge_both<C: Command>(
     left: &[u8],
     blocks: &[u8],
 ) -> Result<()> {
-    let reads = &recovered.journaled;
+    let reads = &recovered.later.journaled;
     read_again(alloc, command, counts, recovered, reads, left, blocks)?;
-    let reads = &recovered.direct;
+    let reads = &recovered.later.direct;
     let after = read_again(alloc, command, counts, recovered, reads, left, blocks)?;
     if !has_empty_journal(alloc, &recovered.base.form, after.disk.bytes())? {
         bail!("direct mode has not emptied the journal");
@@ -183,7 +227,7 @@ fn judge_refused<C: Command>(
         bail!("an image that is refused has changed");
     }
     counts.runs = counts.runs.saturating_add(1);
-    let again = recovered.journaled.run_alone(alloc, command, left)?;
+    let again = recovered.later.journaled.run_alone(alloc, command, left)?;
     if !is_refused(&again) {
         bail!("an image that was refused is opened");
     }
@@ -209,7 +253,7 @@ fn read_again<C: Command>(
     }
     let form = &recovered.base.form;
     let is_same = match recovered.position {
-        Some(_) => is_same_outside_journal(form, &with_tags_made(alloc, after)?, blocks),
+        Some(_) => is_same_outside_journal(form, &with_tags_made(alloc, form, after)?, blocks),
         None => is_same_outside_journal(form, after, blocks),
     };
     if !is_same {

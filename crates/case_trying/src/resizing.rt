@@ -58,7 +58,7 @@ pub fn resized_by<C: Command>(
 }
 
 /// A case by the words of another, but for the name of the command, and with its key.
-fn case_by(alloc: Global, other: &Case, name: &str) -> Result<Case> {
+pub(crate) fn case_by(alloc: Global, other: &Case, name: &str) -> Result<Case> {
     let mut case = Case::new(alloc, Vec::new(alloc))?;
     case.words.clear();
     for (k, word) in other.words.iter().enumerate() {
@@ -70,7 +70,12 @@ fn case_by(alloc: Global, other: &Case, name: &str) -> Result<Case> {
 }
 
 /// Runs a case on an image, where nothing fails.
-fn run_on<C: Command>(alloc: Global, command: &C, case: &Case, image: &[u8]) -> Result<Ended> {
+pub(crate) fn run_on<C: Command>(
+    alloc: Global,
+    command: &C,
+    case: &Case,
+    image: &[u8],
+) -> Result<Ended> {
     let disk = CutDisk::new(alloc, image)?;
     run(alloc, command, case, Fails::NONE, disk)
 }

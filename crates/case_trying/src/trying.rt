@@ -1,5 +1,6 @@
 //! Tries a case with each failure of a kind, until a run meets none.
 use crate::bitmaps::{Bitmapped, bitmapped_by, judge_bitmap_left};
+use crate::changing::{Changed, changed_by, judge_changed};
 use crate::reads::Reads;
 use crate::recovering::{Recovered, judge_recovered, recovered_by};
 use crate::resizing::{Resized, judge_resized, resized_by};
@@ -45,6 +46,8 @@ pub struct Trial {
     recovered: Option<Recovered>,
     /// What its runs are judged by, if they are in bitmap mode.
     bitmapped: Option<Bitmapped>,
+    /// What its runs are judged by, if their opening makes a bitmap of a journal.
+    changed: Option<Changed>,
 }
 
 impl Trial {
@@ -62,14 +65,15 @@ impl Trial {
         let text = undisturbed.text.as_str();
         let resized = resized_by(alloc, command, case, &base, undisturbed)?;
         let is_recovering = is_recovering(case);
-        let recovered = if is_recovering || resized.is_some() {
+        let changed = changed_by(alloc, command, case, &base, script)?;
+        let recovered = if is_recovering || resized.is_some() || changed.is_some() {
             None
         } else {
             recovered_by(alloc, command, case, &base, script, text)?
         };
         let bitmapped = bitmapped_by(alloc, case, &base, script)?;
-        // What is recovered, or has a bitmap, is judged by images of its own.
-        let has_own = recovered.is_some() || bitmapped.is_some();
+        // What is recovered, has a bitmap or gets one is judged by images of its own.
+        let has_own = recovered.is_some() || bitmapped.is_some() || changed.is_some();
         let form = form_of(&base);
         let images = Images::of_script(alloc, form, &base, if has_own { "" } else { script })?;
         let base = Known::new(alloc, form, base)?;
@@ -83,6 +87,7 @@ impl Trial {
             resized,
             recovered,
             bitmapped,
+            changed,
         })
     }
 
@@ -90,7 +95,7 @@ impl Trial {
     /// alone, unless it is made anew, resized or kept.
     fn judges_images(&self) -> bool {
         let is_whole = self.is_recovering || self.made.is_some() || self.resized.is_some();
-        !self.is_keyed || is_whole || self.bitmapped.is_some()
+        !self.is_keyed || is_whole || self.bitmapped.is_some() || self.changed.is_some()
     }
 }
 
@@ -238,18 +243,31 @@ fn judge_choice<C: Command>(
     if let Some(resized) = &trial.resized {
         return judge_resized(alloc, command, counts, resized, base, &left);
     }
-    let text = ended.text.as_str();
+    judge_blocks(alloc, command, counts, trial, &left, ended.text.as_str())
+}
+
+/// Looks at the blocks of an image of what a run left that has printed a text.
+fn judge_blocks<C: Command>(
+    alloc: Global,
+    command: &C,
+    counts: &mut Counts,
+    trial: &Trial,
+    left: &[u8],
+    text: &str,
+) -> Result<()> {
+    let base = trial.base.bytes();
+    if let Some(changed) = &trial.changed {
+        return judge_changed(alloc, command, counts, changed, base, left, text);
+    }
     if let Some(recovered) = &trial.recovered {
-        return judge_recovered(alloc, command, counts, recovered, base, &left, text);
+        return judge_recovered(alloc, command, counts, recovered, base, left, text);
     }
     if let Some(bitmapped) = &trial.bitmapped {
-        return judge_bitmap_left(alloc, command, counts, bitmapped, base, &left, text);
+        return judge_bitmap_left(alloc, command, counts, bitmapped, base, left, text);
     }
-    judge_left(alloc, &trial.images, &left, text)?;
+    judge_left(alloc, &trial.images, left, text)?;
     counts.runs = counts.runs.saturating_add(1);
-    trial
-        .reads
-        .judge(alloc, command, &trial.base, &left, &left)?;
+    trial.reads.judge(alloc, command, &trial.base, left, left)?;
     Ok(())
 }
 

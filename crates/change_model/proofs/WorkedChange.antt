@@ -1,5 +1,5 @@
--- Both changes of mode on a fresh disk of eight blocks, step by step, once blank sectors count: at the end of each a device can be
--- opened in the new mode. So no law of a whole change speaks of nothing.
+-- Both changes of mode on a fresh disk of eight blocks, step by step: at the end of each a device can be opened in
+-- the new mode. So no law of a whole change speaks of nothing.
 use Rattle.std.proofs.Common.{◌≡◌, inl, inr, ℕ, ◌+◌, ◌-◌, ◌*◌, ◌/◌, ◌<◌, ◌≤◌, refl, sym, ◌∙◌, ap, subst, arith, List, length, replicate}
 use Rattle.std.specs.List.{Contains}
 use Rattle.disk_model.specs.Disk.{Content, EachImage, Image, IsImage, last_image, newest_only, sector_in, with_run}
@@ -12,7 +12,6 @@ use Rattle.image_model.proofs.SectorLemmas.{length-bytes_at, sector_in-bytes_at}
 use Rattle.place_model.specs.Format.{HasCells, cells_on}
 use Rattle.place_model.specs.Journal.{IsOfJournal}
 use Rattle.place_model.proofs.WorkedDisk.{bitmap_format, fresh_bitmap, fresh_journal, journal_format, HasWholeSectors-journal}
-use Rattle.change_model.specs.Blanks.{BlanksCount}
 use Rattle.change_model.specs.Change.{HasWritten, IsOfFilling, IsOfHead, IsOfRest, IsOfZeros, ModeChange, new_bitmap, old_bitmap}
 use Rattle.change_model.specs.Ends.{IsNewBitmap, IsNewJournal, format_after}
 use Rattle.change_model.specs.Fields.{KeepsRest}
@@ -118,19 +117,19 @@ marked = after_run (head_image (bitmap_head journal_format (fresh_journal 0))) 0
 abbrev marked_tags : ℕ → List ℕ
 marked_tags b = (placed_cells_of (format_after to_bitmap).geometry (last_image marked) b).tag
 
-pub NewBitmap-fresh : BlanksCount journal_format.geometry → IsNewBitmap to_bitmap marked_tags marked × EachImage (HasCells (format_after to_bitmap) (cells_on journal_format fresh_journal)) marked
-NewBitmap-fresh counts =
-    opens_bitmap_done journal_format fresh_journal fresh 0 tags marked_tags content zeroed marked IsEntry-fresh refl counts IsEmptiedOf-fresh (newest_only-last content)
+pub NewBitmap-fresh : IsNewBitmap to_bitmap marked_tags marked × EachImage (HasCells (format_after to_bitmap) (cells_on journal_format fresh_journal)) marked
+NewBitmap-fresh =
+    opens_bitmap_done journal_format fresh_journal fresh 0 tags marked_tags content zeroed marked IsEntry-fresh refl IsEmptiedOf-fresh (newest_only-last content)
     (zeroes_sectors to_bitmap refl (new_bitmap to_bitmap) new-eight start (newest_only-last content))
-    (writes_head (bitmap_head journal_format (fresh_journal 0)) (IsHeadOf-fresh counts).size zeroed (newest_only-last (newest_only (with_run 8 (bytes_at zero_image 8 8) start))))
+    (writes_head (bitmap_head journal_format (fresh_journal 0)) IsHeadOf-fresh.size zeroed (newest_only-last (newest_only (with_run 8 (bytes_at zero_image 8 8) start))))
     (λ b low. refl)
 
 -- At each moment, such as at its end, each image keeps blocks and cells of the one at entry, and what follows its fields.
-pub KeepsEntry-marked : BlanksCount journal_format.geometry → EachImage (KeepsEntry journal_format fresh_journal) marked × KeepsRest (rest_of content) marked
-KeepsEntry-marked counts =
-    opens_bitmap_moments journal_format fresh_journal fresh 0 tags content marked IsEntry-fresh refl counts IsEmptiedOf-fresh (newest_only-last content)
+pub KeepsEntry-marked : EachImage (KeepsEntry journal_format fresh_journal) marked × KeepsRest (rest_of content) marked
+KeepsEntry-marked =
+    opens_bitmap_moments journal_format fresh_journal fresh 0 tags content marked IsEntry-fresh refl IsEmptiedOf-fresh (newest_only-last content)
     (Marked zeroed (zeroes_sectors to_bitmap refl (new_bitmap to_bitmap) new-eight start (newest_only-last content))
-    (writes_head (bitmap_head journal_format (fresh_journal 0)) (IsHeadOf-fresh counts).size zeroed (newest_only-last (newest_only (with_run 8 (bytes_at zero_image 8 8) start)))))
+    (writes_head (bitmap_head journal_format (fresh_journal 0)) IsHeadOf-fresh.size zeroed (newest_only-last (newest_only (with_run 8 (bytes_at zero_image 8 8) start)))))
 
 -- ---- from a bitmap to a journal
 
@@ -191,19 +190,19 @@ fills_sectors first image = record {
   is = refl;
 }
 
-pub NewJournal-fresh : BlanksCount bitmap_format.geometry → IsNewJournal to_journal filled_tags filled × EachImage (HasCells (format_after to_journal) (cells_on bitmap_format fresh_bitmap)) filled
-NewJournal-fresh counts =
-    opens_journal_done bitmap_format fresh_bitmap bitmap_disk fresh_journal bitmap_tags filled_tags bitmap_content cleared emptied unmarked filled IsEntry-bitmap refl counts IsEmptyJournal-written
+pub NewJournal-fresh : IsNewJournal to_journal filled_tags filled × EachImage (HasCells (format_after to_journal) (cells_on bitmap_format fresh_bitmap)) filled
+NewJournal-fresh =
+    opens_journal_done bitmap_format fresh_bitmap bitmap_disk fresh_journal bitmap_tags filled_tags bitmap_content cleared emptied unmarked filled IsEntry-bitmap refl IsEmptyJournal-written
     IsRecalculatedOf-fresh (newest_only-last bitmap_content)
     (zeroes_sectors to_journal same-places (old_bitmap to_journal) old-eight bitmap_start (newest_only-last bitmap_content))
     (writes_rest cleared (newest_only-last (newest_only (with_run 8 (bytes_at zero_image 8 8) bitmap_start))))
-    (writes_head (journal_head bitmap_format (fresh_bitmap 0)) (IsHeadOf-journal counts).size emptied (newest_only-last (newest_only (with_run 16 (bytes_at fresh_journal 16 80) cleared))))
+    (writes_head (journal_head bitmap_format (fresh_bitmap 0)) IsHeadOf-journal.size emptied (newest_only-last (newest_only (with_run 16 (bytes_at fresh_journal 16 80) cleared))))
     (fills_sectors unmarked (newest_only-last (newest_only (with_run 0 (bytes_at (head_image (journal_head bitmap_format (fresh_bitmap 0))) 0 1) emptied))))
     (λ b low. refl)
 
 -- At each moment, such as before the superblock is written, each image keeps blocks and cells here too.
-pub KeepsEntry-emptied : BlanksCount bitmap_format.geometry → EachImage (KeepsEntry bitmap_format fresh_bitmap) emptied × KeepsRest (rest_of bitmap_content) emptied
-KeepsEntry-emptied counts =
-    opens_journal_moments bitmap_format fresh_bitmap bitmap_disk fresh_journal bitmap_tags bitmap_content emptied IsEntry-bitmap refl counts IsEmptyJournal-written IsRecalculatedOf-fresh (newest_only-last bitmap_content)
+pub KeepsEntry-emptied : EachImage (KeepsEntry bitmap_format fresh_bitmap) emptied × KeepsRest (rest_of bitmap_content) emptied
+KeepsEntry-emptied =
+    opens_journal_moments bitmap_format fresh_bitmap bitmap_disk fresh_journal bitmap_tags bitmap_content emptied IsEntry-bitmap refl IsEmptyJournal-written IsRecalculatedOf-fresh (newest_only-last bitmap_content)
     (Unmarking cleared emptied (zeroes_sectors to_journal same-places (old_bitmap to_journal) old-eight bitmap_start (newest_only-last bitmap_content))
     (writes_rest cleared (newest_only-last (newest_only (with_run 8 (bytes_at zero_image 8 8) bitmap_start)))) (OnlyAdds-none _ emptied))

@@ -1,5 +1,5 @@
--- A fresh disk of eight blocks whose change to a journal was cut before its last step, once blank sectors count: recovery fills
--- its journal. So no law of that speaks of nothing.
+-- A fresh disk of eight blocks whose change to a journal was cut before its last step: recovery fills its
+-- journal. So no law of that speaks of nothing.
 use Rattle.std.proofs.Common.{◌≡◌, inl, inr, ℕ, ◌+◌, ◌-◌, ◌<◌, ◌≤◌, ◌==◌, ◌&&◌, nat_lt, Bool, true, false, if◌then◌else◌, refl, sym, ◌∙◌, ap, subst, arith, Ok, List, [], ◌∷◌, length}
 use Rattle.std.proofs.lemmas.Bool.{cases_lt, cases_Bool, lt-ltb, ltb-true}
 use Rattle.disk_model.specs.Disk.{Content, EachImage, last_image, newest_only, with_run}
@@ -22,9 +22,10 @@ use Rattle.journal_model.specs.JournaledDisk.{JournaledDisk, IsCutOf, Rests, Sta
 use Rattle.journal_model.specs.Opening.{opened_disk}
 use Rattle.journal_model.specs.Recovery.{IsRecovered}
 use Rattle.journal_model.specs.Steps.{KeepsCells}
-use Rattle.change_model.specs.Blanks.{BlanksCount, IsBlankState}
+use Rattle.change_model.specs.Blanks.{IsBlankState}
 use Rattle.change_model.specs.Filling.{IsBlankDisk, IsOfBlank, KeepsPlaces, ReadsFilled, StandsFilling, after_filling}
 use Rattle.change_model.proofs.BeginLemmas.{opened_keeps_law}
+use Rattle.change_model.proofs.BlankLemmas.{blanks_count}
 use Rattle.change_model.proofs.FillingLemmas.{filled_recovered, filling_begins, filling_cut, filling_ends, filling_goes_on}
 use Rattle.change_model.proofs.PlacedLemmas.{journal_inside}
 use Rattle.change_model.proofs.WorkedBlanks.{unmarked, walk_of-unmarked}
@@ -62,88 +63,87 @@ eight : bitmap_sectors_for journal_format.geometry.blocks (fitting_log2_region j
 unfolding fitting_log2_region bitmap_sectors_for regions_for entry_size entries_per_sector section_entries section_sectors
 eight = refl
 
--- ---- once blank sectors count
+-- ---- its blank sectors
 
-module _ (counts : BlanksCount journal_format.geometry) where
-  bound : blank_bound journal_format.geometry ≡ 8
-  bound = counts ∙ eight
+bound : blank_bound journal_format.geometry ≡ 8
+bound = blanks_count journal_format.geometry ∙ eight
 
-  walk : walk_of journal_format.geometry unmarked ≡ Ok (blank_plan 0)
-  walk = ap (λ (n : ℕ). walk_of_grid (grid_with n journal_format.geometry unmarked)) bound ∙ walk_of-unmarked
+walk : walk_of journal_format.geometry unmarked ≡ Ok (blank_plan 0)
+walk = ap (λ (n : ℕ). walk_of_grid (grid_with n journal_format.geometry unmarked)) bound ∙ walk_of-unmarked
 
-  none : replayed_entries journal_format.geometry unmarked ≡ []
-  none = replayed_entries-plan journal_format.geometry unmarked (blank_plan 0) walk
+none : replayed_entries journal_format.geometry unmarked ≡ []
+none = replayed_entries-plan journal_format.geometry unmarked (blank_plan 0) walk
 
-  opens : OpensAs journal_format unmarked
-  opens = record {
-    openable = record {
-      readable = record {
-        superblock = journal_format.superblock;
-        geometry = journal_format.geometry;
-        has_superblock = OpensAs-journal.openable.readable.has_superblock ∙ ap Ok OpensAs-journal.superblock;
-        has_geometry = (opens_tells journal_format fresh_journal OpensAs-journal).has_geometry;
-      };
-      walk = λ clear. rw walk refl;
-      entries = rw none tt;
+opens : OpensAs journal_format unmarked
+opens = record {
+  openable = record {
+    readable = record {
+      superblock = journal_format.superblock;
+      geometry = journal_format.geometry;
+      has_superblock = OpensAs-journal.openable.readable.has_superblock ∙ ap Ok OpensAs-journal.superblock;
+      has_geometry = (opens_tells journal_format fresh_journal OpensAs-journal).has_geometry;
     };
-    superblock = refl;
-    geometry = refl;
-  }
+    walk = λ clear. rw walk refl;
+    entries = rw none tt;
+  };
+  superblock = refl;
+  geometry = refl;
+}
 
-  KeepsCells-blank : KeepsCells blank tags content
-  KeepsCells-blank = opened_keeps_law journal_format content tags opens refl (record { only = λ sector x has. only_candidate (unmarked sector) x has }) HasWholeSectors-unmarked (λ b low. refl)
+KeepsCells-blank : KeepsCells blank tags content
+KeepsCells-blank = opened_keeps_law journal_format content tags opens refl (record { only = λ sector x has. only_candidate (unmarked sector) x has }) HasWholeSectors-unmarked (λ b low. refl)
 
-  IsBlankDisk-unmarked : IsBlankDisk blank 0 fresh_journal
-  IsBlankDisk-unmarked = record { settled = sym (ap length none); plan = blank_plan 0; walk_is = walk; state_is = refl; empty_is = IsEmptyJournal-fresh }
+IsBlankDisk-unmarked : IsBlankDisk blank 0 fresh_journal
+IsBlankDisk-unmarked = record { settled = sym (ap length none); plan = blank_plan 0; walk_is = walk; state_is = refl; empty_is = IsEmptyJournal-fresh }
 
-  -- ---- it is filled
+-- ---- it is filled
 
-  blank_of : (sector : ℕ) → 8 ≤ sector → sector < 16 → IsOfBlank blank fresh_journal sector (fresh_journal sector)
-  blank_of sector above under = record { on = on_journal sector above (omega arith); inside = omega (arith, bound); zeros = zero_there sector above under; is = refl }
+blank_of : (sector : ℕ) → 8 ≤ sector → sector < 16 → IsOfBlank blank fresh_journal sector (fresh_journal sector)
+blank_of sector above under = record { on = on_journal sector above (omega arith); inside = omega (arith, bound); zeros = zero_there sector above under; is = refl }
 
-  abbrev last : Content
-  last = newest_only (with_run 8 (bytes_at fresh_journal 8 8) content)
+abbrev last : Content
+last = newest_only (with_run 8 (bytes_at fresh_journal 8 8) content)
 
-  StandsFilling-last : StandsFilling blank 0 fresh_journal last
-  StandsFilling-last = filling_goes_on blank 0 fresh_journal content last (filling_begins blank 0 fresh_journal content KeepsCells-blank.stands HasWholeSectors-unmarked IsBlankDisk-unmarked)
-      (has_run fresh_journal HasWholeSectors-journal 8 8 (omega arith) (IsOfBlank blank fresh_journal) content (newest_only-last content) blank_of).adds
+StandsFilling-last : StandsFilling blank 0 fresh_journal last
+StandsFilling-last = filling_goes_on blank 0 fresh_journal content last (filling_begins blank 0 fresh_journal content KeepsCells-blank.stands HasWholeSectors-unmarked IsBlankDisk-unmarked)
+    (has_run fresh_journal HasWholeSectors-journal 8 8 (omega arith) (IsOfBlank blank fresh_journal) content (newest_only-last content) blank_of).adds
 
-  run_size : length (bytes_at fresh_journal 8 8) ≡ 4096
-  run_size = length-bytes_at fresh_journal 8 8 (λ sector above under. HasWholeSectors-journal sector (omega arith))
+run_size : length (bytes_at fresh_journal 8 8) ≡ 4096
+run_size = length-bytes_at fresh_journal 8 8 (λ sector above under. HasWholeSectors-journal sector (omega arith))
 
-  out_of_run : (sector : ℕ) → (8 ≤ sector → sector < 16 → ⊥) → last_image last sector ≡ unmarked sector
-  out_of_run sector out = let size = run_size in last_image-with_run_out 8 (bytes_at fresh_journal 8 8) content sector (λ above under. out above (omega (arith, size)))
+out_of_run : (sector : ℕ) → (8 ≤ sector → sector < 16 → ⊥) → last_image last sector ≡ unmarked sector
+out_of_run sector out = let size = run_size in last_image-with_run_out 8 (bytes_at fresh_journal 8 8) content sector (λ above under. out above (omega (arith, size)))
 
-  ReadsFilled-last : ReadsFilled blank fresh_journal last
-  ReadsFilled-last sector on =
-      let above = (journal_inside journal_format.geometry sector on).0 in
-      elim (cases_lt sector 16) [
-        | inl under ↦
-            reads_run fresh_journal HasWholeSectors-journal 8 8 (omega arith) (IsOfBlank blank fresh_journal) content (newest_only-last content) blank_of sector above under
-            ∙ sym (rw (lt-ltb sector (8 + blank_bound journal_format.geometry) (omega (arith, bound)), zero_there sector above under) refl)
-        | inr behind ↦
-            out_of_run sector (λ over under. omega arith)
-            ∙ sym (elim (cases_Bool (nat_lt sector (8 + blank_bound journal_format.geometry))) [
-              | inl holds ↦ let low = ltb-true sector (8 + blank_bound journal_format.geometry) holds in absurd (omega (arith, low, bound))
-              | inr fails ↦ ap (λ (t : Bool). if t && is_zero_sector (unmarked sector) then fresh_journal sector else unmarked sector) fails
-            ])
-      ]
+ReadsFilled-last : ReadsFilled blank fresh_journal last
+ReadsFilled-last sector on =
+    let above = (journal_inside journal_format.geometry sector on).0 in
+    elim (cases_lt sector 16) [
+      | inl under ↦
+          reads_run fresh_journal HasWholeSectors-journal 8 8 (omega arith) (IsOfBlank blank fresh_journal) content (newest_only-last content) blank_of sector above under
+          ∙ sym (rw (lt-ltb sector (8 + blank_bound journal_format.geometry) (omega (arith, bound)), zero_there sector above under) refl)
+      | inr behind ↦
+          out_of_run sector (λ over under. omega arith)
+          ∙ sym (elim (cases_Bool (nat_lt sector (8 + blank_bound journal_format.geometry))) [
+            | inl holds ↦ let low = ltb-true sector (8 + blank_bound journal_format.geometry) holds in absurd (omega (arith, low, bound))
+            | inr fails ↦ ap (λ (t : Bool). if t && is_zero_sector (unmarked sector) then fresh_journal sector else unmarked sector) fails
+          ])
+    ]
 
-  KeepsPlaces-last : KeepsPlaces blank content last
-  KeepsPlaces-last = record { each = λ sector off. out_of_run sector (λ above under. off (on_journal sector above (omega arith))) }
+KeepsPlaces-last : KeepsPlaces blank content last
+KeepsPlaces-last = record { each = λ sector off. out_of_run sector (λ above under. off (on_journal sector above (omega arith))) }
 
-  -- A cut before the sync leaves the same cells, with nothing to replay,
-  pub IsCutOf-filling : EachImage (λ image. IsCutOf blank [] image × HasNothingToReplay journal_format.geometry image
-      × ((plan : Plan) × (walk_of journal_format.geometry image ≡ Ok plan) × IsBlankState journal_format.geometry image 0 plan.state)) last
-  IsCutOf-filling = filling_cut blank 0 fresh_journal last StandsFilling-last
+-- A cut before the sync leaves the same cells, with nothing to replay,
+pub IsCutOf-filling : EachImage (λ image. IsCutOf blank [] image × HasNothingToReplay journal_format.geometry image
+    × ((plan : Plan) × (walk_of journal_format.geometry image ≡ Ok plan) × IsBlankState journal_format.geometry image 0 plan.state)) last
+IsCutOf-filling = filling_cut blank 0 fresh_journal last StandsFilling-last
 
-  -- and behind it the journal is at rest.
-  pub Rests-filled : StandsFor (after_filling blank 0 fresh_journal) (newest_only last) × Rests (after_filling blank 0 fresh_journal)
-  Rests-filled = filling_ends blank 0 fresh_journal last StandsFilling-last (newest_only-last (with_run 8 (bytes_at fresh_journal 8 8) content)) ReadsFilled-last
+-- and behind it the journal is at rest.
+pub Rests-filled : StandsFor (after_filling blank 0 fresh_journal) (newest_only last) × Rests (after_filling blank 0 fresh_journal)
+Rests-filled = filling_ends blank 0 fresh_journal last StandsFilling-last (newest_only-last (with_run 8 (bytes_at fresh_journal 8 8) content)) ReadsFilled-last
 
-  -- Writing goes on at the journal's start, with the number 1.
-  pub IsRecovered-filled : IsRecovered blank 0 1 tags (newest_only last)
-  IsRecovered-filled =
-      let law = filled_recovered journal_format unmarked 0 fresh_journal tags content last KeepsCells-blank IsBlankDisk-unmarked StandsFilling-last
-      (newest_only-last (with_run 8 (bytes_at fresh_journal 8 8) content)) ReadsFilled-last KeepsPlaces-last in
-      subst (λ (n : ℕ). IsRecovered blank n 1 tags (newest_only last)) law.1 law.0
+-- Writing goes on at the journal's start, with the number 1.
+pub IsRecovered-filled : IsRecovered blank 0 1 tags (newest_only last)
+IsRecovered-filled =
+    let law = filled_recovered journal_format unmarked 0 fresh_journal tags content last KeepsCells-blank IsBlankDisk-unmarked StandsFilling-last
+    (newest_only-last (with_run 8 (bytes_at fresh_journal 8 8) content)) ReadsFilled-last KeepsPlaces-last in
+    subst (λ (n : ℕ). IsRecovered blank n 1 tags (newest_only last)) law.1 law.0

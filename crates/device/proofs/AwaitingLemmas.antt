@@ -19,16 +19,13 @@ use Rattle.recalculate_laws.specs.Position.{moved_fields, next_awaiting, positio
 use Rattle.recalculation.specs.declared.recalculating.Recalculation.{Recalculation}
 use Rattle.recalculation.specs.Awaiting.{awaiting_of}
 use Rattle.recalculation.specs.Position.{fields_to_write}
-use Rattle.recalculation.specs.Recalculation.{fields_left, fields_or}
+use Rattle.recalculation.specs.Recalculation.{HasFieldsThrough, fields_behind, fields_left, fields_next, fields_or}
 use Rattle.recalculation.proofs.PositionLemmas.{written_moved}
 use Rattle.device_parts.specs.declared.condition.Condition.TheVariants.{Working}
 use Rattle.device_parts.specs.Device.{Standing}
 use Rattle.direct_device.specs.declared.parts.DirectParts.{DirectParts}
-use Rattle.direct_device.specs.Answers as InDirect
-use Rattle.direct_device.specs.Answers.{HasFieldsThrough}
 use Rattle.direct_device.specs.Device.{IsDirect}
 use Rattle.journal_device.specs.declared.parts.JournalParts.{JournalParts}
-use Rattle.journal_device.specs.Answers as InJournal
 use Rattle.journal_device.specs.Device.{IsJournaled}
 use Rattle.device.specs.Awaiting.{AwaitsNoMore, HasNoMore, HasNoMoreIn, fields_of}
 
@@ -75,21 +72,13 @@ no_more_or g y s awaiting = elim (cases_option (fields_to_write s y awaiting)) [
 pub no_more_left : (g : Geometry) (r : Recalculation) → AwaitsNoMore g r.position (fields_left r)
 no_more_left g r = no_more_or g r.awaiting.geometry r.position (awaiting_of r.awaiting)
 
--- and in a step, of a device in direct mode
-direct_behind : (g : Geometry) (r : Recalculation) (o : Option ℕ) → AwaitsNoMore g r.position (InDirect.fields_behind o r)
-direct_behind g r None = no_more_same g r.position
-direct_behind g r (Some region) = no_more_moved g r.awaiting.geometry r.position _
+-- and in a step.
+behind_no_more : (g : Geometry) (r : Recalculation) (o : Option ℕ) → AwaitsNoMore g r.position (fields_behind o r)
+behind_no_more g r None = no_more_same g r.position
+behind_no_more g r (Some region) = no_more_moved g r.awaiting.geometry r.position _
 
-pub no_more_next_direct : (g : Geometry) (r : Recalculation) → AwaitsNoMore g r.position (InDirect.fields_next r)
-no_more_next_direct g r = direct_behind g r _
-
--- and in journal mode.
-journal_behind : (g : Geometry) (r : Recalculation) (o : Option ℕ) → AwaitsNoMore g r.position (InJournal.fields_behind o r)
-journal_behind g r None = no_more_same g r.position
-journal_behind g r (Some region) = no_more_moved g r.awaiting.geometry r.position _
-
-pub no_more_next_journal : (g : Geometry) (r : Recalculation) → AwaitsNoMore g r.position (InJournal.fields_next r)
-no_more_next_journal g r = journal_behind g r _
+pub no_more_next : (g : Geometry) (r : Recalculation) → AwaitsNoMore g r.position (fields_next r)
+no_more_next g r = behind_no_more g r _
 
 -- ---- images
 
@@ -134,7 +123,7 @@ heads_direct w device a is c told =
     (subst (λ (f : DiskFormat). HasHeads f c) (under_is w.on d.format d.superblock is.format) heads)
 
 -- and in journal mode.
-pub heads_journal : (w : Standing) (device : JournalParts) (a : List Content) → IsJournaled w Working device a → HasNow (HasHeads (under_fields w.on device.recalc.position)) a
+pub heads_journal : (w : Standing) (device : JournalParts) (a : List Content) → IsJournaled w Working device a → HasNow (HasHeads (under_fields w.on device.recalculation.position)) a
 heads_journal w device a is c told =
     let d = is.disk in
     let works = is.over.works refl in
@@ -151,7 +140,7 @@ heads_journal w device a is c told =
 
 -- It stays so while sector 0 is not written.
 pub heads_stay : (w : Standing) (s : Superblock) (W : ℕ → List ℕ → Type 0) {a b : List Content} → ((x : List ℕ) → W 0 x → ⊥) → HasNow (HasHeads (under_fields w.on s)) a → EachSince (OnlyAdds W) a b
-    → HasFieldsThrough w s s a b
+    → HasFieldsThrough w.on s s a b
 heads_stay w s W {a} {b} other now writes =
     each_content W (EachImage (λ image. IsReadAs (under_fields w.on s) image ⊎ IsReadAs (under_fields w.on s) image))
     (λ start told c only image is.
@@ -167,7 +156,7 @@ heads_stay w s W {a} {b} other now writes =
     inl (heads_read (under_fields w.on s) c has image is)) writes
 
 -- No block more awaits by the fields that images have then,
-pub heads_no_more : (w : Standing) (old new : Superblock) {a b : List Content} → AwaitsNoMore w.on.geometry (fields_of w.entry) old → AwaitsNoMore w.on.geometry old new → HasFieldsThrough w old new a b
+pub heads_no_more : (w : Standing) (old new : Superblock) {a b : List Content} → AwaitsNoMore w.on.geometry (fields_of w.entry) old → AwaitsNoMore w.on.geometry old new → HasFieldsThrough w.on old new a b
     → HasNoMoreIn w.on.geometry w.entry a b
 heads_no_more w old new first moved through =
     EachMoment-weaker (λ c each image is. elim (each image is) [

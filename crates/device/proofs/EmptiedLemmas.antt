@@ -1,5 +1,5 @@
 -- In direct mode every journal stays empty, so what may be left by placed cells may be left in direct mode.
-use Rattle.std.proofs.Common.{◌≡◌, ◌⊎◌, inl, inr, ⊎_elim, ℕ, ◌<◌, ◌≤◌, nat_lt, Bool, true, false, ◌&&◌, if◌then◌else◌, refl, sym, ◌∙◌, ap, subst, arith, Some, Option, List, [], ◌∷◌}
+use Rattle.std.proofs.Common.{◌≡◌, ◌⊎◌, inl, inr, ⊎_elim, ℕ, ◌<◌, ◌≤◌, nat_lt, Bool, true, false, ◌&&◌, if◌then◌else◌, refl, sym, ◌∙◌, ap, subst, arith, Some, List, [], ◌∷◌}
 use Rattle.std.specs.List.{AllByRecursion, Contains}
 use Rattle.std.proofs.lemmas.Bool.{and_parts, lt-ltb, ltb-true}
 use Rattle.std.proofs.lemmas.List.{append_cancel_right}
@@ -23,9 +23,8 @@ use Rattle.direct_laws.specs.CallLaws.{ReadsImage}
 use Rattle.direct_laws.specs.MomentLaws.{IsLeftNow, IsLeftThrough}
 use Rattle.direct_mode.specs.Places.{IsOfPlaces}
 use Rattle.recalculate_laws.specs.Formats.{under_fields}
-use Rattle.recalculation.specs.Recalculation.{IsOfTagsOrHead}
+use Rattle.recalculation.specs.Recalculation.{HasFieldsThrough, IsOfTagsOrHead}
 use Rattle.device_parts.specs.Device.{Standing}
-use Rattle.direct_device.specs.Answers.{HasFieldsThrough}
 use Rattle.device.proofs.AwaitingLemmas.{HasHeads, heads_read}
 use Rattle.device_opening.specs.Emptied.{HasEmptyJournal, IsEmptyJournal}
 use Rattle.device_opening.proofs.EmptiedLemmas.{empty_replays_nothing, empty_same}
@@ -124,7 +123,7 @@ both {a} {b} {P} {Q} one other = record {
 -- the geometry,
 pub stays_read : (w : Standing) (old new : Superblock) (W : ℕ → List ℕ → Type 0) (start : Content) {a b : List Content}
     → (IsGeometry w.on.geometry w.on.sectors → (sector : ℕ) (x : List ℕ) → W sector x → (sector ≡ 0) ⊎ (initial w.on.geometry ≤ sector))
-    → ReadsImage a → content_now a ≡ Some start → HasNow (HasHeads (under_fields w.on old)) a → HasFieldsThrough w old new a b
+    → ReadsImage a → content_now a ≡ Some start → HasNow (HasHeads (under_fields w.on old)) a → HasFieldsThrough w.on old new a b
     → HasNow (EachImage (λ image. HasEmptyJournal (format_on w.on.key w.on.sectors image) image)) a → EachSince (OnlyAdds W) a b → StaysEmpty w.on a b
 stays_read w old new W start {a} {b} behind reads told heads fields empty adds =
     let geometry = (heads start told).is_geometry in

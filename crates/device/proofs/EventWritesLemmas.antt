@@ -18,7 +18,7 @@ use Rattle.direct_mode.proofs.PlacesLemmas.{IsOfPlaces-wider}
 use Rattle.recalculate_laws.specs.Formats.{AwaitsWork}
 use Rattle.recalculate_laws.proofs.FormatsLemmas.{work_flag_law}
 use Rattle.recalculation.specs.declared.recalculating.Recalculation.{Recalculation}
-use Rattle.recalculation.specs.Recalculation.{IsOfTagsOrHead, next_of}
+use Rattle.recalculation.specs.Recalculation.{IsOfTagsOrHead, WritesRegion, next_of}
 use Rattle.recalculation.proofs.KeptLemmas.{next_is}
 use Rattle.tag_store.specs.Store.{HoldsTag}
 use Rattle.request_slots.specs.Flight.{is_in_flight, turn_of}
@@ -28,7 +28,7 @@ use Rattle.device_parts.specs.declared.condition.Condition.TheVariants as Condit
 use Rattle.device_parts.specs.declared.parts.Parts.{Parts}
 use Rattle.device_parts.specs.Answers.{actor_of}
 use Rattle.device_parts.specs.Device.{Standing}
-use Rattle.direct_device.specs.Answers.{IsWrittenNext, WritesAs, WritesClose, WritesRegion}
+use Rattle.direct_device.specs.Answers.{IsWrittenNext, WritesAs, WritesClose}
 use Rattle.direct_device.specs.Device.{kept as direct_kept}
 use Rattle.journal_device.specs.Device.{kept}
 use Rattle.bitmap_device.specs.Device.{kept as bitmap_kept}

@@ -27,7 +27,7 @@ use Rattle.journal_ring.specs.Batch.{WritesBatch}
 use Rattle.journal_ring.specs.Places.{entry_of}
 use Rattle.recalculate_laws.proofs.FormatsLemmas.{work_flag_law}
 use Rattle.recalculation.specs.declared.recalculating.Recalculation.{Recalculation}
-use Rattle.recalculation.specs.Recalculation.{IsOfTagsOrHead, next_of}
+use Rattle.recalculation.specs.Recalculation.{HasFieldsThrough, IsOfTagsOrHead, WritesRegion, next_of}
 use Rattle.recalculation.proofs.KeptLemmas.{next_is}
 use Rattle.tag_store.specs.Store.{HoldsTag, IsMarkedTags, IsOutForTag, Store}
 use Rattle.device_opening.specs.Moves.{WritesEntry}
@@ -43,8 +43,7 @@ use Rattle.device_parts.specs.declared.answers.Actor.TheVariants as Actors
 use Rattle.device_parts.specs.declared.condition.Condition.TheVariants as Conditions
 use Rattle.device_parts.specs.declared.parts.Parts.{Parts}
 use Rattle.device_parts.specs.Device.{Standing}
-use Rattle.direct_device.specs.Answers.{HasFieldsThrough}
-use Rattle.journal_device.specs.Answers.{WritesAs, WritesClose, WritesFor, WritesMove, WritesRead, WritesRegion, takes_first}
+use Rattle.journal_device.specs.Answers.{WritesAs, WritesClose, WritesFor, WritesMove, WritesRead, takes_first}
 use Rattle.journal_device.specs.Device.{IsJournaled, awaiting_in, kept, standing_of, standing_on as journal_standing}
 use Rattle.journal_device.proofs.DoneLemmas.{stands_now, works_now}
 use Rattle.journal_device.specs.Standing.{StandsAs}
@@ -290,7 +289,7 @@ module _ (w : Standing) (common : Parts) (journal : PlacedRing) (r : Recalculati
   ]
 
   -- so each image has the fields that it had.
-  pub serve_fields : (turn : Turn) {b : List Content} → WritesFor turn common journal r a b → HasFieldsThrough w r.position r.position a b
+  pub serve_fields : (turn : Turn) {b : List Content} → WritesFor turn common journal r a b → HasFieldsThrough w.on r.position r.position a b
   serve_fields turn writes = heads_stay w r.position (IsOfCall is.disk.geometry) not_first (heads_journal w (kept common journal r) a is) (serve_call turn writes)
 
   -- Where a region awaits the flag is set.

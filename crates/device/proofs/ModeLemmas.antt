@@ -60,7 +60,7 @@ in_direct_mode device = record { common = device.parts; mode = Direct device.rec
 abbrev pub in_journal_mode : JournalParts → DeviceParts
 in_journal_mode device = record {
   common = device.parts;
-  mode = Journal (record { journal = device.journal; recalculation = device.recalc });
+  mode = Journal (record { journal = device.journal; recalculation = device.recalculation });
 }
 
 -- one in bitmap mode,
@@ -112,7 +112,7 @@ plain_direct = record {
 -- and in the other modes nothing is asked of a disk.
 abbrev pub plain_journal : IsPlain in_journal Model.Journal in_journal_mode
 plain_journal = record {
-  Keeps = λ w c k a. NoMore w c k.recalc.position;
+  Keeps = λ w c k a. NoMore w c k.recalculation.position;
   Stays = λ w a b. Unit {0};
   common = λ k. refl;
   inside = λ w c k a is keeps. record { journaled = is; no_more = keeps };

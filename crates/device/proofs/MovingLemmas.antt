@@ -8,7 +8,7 @@ use Rattle.image_model.specs.Superblock.{Superblock}
 use Rattle.direct_laws.specs.CallLaws.{ReadsImage}
 use Rattle.direct_mode.specs.Places.{IsOfPlaces}
 use Rattle.recalculation.specs.declared.recalculating.Recalculation.{Recalculation}
-use Rattle.recalculation.specs.Recalculation.{IsOfTagsOrHead, next_of}
+use Rattle.recalculation.specs.Recalculation.{HasFieldsThrough, IsOfTagsOrHead, WritesRegion, next_of}
 use Rattle.tag_store.specs.Store.{HoldsTag}
 use Rattle.device_model.specs.Mode as Model
 use Rattle.device_parts.specs.declared.answers.Actor.{Actor}
@@ -19,7 +19,6 @@ use Rattle.device_parts.specs.declared.parts.Parts.{Parts}
 use Rattle.device_parts.specs.Device.{Standing, standing_after}
 use Rattle.direct_device.specs.declared.parts.DirectParts.{DirectParts}
 use Rattle.direct_device.specs.Answers as InDirect
-use Rattle.direct_device.specs.Answers.{HasFieldsThrough}
 use Rattle.direct_device.specs.Device.{IsDirect, in_direct}
 use Rattle.journal_device.specs.declared.parts.JournalParts.{JournalParts}
 use Rattle.journal_device.specs.Device.{IsJournaled, in_journal}
@@ -32,7 +31,7 @@ use Rattle.device.proofs.ModeLemmas.{KeepsFor, in_direct_mode, in_journal_mode, 
 -- ---- what direct mode writes
 
 -- In a step sectors of tags, and sector 0,
-region_adds : (o : Option ℕ) (g : Geometry) {a b : List Content} → InDirect.WritesRegion o g a b → EachSince (OnlyAdds (IsOfTagsOrHead g)) a b
+region_adds : (o : Option ℕ) (g : Geometry) {a b : List Content} → WritesRegion o g a b → EachSince (OnlyAdds (IsOfTagsOrHead g)) a b
 region_adds None g same = EachMoment-kept _ same
 region_adds (Some region) g writes = writes
 
@@ -60,7 +59,7 @@ not_first g sectors IsWritten x geometry of = let behind = place_behind g sector
 
 -- Where nothing is written but places each image has the fields that it had.
 pub places_fields : (IsWritten : ℕ → Type 0) (old : DirectParts) (a b : List Content) → EachSince (OnlyAdds (IsOfPlaces old.parts.tags.geometry IsWritten)) a b
-    → (w : Standing) → IsDirect w Working old a → HasFieldsThrough w old.recalculation.position old.recalculation.position a b
+    → (w : Standing) → IsDirect w Working old a → HasFieldsThrough w.on old.recalculation.position old.recalculation.position a b
 places_fields IsWritten old a b writes w is =
     let heads = heads_direct w old a is in
     let geometry = (heads is.over.told is.over.is_told).is_geometry in
@@ -78,7 +77,7 @@ pub head_outside : (g : Geometry) → IsOutside (IsOfTagsOrHead g) g
 head_outside g = record { each = λ sectors geometry sector x of. head_or_behind g sectors sector x geometry of }
 
 module _ (old : DirectParts) (a b : List Content) (reads : ReadsImage a) (new : Superblock) (moved : (g : Geometry) → AwaitsNoMore g old.recalculation.position new)
-    (heads : (w : Standing) → IsDirect w Working old a → HasFieldsThrough w old.recalculation.position new a b) where
+    (heads : (w : Standing) → IsDirect w Working old a → HasFieldsThrough w.on old.recalculation.position new a b) where
   -- No block more awaits at any moment,
   pub direct_tags : (w : Standing) → IsEmptied w Working old a → HasNoMoreIn w.on.geometry w.entry a b
   direct_tags w is = heads_no_more w old.recalculation.position new (is.no_more refl) (moved w.on.geometry) (heads w is.direct)
@@ -102,13 +101,13 @@ module _ (old : DirectParts) (a b : List Content) (reads : ReadsImage a) (new : 
 
 -- ---- journal mode
 
-module _ (old : JournalParts) (a b : List Content) (new : Superblock) (moved : (g : Geometry) → AwaitsNoMore g old.recalc.position new)
-    (heads : (w : Standing) → IsJournaled w Working old a → HasFieldsThrough w old.recalc.position new a b) where
+module _ (old : JournalParts) (a b : List Content) (new : Superblock) (moved : (g : Geometry) → AwaitsNoMore g old.recalculation.position new)
+    (heads : (w : Standing) → IsJournaled w Working old a → HasFieldsThrough w.on old.recalculation.position new a b) where
   pub journal_tags : (w : Standing) → IsInJournalMode w Working old a → HasNoMoreIn w.on.geometry w.entry a b
-  journal_tags w is = heads_no_more w old.recalc.position new (is.no_more refl) (moved w.on.geometry) (heads w is.journaled)
+  journal_tags w is = heads_no_more w old.recalculation.position new (is.no_more refl) (moved w.on.geometry) (heads w is.journaled)
 
   pub journal_keeps : (later : JournalParts) → ReadsImage b → KeepsFor in_journal Model.Journal in_journal_mode plain_journal old later a b
   journal_keeps later reads_then w event c is after = λ works.
       let now = subst (λ (x : Condition). IsJournaled (standing_after w event) x later b) works after in
-      no_more_behind w old.recalc.position later.recalc.position after.over.told after.over.is_told reads_then (is.no_more refl) (heads_journal w old a is.journaled) (journal_tags w is)
+      no_more_behind w old.recalculation.position later.recalculation.position after.over.told after.over.is_told reads_then (is.no_more refl) (heads_journal w old a is.journaled) (journal_tags w is)
       (heads_journal (standing_after w event) later b now)

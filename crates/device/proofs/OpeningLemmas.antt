@@ -1,19 +1,15 @@
 -- What an opening in one mode tells, as one of any.
-use Rattle.std.proofs.Common.{◌≡◌, inl, inr, ℕ, ◌/◌, ◌≤◌, Option, Some, Err, refl, sym, ◌∙◌, ap, subst, arith, List, IsSomeAnd}
+use Rattle.std.proofs.Common.{◌≡◌, ℕ, Option, Some, Err, refl, sym, ◌∙◌, ap, subst, List, IsSomeAnd}
 use Rattle.std.proofs.lemmas.Option.{same_Some}
 use Rattle.disk_model.specs.Disk.{Content, Image, IsImage, last_image}
 use Rattle.disk_model.specs.Identity.{DiskIdentity}
 use Rattle.disk_model.specs.Moments.{FromStart, HasNow, content_now}
-use Rattle.disk_model.proofs.DiskLemmas.{only_candidate}
 use Rattle.disk_model.proofs.MomentsLemmas.{EachMoment-weaker, content_at_end}
-use Rattle.image_model.specs.Cells.{replayed_entries}
-use Rattle.image_model.specs.Geometry.{Geometry, IsGeometry, data_at, initial, sector_at}
+use Rattle.image_model.specs.Geometry.{IsGeometry}
 use Rattle.image_model.specs.Openable.{IsOpenable}
-use Rattle.image_model.specs.Section.{Entry}
 use Rattle.image_model.specs.Superblock.{Superblock, fields_in}
 use Rattle.place_model.specs.Format.{DiskFormat, format_on}
 use Rattle.place_model.proofs.FormatLemmas.{format_on-read, reads_on, reads_tells}
-use Rattle.place_model.proofs.TagsLemmas.{tag_byte-behind}
 use Rattle.direct_laws.specs.CallLaws.{ReadsImage}
 use Rattle.recalculate_laws.specs.Formats.{under_fields}
 use Rattle.image_judging.specs.declared.opening_fault.OpeningFault.{OpeningFault}
@@ -27,7 +23,7 @@ use Rattle.device_parts.specs.Device.{HasOpened, opened_standing}
 use Rattle.device_opening.specs.DirectOpening.{LeavesEmpty}
 use Rattle.device_opening.specs.Emptied.{HasEmptyJournal}
 use Rattle.device_opening.specs.Opening.{IsOfOpening, Refuses, WritesOpening}
-use Rattle.device_opening.specs.Writes.{IsOfRecovery}
+use Rattle.device_opening.proofs.ApartLemmas.{same_head}
 use Rattle.device_opening.proofs.RefusedLemmas.{same_told}
 use Rattle.journal_device.specs.Device.{in_journal}
 use Rattle.bitmap_device.specs.declared.parts.BitmapParts.{BitmapParts}
@@ -55,46 +51,24 @@ refused T mode key disk a b fault is = record {
 
 -- ---- sector 0
 
--- The data of a block begin behind the journal, whatever block it is.
-data_behind : (g : Geometry) (b : ℕ) → initial g ≤ data_at g b
-unfolding data_at sector_at
-data_behind g b = omega arith
-
--- A recovery does not write sector 0,
-recovery_apart : (g : Geometry) (sectors : ℕ) (entries : List Entry) (x : List ℕ) → IsGeometry g sectors → IsOfRecovery g entries 0 x → ⊥
-recovery_apart g sectors entries x geometry (inl (inl entry)) =
-    let behind = data_behind g (entry.entry.sector / g.shape.spb) in
-    let begins = entry.in_place.begins in
-    omega (arith, behind, begins)
-recovery_apart g sectors entries x geometry (inl (inr tag)) =
-    let behind = tag_byte-behind g sectors tag.block tag.byte geometry tag.block_low in
-    let at = tag.is in
-    omega (arith, behind, at)
-recovery_apart g sectors entries x geometry (inr journal) = let begins = journal.in_place.begins in omega (arith, begins)
-
-module _ (mode : Model.Mode) (key : Option (List ℕ)) (sectors : ℕ) (a b : List Content) (start : Content) (told : content_now a ≡ Some start)
+module _ (key : Option (List ℕ)) (sectors : ℕ) (a b : List Content) (start : Content) (told : content_now a ≡ Some start)
     (geometry : IsGeometry (format_on key sectors (last_image start)).geometry sectors) (writes : WritesOpening key sectors a b) where
-  -- so reads give it as before.
+  -- An opening does not write sector 0 in journal and in direct mode, so reads give it as before.
   abbrev HasEntryHead : Content → Type 0
   HasEntryHead c = IsImage c (last_image c) → last_image c 0 ≡ last_image start 0
 
   entry_moment : (c : Content) → FromStart a (λ first. IsOfOpening (format_on key sectors (last_image first)).geometry first) c → HasEntryHead c
   entry_moment c from is =
       let only = subst (λ (o : Option Content). IsSomeAnd o (λ first. IsOfOpening (format_on key sectors (last_image first)).geometry first c)) told from in
-      let g = (format_on key sectors (last_image start)).geometry in
-      elim (only.among 0 (last_image c 0) (is 0)) [
-        | inl was ↦ only_candidate (last_image start 0) (last_image c 0) was
-        | inr written ↦ absurd (recovery_apart g sectors (replayed_entries g (last_image start)) (last_image c 0) geometry written)
-      ]
+      same_head (format_on key sectors (last_image start)).geometry sectors start c geometry only is
 
   entry_head : HasNow HasEntryHead b
   entry_head = content_at_end (EachMoment-weaker entry_moment writes) (λ c told_c is. ap (λ (x : Content). last_image x 0) (same_Some c start (sym told_c ∙ told)))
 
   -- The fields of the device that is open then are those of the image that was opened.
-  pub opened_no_more : (s : Superblock) (end : Content) → content_now b ≡ Some end → ReadsImage b → HasNow (HasHeads (under_fields (opened_standing mode key sectors (last_image start)).on s)) b
-      → AwaitsNoMore (opened_standing mode key sectors (last_image start)).on.geometry (fields_of (last_image start)) s
-  opened_no_more s end told_end reads heads =
-      let on = (opened_standing mode key sectors (last_image start)).on in
+  pub opened_no_more : (on : DiskFormat) (s : Superblock) (end : Content) → content_now b ≡ Some end → ReadsImage b → HasNow (HasHeads (under_fields on s)) b
+      → AwaitsNoMore on.geometry (fields_of (last_image start)) s
+  opened_no_more on s end told_end reads heads =
       let image = last_image end in
       let is = reads end told_end in
       let fields : fields_of (last_image end) ≡ s = fields_read (under_fields on s) image (heads_read (under_fields on s) end (heads end told_end) image is) in
@@ -111,13 +85,15 @@ module _ (key : Option (List ℕ)) (disk : DiskIdentity) (a b : List Content) wh
   pub opened_journal : (opened : JournalParts) → ReadsImage b → HasOpened in_journal Model.Journal key disk opened a b → WritesOpening key disk.sectors a b
       → HasOpened any_mode Model.Journal key disk (in_journal_mode opened) a b
   opened_journal opened reads has writes = record {
-    device = λ start told.
-        let is = has.device start told in
+    device = λ start told made told_made.
+        let w = opened_standing Model.Journal key disk.sectors (last_image start) (last_image made) in
+        let is = has.device start told made told_made in
         record {
           journaled = is;
-          no_more = λ works. opened_no_more Model.Journal key disk.sectors a b start told (can_geometry (last_image start) (has.can start told).0) writes opened.recalc.position is.over.told is.over.is_told reads
-              (heads_journal (opened_standing Model.Journal key disk.sectors (last_image start)) opened b is);
+          no_more = λ works. opened_no_more key disk.sectors a b start told (can_geometry (last_image start) (has.can start told).0) writes w.on opened.recalculation.position is.over.told is.over.is_told reads
+              (heads_journal w opened b is);
         };
+    blocks = has.blocks;
     ready = has.ready;
     asked_ = refl;
     requests = has.requests;
@@ -128,6 +104,7 @@ module _ (key : Option (List ℕ)) (disk : DiskIdentity) (a b : List Content) wh
       → HasOpened any_mode Model.Bitmap key disk (record { common = opened.parts; mode = Modes.Bitmap opened.regions }) a b
   opened_bitmap opened has = record {
     device = has.device;
+    blocks = has.blocks;
     ready = has.ready;
     asked_ = refl;
     requests = has.requests;
@@ -138,6 +115,7 @@ module _ (key : Option (List ℕ)) (disk : DiskIdentity) (a b : List Content) wh
       → HasOpened any_mode Model.Recovery key disk (record { common = common; mode = Modes.Recovery }) a b
   opened_recovery common has = record {
     device = has.device;
+    blocks = has.blocks;
     ready = has.ready;
     asked_ = refl;
     requests = has.requests;
@@ -147,17 +125,19 @@ module _ (key : Option (List ℕ)) (disk : DiskIdentity) (a b : List Content) wh
   pub opened_direct : (opened : DirectParts) → ReadsImage b → HasOpened in_direct Model.Direct key disk opened a b → LeavesEmpty key disk.sectors a b → WritesOpening key disk.sectors a b
       → HasOpened any_mode Model.Direct key disk (in_direct_mode opened) a b
   opened_direct opened reads has empty writes = record {
-    device = λ start told.
-        let is = has.device start told in
+    device = λ start told made told_made.
+        let w = opened_standing Model.Direct key disk.sectors (last_image start) (last_image made) in
+        let is = has.device start told made told_made in
         let f = format_on key disk.sectors (last_image start) in
         record {
           direct = is;
           emptied = λ c told_c image is_image.
               let emptied = empty.emptied start told c told_c image is_image in
               subst (λ (x : DiskFormat). HasEmptyJournal x image) (sym (format_on-read f image emptied.reads)) emptied;
-          no_more = λ works. opened_no_more Model.Direct key disk.sectors a b start told (can_geometry (last_image start) (has.can start told).0) writes opened.recalculation.position is.over.told is.over.is_told reads
-              (heads_direct (opened_standing Model.Direct key disk.sectors (last_image start)) opened b is);
+          no_more = λ works. opened_no_more key disk.sectors a b start told (can_geometry (last_image start) (has.can start told).0) writes w.on opened.recalculation.position is.over.told is.over.is_told reads
+              (heads_direct w opened b is);
         };
+    blocks = has.blocks;
     ready = has.ready;
     asked_ = refl;
     requests = has.requests;

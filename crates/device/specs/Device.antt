@@ -76,7 +76,7 @@ pub record IsEmptied (w : Standing) (condition : Condition) (device : DirectPart
 pub record IsInJournalMode (w : Standing) (condition : Condition) (device : JournalParts) (moments : List Content)
     : Type 0 where
   pub journaled : IsJournaled w condition device moments
-  pub no_more : condition ≡ Working → AwaitsNoMore w.on.geometry (fields_of w.entry) device.recalc.position
+  pub no_more : condition ≡ Working → AwaitsNoMore w.on.geometry (fields_of w.entry) device.recalculation.position
 
 -- It is one of these, or one in another mode.
 abbrev pub IsDeviceIn : Mode → Standing → Condition → Parts → List Content → Type 0

@@ -9,8 +9,9 @@ use Rattle.image_judging.specs.declared.opening_fault.OpeningFault.{OpeningFault
 use Rattle.image_judging.specs.declared.opening_fault.OpeningFault.TheVariants as Faults
 use Rattle.image_judging.specs.Faults.{ImageFault, bitmap_fault_of, fault_in, fault_of}
 use Rattle.device_parts.specs.Device.{HasOpened}
+use Rattle.device_opening.specs.Changing.{WritesBitmap}
 use Rattle.device_opening.specs.DirectOpening.{WritesEmptying}
-use Rattle.device_opening.specs.Opening.{KeepsRefused, LeavesOpenable, OnlySyncs, WritesOpening}
+use Rattle.device_opening.specs.Opening.{KeepsRefused, LeavesOpenable, WritesOpening}
 use Rattle.device_opening.specs.RecoveryOpening.{format_fault_of}
 use Rattle.device.specs.declared.mode.DeviceParts.{DeviceParts}
 use Rattle.device.specs.Device.{any_mode}
@@ -57,12 +58,12 @@ pub record IsRefused (mode : OpenMode) (key : Option (List ℕ)) (disk : DiskIde
   pub untouched : fault ≢ Faults.Disk → after ≡ before
 
 -- What an opening may write: what a recovery does. In direct mode the empty sections are those of the emptying, too,
--- and where the journal was empty nothing of it is written. In bitmap mode nothing is; in recovery mode the disk is not
--- synced either.
+-- and where the journal was empty nothing of it is written. In bitmap mode nothing is of an image with a bitmap, and a
+-- journal becomes one; in recovery mode the disk is not synced either.
 abbrev pub WritesInOpening : OpenMode → (key : Option (List ℕ)) → (sectors : ℕ) → (before after : List Content) → Type 0
 WritesInOpening (Direct consent) key sectors before after = WritesEmptying key sectors before after
 WritesInOpening (Journal consent) key sectors before after = WritesOpening key sectors before after
-WritesInOpening (Bitmap consent) key sectors before after = OnlySyncs before after
+WritesInOpening (Bitmap consent) key sectors before after = WritesBitmap key sectors before after
 WritesInOpening Recovery key sectors before after = after ≡ before
 
 -- The disk is the one that it was. Where the image could be opened it still can at each moment, and nothing of it is

@@ -15,8 +15,8 @@ use sector_disk::{Disk, Failed};
 
 /// Flushes all that was written; in journal mode all is committed, placed and settled, and in bitmap mode the bit of
 /// each region is cleared that does not await. Where tags are to be recalculated without a bitmap the position then
-/// moves to the regions that await still, and without one the flag is cleared. In recovery mode, and where it is broken,
-/// a device makes no call of its disk.
+/// moves to the regions that await still, and without one the flag is cleared. In recovery mode, and where it is
+/// broken, a device makes no call of its disk.
 ///
 /// # Errors
 ///

@@ -9,8 +9,9 @@ ghost use Rattle.device_parts.specs.Answers.{HasStepCause, TurnsBroken, actor_of
 ghost use Rattle.device_parts.specs.declared.answers.Served.TheVariants.{Did, NoRoom};
 ghost use Rattle.device_model.specs.Progress.{Close, FailedServe, Step};
 ghost use Rattle.device.specs.Answers.{GoesOn, HasNoWork, KeepsClearTags};
-ghost use Rattle.device.specs.Calls.{Closes, GivesSerial, HasFewerTurns, Keeps, LeavesAtRest, Serves, StaysReady, Steps};
-ghost use Rattle.device.specs.Calls.{Submits, Takes, WritesClosing, WritesServing, WritesStepping, refusal_to, with_submitted};
+ghost use Rattle.device.specs.Calls.{Closes, GivesSerial, HasFewerTurns, Keeps, LeavesAtRest, Serves, StaysReady};
+ghost use Rattle.device.specs.Calls.{Steps, Submits, Takes, WritesClosing, WritesServing, WritesStepping, refusal_to};
+ghost use Rattle.device.specs.Calls.{with_submitted};
 ghost use Rattle.device.specs.Device.{IsReady, mode_of, with_slots};
 ghost use Rattle.device.specs.Opening.{HasNoFault, HasOpenedIn, HasRefusalCause, IsRefused, IsSettledIn, LeavesOpening};
 
@@ -36,8 +37,9 @@ impl<'d, 'p, D: Disk> Device<'d, 'p, D> {
     /// recovery mode the disk is synced. In direct and journal mode all that its journal holds comes to its place, and
     /// each region awaits that has a block which is to be recalculated. In direct mode the journal is then emptied,
     /// unless every entry of it is unused and it has one commit number: no image of the disk has an entry that counts
-    /// then. In bitmap mode each region awaits whose bit is set, and nothing is written. In recovery mode the disk is
-    /// called for one read.
+    /// then. In bitmap mode each region awaits whose bit is set, and nothing is written; where there is a journal it is
+    /// recovered and emptied, each region that awaits is recalculated, and it becomes a bitmap of which no bit is set.
+    /// In recovery mode the disk is called for one read.
     ///
     /// # Errors
     ///
@@ -47,10 +49,11 @@ impl<'d, 'p, D: Disk> Device<'d, 'p, D> {
     /// - `Disk`: the disk failed.
     /// - `Super`: the superblock is refused. A disk without a sector has no magic. Nothing was done.
     /// - `Geom`: the disk has no room for what the superblock tells. Nothing was done.
-    /// - `Mode`: there is a bitmap; in bitmap mode, there is none; in recovery mode, it never comes. Nothing was done.
-    /// - `Consent`: a block is to be recalculated, in bitmap mode a bit is set, there is a key, and consent is withheld.
+    /// - `Mode`: there is a bitmap, in journal or direct mode. Nothing was done.
+    /// - `Consent`: a block is to be recalculated or a bit is set, there is a key, and consent is withheld. Nothing was
+    ///   done.
+    /// - `Journal`: the journal is refused, which recovery mode does not read, nor bitmap mode where there is a bitmap.
     ///   Nothing was done.
-    /// - `Journal`: the journal is refused, which recovery mode does not read. Nothing was done.
     pub fn open(
         alloc: Global,
         disk: &'d mut D,
@@ -205,10 +208,10 @@ impl<'d, 'p, D: Disk> Device<'d, 'p, D> {
     }
 
     /// Lets an actor do its next step. In journal mode a commit writes the opened sections, a place writes an entry to
-    /// its place, and a settle frees sections; in bitmap mode a clean clears the bit of the least region that needs none
-    /// and has no block of a request in flight. In each of these and in direct mode a recalculation takes the least
-    /// region that awaits; without a bitmap it then moves the position, or clears the flag. Else there is nothing to do.
-    /// A broken device makes no call of its disk.
+    /// its place, and a settle frees sections; in bitmap mode a clean clears the bit of the least region that needs
+    /// none and has no block of a request in flight. In each of these and in direct mode a recalculation takes the
+    /// least region that awaits; without a bitmap it then moves the position, or clears the flag. Else there is nothing
+    /// to do. A broken device makes no call of its disk.
     ///
     /// # Errors
     ///
@@ -243,8 +246,8 @@ impl<'d, 'p, D: Disk> Device<'d, 'p, D> {
     }
 
     /// Flushes all that was written, and gives the disk back; in journal mode all is committed, placed and settled, and
-    /// in bitmap mode the bit of each region is cleared that does not await. Where tags are to be recalculated without a
-    /// bitmap the position then moves to the regions that await still, and without one the flag is cleared. Requests
+    /// in bitmap mode the bit of each region is cleared that does not await. Where tags are to be recalculated without
+    /// a bitmap the position then moves to the regions that await still, and without one the flag is cleared. Requests
     /// that are unfinished are dropped. In recovery mode, and where it is broken, a device makes no call of its disk.
     ///
     /// # Errors

@@ -21,7 +21,8 @@ pub enum OpenMode {
     Direct(Consent),
     /// Writes go to the journal first.
     Journal(Consent),
-    /// Writes set the bit of their region first, and go to their places then.
+    /// Writes set the bit of their region first, and go to their places then. Where the image has a journal the opening
+    /// makes a bitmap of it.
     Bitmap(Consent),
     /// There are no writes, and reads give what stands in the places of their blocks, whatever their tags are.
     Recovery,
@@ -30,7 +31,9 @@ pub enum OpenMode {
 /// Opens a device on a disk. All memory that it ever takes is taken before the first write, and the region gets the
 /// journal's sectors. In each mode but recovery mode the disk is synced. In direct and journal mode its image is
 /// recovered, so that all that the journal holds comes to its place; in direct mode the journal is then emptied, unless
-/// every entry of it is unused and it has one commit number. In bitmap and recovery mode nothing is written.
+/// every entry of it is unused and it has one commit number. In bitmap mode nothing is written where there is a bitmap;
+/// a journal is recovered and emptied, each region that awaits is recalculated, and then it becomes a bitmap of which
+/// no bit is set. In recovery mode nothing is written.
 ///
 /// # Errors
 ///
@@ -40,10 +43,11 @@ pub enum OpenMode {
 /// - `Disk`: the disk failed.
 /// - `Super`: the superblock is refused. A disk without a sector has no magic. Nothing was done.
 /// - `Geom`: the disk has no room for what the superblock tells. Nothing was done.
-/// - `Mode`: there is a bitmap; in bitmap mode, there is none; in recovery mode, it never comes. Nothing was done.
+/// - `Mode`: there is a bitmap, in journal or direct mode. Nothing was done.
 /// - `Consent`: a block is to be recalculated, in bitmap mode a bit is set, there is a key, and consent is withheld.
 ///   Nothing was done.
-/// - `Journal`: the journal is refused, which recovery mode does not read. Nothing was done.
+/// - `Journal`: the journal is refused, which recovery mode does not read, nor bitmap mode where there is a bitmap.
+///   Nothing was done.
 pub(crate) fn open<'p, D: Disk>(
     alloc: Global,
     disk: &mut D,
@@ -67,7 +71,7 @@ pub(crate) fn open<'p, D: Disk>(
     match mode {
         OpenMode::Direct(consent) => open_in_direct(alloc, disk, pool, hash, consent),
         OpenMode::Journal(consent) => open_in_journal(alloc, disk, pool, hash, consent),
-        OpenMode::Bitmap(consent) => open_in_bitmap(alloc, disk, hash, consent),
+        OpenMode::Bitmap(consent) => open_in_bitmap(alloc, disk, pool, hash, consent),
         OpenMode::Recovery => open_in_recovery(alloc, disk, hash),
     }
 }
@@ -86,13 +90,13 @@ fn open_in_direct<'p, D: Disk>(
 ) -> Result<DeviceParts<'p>, OpeningFault>
     requires { IsBound (D.identity disk.old).name }
 
-    ensures opened { IfOk result (λ parts. HasOpenedIn (OpenMode.Direct consent) (key_of hash) (D.identity disk.old) parts
-        (D.moments disk.old) (D.moments disk.new)) }
+    ensures opened { IfOk result (λ parts. HasOpenedIn (OpenMode.Direct consent) (key_of hash)
+        (D.identity disk.old) parts (D.moments disk.old) (D.moments disk.new)) }
     ensures settled { IfOk result (λ parts. IsSettledIn (OpenMode.Direct consent) (D.moments disk.new)) }
-    ensures accepted { IfOk result (λ parts. HasNoFault (OpenMode.Direct consent) (key_of hash) (D.identity disk.old).sectors
-        (D.moments disk.old)) }
-    ensures refused { IfErr result (λ fault. IsRefused (OpenMode.Direct consent) (key_of hash) (D.identity disk.old) fault
-        (D.moments disk.old) (D.moments disk.new)) }
+    ensures accepted { IfOk result (λ parts. HasNoFault (OpenMode.Direct consent) (key_of hash)
+        (D.identity disk.old).sectors (D.moments disk.old)) }
+    ensures refused { IfErr result (λ fault. IsRefused (OpenMode.Direct consent) (key_of hash)
+        (D.identity disk.old) fault (D.moments disk.old) (D.moments disk.new)) }
     ensures cause { HasOpenCause (D.faults disk.old) (D.faults disk.new) result }
     ensures leaves { LeavesOpening (OpenMode.Direct consent) (key_of hash) (D.identity disk.old) (D.identity disk.new)
         (D.moments disk.old) (D.moments disk.new) }
@@ -118,12 +122,12 @@ fn open_in_journal<'p, D: Disk>(
 ) -> Result<DeviceParts<'p>, OpeningFault>
     requires { IsBound (D.identity disk.old).name }
 
-    ensures opened { IfOk result (λ parts. HasOpenedIn (OpenMode.Journal consent) (key_of hash) (D.identity disk.old) parts
-        (D.moments disk.old) (D.moments disk.new)) }
-    ensures accepted { IfOk result (λ parts. HasNoFault (OpenMode.Journal consent) (key_of hash) (D.identity disk.old).sectors
-        (D.moments disk.old)) }
-    ensures refused { IfErr result (λ fault. IsRefused (OpenMode.Journal consent) (key_of hash) (D.identity disk.old) fault
-        (D.moments disk.old) (D.moments disk.new)) }
+    ensures opened { IfOk result (λ parts. HasOpenedIn (OpenMode.Journal consent) (key_of hash)
+        (D.identity disk.old) parts (D.moments disk.old) (D.moments disk.new)) }
+    ensures accepted { IfOk result (λ parts. HasNoFault (OpenMode.Journal consent) (key_of hash)
+        (D.identity disk.old).sectors (D.moments disk.old)) }
+    ensures refused { IfErr result (λ fault. IsRefused (OpenMode.Journal consent) (key_of hash)
+        (D.identity disk.old) fault (D.moments disk.old) (D.moments disk.new)) }
     ensures cause { HasOpenCause (D.faults disk.old) (D.faults disk.new) result }
     ensures leaves { LeavesOpening (OpenMode.Journal consent) (key_of hash) (D.identity disk.old) (D.identity disk.new)
         (D.moments disk.old) (D.moments disk.new) }
@@ -133,7 +137,7 @@ fn open_in_journal<'p, D: Disk>(
         common: opened.parts,
         mode: Mode::Journal(JournalState {
             journal: opened.journal,
-            recalculation: opened.recalc,
+            recalculation: opened.recalculation,
         }),
     })
 }
@@ -146,6 +150,7 @@ fn open_in_journal<'p, D: Disk>(
 fn open_in_bitmap<'p, D: Disk>(
     alloc: Global,
     disk: &mut D,
+    pool: &mut Region,
     hash: Hash,
     consent: Consent,
 ) -> Result<DeviceParts<'p>, OpeningFault>
@@ -161,7 +166,7 @@ fn open_in_bitmap<'p, D: Disk>(
     ensures leaves { LeavesOpening (OpenMode.Bitmap consent) (key_of hash) (D.identity disk.old) (D.identity disk.new)
         (D.moments disk.old) (D.moments disk.new) }
 {
-    let opened = open_bitmap(alloc, disk, hash, consent)?;
+    let opened = open_bitmap(alloc, disk, hash, consent, pool)?;
     Ok(DeviceParts {
         common: opened.parts,
         mode: Mode::Bitmap(opened.regions),

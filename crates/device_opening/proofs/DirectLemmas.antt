@@ -154,7 +154,7 @@ module _ (key : Option (List ℕ)) (disk : DiskIdentity) (image : JudgedImage) (
   pub has_opened : {b : List Content} (device : DirectParts) → HasOpenOn (judged_format disk.sectors image) device a b → IsUnasked device.parts device.recalculation disk b
       → HasOpened in_direct Direct key disk device a b
   has_opened device opened is = record {
-    device = λ start told.
+    device = λ start told made told_made.
         let on = own_open device opened start told in
         let f = format_on key disk.sectors (last_image start) in
         record {
@@ -163,6 +163,7 @@ module _ (key : Option (List ℕ)) (disk : DiskIdentity) (image : JudgedImage) (
           over = on.device;
         };
     ready = record { parts_ = is.ready; geometry = is.regions_ };
+    blocks = λ start told made told_made. refl;
     asked_ = refl;
     requests = is.requests;
     can = can_read;

@@ -52,7 +52,7 @@ use Rattle.device_opening.proofs.OpenedRegions.{journal_regions}
 module _ (f : DiskFormat) (image : Image) (at : Recovered) (device : JournalParts) (after : List Content) (c : Content) (told : content_now after ≡ Some c)
     (clear : has_flag DIRTY_BITMAP f.superblock.flags ≡ false) (geometry : f.geometry ≡ device.parts.tags.geometry) (next : at.next ≡ next_on Journal f image)
     (left : LeavesRecovered (opened_disk f image) at (given_tags device.parts.tags c) c) (journal : device.journal ≡ empty_journal f.geometry at.next at.number)
-    (maker : device.parts.maker ≡ rule_on f) (begins : IsRecalculationFor f.superblock f.geometry device.recalc) where
+    (maker : device.parts.maker ≡ rule_on f) (begins : IsRecalculationFor f.superblock f.geometry device.recalculation) where
   is_recovered : IsRecovered (opened_disk f image) (next_on Journal f image) at.number (given_tags device.parts.tags c) c
   is_recovered = subst (λ (n : ℕ). IsRecovered (opened_disk f image) n at.number (given_tags device.parts.tags c) c) next left.recovered
 
@@ -68,14 +68,14 @@ module _ (f : DiskFormat) (image : Image) (at : Recovered) (device : JournalPart
       subst (λ (x : DiskFormat). KeepsAwaiting is.now (awaiting_on Journal x image) (given_tags device.parts.tags c) c) is.same_format
       (opened_awaits is.now image (given_tags device.parts.tags c) c (subst (λ (x : DiskFormat). has_flag DIRTY_BITMAP x.superblock.flags ≡ false) (sym is.same_format) clear) is.keeps)
 
-  works : IsWorking (opened_standing f image is_recovered.now) (awaiting_on Journal f image) device.journal device.recalc device.parts.tags after
+  works : IsWorking (opened_standing f image is_recovered.now) (awaiting_on Journal f image) device.journal device.recalculation device.parts.tags after
   works =
       let same = sym is_recovered.same_format in
       record {
         stands = stands;
         keeps = λ x at_x. subst (λ (y : Content). KeepsAwaiting is_recovered.now (awaiting_on Journal f image) (given_tags device.parts.tags y) y) (same_Some c x (sym told ∙ at_x)) keeps;
         work = subst (λ (x : DiskFormat). AwaitsWork x (awaiting_on Journal f image)) same (work_opened_law f image clear).0;
-        recalc_ = subst (λ (x : DiskFormat). IsRecalculationOf x.superblock x.geometry (awaiting_on Journal f image) device.recalc) same (journal_regions f image clear device.recalc begins);
+        recalc_ = subst (λ (x : DiskFormat). IsRecalculationOf x.superblock x.geometry (awaiting_on Journal f image) device.recalculation) same (journal_regions f image clear device.recalculation begins);
         written = subst (λ (x : DiskFormat). CanBeWritten x.superblock) same begins.written;
       }
 
@@ -88,12 +88,12 @@ module _ (f : DiskFormat) (image : Image) (at : Recovered) (device : JournalPart
     rule = maker;
   }
 
-module _ (key : Option (List ℕ)) (disk : DiskIdentity) (device : JournalParts) (a b : List Content) (can : CanOpenRead Journal key disk.sectors a) (is : IsUnasked device.parts device.recalc disk b) where
+module _ (key : Option (List ℕ)) (disk : DiskIdentity) (device : JournalParts) (a b : List Content) (can : CanOpenRead Journal key disk.sectors a) (is : IsUnasked device.parts device.recalculation disk b) where
   -- It is the device of the image,
   over_disk : {P : Content → Type 0} → EachMoment a b P → (start : Content) → content_now a ≡ Some start
-      → (on : IsOpenOn (format_on key disk.sectors (last_image start)) (last_image start) device b)
-      → IsOverDisk (standing_on (standing_opened Journal key disk.sectors (last_image start)) on.disk) Working device.parts device.journal device.recalc b
-  over_disk moments start told on =
+      → (on : IsOpenOn (format_on key disk.sectors (last_image start)) (last_image start) device b) (made : Content)
+      → IsOverDisk (standing_on (standing_opened Journal key disk.sectors (last_image start) (last_image made)) on.disk) Working device.parts device.journal device.recalculation b
+  over_disk moments start told on made =
       let image = last_image start in
       let f = format_on key disk.sectors image in
       let clear : has_flag DIRTY_BITMAP f.superblock.flags ≡ false = (can start told).1 in
@@ -127,15 +127,16 @@ module _ (key : Option (List ℕ)) (disk : DiskIdentity) (device : JournalParts)
   opened_by : {P : Content → Type 0} → EachMoment a b P → HasEmptyRing device
       → HasNow (λ start. IsOpenOn (format_on key disk.sectors (last_image start)) (last_image start) device b) a → HasOpened in_journal Journal key disk device a b
   opened_by moments empty opened = record {
-    device = λ start told.
+    device = λ start told made told_made.
         let on = opened start told in
         let f = format_on key disk.sectors (last_image start) in
         record {
           disk = on.disk;
           format = subst (IsFormatOf f) (sym on.format) (own_format_law f (can start told).1);
-          over = over_disk moments start told on;
+          over = over_disk moments start told on made;
         };
     ready = record { parts_ = λ _. is.ready; geometry = ap (λ (j : PlacedRing). j.ring.geometry) empty; regions_ = is.regions_ };
+    blocks = λ start told made told_made. refl;
     asked_ = refl;
     requests = is.requests;
     can = can;
@@ -176,7 +177,7 @@ module _ (key : Option (List ℕ)) (disk : DiskIdentity) (image : JudgedImage) (
   can_read c told = can_open (own_format key disk image a judged same) (last_image c) judged.format.no_bitmap (opens_now key disk image a judged same c told)
 
   -- What was judged is open,
-  pub has_opened : {b : List Content} {P : Content → Type 0} (device : JournalParts) → EachMoment a b P → HasOpenOn (judged_format disk.sectors image) device a b → IsUnasked device.parts device.recalc disk b
+  pub has_opened : {b : List Content} {P : Content → Type 0} (device : JournalParts) → EachMoment a b P → HasOpenOn (judged_format disk.sectors image) device a b → IsUnasked device.parts device.recalculation disk b
       → HasEmptyRing device → HasOpened in_journal Journal key disk device a b
   has_opened {b} device moments opened is empty =
       opened_by key disk device a b can_read is moments empty

@@ -4,8 +4,13 @@ pub mod JudgedLemmas
 pub mod RecoveringLemmas
 pub mod OpenedRegions
 pub mod SettledLemmas
+pub mod EmptiedJournalLemmas
 pub mod EmptiedLemmas
 pub mod EmptyingLemmas
+pub mod ApartLemmas
+pub mod MadeLemmas
+pub mod MadeDeviceLemmas
+pub mod OpenedMadeLemmas
 pub mod JournalLemmas
 pub mod DirectLemmas
 pub mod BitmapLemmas

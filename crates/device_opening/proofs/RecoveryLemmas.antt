@@ -61,7 +61,7 @@ module _ (disk : DiskIdentity) (key : Option (List ℕ)) (format : ImageFormat) 
   opened a b same reads =
       let own = slots_on parts.tags.geometry geometry_is in
       record {
-        device = λ start now.
+        device = λ start now made now_made.
             let d = format_on key disk.sectors (last_image start) in
             let places : d.geometry ≡ format.geometry = ap (λ (x : DiskFormat). x.geometry) (reads start now).own in
             let slots = slots_on d.geometry places in
@@ -81,6 +81,7 @@ module _ (disk : DiskIdentity) (key : Option (List ℕ)) (format : ImageFormat) 
               is_told = ap content_now same ∙ now;
               entry_ = refl;
             };
+        blocks = λ start now made now_made. refl;
         ready = record {
           kept = record {
             store = subst (λ (s : Store). IsStore s disk b) (sym made.tags) (fresh_law format.geometry disk b held bound is.geometry).0;

@@ -17,7 +17,7 @@ use Rattle.journal_device.specs.Device.{IsWorking}
 pub record IsOpenOn (f : DiskFormat) (image : Image) (device : JournalParts) (moments : List Content) : Type 0 where
   pub disk : JournaledDisk
   pub format : disk.format ≡ f
-  pub works : IsWorking (opened_standing f image disk) (awaiting_on Journal f image) device.journal device.recalc
+  pub works : IsWorking (opened_standing f image disk) (awaiting_on Journal f image) device.journal device.recalculation
       device.parts.tags moments
   pub geometry : f.geometry ≡ device.parts.tags.geometry
   pub rule : device.parts.maker ≡ rule_on f

@@ -1,14 +1,26 @@
 -- What is known of an image that was judged, before anything is done to it.
-use Rattle.std.specs.Prelude.{◌≡◌, ℕ, Option, List}
+use Rattle.std.specs.Prelude.{◌≡◌, ℕ, Ok, Option, List}
 use Rattle.disk_model.specs.Disk.{Content, last_image}
 use Rattle.disk_model.specs.Moments.{HasNow}
 use Rattle.image_model.specs.Cells.{salt_of}
 use Rattle.place_model.specs.Format.{DiskFormat, OpensAs}
 use Rattle.hmac_tag.specs.TagMaker.{TagRule}
 use Rattle.image_format.specs.declared.reading.ImageFormat.{ImageFormat}
-use Rattle.image_format.specs.Format.{IsDirectFormat, IsReadNow, disk_format}
+use Rattle.image_format.specs.Format.{IsBitmapFormat, IsDirectFormat, IsReadNow, direct_format_of, disk_format, format_of}
 use Rattle.journal_reading.specs.Journal.{FitsJournal, IsJournalOn}
 use Rattle.device_opening.specs.declared.judging.JudgedImage.{JudgedImage}
+
+-- The image that reads give, on a disk of so many sectors, has this format, with a journal,
+pub record HasJournalFormat (sectors : ℕ) (format : ImageFormat) (moments : List Content) : Type 0 where
+  pub format_ : IsDirectFormat sectors format
+  pub reads : (key : Option (List ℕ)) → HasNow (IsReadNow key sectors format) moments
+  pub told : HasNow (λ c. Ok format ≡ direct_format_of sectors (last_image c)) moments
+
+-- or with a bitmap.
+pub record HasBitmapFormat (sectors : ℕ) (format : ImageFormat) (moments : List Content) : Type 0 where
+  pub format_ : IsBitmapFormat sectors format
+  pub reads : (key : Option (List ℕ)) → HasNow (IsReadNow key sectors format) moments
+  pub told : HasNow (λ c. Ok format ≡ format_of sectors (last_image c)) moments
 
 -- The rule of the tags by what was read of an image, under a key.
 abbrev pub rule_of : Option (List ℕ) → ImageFormat → TagRule

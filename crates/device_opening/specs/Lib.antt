@@ -8,4 +8,5 @@ pub mod Opening
 pub mod JournalOpening
 pub mod DirectOpening
 pub mod BitmapOpening
+pub mod Changing
 pub mod RecoveryOpening

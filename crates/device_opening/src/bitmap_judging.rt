@@ -5,13 +5,14 @@ ghost use Rattle.hmac_tag.specs.TagMaker.{key_of};
 ghost use Rattle.image_format.specs.Format.{IsBitmapFormat};
 ghost use Rattle.image_judging.specs.Faults.{HasOpenCause, bitmap_fault_of};
 ghost use Rattle.device_opening.specs.BitmapOpening.{AreRegionsOf, HasJudgedBitmap};
+ghost use Rattle.device_opening.specs.Judged.{HasBitmapFormat};
 ghost use Rattle.device_opening.specs.Opening.{TellsFault};
 
 use crate::judging::maker_of;
 use bitmap_mode::RegionStates;
 use dirty_bitmap::BitsFault;
 use hmac_tag::{Hash, TagMaker};
-use image_format::{ImageFormat, read_bitmap_format};
+use image_format::ImageFormat;
 use image_judging::{Consent, OpeningFault, lacks_consent};
 use layout::Geometry;
 use sector_disk::Disk;
@@ -37,24 +38,25 @@ impl JudgedBitmap {
     }
 }
 
-/// Judges the image of a disk: its first sector, and then its bitmap, which asks for consent where a bit is set and
-/// there is a key. Nothing is done but two reads, and the memory that is taken is for the regions.
+/// Judges the image of a disk, whose first sector tells this format, which has a bitmap: that asks for consent where a
+/// bit is set and there is a key. Nothing is done but a read, and the memory that is taken is for the regions.
 ///
 /// # Errors
 ///
-/// `Memory` and `Disk` come whenever they hold, and of the others the first that holds:
+/// `Memory` and `Disk` come whenever they hold:
 ///
 /// - `Memory`: there is none for the regions.
-/// - `Disk`: the disk failed at a read.
-/// - `Super`, `Geom`, `Mode`: as `read_bitmap_format` tells them.
+/// - `Disk`: the disk failed at the read.
 /// - `Consent`: a bit is set, there is a key, and consent is withheld.
 pub(crate) fn judge_bitmap<D: Disk>(
     alloc: Global,
     disk: &mut D,
+    format: ImageFormat,
     hash: Hash,
     consent: Consent,
 ) -> Result<JudgedBitmap, OpeningFault>
-    requires { IsBound (D.identity disk.old).name }
+    requires bound { IsBound (D.identity disk.old).name }
+    requires found { HasBitmapFormat (D.identity disk.old).sectors format (D.moments disk.old) }
 
     ensures judged { IfOk result (λ image. HasJudgedBitmap (D.identity disk.old).sectors image (D.moments disk.old)) }
     ensures key { IfOk result (λ image. image.maker.key ≡ key_of hash) }
@@ -66,7 +68,6 @@ pub(crate) fn judge_bitmap<D: Disk>(
     ensures identity { D.identity disk.new ≡ D.identity disk.old }
     ensures kept { D.moments disk.new ≡ D.moments disk.old }
 {
-    let format = read_bitmap_format(disk)?;
     let regions = load_regions(alloc, disk, &format)?;
     if lacks_consent(&hash, consent, regions.some_await()) {
         let flags = format.fields.flags;

@@ -40,6 +40,7 @@ pub(crate) fn recover_emptied<D: Disk>(
 
     ensures cause { HasCause (D.faults disk.old) (D.faults disk.new) result }
 
+    ensures pool { length pool.new.bytes ≡ length pool.old.bytes }
     ensures identity { D.identity disk.new ≡ D.identity disk.old }
 
     ensures leaves { LeavesImage (judged_format (D.identity disk.old).sectors image)

@@ -10,8 +10,8 @@ ghost use Rattle.device_parts.specs.Device.{HasOpened};
 ghost use Rattle.journal_device.specs.Device.{in_journal};
 ghost use Rattle.device_opening.specs.JournalOpening.{HasEmptyRing, HasOpenOn};
 ghost use Rattle.device_opening.specs.Judged.{HasJudged, judged_format};
-ghost use Rattle.device_opening.specs.Opening.{IsRecoveryRoomFor, IsUnasked, KeepsRecovered, LeavesImage, LeavesOpenable};
-ghost use Rattle.device_opening.specs.Opening.{Refuses, WritesOpening};
+ghost use Rattle.device_opening.specs.Opening.{IsRecoveryRoomFor, IsUnasked, KeepsRecovered, LeavesImage};
+ghost use Rattle.device_opening.specs.Opening.{LeavesOpenable, Refuses, WritesOpening};
 
 use crate::judging::{JudgedImage, judge_image};
 use crate::recovering::recover_image;
@@ -98,7 +98,7 @@ fn open_judged<'p, D: Disk>(
 
     ensures opened { IfOk result (λ device. HasOpenOn (judged_format (D.identity disk.old).sectors image)
         device (D.moments disk.old) (D.moments disk.new)) }
-    ensures unasked { IfOk result (λ device. IsUnasked device.parts device.recalc
+    ensures unasked { IfOk result (λ device. IsUnasked device.parts device.recalculation
         (D.identity disk.new) (D.moments disk.new)) }
     ensures empty { IfOk result HasEmptyRing }
 
@@ -133,6 +133,6 @@ fn open_judged<'p, D: Disk>(
     Ok(JournalParts {
         parts,
         journal: Journal::new(journal, pool, recovered.at),
-        recalc: recalculation,
+        recalculation: recalculation,
     })
 }

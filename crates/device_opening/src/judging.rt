@@ -4,7 +4,7 @@ ghost use Rattle.disk_model.specs.Identity.{IsBound};
 ghost use Rattle.image_model.specs.Cells.{salt_of};
 ghost use Rattle.hmac_tag.specs.TagMaker.{key_of};
 ghost use Rattle.image_judging.specs.Faults.{HasOpenCause, fault_of};
-ghost use Rattle.device_opening.specs.Judged.{HasJudged, rule_of};
+ghost use Rattle.device_opening.specs.Judged.{HasJournalFormat, HasJudged, rule_of};
 ghost use Rattle.device_opening.specs.Opening.{TellsFault};
 
 use hmac_tag::{Hash, TagMaker};
@@ -69,6 +69,41 @@ pub(crate) fn judge_image<D: Disk>(
     ensures kept { D.moments disk.new ≡ D.moments disk.old }
 {
     let format = read_direct_format(disk)?;
+    judge_found(alloc, disk, format, hash, consent)
+}
+
+/// Judges the image of a disk, whose first sector tells this format, which has a journal: consent, and then the
+/// journal. Nothing is done but reads, and the memory that is taken is for what the journal is judged with.
+///
+/// # Errors
+///
+/// `Memory` and `Disk` come whenever they hold, and of the others the first that holds:
+///
+/// - `Memory`: there is none for what is kept of the journal.
+/// - `Disk`: the disk failed at a read.
+/// - `Consent`: some block is to be recalculated, there is a key, and consent is withheld.
+/// - `Journal`: the journal is refused, by its scan or for the first entry in the order of the replay.
+pub(crate) fn judge_found<D: Disk>(
+    alloc: Global,
+    disk: &mut D,
+    format: ImageFormat,
+    hash: Hash,
+    consent: Consent,
+) -> Result<JudgedImage, OpeningFault>
+    requires bound { IsBound (D.identity disk.old).name }
+    requires found { HasJournalFormat (D.identity disk.old).sectors format (D.moments disk.old) }
+
+    ensures judged { IfOk result (λ image. HasJudged (D.identity disk.old).sectors image (D.moments disk.old)) }
+    ensures key { IfOk result (λ image. image.maker.key ≡ key_of hash) }
+    ensures format { IfOk result (λ image. image.format ≡ format) }
+
+    ensures refused { TellsFault (fault_of (key_of hash) consent (D.identity disk.old).sectors)
+        (D.moments disk.old) result }
+    ensures cause { HasOpenCause (D.faults disk.old) (D.faults disk.new) result }
+
+    ensures identity { D.identity disk.new ≡ D.identity disk.old }
+    ensures kept { D.moments disk.new ≡ D.moments disk.old }
+{
     judge_consent(&format.fields, &hash, consent)?;
     let maker = maker_of(hash, &format);
     let journal = judge_journal(alloc, disk, &format.geometry, &maker)?;

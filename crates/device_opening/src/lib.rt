@@ -9,6 +9,7 @@
 
 mod bitmap;
 mod bitmap_judging;
+mod changing;
 mod direct;
 mod emptying;
 mod journal;

@@ -8,8 +8,10 @@ use Rattle.image_model.specs.Cells.{salt_of}
 use Rattle.device_model.specs.Device.{DeviceKind}
 use Rattle.device_model.specs.Mode.{DeviceFormat, Mode}
 use Rattle.device_model.specs.Progress as Model
+use Rattle.place_model.specs.Changed.{judged_image, opened_format}
 use Rattle.place_model.specs.Format.{DiskFormat, format_on}
 use Rattle.place_model.specs.Kind.{kind_in}
+use Rattle.place_model.specs.Opened.{blocks_of}
 use Rattle.direct_laws.specs.MomentLaws.{IsLeftNow, IsLeftThrough}
 use Rattle.hmac_tag.specs.TagMaker.{TagRule}
 use Rattle.tag_store.specs.Store.{IsStore}
@@ -107,24 +109,35 @@ pub record Does {Kept T E : Type 0} (mode : DeviceMode Kept) (event failed : Mod
 
 -- ---- an opening
 
--- The device that has just been opened on an image in a mode.
-abbrev pub opened_standing : Mode → (key : Option (List ℕ)) → (sectors : ℕ) → Image → Standing
-opened_standing mode key sectors image = record {
-  format = (kind_in mode key sectors).format image;
-  state = (kind_in mode key sectors).opened image;
-  on = format_on key sectors image;
-  entry = image;
+-- The device that has just been opened in a mode on the image at the start, of which the opening made another one. It is
+-- judged by that at the start, but where its journal became a bitmap.
+abbrev pub opened_standing : Mode → (key : Option (List ℕ)) → (sectors : ℕ) → (start made : Image) → Standing
+opened_standing mode key sectors start made = record {
+  format = (kind_in mode key sectors).format start;
+  state = (kind_in mode key sectors).opened start;
+  on = opened_format mode (format_on key sectors start);
+  entry = judged_image mode (format_on key sectors start) start made;
 }
 
 -- The image that reads gave can be opened in the mode.
 abbrev pub CanOpenRead : Mode → Option (List ℕ) → (sectors : ℕ) → List Content → Type 0
 CanOpenRead mode key sectors moments = HasNow (λ c. (kind_in mode key sectors).CanOpen (last_image c)) moments
 
--- The device is open on the image that reads gave, which is one that can be opened. No request is in flight.
+-- The image by which the device is judged has the blocks of the one at the start, with the same tags.
+abbrev pub IsOfSameBlocks : Mode → (key : Option (List ℕ)) → (sectors : ℕ) → (start made : Image) → Type 0
+IsOfSameBlocks mode key sectors start made =
+    blocks_of (format_on key sectors (opened_standing mode key sectors start made).entry)
+    ≡ blocks_of (format_on key sectors start)
+
+-- The device is open on the image that reads gave, which is one that can be opened, and of which they give another one
+-- now. No request is in flight.
 pub record HasOpened {Kept : Type 0} (mode : DeviceMode Kept) (asked : Mode) (key : Option (List ℕ)) (disk : DiskIdentity)
     (kept : Kept) (before after : List Content) : Type 0 where
-  pub device : HasNow (λ start. mode.IsDevice (opened_standing asked key disk.sectors (last_image start))
-      Conditions.Working kept after) before
+  pub device : HasNow (λ start. HasNow (λ made. mode.IsDevice
+      (opened_standing asked key disk.sectors (last_image start) (last_image made)) Conditions.Working kept after) after)
+      before
+  pub blocks : HasNow (λ start. HasNow (λ made.
+      IsOfSameBlocks asked key disk.sectors (last_image start) (last_image made)) after) before
   pub ready : mode.IsReady Conditions.Working kept disk after
   pub asked_ : mode.mode_of kept ≡ asked
   pub requests : (mode.parts kept).slots ≡ no_requests (mode.parts kept).tags.geometry.blocks

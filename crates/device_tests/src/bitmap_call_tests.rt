@@ -1,4 +1,5 @@
-//! A device in bitmap mode on images in memory: which bits its calls leave, and when consent is asked for.
+//! A device in bitmap mode on images in memory: which bits its calls leave, when consent is asked for, and what comes of
+//! a journal.
 ghost use Rattle.std.specs.Prelude.{◌≡◌};
 ghost use Rattle.disk_model.specs.Identity.{IsBound};
 
@@ -52,6 +53,18 @@ fn byte_at<D: Disk>(disk: &mut D, at: u64) -> Result<u8, Failed>
     }
     disk.read_run(at, &mut sector)?;
     Ok(sector[0])
+}
+
+/// The flags of the first sector, of which the lowest byte is at 24.
+fn flags_of<D: Disk>(disk: &mut D) -> Result<u8, Failed>
+    requires { IsBound (D.identity disk.old).name }
+{
+    let mut sector = [0; 512];
+    if disk.sectors() == 0 {
+        return Err(Failed);
+    }
+    disk.read_run(0, &mut sector)?;
+    Ok(sector[24])
 }
 
 /// Writes the superblock of an image with a bitmap, in regions of one block.
@@ -139,12 +152,32 @@ fn a_set_bit_under_a_key_wants_consent(rt: HostRuntime) -> Result<(), Fail> {
     // Bytes that no tag vouches for.
     fill_sector(&mut disk, BLOCK_AT, 0xbb)?;
     let key = under_key(alloc)?;
-    let fault = open_bitmap(alloc, &mut disk, key, Consent::Withheld).err();
+    let mut region = Region::new();
+    let fault = open_bitmap(alloc, &mut disk, key, Consent::Withheld, &mut region).err();
     assert!(rt; matches!(fault, Some(OpeningFault::Consent { flags: 0xc })));
     assert_eq!(rt; byte_at(&mut disk, BITMAP_AT)?, 0x20);
     assert_eq!(rt; byte_at(&mut disk, BLOCK_AT)?, 0xbb);
     let given = OpenMode::Bitmap(Consent::Given);
     let read = read_alone(alloc, &mut disk, under_key(alloc)?, given)?;
     assert_eq!(rt; read, Some(0xbb));
+    Ok(())
+}
+
+#[test]
+fn a_journal_becomes_a_bitmap_and_its_entries_stay(rt: HostRuntime) -> Result<(), Fail> {
+    let alloc = rt.alloc();
+    let journal = OpenMode::Journal(Consent::Withheld);
+    let bitmap = OpenMode::Bitmap(Consent::Withheld);
+    let mut disk = crate::call_tests::new_disk(alloc)?;
+    assert!(rt; write_alone(alloc, &mut disk, Hash::Sha256, journal)?);
+    let read = read_alone(alloc, &mut disk, Hash::Sha256, bitmap)?;
+    assert_eq!(rt; read, Some(0xaa));
+    assert_eq!(rt; byte_at(&mut disk, BITMAP_AT)?, 0);
+    // The flags are those of fixed padding and of a bitmap.
+    assert_eq!(rt; flags_of(&mut disk)?, 0xc);
+    let again = read_alone(alloc, &mut disk, Hash::Sha256, bitmap)?;
+    assert_eq!(rt; again, Some(0xaa));
+    let refused = read_alone(alloc, &mut disk, Hash::Sha256, journal)?;
+    assert_eq!(rt; refused, None);
     Ok(())
 }

@@ -27,7 +27,7 @@ pub(crate) const SMALL: NewImage = NewImage {
 };
 
 /// A disk with a new image.
-fn new_disk(alloc: Global) -> Result<MemDisk, Fail> {
+pub(crate) fn new_disk(alloc: Global) -> Result<MemDisk, Fail> {
     let mut disk = MemDisk::new(alloc, 512, 2000)?;
     format(alloc, &mut disk, Hash::Sha256, SMALL)?;
     Ok(disk)

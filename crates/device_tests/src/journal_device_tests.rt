@@ -89,7 +89,7 @@ fn open_device<'p, D: Disk>(
 ) -> Option<JournalParts<'p>>
     requires { IsBound (D.identity disk.old).name }
 
-    ensures { IfSome result (λ device. IsReady Working device.parts device.journal device.recalc
+    ensures { IfSome result (λ device. IsReady Working device.parts device.journal device.recalculation
         (D.identity disk.new) (D.moments disk.new)) }
 {
     open_journal(alloc, disk, Hash::Sha256, Consent::Withheld, region).ok()
@@ -102,10 +102,10 @@ fn submit<D: Disk>(
     condition: Condition,
     request: Request,
 ) -> Option<Ticket>
-    requires { IsReady condition device.old.parts device.old.journal device.old.recalc
+    requires { IsReady condition device.old.parts device.old.journal device.old.recalculation
         (D.identity disk.now) (D.moments disk.now) }
 
-    ensures { IsReady condition device.new.parts device.new.journal device.new.recalc
+    ensures { IsReady condition device.new.parts device.new.journal device.new.recalculation
         (D.identity disk.now) (D.moments disk.now) }
 {
     if !device.parts.slots.has_ticket() {
@@ -121,10 +121,10 @@ fn serve_once<D: Disk>(
     condition: &mut Condition,
     ticket: &Ticket,
 ) -> Option<Served>
-    requires { IsReady condition.old device.old.parts device.old.journal device.old.recalc
+    requires { IsReady condition.old device.old.parts device.old.journal device.old.recalculation
         (D.identity disk.old) (D.moments disk.old) }
 
-    ensures { IsReady condition.new device.new.parts device.new.journal device.new.recalc
+    ensures { IsReady condition.new device.new.parts device.new.journal device.new.recalculation
         (D.identity disk.new) (D.moments disk.new) }
 {
     if !device.parts.slots.holds(ticket) {
@@ -136,7 +136,7 @@ fn serve_once<D: Disk>(
             disk,
             &mut device.parts,
             &mut device.journal,
-            &mut device.recalc,
+            &mut device.recalculation,
             ticket,
         ) {
             Ok(served) => Some(served),
@@ -155,10 +155,10 @@ fn serve_on<D: Disk>(
     condition: &mut Condition,
     ticket: &Ticket,
 ) -> (Option<Served>, u64)
-    requires { IsReady condition.old device.old.parts device.old.journal device.old.recalc
+    requires { IsReady condition.old device.old.parts device.old.journal device.old.recalculation
         (D.identity disk.old) (D.moments disk.old) }
 
-    ensures { IsReady condition.new device.new.parts device.new.journal device.new.recalc
+    ensures { IsReady condition.new device.new.parts device.new.journal device.new.recalculation
         (D.identity disk.new) (D.moments disk.new) }
 {
     for count in 0..2 * ENTRIES {
@@ -177,10 +177,10 @@ fn reply_to<D: Disk>(
     condition: &mut Condition,
     request: Request,
 ) -> Option<Reply>
-    requires { IsReady condition.old device.old.parts device.old.journal device.old.recalc
+    requires { IsReady condition.old device.old.parts device.old.journal device.old.recalculation
         (D.identity disk.old) (D.moments disk.old) }
 
-    ensures { IsReady condition.new device.new.parts device.new.journal device.new.recalc
+    ensures { IsReady condition.new device.new.parts device.new.journal device.new.recalculation
         (D.identity disk.new) (D.moments disk.new) }
 {
     let ticket = submit(disk, device, *condition, request)?;
@@ -207,7 +207,7 @@ fn close_journaled<D: Disk>(
     device: &mut JournalParts<'_>,
     condition: Condition,
 ) -> bool
-    requires { IsReady condition device.old.parts device.old.journal device.old.recalc
+    requires { IsReady condition device.old.parts device.old.journal device.old.recalculation
         (D.identity disk.old) (D.moments disk.old) }
 {
     device.journal.is_journaled(5) && close_device(disk, device, condition)
@@ -215,7 +215,7 @@ fn close_journaled<D: Disk>(
 
 /// Closes a device. Tells whether that went well.
 fn close_device<D: Disk>(disk: &mut D, device: &mut JournalParts<'_>, condition: Condition) -> bool
-    requires { IsReady condition device.old.parts device.old.journal device.old.recalc
+    requires { IsReady condition device.old.parts device.old.journal device.old.recalculation
         (D.identity disk.old) (D.moments disk.old) }
 {
     match condition {
@@ -224,7 +224,7 @@ fn close_device<D: Disk>(disk: &mut D, device: &mut JournalParts<'_>, condition:
             disk,
             &mut device.parts,
             &mut device.journal,
-            &mut device.recalc,
+            &mut device.recalculation,
         )
         .is_ok(),
     }

@@ -4,6 +4,8 @@
 #[cfg(test)]
 mod bitmap_call_tests;
 #[cfg(test)]
+mod blank_journal_tests;
+#[cfg(test)]
 mod call_tests;
 #[cfg(test)]
 mod chain_tests;

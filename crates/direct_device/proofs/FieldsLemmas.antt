@@ -2,69 +2,49 @@
 use Rattle.std.proofs.Common.{◌≡◌, inl, inr, ℕ, ◌==◌, Bool, true, false, if◌then◌else◌, not, ◌&&◌, refl, sym, ◌∙◌, ap, subst, Option, Some, None, IfSome, List}
 use Rattle.disk_model.specs.Disk.{Content, OnlyAdds}
 use Rattle.disk_model.specs.Moments.{EachSince}
-use Rattle.disk_model.proofs.DiskLemmas.{OnlyAdds-wider}
-use Rattle.disk_model.proofs.MomentsLemmas.{EachMoment-kept, EachMoment-weaker, FromStart-weaker, adds_then, sync_adds}
+use Rattle.disk_model.proofs.MomentsLemmas.{EachMoment-kept, EachMoment-weaker, adds_then, sync_adds}
 use Rattle.image_model.specs.declared.flags.TheConstants.{RECALCULATING}
 use Rattle.image_model.specs.Geometry.{Geometry}
 use Rattle.image_model.specs.Superblock.{Superblock, has_flag}
 use Rattle.image_model.proofs.NumberLemmas.{cases_option}
-use Rattle.device_model.specs.Regions.{with_region}
 use Rattle.place_model.specs.Format.{DiskFormat, IsReadAs}
-use Rattle.place_model.specs.Tags.{IsOfTags}
 use Rattle.direct_model.specs.DirectDisk.{DirectDisk}
-use Rattle.direct_mode.specs.CallLaws.{AddsTags}
 use Rattle.direct_mode.specs.Settling.{Back, SettlesIn, Syncing}
 use Rattle.recalculate_laws.specs.Calls.{SettlesBy}
 use Rattle.recalculate_laws.specs.DirectCalls.{IsCutThrough}
-use Rattle.recalculate_laws.specs.Formats.{IsFormatOf, under_fields}
+use Rattle.recalculate_laws.specs.Formats.{IsFormatOf}
 use Rattle.recalculate_laws.specs.Moments.{awaiting_then}
 use Rattle.recalculate_laws.specs.Position.{moved_fields}
-use Rattle.recalculate_laws.proofs.AwaitsLemmas.{moved_same_law}
 use Rattle.recalculate_laws.proofs.DirectCallsLemmas.{direct_stands_cut_law}
 use Rattle.recalculation.specs.declared.recalculating.Recalculation.{Recalculation}
 use Rattle.recalculation.specs.Awaiting.{awaiting_of}
 use Rattle.recalculation.specs.Position.{MayMove, MovesIn, is_same_position}
-use Rattle.recalculation.specs.Recalculation.{IsOfTagsOrHead, IsRecalculationOf, Moving, SettlesPositionIn, Settling, StepsPositionIn, fields_left, fields_or, next_of, to_write}
+use Rattle.recalculation.specs.Recalculation.{HasFieldsThrough, IsOfTagsOrHead, Moving, SettlesPositionIn, Settling, StepsPositionIn, fields_behind, fields_left, fields_next, fields_or, next_of, to_write}
 use Rattle.recalculation.proofs.KeptLemmas.{moved_if_some}
 use Rattle.tag_store.specs.Store.{HoldsTag, given_tags}
 use Rattle.device_parts.specs.declared.condition.Condition.TheVariants.{Working}
 use Rattle.device_parts.specs.declared.parts.Parts.{Parts}
 use Rattle.device_parts.specs.Device.{Standing}
-use Rattle.direct_device.specs.Answers.{HasFieldsThrough, WritesClose, WritesRegion, fields_behind, fields_next}
+use Rattle.direct_device.specs.Answers.{WritesClose}
 use Rattle.direct_device.specs.Device.{IsDirect, kept, standing_on}
 use Rattle.direct_device.proofs.MovingLemmas.{settling_cut, settling_stands}
 use Rattle.direct_device.proofs.StepLemmas.{may_move, step_cut}
+use Rattle.recalculation.proofs.FieldsLemmas.{behind_is, under_is}
+use Rattle.recalculation.proofs.AllLemmas.{only_tags}
 
 -- ---- which fields
 
--- A format of the device, under some fields, is the device's own under these.
-under_is : (on d : DiskFormat) (s : Superblock) → IsFormatOf on d → under_fields d s ≡ under_fields on s
-under_is on d s same =
-    ap (λ (key : Option (List ℕ)). let f : DiskFormat = record { key = key; sectors = d.sectors; superblock = s; geometry = d.geometry } in f) same.key
-    ∙ ap (λ (sectors : ℕ). let f : DiskFormat = record { key = on.key; sectors = sectors; superblock = s; geometry = d.geometry } in f) same.sectors
-    ∙ ap (λ (g : Geometry). let f : DiskFormat = record { key = on.key; sectors = on.sectors; superblock = s; geometry = g } in f) same.geometry
-
 -- What a cut leaves is read under the old fields, or under the new ones.
-cut_fields : (w : Standing) (d : DirectDisk) (new : Superblock) {a b : List Content} → IsFormatOf w.on d.format → IsCutThrough d new a b → HasFieldsThrough w d.superblock new a b
+cut_fields : (w : Standing) (d : DirectDisk) (new : Superblock) {a b : List Content} → IsFormatOf w.on d.format → IsCutThrough d new a b → HasFieldsThrough w.on d.superblock new a b
 cut_fields w d new same cut = EachMoment-weaker (λ c each image of. elim (each image of) [
   | inl old ↦ inl (subst (λ (f : DiskFormat). IsReadAs f image) (under_is w.on d.format d.superblock same) old.reads)
   | inr moved ↦ inr (subst (λ (f : DiskFormat). IsReadAs f image) (under_is w.on d.format new same) moved.reads)
 ]) cut
 
--- The fields behind a region are those of the disk, moved to what awaits then.
-behind_is : (d : DiskFormat) (awaiting : ℕ → Bool) (r : Recalculation) → IsRecalculationOf d.superblock d.geometry awaiting r → (region : ℕ)
-    → fields_behind (Some region) r ≡ moved_fields d.superblock d.geometry (awaiting_then region awaiting)
-behind_is d awaiting r own region =
-    let set = with_region region false (awaiting_of r.awaiting) in
-    ap (λ (s : Superblock). moved_fields s r.awaiting.geometry set) own.fields
-    ∙ ap (λ (g : Geometry). moved_fields d.superblock g set) own.geometry
-    ∙ moved_same_law d.superblock d.geometry set (with_region region false awaiting)
-    (λ other low. ap (λ (t : Bool). if other == region then false else t) (own.regions_ other low))
-
 module _ (parts : Parts) (r : Recalculation) (a : List Content) (may : MayMove r.position) where
   -- So it is in a step,
   pub step_heads : (b : List Content) → (next_of r ≡ None → b ≡ a) → IfSome (next_of r) (λ region. StepsPositionIn parts.maker region r parts.tags.geometry (given_tags parts.tags) a b)
-      → (w : Standing) → IsDirect w Working (kept parts r) a → HasFieldsThrough w r.position (fields_next r) a b
+      → (w : Standing) → IsDirect w Working (kept parts r) a → HasFieldsThrough w.on r.position (fields_next r) a b
   step_heads b idle through w is =
       let d = is.disk in
       let awaiting = w.state.progress.regions.awaiting in
@@ -74,22 +54,22 @@ module _ (parts : Parts) (r : Recalculation) (a : List Content) (may : MayMove r
         | inr found ↦
             let in_ = subst (λ (o : Option ℕ). IfSome o (λ region. StepsPositionIn parts.maker region r parts.tags.geometry (given_tags parts.tags) a b)) found.1 through in
             let fields = ap (λ (o : Option ℕ). fields_behind o r) found.1 ∙ behind_is d.format awaiting r own found.0 in
-            subst (λ (s : Superblock). HasFieldsThrough w s (fields_next r) a b) (sym own.fields)
-            (subst (λ (s : Superblock). HasFieldsThrough w d.superblock s a b) (sym fields)
+            subst (λ (s : Superblock). HasFieldsThrough w.on s (fields_next r) a b) (sym own.fields)
+            (subst (λ (s : Superblock). HasFieldsThrough w.on d.superblock s a b) (sym fields)
             (cut_fields w d (moved_fields d.superblock d.geometry (awaiting_then found.0 awaiting)) is.format
             (step_cut (standing_on w d) parts r a is.over found.0 found.1 may b in_)))
       ]
 
   -- and in a close.
   pub close_heads : (b : List Content) → SettlesPositionIn r parts.tags.geometry (given_tags parts.tags) a b
-      → (w : Standing) → IsDirect w Working (kept parts r) a → HasFieldsThrough w r.position (fields_left r) a b
+      → (w : Standing) → IsDirect w Working (kept parts r) a → HasFieldsThrough w.on r.position (fields_left r) a b
   close_heads b through w is =
       let d = is.disk in
       let awaiting = w.state.progress.regions.awaiting in
       let works = is.over.works refl in
       let own = works.recalculation_ in
       let in_ = subst (λ (g : Geometry). SettlesPositionIn r g (given_tags parts.tags) a b) (sym works.cells.geometry) through in
-      subst (λ (s : Superblock). HasFieldsThrough w s (fields_left r) a b) (sym own.fields)
+      subst (λ (s : Superblock). HasFieldsThrough w.on s (fields_left r) a b) (sym own.fields)
       (cut_fields w d (fields_left r) is.format (elim (cases_option (to_write r)) [
         | inl none ↦ direct_stands_cut_law d (fields_left r) a b (settling_stands d awaiting (given_tags parts.tags) a works.cells.now r own b none in_)
         | inr some ↦
@@ -100,29 +80,17 @@ module _ (parts : Parts) (r : Recalculation) (a : List Content) (may : MayMove r
 
 -- ---- which sectors
 
--- Where no region awaits nothing is written in a step.
-pub region_writes : (o : Option ℕ) (g : Geometry) (a b : List Content) → (o ≡ None → b ≡ a) → EachSince (OnlyAdds (IsOfTagsOrHead g)) a b → WritesRegion o g a b
-region_writes None g a b idle writes = idle refl
-region_writes (Some region) g a b idle writes = writes
-
 module _ (g : Geometry) where
   abbrev OfTags : ℕ → List ℕ → Type 0
   OfTags sector x = HoldsTag g sector
 
-  -- Tags that are written back are in sectors of tags,
-  adds_tags : (old new : Content → ℕ → List ℕ) {a b : List Content} → AddsTags g old new a b → EachSince (OnlyAdds (λ sector x. HoldsTag g sector)) a b
-  adds_tags old new {a} {b} adds =
-      EachMoment-weaker (FromStart-weaker a (λ start. OnlyAdds (IsOfTags g (old start) (new start)) start) (OnlyAdds OfTags)
-      (λ start c told only. OnlyAdds-wider (IsOfTags g (old start) (new start)) OfTags
-      (λ sector x of. record { block = of.block; byte = of.byte; block_low = of.block_low; byte_low = of.byte_low; is = of.is }) start c only)) adds
-
-  -- so all is flushed without another one,
+  -- All is flushed without another sector than those of tags,
   settles_tags : (tags : Content → ℕ → List ℕ) {a b : List Content} → SettlesIn g tags a b → EachSince (OnlyAdds (λ sector x. HoldsTag g sector)) a b
-  settles_tags tags (Back adds) = adds_tags tags tags adds
-  settles_tags tags (Syncing back between writes reads image adds) = adds_then OfTags (adds_tags tags tags writes.adds) (sync_adds OfTags image adds)
+  settles_tags tags (Back adds) = only_tags g tags tags adds
+  settles_tags tags (Syncing back between writes reads image adds) = adds_then OfTags (only_tags g tags tags writes.adds) (sync_adds OfTags image adds)
 
   settled_tags : (tags now : Content → ℕ → List ℕ) {a b : List Content} → SettlesBy g tags now a b → EachSince (OnlyAdds (λ sector x. HoldsTag g sector)) a b
-  settled_tags tags now settles = adds_then OfTags (adds_tags tags tags settles.writes_back.adds) (sync_adds OfTags settles.syncs.image settles.syncs.adds)
+  settled_tags tags now settles = adds_then OfTags (only_tags g tags tags settles.writes_back.adds) (sync_adds OfTags settles.syncs.image settles.syncs.adds)
 
   -- and where the flag is not set sector 0 is none of those that a close writes.
   module _ (r : Recalculation) where
@@ -131,12 +99,12 @@ module _ (g : Geometry) where
         let moved = moved_fields r.position r.awaiting.geometry (awaiting_of r.awaiting) in
         ap (λ (t : Bool). if t && not (is_same_position r.position moved) then Some moved else None) unset
 
-    only_tags : (tags : Content → ℕ → List ℕ) (a b : List Content) → to_write r ≡ None → SettlesPositionIn r g tags a b → EachSince (OnlyAdds (λ sector x. HoldsTag g sector)) a b
-    only_tags tags a b none (Settling in_) = settles_tags tags in_
-    only_tags tags a b none (Moving now between settles moves) =
+    tags_alone : (tags : Content → ℕ → List ℕ) (a b : List Content) → to_write r ≡ None → SettlesPositionIn r g tags a b → EachSince (OnlyAdds (λ sector x. HoldsTag g sector)) a b
+    tags_alone tags a b none (Settling in_) = settles_tags tags in_
+    tags_alone tags a b none (Moving now between settles moves) =
         subst (λ (m : List Content). EachSince (OnlyAdds OfTags) a m) (sym (subst (λ (o : Option Superblock). MovesIn o between b) none moves)) (settled_tags tags now settles)
 
     pub close_writes : (tags : Content → ℕ → List ℕ) (a b : List Content) → SettlesPositionIn r g tags a b → EachSince (OnlyAdds (IsOfTagsOrHead g)) a b
         → (t : Bool) → has_flag RECALCULATING r.position.flags ≡ t → WritesClose t g a b
     close_writes tags a b through writes true is = writes
-    close_writes tags a b through writes false is = only_tags tags a b (none_written is) through
+    close_writes tags a b through writes false is = tags_alone tags a b (none_written is) through

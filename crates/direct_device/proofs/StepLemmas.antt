@@ -37,9 +37,8 @@ use Rattle.recalculate_laws.proofs.FormatsLemmas.{moved_format_law, work_flag_la
 use Rattle.recalculate_laws.proofs.PositionLemmas.{position_law}
 use Rattle.recalculate_laws.proofs.TakingLemmas.{direct_taken_law, direct_taking_law}
 use Rattle.recalculation.specs.declared.recalculating.Recalculation.{Recalculation}
-use Rattle.recalculation.specs.Awaiting.{AwaitingRegions, awaiting_of}
-use Rattle.recalculation.specs.Position.{HasMoved, MayMove, WritesFields, fields_to_write}
-use Rattle.recalculation.specs.Recalculation.{HasFields, IsRecalculationOf, SettlesPosition, SettlesPositionIn, StepsPosition, StepsPositionIn, Taken, TakesAwaiting, TakesAwaitingIn, Taking, fields_left, fields_or, fields_then, next_of, to_write}
+use Rattle.recalculation.specs.Position.{HasMoved, MayMove, WritesFields}
+use Rattle.recalculation.specs.Recalculation.{HasFields, IsRecalculationOf, SettlesPosition, SettlesPositionIn, StepsPosition, StepsPositionIn, Taken, TakesAwaiting, TakesAwaitingIn, Taking, fields_left, fields_or, next_of, to_write}
 use Rattle.recalculation.proofs.KeptLemmas.{moved_if_some, moved_is, moves_head, next_is, taken_is, takes_in, takes_region, writes_moved}
 use Rattle.direct_device.specs.Device.{DirectStanding, IsOverDisk}
 use Rattle.direct_device.proofs.DoneLemmas.{done, not_working, told_then}
@@ -315,16 +314,3 @@ failed_next w parts recalculation a is may some new last b slots maker in_ = eli
       step_failed w parts recalculation a is found.0 found.1 may new last b slots maker
       (subst (λ (o : Option ℕ). IfSome o (λ region. StepsPositionIn parts.maker region recalculation parts.tags.geometry (given_tags parts.tags) a b)) found.1 in_)
 ]
-
--- The fields then are those that were to be written, if any.
-moved_or : (o : Option Superblock) (g : Geometry) (tags : Content → ℕ → List ℕ) (old new : Superblock) (a b : List Content) → HasMoved o g tags old new a b → new ≡ fields_or o old
-moved_or None g tags old new a b moved = moved.0
-moved_or (Some there) g tags old new a b moved = moved.0
-
-pub fields_stepped : (rule : TagRule) (region : ℕ) (old new : Recalculation) (g : Geometry) (tags now : Content → ℕ → List ℕ) (a b : List Content) → StepsPosition rule region old new g tags now a b → new.position ≡ fields_then old new
-fields_stepped rule region old new g tags now a b steps =
-    let mid = steps.mid in
-    moved_or (to_write mid) g now mid.position new.position steps.settles.between b steps.settles.moves
-    ∙ ap (λ (s : Superblock). fields_or (fields_to_write s mid.awaiting.geometry (awaiting_of mid.awaiting)) s) steps.takes.position
-    ∙ ap (λ (x : Geometry). fields_or (fields_to_write old.position x (awaiting_of mid.awaiting)) old.position) steps.takes.geometry
-    ∙ ap (λ (x : AwaitingRegions). fields_or (fields_to_write old.position old.awaiting.geometry (awaiting_of x)) old.position) (sym steps.settles.awaiting)

@@ -1,15 +1,10 @@
 -- What the calls of a device in direct mode write.
-use Rattle.std.specs.Prelude.{◌≡◌, ◌⊎◌, ℕ, Bool, true, false, List, Option, Some, None}
-use Rattle.disk_model.specs.Disk.{Content, EachImage, OnlyAdds}
-use Rattle.disk_model.specs.Moments.{EachMoment, EachSince}
+use Rattle.std.specs.Prelude.{◌≡◌, ◌⊎◌, ℕ, Bool, true, false, List}
+use Rattle.disk_model.specs.Disk.{Content, OnlyAdds}
+use Rattle.disk_model.specs.Moments.{EachSince}
 use Rattle.image_model.specs.Geometry.{Geometry}
-use Rattle.image_model.specs.Superblock.{Superblock}
 use Rattle.device_model.specs.Progress as Model
-use Rattle.device_model.specs.Regions.{with_region}
 use Rattle.direct_mode.specs.Places.{WritesPlaces}
-use Rattle.place_model.specs.Format.{IsReadAs}
-use Rattle.recalculate_laws.specs.Formats.{under_fields}
-use Rattle.recalculate_laws.specs.Position.{moved_fields}
 use Rattle.request_slots.specs.declared.turn.Turn.TheVariants as Turns
 use Rattle.request_slots.specs.Flight.{Flight, turn_of}
 use Rattle.device_parts.specs.declared.answers.Actor.{Actor}
@@ -18,8 +13,7 @@ use Rattle.device_parts.specs.declared.condition.Condition.TheVariants as Condit
 use Rattle.device_parts.specs.declared.parts.Parts.{Parts}
 use Rattle.device_parts.specs.Device.{Standing}
 use Rattle.recalculation.specs.declared.recalculating.Recalculation.{Recalculation}
-use Rattle.recalculation.specs.Awaiting.{awaiting_of}
-use Rattle.recalculation.specs.Recalculation.{IsOfTagsOrHead, count_of, next_of}
+use Rattle.recalculation.specs.Recalculation.{IsOfTagsOrHead, WritesRegion, count_of, next_of}
 use Rattle.tag_store.specs.Store.{HoldsTag}
 use Rattle.direct_device.specs.declared.parts.DirectParts.{DirectParts}
 use Rattle.direct_device.specs.Device.{IsDirect}
@@ -44,11 +38,6 @@ steps_left Actors.Settle r = 0
 steps_left Actors.Clean r = 0
 steps_left Actors.Recalc r = count_of r
 
--- What is written where this region is recalculated: sectors of tags, and sector 0; and nothing where there is none.
-abbrev pub WritesRegion : Option ℕ → Geometry → (before after : List Content) → Type 0
-WritesRegion None g before after = after ≡ before
-WritesRegion (Some region) g before after = EachSince (OnlyAdds (IsOfTagsOrHead g)) before after
-
 -- What is written in a step: where a region awaits, what the recalculation of the least one writes.
 abbrev pub WritesAs : Actor → Parts → Recalculation → (before after : List Content) → Type 0
 WritesAs Actors.Commit parts r before after = after ≡ before
@@ -56,22 +45,6 @@ WritesAs Actors.Place parts r before after = after ≡ before
 WritesAs Actors.Settle parts r before after = after ≡ before
 WritesAs Actors.Clean parts r before after = after ≡ before
 WritesAs Actors.Recalc parts r before after = WritesRegion (next_of r) parts.tags.geometry before after
-
--- The fields once this region is taken out of those that await, and the position has moved: as they are, where there is
--- none.
-abbrev pub fields_behind : Option ℕ → Recalculation → Superblock
-fields_behind None r = r.position
-fields_behind (Some region) r =
-    moved_fields r.position r.awaiting.geometry (with_region region false (awaiting_of r.awaiting))
-
--- Those that a step leaves.
-abbrev pub fields_next : Recalculation → Superblock
-fields_next r = fields_behind (next_of r) r
-
--- At each moment of a call each image can be read in the format of the device, under these fields or under those.
-abbrev pub HasFieldsThrough : Standing → (old new : Superblock) → (before after : List Content) → Type 0
-HasFieldsThrough w old new before after = EachMoment before after
-    (EachImage (λ image. IsReadAs (under_fields w.on old) image ⊎ IsReadAs (under_fields w.on new) image))
 
 -- The actor has nothing to do in direct mode.
 abbrev pub HasNoWork : Model.Actor → Type 0

@@ -5,8 +5,8 @@ ghost use Rattle.image_model.specs.declared.flags.TheConstants.{RECALCULATING};
 ghost use Rattle.image_model.specs.Superblock.{has_flag};
 ghost use Rattle.device_parts.specs.Device.{Ends, Standing};
 ghost use Rattle.device_parts.specs.declared.condition.Condition.TheVariants.{Working};
-ghost use Rattle.recalculation.specs.Recalculation.{HasFields, fields_left};
-ghost use Rattle.direct_device.specs.Answers.{HasFieldsThrough, WritesClose};
+ghost use Rattle.recalculation.specs.Recalculation.{HasFields, HasFieldsThrough, fields_left};
+ghost use Rattle.direct_device.specs.Answers.{WritesClose};
 ghost use Rattle.direct_device.specs.Device.{IsDirect, IsReady, in_direct, kept};
 
 use device_parts::Parts;
@@ -36,7 +36,7 @@ pub fn close<D: Disk>(
     ensures identity { D.identity disk.new ≡ D.identity disk.old }
 
     ensures heads { (w : Standing) → IsDirect w Working (kept parts.old recalculation.old) (D.moments disk.old)
-        → HasFieldsThrough w recalculation.old.position (fields_left recalculation.old)
+        → HasFieldsThrough w.on recalculation.old.position (fields_left recalculation.old)
         (D.moments disk.old) (D.moments disk.new) }
     ensures writes { WritesClose (has_flag RECALCULATING recalculation.old.position.flags) parts.old.tags.geometry
         (D.moments disk.old) (D.moments disk.new) }

@@ -3,10 +3,10 @@ ghost use Rattle.std.specs.Prelude.{◌≡◌, ◌<◌, IfOk};
 ghost use Rattle.disk_model.specs.Causes.{HasCause};
 ghost use Rattle.device_parts.specs.Answers.{StepsNext, actor_of};
 ghost use Rattle.device_parts.specs.declared.answers.Actor.TheVariants.{Recalc};
-ghost use Rattle.recalculation.specs.Recalculation.{fields_then};
+ghost use Rattle.recalculation.specs.Recalculation.{HasFieldsThrough, fields_next, fields_then};
 ghost use Rattle.device_parts.specs.Device.{Standing};
 ghost use Rattle.device_parts.specs.declared.condition.Condition.TheVariants.{Working};
-ghost use Rattle.direct_device.specs.Answers.{HasFieldsThrough, HasNoWork, WritesAs, fields_next, steps_left};
+ghost use Rattle.direct_device.specs.Answers.{HasNoWork, WritesAs, steps_left};
 ghost use Rattle.direct_device.specs.Device.{IsDirect, IsReady, in_direct, kept};
 
 use device_parts::{Actor, Moved, Parts};
@@ -42,7 +42,7 @@ pub fn step<D: Disk>(
     ensures slots { parts.new.slots ≡ parts.old.slots }
     ensures identity { D.identity disk.new ≡ D.identity disk.old }
     ensures heads { (w : Standing) → IsDirect w Working (kept parts.old recalculation.old) (D.moments disk.old)
-        → HasFieldsThrough w recalculation.old.position (fields_next recalculation.old)
+        → HasFieldsThrough w.on recalculation.old.position (fields_next recalculation.old)
         (D.moments disk.old) (D.moments disk.new) }
     ensures writes { WritesAs actor parts.old recalculation.old (D.moments disk.old) (D.moments disk.new) }
     ensures quiet { HasNoWork (actor_of actor) → disk.new ≡ disk.old }
@@ -76,7 +76,7 @@ fn recalculate<D: Disk>(
     ensures slots { parts.new.slots ≡ parts.old.slots }
     ensures identity { D.identity disk.new ≡ D.identity disk.old }
     ensures heads { (w : Standing) → IsDirect w Working (kept parts.old recalculation.old) (D.moments disk.old)
-        → HasFieldsThrough w recalculation.old.position (fields_next recalculation.old)
+        → HasFieldsThrough w.on recalculation.old.position (fields_next recalculation.old)
         (D.moments disk.old) (D.moments disk.new) }
     ensures writes { WritesAs Recalc parts.old recalculation.old (D.moments disk.old) (D.moments disk.new) }
 {

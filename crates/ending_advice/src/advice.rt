@@ -114,8 +114,8 @@ static ADVICE: [Advice; 29] = [
     },
     Advice {
         line: "fault image mode ",
-        text: "the image is of another mode. One with a bitmap is opened by --mode B, one with a journal by --mode J \
-            or D",
+        text: "the image has a bitmap: it is opened by --mode B, and read as it stands by --mode R. No command makes a \
+            journal of it yet",
     },
     Advice {
         line: "fault image consent ",

@@ -3,13 +3,15 @@ ghost use Rattle.std.specs.Prelude.{◌≡◌, ℕ, ◌<◌, IfOk, IsTrue, Some}
 ghost use Rattle.image_model.specs.Scan.{IsGrid, cell_number};
 ghost use Rattle.commit_id.specs.Grid.{as_grid};
 
-use commit_id::{Cell, Grid, Plan, Shape, State, id, number_of, scan};
+use commit_id::{Cell, Grid, Plan, ScanFault, Shape, State, id, number_of, scan};
 use std::alloc::Global;
 use std::process::Abort;
 use std::test::Fail;
 
 /// Cells in a row, so many times.
 type Run<'a> = (u64, &'a [Cell]);
+
+const ZERO: &[Cell] = &[Cell::Zero];
 
 const N0: &[Cell] = &[Cell::Number(0)];
 
@@ -45,8 +47,16 @@ fn is_grid(grid: &Grid) -> bool
         && grid.sections.checked_mul(grid.sectors) == Some(sectors)
 }
 
-/// The grid of a journal whose sectors bear these runs.
-fn grid_of(alloc: Global, sections: u64, sectors: u64, runs: &[Run]) -> Result<Grid, Fail>
+/// The grid of a journal whose sectors bear these runs, and of which a bitmap would take so many. `used_outside` tells
+/// whether an entry is used outside blank ones.
+fn grid_of(
+    alloc: Global,
+    sections: u64,
+    sectors: u64,
+    runs: &[Run],
+    bitmap: u64,
+    used_outside: bool,
+) -> Result<Grid, Fail>
     ensures { IfOk result (λ grid. IsGrid (as_grid grid)) }
 {
     let mut cells = Vec::new(alloc);
@@ -61,8 +71,8 @@ fn grid_of(alloc: Global, sections: u64, sectors: u64, runs: &[Run]) -> Result<G
         sections,
         sectors,
         cells,
-        bitmap: 0,
-        used_outside: false,
+        bitmap,
+        used_outside,
     };
     if is_grid(&grid) {
         Ok(grid)
@@ -112,7 +122,7 @@ fn ids_tell_their_place_and_their_number(rt: HostRuntime) {
     assert_eq!(rt; number_of(1, 5, 0), None);
 }
 
-/// Expects what the scan answers of a journal whose sectors bear these runs.
+/// Expects what the scan answers of a journal whose sectors bear these runs, and of which none would be a bitmap's.
 fn expect_scan(
     rt: &impl Abort,
     alloc: Global,
@@ -121,7 +131,7 @@ fn expect_scan(
     state: State,
     walk: [(u64, u64); 2],
 ) -> Result<(), Fail> {
-    let grid = grid_of(alloc, sections, sectors, runs)?;
+    let grid = grid_of(alloc, sections, sectors, runs, 0, false)?;
     assert_eq!(rt;
         scan(&grid),
         Ok(Plan { state, walk }),
@@ -158,6 +168,39 @@ fn journals_of_the_kernel_are_walked(rt: HostRuntime) -> Result<(), Fail> {
     ];
     for (runs, state, walk) in rows {
         expect_scan(&rt, rt.alloc(), (4, 88), runs, state, walk)?;
+    }
+    Ok(())
+}
+
+#[test]
+fn zero_sectors_are_blank_among_those_of_a_bitmap(rt: HostRuntime) -> Result<(), Fail> {
+    // The runs, how many sectors a bitmap would take, whether an entry is used outside, and the number where all is blank.
+    let rows: [(&[Run], u64, bool, Option<u8>); 7] = [
+        // A change to a bitmap of 8 sectors, cut after three of them.
+        (&[(3, ZERO), (85, N3)], 8, false, Some(3)),
+        // A change to a journal, cut before the bitmap's sectors are written.
+        (&[(8, ZERO), (80, N0)], 8, false, Some(0)),
+        // A bitmap that takes the whole journal.
+        (&[(88, ZERO)], 88, false, Some(0)),
+        (&[(3, ZERO), (85, N3)], 8, true, None),
+        (&[(9, ZERO), (79, N0)], 8, false, None),
+        (&[(3, ZERO), (84, N3), (1, N2)], 8, false, None),
+        (&[(3, ZERO), (85, N3)], 0, false, None),
+    ];
+    for (runs, bitmap, used_outside, number) in rows {
+        let grid = grid_of(rt.alloc(), 1, 88, runs, bitmap, used_outside)?;
+        let told = match number {
+            Some(number) => Ok(Plan {
+                state: State::Blank { number },
+                walk: [(0, 0), (0, 0)],
+            }),
+            None => Err(ScanFault::NoNumber {
+                section: 0,
+                sector: 0,
+                found: 0,
+            }),
+        };
+        assert_eq!(rt; scan(&grid), told, "{runs:?}, {bitmap}, {used_outside}");
     }
     Ok(())
 }

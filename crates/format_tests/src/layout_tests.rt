@@ -413,18 +413,18 @@ fn a_disk_without_room_for_eight_sectors_provides_none(rt: HostRuntime) -> Resul
 #[test]
 fn regions_have_a_bitmap_that_fits_the_journal(rt: HostRuntime) -> Result<(), Fail> {
     // The given log2_region, the provided sectors, the region of block 79, the regions, the sectors of
-    // their bitmap, and the log2_region with which this fits 88 sectors.
+    // their bitmap, the log2_region with which this fits 88 sectors, and the sectors that it takes then.
     let rows = [
-        (15, 80, 0, 1, 8, 15),
-        (4, 80, 4, 5, 8, 4),
-        (255, 80, 0, 1, 8, 255),
-        (64, 80, 0, 1, 8, 64),
-        (0, 327_680, 79, 327_680, 80, 0),
-        (0, 327_688, 79, 327_688, 88, 0),
-        (0, 360_448, 79, 360_448, 88, 0),
-        (0, 360_456, 79, 360_456, 96, 1),
+        (15, 80, 0, 1, 8, 15, 8),
+        (4, 80, 4, 5, 8, 4, 8),
+        (255, 80, 0, 1, 8, 255, 8),
+        (64, 80, 0, 1, 8, 64, 8),
+        (0, 327_680, 79, 327_680, 80, 0, 80),
+        (0, 327_688, 79, 327_688, 88, 0, 88),
+        (0, 360_448, 79, 360_448, 88, 0, 88),
+        (0, 360_456, 79, 360_456, 96, 1, 48),
     ];
-    for (log2_region, provided, region, regions, bitmap_sectors, fitting) in rows {
+    for (log2_region, provided, region, regions, bitmap_sectors, fitting, blanks) in rows {
         let fields = Super {
             log2_region,
             provided,
@@ -437,6 +437,7 @@ fn regions_have_a_bitmap_that_fits_the_journal(rt: HostRuntime) -> Result<(), Fa
         assert_eq!(rt; g.regions(), regions);
         assert_eq!(rt; g.bitmap_sectors(), bitmap_sectors);
         assert_eq!(rt; g.fitting_log2_region(), fitting);
+        assert_eq!(rt; g.blank_bound(), blanks);
     }
     Ok(())
 }

@@ -1,5 +1,5 @@
 -- What whole images show, and their lines, by computing.
-use Rattle.std.proofs.Common.{◌≡◌, ℕ, ◌-◌, ◌==◌, nat_lt, ◌||◌, if◌then◌else◌, refl, Ok, Err, List, ◌∷◌, ◌++◌, replicate, codes}
+use Rattle.std.proofs.Common.{◌≡◌, ℕ, ◌-◌, ◌+◌, ◌==◌, nat_lt, ◌&&◌, ◌||◌, if◌then◌else◌, refl, Ok, Err, List, ◌∷◌, ◌++◌, replicate, codes}
 use Rattle.std.specs.List.{repeat}
 use Rattle.std.specs.Fmt.{digits}
 use Rattle.hex.specs.Hex.{encode_with}
@@ -68,6 +68,16 @@ image_with flags number end sector =
 abbrev image_without : ℕ → Image
 image_without flags sector = if sector == 0 then first_sector flags 0x0f else replicate 512 0
 
+-- The image of commit number `number` with zeros in the place of the journal's first sectors, so many.
+abbrev image_zeroed : (number count : ℕ) → Image
+image_zeroed number count sector =
+    if nat_lt 7 sector && nat_lt sector (8 + count) then replicate 512 0 else image_with 0x8 number 88 sector
+
+-- The same with entries in sector 15 whose sectors' numbers are 0.
+abbrev image_used : (number count : ℕ) → Image
+image_used number count sector =
+    if sector == 15 then replicate 504 0 ++ bytes_of (commit_id 0 7 number) 8 else image_zeroed number count sector
+
 -- The same with a bitmap of this log2_region, whose first sector is this.
 abbrev image_with_bitmap : ℕ → List ℕ → Image
 image_with_bitmap log2_region bits sector =
@@ -89,6 +99,13 @@ dump_of-small = refl
 dump_of-cut : dump_of 256 (image_with 0x8 1 40) ≡ Ok (record small_dump { journal = State (Mixed 1) })
 unfolding superblock_of fields_in geometry_of sector_at tag_run_of walk_of_grid plan_of grid_with blank_bound bitmap_sectors_for regions_for fitting_log2_region is_used number_of id_in entry_size entries_per_sector section_entries section_sectors
 dump_of-cut = refl
+
+-- The journal was emptied to the number 3, and the first three of a bitmap's 8 sectors are zero; and the first two are zero in a
+-- new image. What stands in zero sectors is no entry.
+dump_of-blank : (dump_of 256 (image_zeroed 3 3) ≡ Ok (record small_dump { journal = State (Blank 3) }))
+    × (dump_of 256 (image_zeroed 0 2) ≡ Ok (record small_dump { journal = State (Blank 0) }))
+unfolding superblock_of fields_in geometry_of sector_at tag_run_of walk_of_grid plan_of grid_with blank_bound bitmap_sectors_for regions_for fitting_log2_region is_used number_of id_in entry_size entries_per_sector section_entries section_sectors
+dump_of-blank = (refl, refl)
 
 abbrev bitmap_dump : (log2_region set : ℕ) → Dump
 bitmap_dump log2_region set =
@@ -119,6 +136,12 @@ dump_of-too_small = refl
 dump_of-no_number : dump_of 256 (image_without 0x8) ≡ Err (Scan (NoNumber 0 0 0))
 unfolding superblock_of fields_in geometry_of sector_at tag_run_of walk_of_grid plan_of grid_with blank_bound bitmap_sectors_for regions_for fitting_log2_region is_used number_of id_in entry_size entries_per_sector section_entries section_sectors
 dump_of-no_number = refl
+
+-- Nor are they where a zero sector stands behind the bitmap's, or a used entry outside the zero ones.
+dump_of-not_blank : (dump_of 256 (image_zeroed 0 9) ≡ Err (Scan (NoNumber 0 0 0)))
+    × (dump_of 256 (image_used 0 2) ≡ Err (Scan (NoNumber 0 0 0)))
+unfolding superblock_of fields_in geometry_of sector_at tag_run_of walk_of_grid plan_of grid_with blank_bound bitmap_sectors_for regions_for fitting_log2_region is_used number_of id_in entry_size entries_per_sector section_entries section_sectors
+dump_of-not_blank = (refl, refl)
 
 -- ---- lines
 

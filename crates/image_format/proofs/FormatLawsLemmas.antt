@@ -14,8 +14,8 @@ use Rattle.place_model.specs.Format.{DiskFormat, format_on}
 use Rattle.place_model.proofs.FormatLemmas.{read_format_law}
 use Rattle.image_format.specs.declared.open_fault.OpenFault.{OpenFault}
 use Rattle.image_format.specs.declared.reading.ImageFormat.{ImageFormat}
-use Rattle.image_format.specs.Format.{disk_format, told_fields, format_with, format_by, format_of, in_bitmap_mode, in_direct_mode}
-use Rattle.image_format.specs.FormatLaws.{BitmapLaw, ReadLaw, DirectLaw}
+use Rattle.image_format.specs.Format.{disk_format, told_fields, format_with, format_by, format_of, in_direct_mode}
+use Rattle.image_format.specs.FormatLaws.{ReadLaw, DirectLaw}
 
 -- ---- read
 
@@ -49,19 +49,6 @@ clear-direct : (format : ImageFormat) → has_flag DIRTY_BITMAP format.fields.fl
 clear-direct format clear = rw clear refl
 
 -- ---- in bitmap mode
-
-bitmap-ok : (r : Result ImageFormat OpenFault) → IsOk (in_bitmap_mode r) → IsOk r
-bitmap-ok (Ok format) ok = refl
-bitmap-ok (Err fault) ok = ok
-
-bitmap-set : (format : ImageFormat) → IsOk (in_bitmap_mode (Ok format)) → has_flag DIRTY_BITMAP format.fields.flags ≡ true
-bitmap-set format ok = elim (cases_Bool (has_flag DIRTY_BITMAP format.fields.flags)) [
-  | inl set ↦ set
-  | inr clear ↦ absurd (true≢false (sym (rw clear at ok)))
-]
-
-set-bitmap : (format : ImageFormat) → has_flag DIRTY_BITMAP format.fields.flags ≡ true → IsOk (in_bitmap_mode (Ok format))
-set-bitmap format set = rw set refl
 
 -- No entry of a journal counts there.
 pub bitmap_openable : (key : Option (List ℕ)) (sectors : ℕ) (image : Image) (readable : IsReadable sectors image)
@@ -105,20 +92,4 @@ direct_law key sectors image = (
       let told = format_of-readable sectors image readable in
       let clear = ap flag_of (sym (own_format key sectors image readable)) ∙ opens.1 in
       subst (λ (r : Result ImageFormat OpenFault). IsOk (in_direct_mode r)) (sym told) (clear-direct format clear),
-)
-
-pub bitmap_law : BitmapLaw
-bitmap_law key sectors image = (
-  λ ok.
-      let readable = (read_law sectors image).0 (bitmap-ok (format_of sectors image) ok) in
-      let format : ImageFormat = record { fields = readable.superblock; geometry = readable.geometry } in
-      let told = format_of-readable sectors image readable in
-      let set = bitmap-set format (subst (λ (r : Result ImageFormat OpenFault). IsOk (in_bitmap_mode r)) told ok) in
-      (bitmap_openable key sectors image readable set, ap flag_of (own_format key sectors image readable) ∙ set),
-  λ opens.
-      let readable = opens.0.readable in
-      let format : ImageFormat = record { fields = readable.superblock; geometry = readable.geometry } in
-      let told = format_of-readable sectors image readable in
-      let set = ap flag_of (sym (own_format key sectors image readable)) ∙ opens.1 in
-      subst (λ (r : Result ImageFormat OpenFault). IsOk (in_bitmap_mode r)) (sym told) (set-bitmap format set),
 )

@@ -15,7 +15,7 @@ use Rattle.image_format.proofs.FormatLawsLemmas.{bitmap_openable}
 use Rattle.image_format.specs.declared.open_fault.OpenFault.{OpenFault}
 use Rattle.image_format.specs.declared.open_fault.OpenFault.TheVariants.{Super}
 use Rattle.image_format.specs.declared.reading.ImageFormat.{ImageFormat}
-use Rattle.image_format.specs.Format.{told_fields, fields_of, in_direct_mode, IsFormat, IsReadNow, IsBitmapNow, IsOpenedNow, disk_format, in_bitmap_mode}
+use Rattle.image_format.specs.Format.{told_fields, fields_of, in_direct_mode, IsFormat, IsReadNow, IsBitmapNow, IsOpenedNow, disk_format}
 
 -- Fields that are told are those of the superblock.
 told_fields-ok : (r : Result Superblock SuperFault) (s : Superblock) → told_fields r ≡ Ok s → r ≡ Ok s
@@ -62,27 +62,13 @@ opens_in_direct sectors format (Ok taken) moments is reads =
     λ key content told. subst (λ (f : ImageFormat). IsOpenedNow key sectors f content) (sym p.0) (opened_now key sectors format content (reads key content told) p.1)
 opens_in_direct sectors format (Err fault) moments is reads = tt
 
--- Where bitmap mode takes it,
-pub in_bitmap_mode-ok : (format taken : ImageFormat) → Ok taken ≡ in_bitmap_mode (Ok format) → (taken ≡ format) × (has_flag DIRTY_BITMAP format.fields.flags ≡ true)
-in_bitmap_mode-ok format taken told = elim (cases_Bool (has_flag DIRTY_BITMAP format.fields.flags)) [
-  | inl set ↦ (let accepted = rw set at told in cc, set)
-  | inr clear ↦ absurd (let refused = rw clear at told in cc)
-]
-
--- that opens it.
+-- Bitmap mode opens it where there is a bitmap.
 pub bitmap_now : (key : Option (List ℕ)) (sectors : ℕ) (format : ImageFormat) (c : Content) → IsReadNow key sectors format c → has_flag DIRTY_BITMAP format.fields.flags ≡ true
     → IsBitmapNow key sectors format c
 bitmap_now key sectors format c read set = record {
   read = read;
   opens = (
     bitmap_openable key sectors (last_image c) read.reads.readable (ap (λ (s : Superblock). has_flag DIRTY_BITMAP s.flags) read.reads.superblock ∙ set),
-    ap (λ (d : DiskFormat). has_flag DIRTY_BITMAP d.superblock.flags) read.own ∙ set,
+    tt,
   );
 }
-
-pub opens_in_bitmap : (sectors : ℕ) (format : ImageFormat) (r : Result ImageFormat OpenFault) (moments : List Content) → r ≡ in_bitmap_mode (Ok format)
-    → ((key : Option (List ℕ)) → HasNow (IsReadNow key sectors format) moments) → IfOk r (λ taken. (key : Option (List ℕ)) → HasNow (IsBitmapNow key sectors taken) moments)
-opens_in_bitmap sectors format (Ok taken) moments is reads =
-    let p = in_bitmap_mode-ok format taken is in
-    λ key content told. subst (λ (f : ImageFormat). IsBitmapNow key sectors f content) (sym p.0) (bitmap_now key sectors format content (reads key content told) p.1)
-opens_in_bitmap sectors format (Err fault) moments is reads = tt

@@ -1,2 +1,2 @@
-mod FormatLemmas
-mod FormatLawsLemmas
+pub mod FormatLemmas
+pub mod FormatLawsLemmas

@@ -52,17 +52,6 @@ in_direct_mode (Err fault) = Err fault
 abbrev pub direct_format_of : (sectors : ℕ) → Image → Result ImageFormat OpenFault
 direct_format_of sectors image = in_direct_mode (format_of sectors image)
 
--- The same, where bitmap mode is asked for: with a bitmap.
--- Source: Linux, drivers/md/dm-integrity.c, dm_integrity_ctr and SB_FLAG_DIRTY_BITMAP.
-abbrev pub in_bitmap_mode : Result ImageFormat OpenFault → Result ImageFormat OpenFault
-in_bitmap_mode (Ok format) =
-    if has_flag DIRTY_BITMAP format.fields.flags then Ok format else Err (Mode format.fields.flags)
-in_bitmap_mode (Err fault) = Err fault
-
--- What it tells bitmap mode.
-abbrev pub bitmap_format_of : (sectors : ℕ) → Image → Result ImageFormat OpenFault
-bitmap_format_of sectors image = in_bitmap_mode (format_of sectors image)
-
 -- ---- what is told
 
 -- Fields that are accepted, with their geometry on a disk of so many sectors.

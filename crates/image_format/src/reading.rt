@@ -3,10 +3,10 @@ ghost use Rattle.std.specs.Prelude.{◌≡◌, ◌≢◌, ℕ, Err, IfOk, List, 
 ghost use Rattle.disk_model.specs.Disk.{last_image};
 ghost use Rattle.disk_model.specs.Identity.{IsBound};
 ghost use Rattle.disk_model.specs.Moments.{HasNow};
-ghost use Rattle.image_model.specs.Superblock.{IsAccepted};
-ghost use Rattle.image_format.specs.Format.{HasDiskCause, IsBitmapFormat, IsBitmapNow, IsDirectFormat, IsFormat};
-ghost use Rattle.image_format.specs.Format.{IsOpenedNow, IsReadNow, bitmap_format_of, direct_format_of, fields_of};
-ghost use Rattle.image_format.specs.Format.{format_of, in_bitmap_mode, in_direct_mode};
+ghost use Rattle.image_model.specs.Superblock.{IsAccepted, has_flag};
+ghost use Rattle.image_model.specs.declared.flags.TheConstants.{DIRTY_BITMAP};
+ghost use Rattle.image_format.specs.Format.{HasDiskCause, IsDirectFormat, IsFormat, IsOpenedNow, IsReadNow};
+ghost use Rattle.image_format.specs.Format.{direct_format_of, fields_of, format_of, in_direct_mode};
 
 use crate::OpenFault;
 use image_model::DIRTY_BITMAP;
@@ -21,6 +21,17 @@ pub struct ImageFormat {
     pub fields: Super,
     /// Where all lies on the disk, by these fields.
     pub geometry: Geometry,
+}
+
+impl ImageFormat {
+    /// Whether there is a bitmap in the place of the journal.
+    ///
+    /// Source: Linux, `drivers/md/dm-integrity.c`, `SB_FLAG_DIRTY_BITMAP`.
+    pub fn has_bitmap(&self) -> bool
+        ensures { result ≡ has_flag DIRTY_BITMAP self.now.fields.flags }
+    {
+        self.fields.flags & DIRTY_BITMAP != 0
+    }
 }
 
 /// Reads what the first sector tells, whatever the mode. It writes nothing.
@@ -77,49 +88,12 @@ pub fn read_direct_format<D: Disk>(disk: &mut D) -> Result<ImageFormat, OpenFaul
     judge_direct(format)
 }
 
-/// Reads what the first sector tells bitmap mode. It writes nothing.
-///
-/// # Errors
-///
-/// The first that holds:
-///
-/// - `Disk`, `Super`, `Geom`: as `read_format` tells them.
-/// - `Mode`: there is no bitmap.
-pub fn read_bitmap_format<D: Disk>(disk: &mut D) -> Result<ImageFormat, OpenFault>
-    requires { IsBound (D.identity disk.old).name }
-
-    ensures format { IfOk result (IsBitmapFormat (D.identity disk.old).sectors) }
-    ensures opens { IfOk result (λ format. (key : Option (List ℕ)) → HasNow
-        (IsBitmapNow key (D.identity disk.old).sectors format) (D.moments disk.old)) }
-
-    ensures told { result ≢ Err OpenFault.Disk → HasNow (λ c. result
-        ≡ bitmap_format_of (D.identity disk.old).sectors (last_image c)) (D.moments disk.old) }
-    ensures cause { HasDiskCause (D.faults disk.old) (D.faults disk.new) result }
-
-    ensures identity { D.identity disk.new ≡ D.identity disk.old }
-    ensures kept { D.moments disk.new ≡ D.moments disk.old }
-{
-    let format = read_format(disk)?;
-    judge_bitmap(format)
-}
-
 /// The format, where direct mode opens it.
 fn judge_direct(format: ImageFormat) -> Result<ImageFormat, OpenFault>
     ensures { result ≡ in_direct_mode (Ok format) }
 {
-    let flags = format.fields.flags;
-    if flags & DIRTY_BITMAP != 0 {
-        return Err(OpenFault::Mode { flags });
-    }
-    Ok(format)
-}
-
-/// The format, where bitmap mode opens it.
-fn judge_bitmap(format: ImageFormat) -> Result<ImageFormat, OpenFault>
-    ensures { result ≡ in_bitmap_mode (Ok format) }
-{
-    let flags = format.fields.flags;
-    if flags & DIRTY_BITMAP == 0 {
+    if format.has_bitmap() {
+        let flags = format.fields.flags;
         return Err(OpenFault::Mode { flags });
     }
     Ok(format)

@@ -185,7 +185,7 @@ module _ (key : Option (List ℕ)) (sectors : ℕ) (new : NewImage) (provided : 
     })
 
     pub opens_in_bitmap : CanOpenIn InBitmap key sectors image
-    opens_in_bitmap = (opens_bitmap.openable, ap (λ (x : DiskFormat). has_flag DIRTY_BITMAP x.superblock.flags) reads.1 ∙ set)
+    opens_in_bitmap = (opens_bitmap.openable, tt)
 
   -- In either no entry counts,
   pub opens_any : OpensAs d image

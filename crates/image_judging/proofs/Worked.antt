@@ -78,8 +78,8 @@ has_dirty_region-behind_all = refl
 
 -- ---- no bitmap
 
--- An image with a journal is refused for its mode, whatever the consent.
-bitmap_fault_of-journal : bitmap_fault_of (Some key) Given 1024 (image_with 0x8 0x01) ≡ Some (ByFormat (Mode 0x8))
+-- Of an image with a journal the fields alone decide: under a key consent is asked for where tags are to be recalculated.
+bitmap_fault_of-journal : bitmap_fault_of (Some key) Withheld 1024 (image_with 0xa 0x01) ≡ Some (ByConsent 0xa)
 unfolding superblock_of fields_in geometry_of sector_at tag_run_of bitmap_sectors_for regions_for entry_size entries_per_sector section_entries section_sectors is_bit_set
 bitmap_fault_of-journal = refl
 

@@ -8,11 +8,13 @@ use Rattle.image_model.specs.Cells.{salt_of}
 use Rattle.image_model.specs.Geometry.{Geometry, regions}
 use Rattle.image_model.specs.Openable as model
 use Rattle.image_model.specs.Openable.{journal_fault_of}
+use Rattle.image_model.specs.Superblock.{has_flag}
+use Rattle.image_model.specs.declared.flags.TheConstants.{DIRTY_BITMAP}
 use Rattle.device_model.specs.Regions.{least_region}
 use Rattle.image_format.specs.declared.open_fault.OpenFault.{OpenFault}
 use Rattle.image_format.specs.declared.open_fault.OpenFault.TheVariants as FormatFaults
 use Rattle.image_format.specs.declared.reading.ImageFormat.{ImageFormat}
-use Rattle.image_format.specs.Format.{bitmap_format_of, direct_format_of}
+use Rattle.image_format.specs.Format.{direct_format_of, format_of}
 use Rattle.journal_reading.specs.declared.faults.ReplayFault.{ReplayFault}
 use Rattle.journal_reading.specs.declared.faults.ReplayFault.TheVariants as ReplayFaults
 use Rattle.journal_reading.specs.Faults.{as_fault}
@@ -81,18 +83,25 @@ fault_of key consent sectors image = direct_fault_by key consent image (direct_f
 abbrev pub has_dirty_region : Geometry → Image → Bool
 has_dirty_region g image = is_some (least_region (regions g) (is_dirty g image))
 
--- The fault of an image where bitmap mode is asked for, by what its first sector tells: of the format, and else want of
--- consent.
-abbrev pub bitmap_fault_by : (key : Option (List ℕ)) → Consent → Image → Result ImageFormat OpenFault
-    → Option ImageFault
-bitmap_fault_by key consent image (Ok format) =
+-- That of an image in this format that has a bitmap: want of consent, where some bit is set.
+abbrev pub dirty_fault : (key : Option (List ℕ)) → Consent → Image → ImageFormat → Option ImageFault
+dirty_fault key consent image format =
     if lacks_consent key consent (has_dirty_region format.geometry image)
     then Some (ByConsent format.fields.flags)
     else None
+
+-- The fault of an image where bitmap mode is asked for, by what its first sector tells: of the format; else with a bitmap
+-- want of consent; and with a journal, which is recovered first, what journal mode refuses.
+abbrev pub bitmap_fault_by : (key : Option (List ℕ)) → Consent → Image → Result ImageFormat OpenFault
+    → Option ImageFault
+bitmap_fault_by key consent image (Ok format) =
+    if has_flag DIRTY_BITMAP format.fields.flags
+    then dirty_fault key consent image format
+    else direct_fault_by key consent image (Ok format)
 bitmap_fault_by key consent image (Err fault) = Some (ByFormat fault)
 
 abbrev pub bitmap_fault_of : (key : Option (List ℕ)) → Consent → (sectors : ℕ) → Image → Option ImageFault
-bitmap_fault_of key consent sectors image = bitmap_fault_by key consent image (bitmap_format_of sectors image)
+bitmap_fault_of key consent sectors image = bitmap_fault_by key consent image (format_of sectors image)
 
 -- The fault of an image that an answer tells, if it tells one.
 abbrev pub fault_in : {T : Type 0} → Result T OpeningFault → Option ImageFault

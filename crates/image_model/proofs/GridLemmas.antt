@@ -1,5 +1,5 @@
 -- What the cells of an image's grid are.
-use Rattle.std.proofs.Common.{◌≡◌, inl, inr, ℕ, zero, suc, ◌+◌, ◌*◌, ◌/◌, ◌%◌, ◌^◌, ◌<◌, ◌≤◌, Bool, true, false, ◌==◌, if◌then◌else◌, refl, sym, ◌∙◌, ap, arith, Option, Some, None, List, [], ◌∷◌, length, map, get_or}
+use Rattle.std.proofs.Common.{◌≡◌, inl, inr, ℕ, zero, suc, ◌+◌, ◌*◌, ◌/◌, ◌%◌, ◌^◌, ◌<◌, ◌≤◌, true, ◌==◌, refl, sym, ◌∙◌, ap, arith, Option, Some, None, List, [], ◌∷◌, length, map, get_or}
 use Rattle.std.specs.List.{range_with_len, list_all}
 use Rattle.std.proofs.lemmas.Bool.{cases_Bool, cases_lt, and_parts, eqb-true}
 use Rattle.std.proofs.lemmas.List.{get_or_past}
@@ -7,9 +7,8 @@ use Rattle.std.proofs.lemmas.List.FromFn.{length-map-range_with_len, get_or-map-
 use Rattle.std.proofs.lemmas.Nat.{div-mul-add, mod-mul-add}
 use Rattle.std.proofs.lemmas.Option.{none-some}
 use Rattle.disk_model.specs.Disk.{Image}
-use Rattle.image_model.specs.declared.blanks.TheConstants.{BLANKS_COUNT}
 use Rattle.image_model.specs.CommitId.{id_in, number_of, commit_number}
-use Rattle.image_model.specs.Geometry.{Geometry, section_at, section_sectors, journal_sectors, bitmap_sectors_for, fitting_log2_region, IsGeometry}
+use Rattle.image_model.specs.Geometry.{Geometry, section_at, section_sectors, journal_sectors, IsGeometry}
 use Rattle.image_model.specs.Grid.{is_zero_sector, cell_by, sector_cell, grid_with, blank_bound, GridLaw}
 use Rattle.image_model.specs.Scan.{cell_at, cell_number, numbers_of}
 use Rattle.image_model.specs.declared.sector_cell.Cell.TheVariants.{Zero}
@@ -80,14 +79,10 @@ module _ (bitmap : ℕ) (g : Geometry) (image : Image) where
       ∙ ap (λ (x : ℕ). commit_number i x (image (8 + k))) (mod-mul-add i sectors j narrow)
       ∙ ap (λ (x : ℕ). commit_number i j (image x)) at
 
--- The bitmap would fit the journal, whether blanks count or not.
-if_then_zero : (b : Bool) (x n : ℕ) → x ≤ n → (if b then x else 0) ≤ n
-if_then_zero true x n le = le
-if_then_zero false x n le = omega arith
-
+-- The bitmap that fits is no longer than the journal.
 blank_bound-le : (g : Geometry) (sectors : ℕ) → IsGeometry g sectors → blank_bound g ≤ journal_sectors g
 unfolding blank_bound
-blank_bound-le g sectors is = if_then_zero BLANKS_COUNT (bitmap_sectors_for g.blocks (fitting_log2_region g)) (journal_sectors g) (fitting_log2_region_is g sectors is).fits
+blank_bound-le g sectors is = (fitting_log2_region_is g sectors is).fits
 
 -- The grid of an image is a grid, by the numbers of its sectors.
 pub grid_law : GridLaw

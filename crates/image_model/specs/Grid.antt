@@ -3,7 +3,6 @@
 use Rattle.std.specs.Prelude.{◌≡◌, ℕ, ◌<◌, ◌+◌, ◌*◌, ◌/◌, ◌%◌, ◌==◌, nat_lt, Bool, not, ◌&&◌, if◌then◌else◌, Option, Some, None, Result, List, map}
 use Rattle.std.specs.List.{range_with_len, list_all}
 use Rattle.disk_model.specs.Disk.{Image}
-use Rattle.image_model.specs.declared.blanks.TheConstants.{BLANKS_COUNT}
 use Rattle.image_model.specs.Below.{any_below}
 use Rattle.image_model.specs.CommitId.{id_in, commit_number}
 use Rattle.image_model.specs.Geometry.{Geometry, section_at, section_sectors, section_entries, journal_sectors, bitmap_sectors_for, fitting_log2_region, IsGeometry}
@@ -47,9 +46,9 @@ grid_with bitmap g image = record {
       any_below (section_entries g.shape) (is_used_outside bitmap g image section));
 }
 
--- How many sectors a bitmap would have: none where blanks do not count.
+-- How many sectors a bitmap that fits would have: among so many first ones of the journal a zero sector may be blank.
 unfoldable pub blank_bound : Geometry → ℕ
-blank_bound g = if BLANKS_COUNT then bitmap_sectors_for g.blocks (fitting_log2_region g) else 0
+blank_bound g = bitmap_sectors_for g.blocks (fitting_log2_region g)
 
 -- The grid of an image's journal.
 abbrev pub grid_of : Geometry → Image → Grid

@@ -3,7 +3,6 @@
 //! `specs/Superblock.antt` is the file to read first; `docs/FORMAT.md` leads through the others.
 #![tactic(auto)]
 
-mod blanks;
 mod flags;
 mod geom_fault;
 mod geometry_laws;
@@ -15,7 +14,6 @@ mod super_fields;
 mod superblock_laws;
 mod walk_laws;
 
-pub use blanks::BLANKS_COUNT;
 pub use flags::{
     DIRTY_BITMAP, FIXED_HMAC, FIXED_PADDING, HAVE_JOURNAL_MAC, INLINE, KNOWN_FLAGS, RECALCULATING,
 };

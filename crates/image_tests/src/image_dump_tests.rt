@@ -34,7 +34,7 @@ journal rest next 0 number 1
 /// The sectors of a section of the small image.
 const SECTORS: u64 = 88;
 
-/// The number of sector `k` of a journal with so many sectors of each number in turn. Others have none.
+/// The number of sector `k` of a journal with so many sectors of each number in turn. Others have none; 4 is none.
 fn number_at(runs: &[(u64, u8)], k: u64) -> Option<u8> {
     let mut left = k;
     for (count, number) in runs {
@@ -103,5 +103,20 @@ fn the_small_image_shows_16_lines(rt: HostRuntime) -> Result<(), Fail> {
     let mut disk = image(rt.alloc(), &[], 1, &[(88, 0)])?;
     let text = text_of(rt.alloc(), &mut disk)?;
     assert_eq!(rt; text.as_slice(), SMALL_TEXT.as_bytes());
+    Ok(())
+}
+
+#[test]
+fn a_blank_journal_is_told_with_its_number(rt: HostRuntime) -> Result<(), Fail> {
+    // The 8 sectors that a bitmap would take are zero.
+    let mut disk = image(rt.alloc(), &[], 1, &[(8, 4), (80, 3)])?;
+    let text = text_of(rt.alloc(), &mut disk)?;
+    assert!(rt;
+        text.as_slice()
+            .ends_with(b"\nblocks 80\njournal blank number 3\n")
+    );
+    // One more is.
+    let mut disk = image(rt.alloc(), &[], 1, &[(9, 4), (79, 3)])?;
+    assert!(rt; dump(rt.alloc(), &mut disk).is_err());
     Ok(())
 }

@@ -1,6 +1,6 @@
 //! A new image on a disk in memory.
 use hmac_tag::Hash;
-use image_format::{read_bitmap_format, read_direct_format};
+use image_format::{read_direct_format, read_format};
 use image_formatting::{ImageMode, NewImage, Padding, Wipe, format};
 use sector_disk::{Disk, Failed, MemDisk};
 use sha2::{Digest, Sha256};
@@ -136,7 +136,9 @@ fn a_bitmap_takes_the_first_sectors_of_the_journal(rt: HostRuntime) -> Result<()
         )?
     );
     assert!(rt; has(&mut disk, 96, 0, &tag_of_zeros(0, &[0; 512]))?);
-    assert_eq!(rt; read_bitmap_format(&mut disk)?.geometry.blocks(), 80);
+    let format = read_format(&mut disk)?;
+    assert!(rt; format.has_bitmap());
+    assert_eq!(rt; format.geometry.blocks(), 80);
     Ok(())
 }
 

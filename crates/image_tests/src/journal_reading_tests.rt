@@ -78,6 +78,43 @@ fn disk_with(alloc: Global, changes: &[(u64, usize, u8)]) -> Result<MemDisk, Fai
     Ok(disk)
 }
 
+/// Sector `j` of an empty section of this number, or of one where entry 79 stands in sector 7, of block 0.
+fn empty_sector(j: u64, number: u8, is_used: bool) -> [u8; 512] {
+    let mut bytes = [0; 512];
+    if j < 8 {
+        for n in 0..10 {
+            bytes[48 * n + 4..48 * n + 8].fill(0xff);
+        }
+    }
+    if is_used && j == 7 {
+        bytes[436..440].fill(0);
+    }
+    if j < JOURNAL && number < 4 {
+        bytes[504..].copy_from_slice(&id(0, j, number).to_le_bytes());
+    }
+    bytes
+}
+
+/// A disk with an empty journal of this number, or with that entry, and with zeros in the place of these of its sectors.
+fn blank_disk(
+    alloc: Global,
+    number: u8,
+    is_used: bool,
+    zeros: (u64, u64),
+) -> Result<MemDisk, Fail> {
+    let mut disk = MemDisk::new(alloc, SECTORS, JOURNAL)?;
+    for j in 0..JOURNAL {
+        let mut bytes = empty_sector(j, number, is_used);
+        if zeros.0 <= j && j < zeros.1 {
+            bytes.fill(0);
+        }
+        if disk.sectors() == SECTORS {
+            disk.write_run(8 + j, &bytes)?;
+        }
+    }
+    Ok(disk)
+}
+
 /// What a disk's journal is judged to be.
 fn judged(alloc: Global, disk: &mut MemDisk) -> Result<Result<JudgedJournal, ReplayFault>, Fail> {
     judge(&FIELDS)?;
@@ -101,5 +138,33 @@ fn an_entry_with_its_own_tag_may_be_replayed(rt: HostRuntime) -> Result<(), Fail
     assert_eq!(rt; journal.count, 1);
     assert_eq!(rt; journal.newest.newest(5), Some(0));
     assert_eq!(rt; journal.newest.newest(6), None);
+    Ok(())
+}
+
+#[test]
+fn a_journal_is_blank_where_zero_sectors_are_a_bitmaps(rt: HostRuntime) -> Result<(), Fail> {
+    // The number of the sectors, whether the entry is used, which sectors are zero, and the number where it is blank. A
+    // bitmap would take 8 sectors.
+    let rows = [
+        (0, false, (0, 2), Some(0)),
+        (3, false, (0, 3), Some(3)),
+        (2, false, (0, 8), Some(2)),
+        (1, false, (4, 5), Some(1)),
+        // The entry stands in a zero sector, and then outside of the zero ones.
+        (1, true, (7, 8), Some(1)),
+        (1, true, (6, 7), None),
+        // Sector 8 is none of a bitmap's.
+        (1, false, (0, 9), None),
+        (1, false, (8, 9), None),
+    ];
+    for (number, is_used, zeros, blank) in rows {
+        let mut disk = blank_disk(rt.alloc(), number, is_used, zeros)?;
+        let told = match judged(rt.alloc(), &mut disk)? {
+            Ok(journal) => Some(journal.plan.state),
+            Err(_) => None,
+        };
+        let wanted = blank.map(|number| State::Blank { number });
+        assert_eq!(rt; told, wanted, "number {number}, zeros {zeros:?}");
+    }
     Ok(())
 }

@@ -65,12 +65,12 @@ position_direct here device a b is fields =
 
 -- and so it does in journal mode.
 position_journal : (here : Standing) (device : JournalParts) (a b : List Content) → IsJournaled here Working device a
-    → HasFields (fields_left device.recalc) b → HasNow (HasPositionOf here.on.geometry here.state) b
+    → HasFields (fields_left device.recalculation) b → HasNow (HasPositionOf here.on.geometry here.state) b
 position_journal here device a b is fields =
     let works = is.over.works refl in
     let formed = works.stands.device.sound.formed in
     subst (λ (g : Geometry). HasNow (HasPositionOf g here.state) b) is.format.geometry
-    (position_left device.recalc is.disk.superblock is.disk.geometry here.state.progress.regions.awaiting works.recalc_ formed.no_bitmap
+    (position_left device.recalculation is.disk.superblock is.disk.geometry here.state.progress.regions.awaiting works.recalc_ formed.no_bitmap
     (λ region waits. let has = works.work region waits in (has.block, has.inside, has.is, has.to_recalculate))
     formed.is_geometry.spb.0 formed.is_geometry.blocks b fields)
 

@@ -1,5 +1,6 @@
 -- An exercise on a device with the close behind it; the same on a new image; and all of it behind the making.
 use Rattle.std.proofs.Common.{◌≡◌, ◌≢◌, ◌⊎◌, ◌↔◌, inl, inr, ℕ, ◌<◌, Bool, List, [], ◌++◌, codes, length, length-append, length-take, take, append-nil, arith, refl, sym, ◌∙◌, ap, subst, Option, Some, None, Result, Ok, Err, IfErr, OnOk}
+use Rattle.std.proofs.lemmas.Bool.{true≢false}
 use Rattle.std.proofs.lemmas.List.{take_all}
 use Rattle.std.proofs.lemmas.List.Sums.{fold-append}
 use Rattle.std.proofs.lemmas.Option.{none-some}
@@ -19,6 +20,7 @@ use Rattle.device_model.specs.ScriptRun.{ScriptRun, ScriptStep, changes_in, only
 use Rattle.device_model.proofs.ScriptLemmas.{history-after}
 use Rattle.image_model.specs.Geometry.{Geometry}
 use Rattle.image_model.specs.declared.geom_fault.GeomFault.{GeomFault}
+use Rattle.place_model.specs.Format.{format_on}
 use Rattle.place_model.specs.Kind.{CanOpenIn, kind_in}
 use Rattle.direct_laws.specs.MomentLaws.{IsLeftNow}
 use Rattle.image_formatting.specs.declared.format_fault.FormatFault.{FormatFault}
@@ -31,8 +33,9 @@ use Rattle.image_judging.specs.declared.opening_fault.OpeningFault.TheVariants a
 use Rattle.image_judging.specs.declared.consent.Consent.TheVariants.{Withheld}
 use Rattle.image_judging.specs.FaultLaws.{OpensLaw}
 use Rattle.image_judging.specs.Faults.{fault_in}
-use Rattle.device_opening.proofs.MomentsLemmas.{each_from}
+use Rattle.device_opening.proofs.MomentsLemmas.{each_from, now_told}
 use Rattle.script_text.proofs.ScriptRunLemmas.{came_into, run_is_whole}
+use Rattle.device.specs.Awaiting.{fields_of}
 use Rattle.device.specs.declared.mode.DeviceParts.{DeviceParts}
 use Rattle.device.specs.declared.opening.OpenMode.TheVariants as OpenModes
 use Rattle.device_parts.specs.Device.{HasEnded}
@@ -68,7 +71,7 @@ use Rattle.integrity_tool.specs.Running.{ending_by}
 use Rattle.integrity_tool.proofs.ClosingLemmas.{failed_close, since_event}
 use Rattle.integrity_tool.proofs.KeyLemmas.{ok_no_err}
 use Rattle.integrity_tool.proofs.MakingLemmas.{left_since}
-use Rattle.integrity_tool.proofs.HeadLemmas.{no_more_opened}
+use Rattle.integrity_tool.proofs.JudgedLemmas.{fields_on, tags_opened}
 use Rattle.integrity_tool.proofs.OpeningLemmas.{at_told, written_in}
 use Rattle.integrity_tool.proofs.RunningLemmas.{now_of, told_nothing}
 use Rattle.integrity_tool.proofs.StartLemmas.{before_kept, fine_exercise, left_at_start, nothing_run, refused_run, untouched_kept}
@@ -265,6 +268,9 @@ module _ (law : OpensLaw) (disk now : DiskIdentity) (count seed : ℕ) (a b : Li
   abbrev run : ScriptRun
   run = new_run disk.sectors count seed made
 
+  fields : (format_on None disk.sectors image).superblock ≡ fields_of image
+  fields = fields_on None disk.sectors image can.0.readable
+
   opening_each : EachMoment a b (IsMomentOfNew disk.sectors count seed made)
   opening_each =
       let left = leaves.left (at_told _ a made told can) in
@@ -276,13 +282,17 @@ module _ (law : OpensLaw) (disk now : DiskIdentity) (count seed : ℕ) (a b : Li
           opened = c;
           opening = inr both.1;
           behind = OnlyAdds-none (IsOfRun Modes.Journal g image (changes_in run.steps)) c;
-          tags = inr (no_more_opened g made c both.1);
+          tags = tags_opened None disk.sectors g run made c Modes.Journal both.1;
         };
         opens = both.0.0;
       })
       (EachMoment-both
       (EachMoment-both (each_from _ made told left.opens) (each_from _ made told left.left))
-      (written_in (OpenModes.Journal Withheld) None disk.sectors made told leaves.writes))
+      (written_in (OpenModes.Journal Withheld) None disk.sectors made fields told leaves.writes))
+
+  -- What stands once it is open is told.
+  pub opened_new : (c : Content) × (content_now b ≡ Some c)
+  opened_new = now_told opening_each made told
 
   left_opening : HasNow (IsLeftOfRun kind image made []) b
   left_opening =
@@ -327,17 +337,17 @@ module _ (law : OpensLaw) (disk now : DiskIdentity) (count seed : ℕ) (a b : Li
   module _ (counted : Result Tally Stop) (c : List Content)
       (exercised : IsExercised (new_standing disk.sectors made) count seed counted b c) where
     through : EachMoment b c (λ x. IsLeftWithin kind image (new_standing disk.sectors made).state.history
-        (exercise_changes (new_standing disk.sectors made) count seed) x × IsWrittenByRun Modes.Journal g run made x)
+        (exercise_changes (new_standing disk.sectors made) count seed) x × IsWrittenByRun kind image g run made x)
     through = EachMoment-both exercised.since (writes_behind (content_now b) refl)
       where
         opened_to : HasNow (IsOpenedTo Modes.Journal g made) b
         opened_to =
             content_at_end
-            (EachMoment-weaker (λ x of. inr of) (written_in (OpenModes.Journal Withheld) None disk.sectors made told leaves.writes))
+            (EachMoment-weaker (λ x of. inr of) (written_in (OpenModes.Journal Withheld) None disk.sectors made fields told leaves.writes))
             (at_told (IsOpenedTo Modes.Journal g made) a made told (inl refl))
 
         writes_behind : (opened : Option Content) → content_now b ≡ opened
-            → EachMoment b c (IsWrittenByRun Modes.Journal g run made)
+            → EachMoment b c (IsWrittenByRun kind image g run made)
         writes_behind None none = EachMoment-weaker (λ x from. absurd (rw none at from)) exercised.others.sectors
         writes_behind (Some opened) is =
             EachMoment-weaker
@@ -346,7 +356,7 @@ module _ (law : OpensLaw) (disk now : DiskIdentity) (count seed : ℕ) (a b : Li
               opening = opened_to opened is;
               behind = subst (λ (l : List Change). OnlyAdds (IsOfRun Modes.Journal g image l) opened x)
                   (sym (changes_run disk.sectors count seed made)) both.0;
-              tags = inr both.1;
+              tags = inr (inr (record { found = λ none. both.1; made = λ makes_one. absurd (true≢false (sym makes_one)) }));
             })
             (EachMoment-both (each_from _ opened is exercised.others.sectors) exercised.others.tags)
 

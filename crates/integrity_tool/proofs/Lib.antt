@@ -4,6 +4,7 @@ pub mod ClosedLemmas
 pub mod KeyLemmas
 pub mod LoopLemmas
 pub mod HeadLemmas
+pub mod JudgedLemmas
 pub mod OpeningLemmas
 pub mod ReopeningLemmas
 pub mod RunningLemmas
@@ -19,3 +20,4 @@ pub mod MakingLemmas
 pub mod ResizingLemmas
 pub mod PrintingLemmas
 pub mod TaskLemmas
+mod Worked

@@ -1,33 +1,38 @@
 -- The opening of a run: what it leaves and writes, whether a device is open then or not; and the run behind it.
-use Rattle.std.proofs.Common.{◌≡◌, ◌≢◌, inl, inr, ℕ, ◌<◌, List, length, refl, sym, ◌∙◌, ap, subst, arith, Option, Some, None, Result, Ok, Err, IfErr}
+use Rattle.std.proofs.Common.{◌≡◌, ◌≢◌, inl, inr, ℕ, ◌<◌, List, length, take, refl, sym, ◌∙◌, ap, subst, arith, Option, Some, None, Result, Ok, Err, IfErr}
+use Rattle.std.specs.List.{Any}
 use Rattle.std.specs.Option.{IsSomeAnd}
 use Rattle.std.proofs.lemmas.Option.{same_Some}
-use Rattle.disk_model.specs.Disk.{Content, Image, last_image}
+use Rattle.disk_model.specs.Disk.{Content, EachImage, Image, IsImage, OnlyAdds, last_image}
 use Rattle.disk_model.specs.Identity.{DiskIdentity}
 use Rattle.disk_model.specs.Moments.{content_now, EachMoment, HasNow}
 use Rattle.disk_model.proofs.DiskLemmas.{OnlyAdds-none}
 use Rattle.disk_model.proofs.MomentsLemmas.{EachMoment-kept, EachMoment-then, EachMoment-weaker, content_at_end}
 use Rattle.device_model.specs.Device.{DeviceKind}
 use Rattle.device_model.specs.Ending.{Ending, DiskFailed, NoMemory}
-use Rattle.device_model.specs.Mode as Modes
 use Rattle.device_model.proofs.HistoryLemmas.{Any-nil}
-use Rattle.device_model.specs.History.{with_changes}
+use Rattle.device_model.specs.Cut.{all_writes}
+use Rattle.device_model.specs.History.{BlockWrite, Change, History, with_changes}
 use Rattle.device_model.specs.ScriptRun.{ScriptRun, IsRunOf, changes_in}
 use Rattle.direct_laws.specs.MomentLaws.{IsLeftNow}
 use Rattle.image_model.specs.Geometry.{Geometry}
+use Rattle.image_model.specs.Openable.{IsReadable}
+use Rattle.place_model.specs.Format.{format_on}
 use Rattle.place_model.specs.Kind.{kind_in}
 use Rattle.image_judging.specs.declared.opening_fault.OpeningFault.{OpeningFault}
 use Rattle.image_judging.specs.declared.opening_fault.OpeningFault.TheVariants as OpeningFaults
 use Rattle.image_judging.specs.FaultLaws.{BitmapOpensLaw, OpensLaw}
 use Rattle.image_judging.specs.Faults.{ImageFault, fault_in}
-use Rattle.device_opening.proofs.MomentsLemmas.{each_from}
+use Rattle.device_opening.proofs.MomentsLemmas.{each_from, now_told}
 use Rattle.device.specs.declared.mode.DeviceParts.{DeviceParts}
 use Rattle.device.specs.declared.opening.OpenMode.{OpenMode}
 use Rattle.device.specs.declared.opening.OpenMode.TheVariants.{Bitmap, Direct, Journal, Recovery}
-use Rattle.device.specs.Device.{kind_by}
+use Rattle.device.specs.Awaiting.{fields_of}
+use Rattle.device.specs.Device.{IsDevice, kind_by, kind_of, mode_of}
 use Rattle.device.specs.Run.{IsLeftWithin}
 use Rattle.device.specs.Opening.{IsRefused, LeavesOpening, WritesInOpening, asked_mode, fault_in_mode}
-use Rattle.device_parts.specs.Device.{opened_standing}
+use Rattle.device_parts.specs.declared.condition.Condition.TheVariants.{Working}
+use Rattle.device_parts.specs.Device.{IsOfSameBlocks, Standing, opened_standing}
 use Rattle.device.specs.Tags.{AreOfOthers, IsLeftOut, KeepsStill, KeepsTagsOf}
 use Rattle.device.specs.Writes.{IsOfRun}
 use Rattle.device.proofs.TagsLemmas.{still_then, tags_fewer}
@@ -43,21 +48,28 @@ use Rattle.integrity_tool.specs.declared.closing.CloseFault.TheVariants as Close
 use Rattle.integrity_tool.specs.Calls.{LeavesUnread}
 use Rattle.integrity_tool.specs.Closing.{ended_close}
 use Rattle.integrity_tool.specs.Ends.{IsBeforeScript}
-use Rattle.integrity_tool.specs.Opening.{HasReadIn, HasRunOn, IsMomentOn, IsOfOpeningIn, IsOpenedTo, KeepsClearTags, WritesOnlyBy}
+use Rattle.integrity_tool.specs.Opening.{HasReadIn, HasRunOn, IsMomentOn, IsOfOpeningIn, IsOpenedTo, KeepsTagsBehind, WritesOnlyBy, geometry_of_device}
 use Rattle.integrity_tool.specs.Outset.{begun_on, geometry_on, outset_by, outset_on}
 use Rattle.integrity_tool.specs.Refusing.{ended_by_opening, ending_by_refusal}
 use Rattle.integrity_tool.specs.Running.{EndsScript, HasReadTo, IsStopped}
-use Rattle.integrity_tool.proofs.HeadLemmas.{no_more_opened}
+use Rattle.integrity_tool.proofs.JudgedLemmas.{bitmap_opening, fields_on, kind_opened, opened_writes, tags_found, tags_made, tags_opened, written_behind}
 use Rattle.integrity_tool.proofs.StartLemmas.{IsAsBefore, as_same, before_may_be_left, fine_on, nothing_run, of_run, refused_run, some_run, untouched_now, untouched_through}
 
 -- ---- modes that take writes, and recovery mode
 
--- A script runs on a device that takes writes, where the image has no fault, and that is of the mode's kind.
+-- A script runs on a device that takes writes, where the image has no fault, which can be read then, and that is of the
+-- mode's kind. What may be left of it, by the image by which it is judged, may be left by the one that was opened.
 pub record TakesWrites (mode : OpenMode) : Type 1 where
   pub begun : (kind : DeviceKind) (image : Image) → begun_on mode kind image ≡ RunsOn kind image
   pub kind_ : (key : Option (List ℕ)) (sectors : ℕ) → kind_by (asked_mode mode) key sectors ≡ kind_in (asked_mode mode) key sectors
   pub opens : OpensLaw → BitmapOpensLaw → (key : Option (List ℕ)) (sectors : ℕ) (image : Image)
       → fault_in_mode mode key sectors image ≡ None → (kind_in (asked_mode mode) key sectors).CanOpen image
+  pub reads : (key : Option (List ℕ)) (sectors : ℕ) (image : Image) → (kind_in (asked_mode mode) key sectors).CanOpen image
+      → IsReadable sectors image
+  pub judged : (key : Option (List ℕ)) (sectors : ℕ) (start made : Image) → IsOfSameBlocks (asked_mode mode) key sectors start made
+      → (h : History) (left : Image)
+      → (kind_in (asked_mode mode) key sectors).MayBeLeft (opened_standing (asked_mode mode) key sectors start made).entry h left
+      → (kind_in (asked_mode mode) key sectors).MayBeLeft start h left
 
 data Sort (mode : OpenMode) : Type 1 where
   Writing : TakesWrites mode → Sort mode
@@ -68,16 +80,22 @@ sort_of (Direct consent) = Writing (record {
   begun = λ kind image. refl;
   kind_ = λ key sectors. refl;
   opens = λ law bitmap key sectors image none. ((law key consent sectors image).0 none).0;
+  reads = λ key sectors image can. can.0.readable;
+  judged = λ key sectors start made same h left is. record { blocks = is.blocks ∙ same; left_is = is.left_is };
 })
 sort_of (Journal consent) = Writing (record {
   begun = λ kind image. refl;
   kind_ = λ key sectors. refl;
   opens = λ law bitmap key sectors image none. ((law key consent sectors image).0 none).0;
+  reads = λ key sectors image can. can.0.readable;
+  judged = λ key sectors start made same h left is. record { blocks = is.blocks ∙ same; left_is = is.left_is };
 })
 sort_of (Bitmap consent) = Writing (record {
   begun = λ kind image. refl;
   kind_ = λ key sectors. refl;
   opens = λ law bitmap key sectors image none. ((bitmap key consent sectors image).0 none).0;
+  reads = λ key sectors image can. can.0.readable;
+  judged = λ key sectors start made same h left is. record { blocks = is.blocks ∙ same; left_is = is.left_is };
 })
 sort_of Recovery = Reading refl
 
@@ -102,23 +120,17 @@ pub at_told : (P : Content → Type 0) (moments : List Content) (start : Content
     → HasNow P moments
 at_told P moments start told has c is = subst P (same_Some start c (sym told ∙ is)) has
 
--- What an opening writes, of each content since.
+-- What an opening writes, of each content since, of an image whose format has the fields of its first sector.
 pub written_in : (mode : OpenMode) (key : Option (List ℕ)) (sectors : ℕ) (start : Content) {a b : List Content}
+    → (format_on key sectors (last_image start)).superblock ≡ fields_of (last_image start)
     → content_now a ≡ Some start → WritesInOpening mode key sectors a b
     → EachMoment a b (IsOfOpeningIn (asked_mode mode) (geometry_on sectors (last_image start)) start)
-written_in (Direct consent) key sectors start told writes =
+written_in (Direct consent) key sectors start is told writes =
     EachMoment-both (each_from _ start told writes.recovers) (each_from _ start told writes.keeps)
-written_in (Journal consent) key sectors start told writes = each_from _ start told writes
-written_in (Bitmap consent) key sectors start told writes = each_from _ start told writes
-written_in Recovery key sectors start told kept = EachMoment-kept _ kept
-
--- An opening in bitmap mode writes nothing, so all tags stand; and none writes the first sector.
-tags_opened : (mode : Modes.Mode) (g : Geometry) (run : ScriptRun) (start opened : Content) → IsOfOpeningIn mode g start opened
-    → KeepsClearTags mode g run start opened
-tags_opened Modes.Bitmap g run start opened of = inl (inr of)
-tags_opened Modes.Journal g run start opened of = inr (no_more_opened g start opened of)
-tags_opened Modes.Direct g run start opened of = inr (no_more_opened g start opened of.0)
-tags_opened Modes.Recovery g run start opened of = inr tt
+written_in (Journal consent) key sectors start is told writes = each_from _ start told writes
+written_in (Bitmap consent) key sectors start is told writes =
+    EachMoment-weaker (bitmap_opening key sectors start is) (each_from _ start told writes)
+written_in Recovery key sectors start is told kept = EachMoment-kept _ kept
 
 -- ---- the opening
 
@@ -135,6 +147,15 @@ module _ (law : OpensLaw) (bitmap : BitmapOpensLaw) (mode : OpenMode) (key : Opt
 
   abbrev g : Geometry
   g = geometry_on disk.sectors image
+
+  -- An image that a device takes writes on has the fields of its first sector.
+  fields_same : TakesWrites mode → fault_in_mode mode key disk.sectors image ≡ None
+      → (format_on key disk.sectors image).superblock ≡ fields_of image
+  fields_same writing none = fields_on key disk.sectors image (writing.reads key disk.sectors image (writing.opens law bitmap key disk.sectors image none))
+
+  -- The geometry of the device that is opened on it.
+  abbrev on_geometry : Geometry
+  on_geometry = geometry_of_device kind image g
 
   module _ (leaves : LeavesOpening mode key disk now a b) where
     opening_still : mode ≡ Recovery → b ≡ a
@@ -168,10 +189,10 @@ module _ (law : OpensLaw) (bitmap : BitmapOpensLaw) (mode : OpenMode) (key : Opt
           (EachMoment-weaker (λ c of. record {
             opened = c;
             opening = inr of;
-            behind = OnlyAdds-none (IsOfRun (asked_mode mode) g image (changes_in run.steps)) c;
-            tags = tags_opened (asked_mode mode) g run start c of;
+            behind = OnlyAdds-none (IsOfRun (asked_mode mode) on_geometry image (changes_in run.steps)) c;
+            tags = tags_opened key disk.sectors g run start c (asked_mode mode) of;
           })
-          (written_in mode key disk.sectors start told leaves.writes))
+          (written_in mode key disk.sectors start (fields_same writing none) told leaves.writes))
       | Reading is ↦ EachMoment-kept _ (opening_still is)
     ]
     writes_by run (Some refusal) is = untouched_through start told (leaves.refused start told refusal is)
@@ -185,6 +206,10 @@ module _ (law : OpensLaw) (bitmap : BitmapOpensLaw) (mode : OpenMode) (key : Opt
         (EachMoment-both
         (EachMoment-weaker (before_may_be_left outset (of_run mode key disk.sectors image) start script) left_each)
         (writes_by run.0 (fault_in_mode mode key disk.sectors image) refl))
+
+    -- What stands at the end is told, too.
+    pub opened_content : (c : Content) × (content_now b ≡ Some c)
+    opened_content = now_told opening_moments start told
 
     -- ---- no device is open
 
@@ -220,7 +245,12 @@ module _ (law : OpensLaw) (bitmap : BitmapOpensLaw) (mode : OpenMode) (key : Opt
     module _ (none : fault_in_mode mode key disk.sectors image ≡ None) (run : ScriptRun) (ending : Ending) (after : List Content)
         (held_before held : Option (List ℕ))
         (is_run : IsRunOf (kind.format image) (kind.opened image) script run)
-        (stopped : IsStopped (opened_standing (asked_mode mode) key disk.sectors image) run ending b after held_before held) where
+        (made : Content) (told_made : content_now b ≡ Some made)
+        (reads : IsImage made (last_image made))
+        (parts : DeviceParts) (asked : mode_of parts.mode ≡ asked_mode mode)
+        (device : IsDevice (opened_standing (asked_mode mode) key disk.sectors image (last_image made)) Working parts b)
+        (same : IsOfSameBlocks (asked_mode mode) key disk.sectors image (last_image made))
+        (stopped : IsStopped (opened_standing (asked_mode mode) key disk.sectors image (last_image made)) run ending b after held_before held) where
       begins : outset ≡ begun_on mode kind image
       begins = ap (outset_by mode key disk.sectors image) none
 
@@ -250,18 +280,41 @@ module _ (law : OpensLaw) (bitmap : BitmapOpensLaw) (mode : OpenMode) (key : Opt
       -- ---- in the other modes
 
       module _ (writing : TakesWrites mode) where
+        abbrev w : Standing
+        w = opened_standing (asked_mode mode) key disk.sectors image (last_image made)
+
+        fields : (format_on key disk.sectors image).superblock ≡ fields_of image
+        fields = fields_same writing none
+
         is_outset : outset ≡ RunsOn kind image
         is_outset = begins ∙ writing.begun kind image
 
+        is_kind : kind_of w ≡ kind
+        is_kind = kind_opened (asked_mode mode) key disk.sectors image (last_image made) ∙ writing.kind_ key disk.sectors
+
+        -- What may be left by the image by which the device is judged may be left by the one at the start.
+        left_judged : (h : History) (c : Content) → EachImage (kind.MayBeLeft w.entry h) c → EachImage (kind.MayBeLeft image h) c
+        left_judged h c each left is = writing.judged key disk.sectors image (last_image made) same h left (each left is)
+
+        within_judged : (h : History) (changes : List Change) (c : Content) → IsLeftWithin kind w.entry h changes c
+            → IsLeftWithin kind image h changes c
+        within_judged h changes c within = record {
+          made = within.made;
+          opens = within.opens;
+          left = left_judged (with_changes (take within.made changes) h) c within.left;
+        }
+
         left_then : IsLeftNow kind image (with_changes stopped.changes (kind.opened image).history) after
         left_then =
-            subst (λ (k : DeviceKind). IsLeftNow k image (with_changes stopped.changes (kind.opened image).history) after)
-            (writing.kind_ key disk.sectors) stopped.now
+            let h = with_changes stopped.changes (kind.opened image).history in
+            let judged : IsLeftNow kind w.entry h after = subst (λ (k : DeviceKind). IsLeftNow k w.entry h after) is_kind stopped.now in
+            record { opens = judged.opens; left = λ c at. left_judged h c (judged.left c at) }
 
         left_since : EachMoment b after (IsLeftWithin kind image (kind.opened image).history (changes_in run.steps))
         left_since =
-            subst (λ (k : DeviceKind). EachMoment b after (IsLeftWithin k image (kind.opened image).history (changes_in run.steps)))
-            (writing.kind_ key disk.sectors) stopped.since
+            let h = (kind.opened image).history in
+            EachMoment-weaker (within_judged h (changes_in run.steps))
+            (subst (λ (k : DeviceKind). EachMoment b after (IsLeftWithin k w.entry h (changes_in run.steps))) is_kind stopped.since)
 
         ran : HasRunOn outset start script ending after held_before held
         ran =
@@ -286,24 +339,47 @@ module _ (law : OpensLaw) (bitmap : BitmapOpensLaw) (mode : OpenMode) (key : Opt
         opened_to : HasNow (IsOpenedTo (asked_mode mode) g start) b
         opened_to =
             content_at_end
-            (EachMoment-weaker (λ c of. inr of) (written_in mode key disk.sectors start told leaves.writes))
+            (EachMoment-weaker (λ c of. inr of) (written_in mode key disk.sectors start fields told leaves.writes))
             (at_told (IsOpenedTo (asked_mode mode) g start) a start told (inl refl))
 
         -- No block has a write where the device was opened, so the tags of those stand that the run does not write.
-        tags_behind : EachMoment b after (KeepsTagsOf (asked_mode mode) (AreOfOthers (changes_in run.steps)) g image)
-        tags_behind =
-            EachMoment-weaker
-            (tags_fewer (asked_mode mode) (IsLeftOut (kind.opened image).history (changes_in run.steps)) (AreOfOthers (changes_in run.steps)) g image
-            (λ block others. record { before = λ any. Any-nil (λ write. write.block ≡ block) any; since = others }))
-            stopped.others.tags
+        unwritten : (block : ℕ) → Any (λ write. write.block ≡ block) (all_writes (kind.opened image).history) → ⊥
+        unwritten block any =
+            Any-nil (λ write. write.block ≡ block)
+            (subst (λ (writes : List BlockWrite). Any (λ write. write.block ≡ block) writes)
+            (opened_writes (asked_mode mode) (format_on key disk.sectors image) image) any)
 
-        writes_behind : (opened : Option Content) → content_now b ≡ opened
-            → EachMoment b after (WritesOnlyBy (RunsOn kind image) g run start)
-        writes_behind None none = EachMoment-weaker (λ c from. absurd (rw none at from)) stopped.others.sectors
-        writes_behind (Some opened) is =
+        fewer_tags : (c : Content) → KeepsTagsOf (asked_mode mode) (IsLeftOut (kind.opened image).history (changes_in run.steps)) w.on.geometry w.entry c
+            → KeepsTagsOf (asked_mode mode) (AreOfOthers (changes_in run.steps)) w.on.geometry w.entry c
+        fewer_tags =
+            tags_fewer (asked_mode mode) (IsLeftOut (kind.opened image).history (changes_in run.steps)) (AreOfOthers (changes_in run.steps))
+            w.on.geometry w.entry (λ block others. record { before = unwritten block; since = others })
+
+        tags_by : (c : Content) → KeepsTagsOf (asked_mode mode) (AreOfOthers (changes_in run.steps)) w.on.geometry w.entry c
+            → KeepsTagsBehind kind image g run c
+        tags_by c keeps = record {
+          found = λ none_made.
+              tags_found key disk.sectors start fields (asked_mode mode) made (changes_in run.steps) (AreOfOthers (changes_in run.steps)) c none_made keeps;
+          made = λ makes_one.
+              tags_made key disk.sectors start fields (asked_mode mode) made parts b told_made reads asked device makes_one
+              (AreOfOthers (changes_in run.steps)) c keeps;
+        }
+
+        adds_by : (c : Content) → OnlyAdds (IsOfRun (asked_mode mode) w.on.geometry w.entry (changes_in run.steps)) made c
+            → OnlyAdds (IsOfRun (asked_mode mode) on_geometry image (changes_in run.steps)) made c
+        adds_by c =
+            written_behind key disk.sectors start fields (asked_mode mode) made (changes_in run.steps) (AreOfOthers (changes_in run.steps)) c
+
+        writes_behind : EachMoment b after (WritesOnlyBy (RunsOn kind image) g run start)
+        writes_behind =
             EachMoment-weaker
-            (λ c both. record { opened = opened; opening = opened_to opened is; behind = both.0; tags = inr both.1 })
-            (EachMoment-both (each_from _ opened is stopped.others.sectors) tags_behind)
+            (λ c both. record {
+              opened = made;
+              opening = opened_to made told_made;
+              behind = adds_by c both.0;
+              tags = inr (inr (tags_by c (fewer_tags c both.1)));
+            })
+            (EachMoment-both (each_from _ made told_made stopped.others.sectors) stopped.others.tags)
 
         ran_moments : EachMoment b after (IsMomentOn mode key disk.sectors start script)
         ran_moments =
@@ -316,7 +392,7 @@ module _ (law : OpensLaw) (bitmap : BitmapOpensLaw) (mode : OpenMode) (key : Opt
                 only = subst (λ (o : Outset). WritesOnlyBy o g run start c) (sym is_outset) both.1;
               };
             })
-            (EachMoment-both ran_through (writes_behind (content_now b) refl))
+            (EachMoment-both ran_through writes_behind)
 
       -- All of it is one of the command's runs.
       pub ran_on : HasRunOn outset start script ending after held_before held

@@ -17,6 +17,7 @@ use Rattle.device_model.specs.Regions.{least_region}
 use Rattle.device_model.specs.Script.{after_script, line_outcome}
 use Rattle.device_model.specs.ScriptBytes.{lines_of}
 use Rattle.command_model.specs.Exercise.{exercise_lines}
+use Rattle.place_model.specs.Changed.{opened_format}
 use Rattle.place_model.specs.Format.{DiskFormat, format_on, placed_on}
 use Rattle.place_model.specs.Kind.{kind_in}
 use Rattle.device_parts.specs.Device.{Standing}
@@ -78,8 +79,8 @@ IsClosedIn Bitmap d tag s c = HasBitsOf d.geometry s c
 IsClosedIn Direct d tag s c = HasPositionOf d.geometry s c
 IsClosedIn Recovery d tag s c = Unit {0}
 
--- So is each image left by the close of the device of this kind that opened an image in this format, behind the lines of
--- a script.
+-- So is each image left by the close of the device of this kind that opened an image, and left it in this format, behind
+-- the lines of a script.
 pub record IsClosedBehind (kind : DeviceKind) (image : Image) (d : DiskFormat) (script : List ℕ) (c : Content)
     : Type 0 where
   pub lines : List ReadLine
@@ -107,8 +108,8 @@ pub record IsClosedNew (sectors count seed : ℕ) (start c : Content) : Type 0 w
 abbrev pub IsClosedAt : Task → (key : Option (List ℕ)) → (sectors : ℕ) → (start : Content) → (script : List ℕ) → Content
     → Type 0
 IsClosedAt (Tasks.Run mode) key sectors start script c =
-    IsClosedBehind (kind_in (asked_mode mode) key sectors) (last_image start) (format_on key sectors (last_image start))
-    script c
+    IsClosedBehind (kind_in (asked_mode mode) key sectors) (last_image start)
+    (opened_format (asked_mode mode) (format_on key sectors (last_image start))) script c
 IsClosedAt Tasks.Dump key sectors start script c = Unit {0}
 IsClosedAt (Tasks.Check what) key sectors start script c = Unit {0}
 IsClosedAt Tasks.Salvage key sectors start script c = Unit {0}

@@ -68,7 +68,7 @@ ended_count (Err Stops.Memory) = Err Endings.Memory
 
 -- The device that has been opened on an image that was made.
 abbrev pub new_standing : (sectors : ℕ) → (made : Content) → Standing
-new_standing sectors made = opened_standing Journal None sectors (last_image made)
+new_standing sectors made = opened_standing Journal None sectors (last_image made) (last_image made)
 
 -- The run of the exercise on that.
 abbrev pub new_run : (sectors count seed : ℕ) → (made : Content) → ScriptRun
@@ -81,8 +81,8 @@ pub record IsMomentOfNew (sectors count seed : ℕ) (made later : Content) : Typ
   pub done : ℕ
   pub left : IsLeftOfRun (kind_in Journal None sectors) (last_image made) made
       (take done (exercise_changes (new_standing sectors made) count seed)) later
-  pub written : IsWrittenByRun Journal (geometry_on sectors (last_image made)) (new_run sectors count seed made)
-      made later
+  pub written : IsWrittenByRun (kind_in Journal None sectors) (last_image made) (geometry_on sectors (last_image made))
+      (new_run sectors count seed made) made later
   pub opens : EachImage (CanOpenIn Journal None sectors) later
 
 -- The exercise came so far on the image that was made, and so it is left. What ended it, if something did, is the disk or

@@ -1,15 +1,21 @@
 -- What the run of a script on an image tells and leaves.
-use Rattle.std.specs.Prelude.{◌≡◌, ◌⊎◌, ℕ, List, Option}
-use Rattle.disk_model.specs.Disk.{Content, OnlyAdds, last_image, newest_only}
+use Rattle.std.specs.Prelude.{◌≡◌, ◌⊎◌, ℕ, ◌<◌, Bool, true, false, if◌then◌else◌, List, Option}
+use Rattle.disk_model.specs.Disk.{Content, EachImage, Image, OnlyAdds, last_image}
 use Rattle.disk_model.specs.Moments.{HasNow}
 use Rattle.command_model.specs.CommandRun.{Exercising, Outset, RefusedBy, RunsOn, Prints, Makes, Exercises, ReadsOn, Changes, IsEndedBy, IsLeftAfter, IsRunAt, IsUntouched, MayBeLeftAt}
+use Rattle.device_model.specs.Device.{DeviceKind}
 use Rattle.device_model.specs.Ending.{Ending}
 use Rattle.device_model.specs.History.{Change}
-use Rattle.device_model.specs.Mode.{Mode, Bitmap, Direct, Journal, Recovery}
+use Rattle.device_model.specs.Mode.{Mode, Bitmap, Direct, Recovery}
 use Rattle.device_model.specs.ScriptRun.{ScriptRun, changes_in}
+use Rattle.image_model.specs.Cells.{Cell, placed_cells_of}
 use Rattle.image_model.specs.Geometry.{Geometry}
+use Rattle.image_model.specs.Superblock.{Superblock}
+use Rattle.place_model.specs.Changed.{bitmap_fields, makes_bitmap}
+use Rattle.device_opening.specs.Changing.{IsOfBitmapOpening}
 use Rattle.device_opening.specs.DirectOpening.{KeepsEmpty}
 use Rattle.device_opening.specs.Opening.{IsOfOpening}
+use Rattle.device.specs.Awaiting.{fields_of}
 use Rattle.device.specs.declared.opening.OpenMode.{OpenMode}
 use Rattle.device.specs.Tags.{AreOfOthers, KeepsTagsOf}
 use Rattle.device.specs.Writes.{IsOfRun}
@@ -33,10 +39,12 @@ pub record HasRunOn (outset : Outset) (start : Content) (script : List ℕ) (end
 
 -- The content comes by an opening in this mode: what was pending is settled, and behind that nothing is written but
 -- entries of the image's journal in their places, sectors of tags, and empty sections of the journal; in direct mode
--- sectors of tags alone where the journal was empty, and in bitmap mode nothing. In recovery mode it is as it was.
+-- sectors of tags alone where the journal was empty. In bitmap mode nothing is where the image has a bitmap; and a
+-- journal becomes one behind that: zeros stand in the bitmap's place, and then the first sector has its flag. In
+-- recovery mode it is as it was.
 abbrev pub IsOfOpeningIn : Mode → Geometry → (start opened : Content) → Type 0
 IsOfOpeningIn Direct g start opened = IsOfOpening g start opened × KeepsEmpty g start opened
-IsOfOpeningIn Bitmap g start opened = opened ≡ newest_only start
+IsOfOpeningIn Bitmap g start opened = IsOfBitmapOpening (fields_of (last_image start)) g start opened
 IsOfOpeningIn Recovery g start opened = opened ≡ start
 IsOfOpeningIn mode g start opened = IsOfOpening g start opened
 
@@ -44,35 +52,71 @@ IsOfOpeningIn mode g start opened = IsOfOpening g start opened
 abbrev pub IsOpenedTo : Mode → Geometry → (start opened : Content) → Type 0
 IsOpenedTo mode g start opened = (opened ≡ start) ⊎ IsOfOpeningIn mode g start opened
 
--- No sector was written; or in bitmap mode the tags stand in their places as in the image that was opened, of each block
--- that the run does not write, where its region's bit was clear in that image; and in journal and in direct mode no block
--- awaits its tag, by the fields of an image, that did not by those of the image that was opened. So no region is
--- recalculated but those whose bit was set, and no block but those that the position named.
-abbrev pub KeepsClearTags : Mode → Geometry → ScriptRun → (start later : Content) → Type 0
-KeepsClearTags mode g run start later =
-    IsUntouched start later ⊎ KeepsTagsOf mode (AreOfOthers (changes_in run.steps)) g (last_image start) later
+-- A device of this kind makes a bitmap of the journal of the image, as it opens it.
+abbrev pub makes_bitmap_of : DeviceKind → Image → Bool
+makes_bitmap_of kind image = makes_bitmap (kind.format image).mode (fields_of image)
 
--- What is written up to a moment of a run in this mode: in its opening what that may write; and then in direct mode
--- sectors of tags, and of the data of blocks that the run writes, in bitmap mode these and sectors of the bitmap, and in
--- journal mode sectors of the journal, of tags, and of the data of blocks; in direct and in journal mode the first sector
--- too, where the flag of tags that are to be recalculated is set in the image that was opened. Neither another sector of
--- the superblock, nor padding, nor a sector behind the data is ever among them.
-pub record IsWrittenByRun (mode : Mode) (g : Geometry) (run : ScriptRun) (start later : Content) : Type 0 where
+-- The geometry of a device in this mode: where the opening makes a bitmap, its regions are those that fit.
+abbrev pub opened_geometry : Mode → Superblock → Geometry → Geometry
+opened_geometry mode s g =
+    if makes_bitmap mode s then record g { log2_region = (bitmap_fields s).log2_region } else g
+
+-- The same of a device of this kind on an image with this geometry.
+abbrev pub geometry_of_device : DeviceKind → Image → Geometry → Geometry
+geometry_of_device kind image g = opened_geometry (kind.format image).mode (fields_of image) g
+
+-- In each image the tag of each of these blocks stands in its place as the block's cell has it.
+abbrev pub HasTagsBy : (Concerns : ℕ → Type 0) → Geometry → (cells : ℕ → Cell) → Content → Type 0
+HasTagsBy Concerns g cells c = EachImage (λ image. (b : ℕ) → b < g.blocks → Concerns b
+    → (placed_cells_of g image b).tag ≡ (cells b).tag) c
+
+-- In bitmap mode the tags stand in their places as in the image that was opened, of each block that the run does not
+-- write, where its region's bit was clear in that image; and where a bitmap was made of its journal, of each block
+-- that the run does not write, as the block's cell had it at the start. In journal and in direct mode no block awaits
+-- its tag, by the fields of an image, that did not by those of the image that was opened.
+pub record KeepsTagsBehind (kind : DeviceKind) (image : Image) (g : Geometry) (run : ScriptRun) (later : Content)
+    : Type 0 where
+  pub found : makes_bitmap_of kind image ≡ false
+      → KeepsTagsOf (kind.format image).mode (AreOfOthers (changes_in run.steps)) g image later
+  pub made : makes_bitmap_of kind image ≡ true
+      → HasTagsBy (AreOfOthers (changes_in run.steps)) (geometry_of_device kind image g)
+      (kind.opened image).history.base later
+
+-- Where an opening makes a bitmap of a journal, the content is the one that it has come to.
+abbrev pub IsAmidMaking : DeviceKind → Image → (opened later : Content) → Type 0
+IsAmidMaking kind image opened later = (makes_bitmap_of kind image ≡ true) × (later ≡ opened)
+
+-- No sector was written, or a bitmap is being made; or the tags are kept so. So no region is recalculated but those
+-- whose bit was set, none once a bitmap was made, and no block but those that the position named.
+abbrev pub KeepsClearTags : DeviceKind → Image → Geometry → ScriptRun → (start opened later : Content) → Type 0
+KeepsClearTags kind image g run start opened later =
+    IsUntouched start later ⊎ (IsAmidMaking kind image opened later ⊎ KeepsTagsBehind kind image g run later)
+
+-- What is written up to a moment of a run on a device of this kind, which has opened this image: in its opening what
+-- that may write; and then in direct mode sectors of tags, and of the data of blocks that the run writes, in bitmap
+-- mode these and sectors of the bitmap, and in journal mode sectors of the journal, of tags, and of the data of
+-- blocks; in direct and in journal mode the first sector too, where the flag of tags that are to be recalculated is
+-- set in the image that was opened. Neither another sector of the superblock, nor padding, nor a sector behind the
+-- data is ever among them.
+pub record IsWrittenByRun (kind : DeviceKind) (image : Image) (g : Geometry) (run : ScriptRun)
+    (start later : Content) : Type 0 where
   pub opened : Content
-  pub opening : IsOpenedTo mode g start opened
-  pub behind : OnlyAdds (IsOfRun mode g (last_image start) (changes_in run.steps)) opened later
-  pub tags : KeepsClearTags mode g run start later
+  pub opening : IsOpenedTo (kind.format image).mode g start opened
+  pub behind : OnlyAdds (IsOfRun (kind.format image).mode (geometry_of_device kind image g) image
+      (changes_in run.steps)) opened later
+  pub tags : KeepsClearTags kind image g run start opened later
 
--- The same behind the making of an image that is exercised: what a run in journal mode writes on that.
+-- The same behind the making of an image that is exercised: what a run on its device writes.
 pub record IsWrittenByExercise (e : Exercising) (run : ScriptRun) (start later : Content) : Type 0 where
   pub made : Content
   pub is_made : e.IsMade start made
-  pub written : IsWrittenByRun Journal (e.geometry (last_image made)) run made later
+  pub written : IsWrittenByRun e.kind (last_image made) (e.geometry (last_image made)) run made later
 
--- What was written, by what the command starts on. What the making of an image may leave tells which sectors it writes.
+-- What was written, by what the command starts on. What the making of an image may leave tells which sectors it
+-- writes.
 abbrev pub WritesOnlyBy : Outset → Geometry → ScriptRun → (start later : Content) → Type 0
 WritesOnlyBy (RefusedBy ending) g run start later = IsUntouched start later
-WritesOnlyBy (RunsOn kind image) g run start later = IsWrittenByRun (kind.format image).mode g run start later
+WritesOnlyBy (RunsOn kind image) g run start later = IsWrittenByRun kind image g run start later
 WritesOnlyBy (Prints texts found) g run start later = later ≡ start
 WritesOnlyBy (Makes making) g run start later = making.MayBeLeft start later
 WritesOnlyBy (Exercises exercising) g run start later =

@@ -51,19 +51,19 @@ told_then a b c told moments = subst IsTold (sym moments.grows) (told_behind mom
 -- ---- what a call keeps of a device that works
 
 -- The regions that await stay where a call of the journal tells the tags that its store gives then.
-pub working_then : (y z : JournalStanding) (awaiting : ℕ → Bool) (old new : PlacedRing) (recalc : Recalculation) (store last : Store) (a b : List Content) → z.disk.format ≡ y.disk.format
-    → IsWorking y awaiting old recalc store a → StandsAs z new last b → TagsPlaced y.disk z.disk store last a b → IsWorking z awaiting new recalc last b
-working_then y z awaiting old new recalc store last a b same is stands gives = record {
+pub working_then : (y z : JournalStanding) (awaiting : ℕ → Bool) (old new : PlacedRing) (recalculation : Recalculation) (store last : Store) (a b : List Content) → z.disk.format ≡ y.disk.format
+    → IsWorking y awaiting old recalculation store a → StandsAs z new last b → TagsPlaced y.disk z.disk store last a b → IsWorking z awaiting new recalculation last b
+working_then y z awaiting old new recalculation store last a b same is stands gives = record {
   stands = stands;
   keeps = placing_law y.disk z.disk awaiting (given_tags store) (given_tags last) a b same is.keeps gives (λ c told. stands.placed.cells.now c told);
   work = subst (λ (x : DiskFormat). AwaitsWork x awaiting) (sym same) is.work;
-  recalc_ = subst (λ (x : DiskFormat). IsRecalculationOf x.superblock x.geometry awaiting recalc) (sym same) is.recalc_;
+  recalc_ = subst (λ (x : DiskFormat). IsRecalculationOf x.superblock x.geometry awaiting recalculation) (sym same) is.recalc_;
   written = subst (λ (x : DiskFormat). CanBeWritten x.superblock) (sym same) is.written;
 }
 
 -- ---- an event that is done
 
-module _ (w : JournaledStanding) (condition : Condition) (parts : Parts) (journal : PlacedRing) (recalc : Recalculation) (a : List Content) (is : IsOverDisk w condition parts journal recalc a) where
+module _ (w : JournaledStanding) (condition : Condition) (parts : Parts) (journal : PlacedRing) (recalculation : Recalculation) (a : List Content) (is : IsOverDisk w condition parts journal recalculation a) where
   -- The disk has its own format.
   pub own_format : IsFormatOf w.disk.format w.disk.format
   own_format = own_format_law w.disk.format is.no_bitmap
@@ -102,21 +102,21 @@ module _ (w : JournaledStanding) (condition : Condition) (parts : Parts) (journa
       → IsFlightOf w.format new.slots (Model.after_event w.format w.state event).progress.requests → new.maker ≡ parts.maker → new.tags ≡ parts.tags
       → (Model.event_result w.format w.state event).progress.journal ≡ w.state.progress.journal
       → (Model.event_result w.format w.state event).progress.regions ≡ w.state.progress.regions
-      → (Model.after_event w.format w.state event).condition ≡ w.state.condition → IsAfter w event condition new journal recalc a a
+      → (Model.after_event w.format w.state event).condition ≡ w.state.condition → IsAfter w event condition new journal recalculation a a
   quiet_done event new none flight maker tags counts regions same =
       let history : w.state.history ≡ (Model.after_event w.format w.state event).history = sym (ap (λ (xs : List Change). with_changes xs w.state.history) none) in
-      done event w.disk condition new journal recalc a own_format flight maker (same ∙ is.condition_)
+      done event w.disk condition new journal recalculation a own_format flight maker (same ∙ is.condition_)
       (λ works.
-      subst (λ (h : History). IsWorking (record (standing_of (standing_then w event w.disk)) { history = h }) (awaiting_in (standing_then w event w.disk)) journal recalc new.tags a) history
-      (subst (λ (j : JournalCounts). IsWorking (record (standing_of w) { counts = j }) (awaiting_in (standing_then w event w.disk)) journal recalc new.tags a) (sym counts)
-      (subst (λ (c : RegionCounts). IsWorking (standing_of w) c.awaiting journal recalc new.tags a) (sym regions)
-      (subst (λ (x : Store). IsWorking (standing_of w) (awaiting_in w) journal recalc x a) (sym tags) (is.works works)))))
+      subst (λ (h : History). IsWorking (record (standing_of (standing_then w event w.disk)) { history = h }) (awaiting_in (standing_then w event w.disk)) journal recalculation new.tags a) history
+      (subst (λ (j : JournalCounts). IsWorking (record (standing_of w) { counts = j }) (awaiting_in (standing_then w event w.disk)) journal recalculation new.tags a) (sym counts)
+      (subst (λ (c : RegionCounts). IsWorking (standing_of w) c.awaiting journal recalculation new.tags a) (sym regions)
+      (subst (λ (x : Store). IsWorking (standing_of w) (awaiting_in w) journal recalculation x a) (sym tags) (is.works works)))))
       (record { opens = no_moment a _; left = no_moment a _ })
       (subst (λ (h : History). IsLeftNow (kind_on w.disk.format) w.entry h a) history is.left)
 
   -- So is one that only answers.
   pub only_done : (event : Model.Event) (answer : Model.Answer) → Model.event_result w.format w.state event ≡ Model.only_answers w.state.progress answer
-      → (Model.after_event w.format w.state event).condition ≡ w.state.condition → IsDoneOver w event answer condition parts journal recalc a a
+      → (Model.after_event w.format w.state event).condition ≡ w.state.condition → IsDoneOver w event answer condition parts journal recalculation a a
   only_done event answer told same = record {
     answers = ap (λ (x : Model.EventResult). x.answer) told;
     done = quiet_done event parts (ap (λ (x : Model.EventResult). x.changes) told)
@@ -126,14 +126,14 @@ module _ (w : JournaledStanding) (condition : Condition) (parts : Parts) (journa
 
 -- ---- a device that works
 
-module _ (w : JournaledStanding) (parts : Parts) (journal : PlacedRing) (recalc : Recalculation) (a : List Content) (is : IsOverDisk w Conditions.Working parts journal recalc a) where
+module _ (w : JournaledStanding) (parts : Parts) (journal : PlacedRing) (recalculation : Recalculation) (a : List Content) (is : IsOverDisk w Conditions.Working parts journal recalculation a) where
   abbrev f : DeviceFormat
   f = w.format
 
   abbrev s : Model.DeviceState
   s = w.state
 
-  pub works_now : IsWorking (standing_of w) (awaiting_in w) journal recalc parts.tags a
+  pub works_now : IsWorking (standing_of w) (awaiting_in w) journal recalculation parts.tags a
   works_now = is.works refl
 
   pub stands_now : StandsAs (standing_of w) journal parts.tags a
@@ -157,8 +157,8 @@ module _ (w : JournaledStanding) (parts : Parts) (journal : PlacedRing) (recalc 
       → IsAfter w event Conditions.Working new j r a b
   left_done event x told works d same new j r b flight maker working kept h within m =
       let now = subst (λ (y : DiskFormat). HasNow (EachImage (IsLeftInJournal y (with_changes x.changes s.history))) b) same (standing_now (standing_with x d) j new.tags b working.stands) in
-      done w Conditions.Working parts journal recalc a is event d Conditions.Working new j r b
-      (subst (IsFormatOf w.disk.format) (sym same) (own_format w Conditions.Working parts journal recalc a is))
+      done w Conditions.Working parts journal recalculation a is event d Conditions.Working new j r b
+      (subst (IsFormatOf w.disk.format) (sym same) (own_format w Conditions.Working parts journal recalculation a is))
       (subst (λ (y : Model.EventResult). IsFlightOf f new.slots y.progress.requests) (sym told) flight) maker works
       (λ _. subst (λ (y : Model.EventResult). IsWorking (standing_with y d) y.progress.regions.awaiting j r new.tags b) (sym told) working)
       (left_through w.disk.format w.entry is.opened is.no_bitmap f s event kept h (within ∙ ap (λ (y : Model.EventResult). with_changes (take kept y.changes) s.history) (sym told)) m)
@@ -171,11 +171,11 @@ module _ (w : JournaledStanding) (parts : Parts) (journal : PlacedRing) (recalc 
       → IsFlightOf f new.slots x.progress.requests → new.maker ≡ parts.maker → x.progress.regions.awaiting ≡ s.progress.regions.awaiting
       → StandsAs (standing_with x d) j new.tags b → TagsPlaced w.disk d parts.tags new.tags a b
       → (kept : ℕ) (h : History) → h ≡ with_changes (take kept x.changes) s.history → EachMoment a b (EachImage (IsLeftInJournal w.disk.format h))
-      → IsAfter w event Conditions.Working new j recalc a b
+      → IsAfter w event Conditions.Working new j recalculation a b
   working_done event x told works d same new j b flight maker awaiting stands gives kept h within m =
-      left_done event x told works d same new j recalc b flight maker
-      (subst (λ (regions : ℕ → Bool). IsWorking (standing_with x d) regions j recalc new.tags b) (sym awaiting)
-      (working_then (standing_of w) (standing_with x d) (awaiting_in w) journal j recalc parts.tags new.tags a b same works_now stands gives))
+      left_done event x told works d same new j recalculation b flight maker
+      (subst (λ (regions : ℕ → Bool). IsWorking (standing_with x d) regions j recalculation new.tags b) (sym awaiting)
+      (working_then (standing_of w) (standing_with x d) (awaiting_in w) journal j recalculation parts.tags new.tags a b same works_now stands gives))
       kept h within m
 
   -- All changes of an event are some of them.
@@ -197,7 +197,7 @@ module _ (w : JournaledStanding) (parts : Parts) (journal : PlacedRing) (recalc 
       → EachMoment a b (EachImage (IsLeftInJournal w.disk.format (with_changes x.changes s.history)))
       → IsAfter w event Conditions.Broken new j r a b
   broken_done event x told broken new j r b flight maker now m =
-      done w Conditions.Working parts journal recalc a is event w.disk Conditions.Broken new j r b (own_format w Conditions.Working parts journal recalc a is)
+      done w Conditions.Working parts journal recalculation a is event w.disk Conditions.Broken new j r b (own_format w Conditions.Working parts journal recalculation a is)
       (subst (λ (y : Model.EventResult). IsFlightOf f new.slots y.progress.requests) (sym told) flight) maker broken
       (λ same. not_working same) (ended_through event x told m)
       (subst (λ (y : Model.EventResult). IsLeftNow (kind_on w.disk.format) w.entry (with_changes y.changes s.history) b) (sym told)

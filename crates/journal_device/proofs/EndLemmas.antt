@@ -73,7 +73,7 @@ unset_fields r unset =
 
 -- ---- a close
 
-module _ (w : Standing) (parts : Parts) (journal : PlacedRing) (recalc : Recalculation) (a : List Content) (is : IsJournaled w Working (kept parts journal recalc) a) where
+module _ (w : Standing) (parts : Parts) (journal : PlacedRing) (recalculation : Recalculation) (a : List Content) (is : IsJournaled w Working (kept parts journal recalculation) a) where
   abbrev v : JournaledStanding
   v = standing_on w is.disk
 
@@ -81,11 +81,11 @@ module _ (w : Standing) (parts : Parts) (journal : PlacedRing) (recalc : Recalcu
   y = standing_of v
 
   pub closing_idle : w.state.history.pending ≡ None
-  closing_idle = idle_now (standing_on w is.disk) parts journal recalc a is.over
+  closing_idle = idle_now (standing_on w is.disk) parts journal recalculation a is.over
 
   -- The disk fails before the journal is closed.
   pub journal_failed : (b : List Content) → IsLeftThrough (standing_of (standing_on w is.disk)) a b → HasEnded in_journal w Model.FailedClose Model.DiskFailed a b
-  journal_failed b left = ended_on w is.disk is.format Model.FailedClose Model.DiskFailed a b (close_failed v parts journal recalc a is.over b left)
+  journal_failed b left = ended_on w is.disk is.format Model.FailedClose Model.DiskFailed a b (close_failed v parts journal recalculation a is.over b left)
 
   module _ (put : PlacedRing) (store : Store) (m : List Content) (closed : HasClosed (standing_of (standing_on w is.disk)) put parts.tags store a m) (free : IsAllFree put.ring)
       (left : IsLeftThrough (standing_of (standing_on w is.disk)) a m) where
@@ -94,21 +94,21 @@ module _ (w : Standing) (parts : Parts) (journal : PlacedRing) (recalc : Recalcu
 
     -- Nothing more is to be done without the flag.
     pub journal_ended : HasEnded in_journal w Model.Close Model.IsClosed a m
-    journal_ended = ended_on w is.disk is.format Model.Close Model.IsClosed a m (close_done v parts journal recalc a is.over (record parts { tags = store }) put m closed left)
+    journal_ended = ended_on w is.disk is.format Model.Close Model.IsClosed a m (close_done v parts journal recalculation a is.over (record parts { tags = store }) put m closed left)
 
-    pub working : IsWorking (with_disk closed.counts closed.disk (standing_of (standing_on w is.disk))) (awaiting_in (standing_on w is.disk)) put recalc store m
+    pub working : IsWorking (with_disk closed.counts closed.disk (standing_of (standing_on w is.disk))) (awaiting_in (standing_on w is.disk)) put recalculation store m
     working =
-        working_then y (with_disk closed.counts closed.disk y) (awaiting_in v) journal put recalc parts.tags store a m closed.format
-        (works_now v parts journal recalc a is.over) closed.committed closed.gives
+        working_then y (with_disk closed.counts closed.disk y) (awaiting_in v) journal put recalculation parts.tags store a m closed.format
+        (works_now v parts journal recalculation a is.over) closed.committed closed.gives
 
-    pub journal_placed : has_flag RECALCULATING recalc.position.flags ≡ false → IsAllPlaced w (fields_left recalc) m
+    pub journal_placed : has_flag RECALCULATING recalculation.position.flags ≡ false → IsAllPlaced w (fields_left recalculation) m
     journal_placed unset =
-        all_placed w closed.disk closed.counts put.ring (fields_left recalc) m same closed.committed.device closing_idle free.none_opened closed.settled
-        (sym working.recalc_.fields ∙ unset_fields recalc unset) (λ c told. (working.keeps c told).keeps.stands)
+        all_placed w closed.disk closed.counts put.ring (fields_left recalculation) m same closed.committed.device closing_idle free.none_opened closed.settled
+        (sym working.recalc_.fields ∙ unset_fields recalculation unset) (λ c told. (working.keeps c told).keeps.stands)
 
     -- ---- the position moves
 
-    module _ (set : HasPosition recalc.position) where
+    module _ (set : HasPosition recalculation.position) where
       abbrev d : JournaledDisk
       d = closed.disk
 
@@ -140,13 +140,13 @@ module _ (w : Standing) (parts : Parts) (journal : PlacedRing) (recalc : Recalcu
       before event = left_through is.disk.format w.entry is.over.opened is.over.no_bitmap w.format w.state event 0 w.state.history refl left
 
       -- The disk fails in that.
-      pub position_failed : (b : List Content) → SettlesPositionIn recalc store.geometry (given_tags store) m b → HasEnded in_journal w Model.FailedClose Model.DiskFailed a b
+      pub position_failed : (b : List Content) → SettlesPositionIn recalculation store.geometry (given_tags store) m b → HasEnded in_journal w Model.FailedClose Model.DiskFailed a b
       position_failed b through =
-          let cut = position_cut d awaiting recalc working.recalc_ working.written (given_tags store) m b working.keeps
-          (subst (λ (g : Geometry). SettlesPositionIn recalc g (given_tags store) m b) (sym there) through) in
+          let cut = position_cut d awaiting recalculation working.recalc_ working.written (given_tags store) m b working.keeps
+          (subst (λ (g : Geometry). SettlesPositionIn recalculation g (given_tags store) m b) (sym there) through) in
           let law = failed_close_law w.format w.state closed.counts d put.ring fields awaiting (given_tags store) w.entry m b closed.committed.device is_moved opened working.keeps cut in
           ended_on w is.disk is.format Model.FailedClose Model.DiskFailed a b (record {
-            answers = ap (λ (x : Model.EventResult). x.answer) (working-is v parts journal recalc a is.over Model.FailedClose);
+            answers = ap (λ (x : Model.EventResult). x.answer) (working-is v parts journal recalculation a is.over Model.FailedClose);
             through = left_then is.disk.format w.entry w.format w.state Model.FailedClose (before Model.FailedClose)
                 (subst (λ (x : DiskFormat). Moments.IsLeftThrough (kind_on x) w.entry w.format w.state Model.FailedClose m b) closed.format law.0);
             left = subst (λ (x : DiskFormat). IsLeftNow (kind_on x) w.entry (Model.after_event w.format w.state Model.FailedClose).history b) closed.format law.1;
@@ -154,25 +154,25 @@ module _ (w : Standing) (parts : Parts) (journal : PlacedRing) (recalc : Recalcu
 
       -- What is left where it goes through.
       abbrev Ending : List Content → Type 0
-      Ending b = HasEnded in_journal w Model.Close Model.IsClosed a b × IsAllPlaced w (fields_left recalc) b
+      Ending b = HasEnded in_journal w Model.Close Model.IsClosed a b × IsAllPlaced w (fields_left recalculation) b
 
-      pub position_ended : (new : Recalculation) (last : Store) (b : List Content) → SettlesPosition recalc new store.geometry (given_tags store) (given_tags last) m b → Ending b
+      pub position_ended : (new : Recalculation) (last : Store) (b : List Content) → SettlesPosition recalculation new store.geometry (given_tags store) (given_tags last) m b → Ending b
       position_ended new last b stepped =
           let now = given_tags last in
-          let steps = subst (λ (g : Geometry). SettlesPosition recalc new g (given_tags store) now m b) (sym there) stepped in
+          let steps = subst (λ (g : Geometry). SettlesPosition recalculation new g (given_tags store) now m b) (sym there) stepped in
           let between = steps.between in
           let law = settled_law d fields awaiting (given_tags store) now m between working.keeps steps.settles in
           let cut = cut_left_law w.format w.state Model.Close w.state.history closed.counts d put.ring fields w.entry m between (record { kept = 0; is = refl }) closed.committed.device is_moved opened law.0 in
           let so_far = left_then is.disk.format w.entry w.format w.state Model.Close (before Model.Close)
           (subst (λ (x : DiskFormat). Moments.IsLeftThrough (kind_on x) w.entry w.format w.state Model.Close m between) closed.format cut) in
-          by between (to_write recalc) refl law.1 law.3 so_far steps.moves
+          by between (to_write recalculation) refl law.1 law.3 so_far steps.moves
         where
           answers : (Model.event_result w.format w.state Model.Close).answer ≡ Model.IsClosed
-          answers = ap (λ (x : Model.EventResult). x.answer) (working-is v parts journal recalc a is.over Model.Close)
+          answers = ap (λ (x : Model.EventResult). x.answer) (working-is v parts journal recalculation a is.over Model.Close)
 
-          by : (between : List Content) (o : Option Superblock) → to_write recalc ≡ o → KeepsAwaitingNow closed.disk (awaiting_in (standing_on w is.disk)) (given_tags last) between
+          by : (between : List Content) (o : Option Superblock) → to_write recalculation ≡ o → KeepsAwaitingNow closed.disk (awaiting_in (standing_on w is.disk)) (given_tags last) between
               → IsSettledNow closed.disk.geometry (given_tags last) between → Moments.IsLeftThrough (kind_on is.disk.format) w.entry w.format w.state Model.Close a between
-              → HasMoved o closed.disk.geometry (given_tags last) recalc.position new.position between b → Ending b
+              → HasMoved o closed.disk.geometry (given_tags last) recalculation.position new.position between b → Ending b
           by between None some keeps settled so_far moved =
               let closed_law = close_law w.format w.state closed.counts d put.ring is.over.condition_ closing_idle closed.committed.device free.none_opened in
               let left_ = kept_left_law w.format (Model.after_event w.format w.state Model.Close).history closed.counts d put.ring w.entry awaiting (given_tags last) between closed_law opened keeps in
@@ -182,12 +182,12 @@ module _ (w : Standing) (parts : Parts) (journal : PlacedRing) (recalc : Recalcu
                   through = so_far;
                   left = subst (λ (x : DiskFormat). IsLeftNow (kind_on x) w.entry (Model.after_event w.format w.state Model.Close).history between) closed.format left_;
                 }),
-                all_placed w d closed.counts put.ring (fields_left recalc) between same closed.committed.device closing_idle free.none_opened closed.settled
-                    (sym working.recalc_.fields ∙ sym (ap (λ (x : Option Superblock). fields_or x recalc.position) some)) (λ c told. (keeps c told).keeps.stands),
+                all_placed w d closed.counts put.ring (fields_left recalculation) between same closed.committed.device closing_idle free.none_opened closed.settled
+                    (sym working.recalc_.fields ∙ sym (ap (λ (x : Option Superblock). fields_or x recalculation.position) some)) (λ c told. (keeps c told).keeps.stands),
               )
           by between (Some t) some keeps settled so_far moved =
-              let told = moved_if_some d.format awaiting recalc working.recalc_ t some in
-              let head = moves_head d.format awaiting recalc working.recalc_ (given_tags last) between b (subst (λ (x : Superblock). WritesFields d.geometry x (given_tags last) between b) told.0 moved.1) in
+              let told = moved_if_some d.format awaiting recalculation working.recalc_ t some in
+              let head = moves_head d.format awaiting recalculation working.recalc_ (given_tags last) between b (subst (λ (x : Superblock). WritesFields d.geometry x (given_tags last) between b) told.0 moved.1) in
               let law = close_calls_law w.format w.state closed.counts d put.ring awaiting (given_tags last) (given_tags last) w.entry between b is.over.condition_ closing_idle closed.committed.device free.none_opened
               opened position keeps settled head in
               let device = moved_device_law w.format w.state.history closed.counts d put.ring fields closed.committed.device is_moved in (
@@ -197,46 +197,46 @@ module _ (w : Standing) (parts : Parts) (journal : PlacedRing) (recalc : Recalcu
                       (subst (λ (x : DiskFormat). Moments.IsLeftThrough (kind_on x) w.entry w.format w.state Model.Close between b) closed.format law.2);
                   left = subst (λ (x : DiskFormat). IsLeftNow (kind_on x) w.entry (Model.after_event w.format w.state Model.Close).history b) closed.format law.3;
                 }),
-                all_placed w (moved_disk d awaiting) closed.counts put.ring (fields_left recalc) b
+                all_placed w (moved_disk d awaiting) closed.counts put.ring (fields_left recalculation) b
                     (moved_format_law w.on d.format awaiting fields same moves) device closing_idle free.none_opened closed.settled
-                    (sym told.0 ∙ sym (ap (λ (x : Option Superblock). fields_or x recalc.position) some)) (λ c told_c. (law.1 c told_c).keeps.stands),
+                    (sym told.0 ∙ sym (ap (λ (x : Option Superblock). fields_or x recalculation.position) some)) (λ c told_c. (law.1 c told_c).keeps.stands),
               )
 
 -- ---- for callers
 
-module _ (parts : Parts) (journal : PlacedRing) (recalc : Recalculation) (a : List Content) (put : PlacedRing) (store : Store) (m : List Content)
+module _ (parts : Parts) (journal : PlacedRing) (recalculation : Recalculation) (a : List Content) (put : PlacedRing) (store : Store) (m : List Content)
     (closes : (y : JournalStanding) → StandsAs y journal parts.tags a → y.history.pending ≡ None → HasClosed y put parts.tags store a m)
     (lefts : (y : JournalStanding) → StandsAs y journal parts.tags a → IsLeftThrough y a m) (free : IsAllFree put.ring) where
-  closed_as : (w : Standing) (is : IsJournaled w Working (kept parts journal recalc) a) → HasClosed (standing_of (standing_on w is.disk)) put parts.tags store a m
-  closed_as w is = closes (standing_of (standing_on w is.disk)) (stands_now (standing_on w is.disk) parts journal recalc a is.over) (idle_now (standing_on w is.disk) parts journal recalc a is.over)
+  closed_as : (w : Standing) (is : IsJournaled w Working (kept parts journal recalculation) a) → HasClosed (standing_of (standing_on w is.disk)) put parts.tags store a m
+  closed_as w is = closes (standing_of (standing_on w is.disk)) (stands_now (standing_on w is.disk) parts journal recalculation a is.over) (idle_now (standing_on w is.disk) parts journal recalculation a is.over)
 
-  left_as : (w : Standing) (is : IsJournaled w Working (kept parts journal recalc) a) → IsLeftThrough (standing_of (standing_on w is.disk)) a m
-  left_as w is = lefts (standing_of (standing_on w is.disk)) (stands_now (standing_on w is.disk) parts journal recalc a is.over)
+  left_as : (w : Standing) (is : IsJournaled w Working (kept parts journal recalculation) a) → IsLeftThrough (standing_of (standing_on w is.disk)) a m
+  left_as w is = lefts (standing_of (standing_on w is.disk)) (stands_now (standing_on w is.disk) parts journal recalculation a is.over)
 
   -- It ends with the journal where the flag is not set,
-  pub journal_ends : (w : Standing) → IsJournaled w Working (kept parts journal recalc) a → HasEnded in_journal w Model.Close Model.IsClosed a m
-  journal_ends w is = journal_ended w parts journal recalc a is put store m (closed_as w is) free (left_as w is)
+  pub journal_ends : (w : Standing) → IsJournaled w Working (kept parts journal recalculation) a → HasEnded in_journal w Model.Close Model.IsClosed a m
+  journal_ends w is = journal_ended w parts journal recalculation a is put store m (closed_as w is) free (left_as w is)
 
-  pub journal_places : has_flag RECALCULATING recalc.position.flags ≡ false → (w : Standing) → IsJournaled w Working (kept parts journal recalc) a → IsAllPlaced w (fields_left recalc) m
-  journal_places unset w is = journal_placed w parts journal recalc a is put store m (closed_as w is) free (left_as w is) unset
+  pub journal_places : has_flag RECALCULATING recalculation.position.flags ≡ false → (w : Standing) → IsJournaled w Working (kept parts journal recalculation) a → IsAllPlaced w (fields_left recalculation) m
+  journal_places unset w is = journal_placed w parts journal recalculation a is put store m (closed_as w is) free (left_as w is) unset
 
   -- and with the position where it is.
-  module _ (set : HasPosition recalc.position) (new : Recalculation) (last : Store) (b : List Content) where
+  module _ (set : HasPosition recalculation.position) (new : Recalculation) (last : Store) (b : List Content) where
     abbrev Settles : Type 0
-    Settles = SettlesPosition recalc new store.geometry (given_tags store) (given_tags last) m b
+    Settles = SettlesPosition recalculation new store.geometry (given_tags store) (given_tags last) m b
 
-    pub settle_ends : {T E : Type 0} (result : Result T E) → OnOk result (SettlesPosition recalc new store.geometry (given_tags store) (given_tags last) m b) → SettlesPositionIn recalc store.geometry (given_tags store) m b
-        → Ends in_journal (kept parts journal recalc) a b result
+    pub settle_ends : {T E : Type 0} (result : Result T E) → OnOk result (SettlesPosition recalculation new store.geometry (given_tags store) (given_tags last) m b) → SettlesPositionIn recalculation store.geometry (given_tags store) m b
+        → Ends in_journal (kept parts journal recalculation) a b result
     settle_ends (Ok done) settled through = record {
-      done = λ w is. (position_ended w parts journal recalc a is put store m (closed_as w is) free (left_as w is) set new last b settled).0;
+      done = λ w is. (position_ended w parts journal recalculation a is put store m (closed_as w is) free (left_as w is) set new last b settled).0;
       err = tt;
     }
     settle_ends (Err fault) settled through = record {
       done = tt;
-      err = λ w is. position_failed w parts journal recalc a is put store m (closed_as w is) free (left_as w is) set b through;
+      err = λ w is. position_failed w parts journal recalculation a is put store m (closed_as w is) free (left_as w is) set b through;
     }
 
-    pub settle_places : {T E : Type 0} (result : Result T E) → OnOk result (SettlesPosition recalc new store.geometry (given_tags store) (given_tags last) m b)
-        → OnOk result ((w : Standing) → IsJournaled w Working (kept parts journal recalc) a → IsAllPlaced w (fields_left recalc) b)
-    settle_places (Ok done) settled = λ w is. (position_ended w parts journal recalc a is put store m (closed_as w is) free (left_as w is) set new last b settled).1
+    pub settle_places : {T E : Type 0} (result : Result T E) → OnOk result (SettlesPosition recalculation new store.geometry (given_tags store) (given_tags last) m b)
+        → OnOk result ((w : Standing) → IsJournaled w Working (kept parts journal recalculation) a → IsAllPlaced w (fields_left recalculation) b)
+    settle_places (Ok done) settled = λ w is. (position_ended w parts journal recalculation a is put store m (closed_as w is) free (left_as w is) set new last b settled).1
     settle_places (Err fault) settled = tt

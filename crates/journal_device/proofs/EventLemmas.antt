@@ -38,7 +38,7 @@ use Rattle.journal_device.proofs.KindLemmas.{left_now, left_through, standing_no
 
 -- ---- a device that works
 
-module _ (w : JournaledStanding) (parts : Parts) (journal : PlacedRing) (recalc : Recalculation) (a : List Content) (is : IsOverDisk w Conditions.Working parts journal recalc a) where
+module _ (w : JournaledStanding) (parts : Parts) (journal : PlacedRing) (recalculation : Recalculation) (a : List Content) (is : IsOverDisk w Conditions.Working parts journal recalculation a) where
   abbrev f : DeviceFormat
   f = w.format
 
@@ -55,40 +55,40 @@ module _ (w : JournaledStanding) (parts : Parts) (journal : PlacedRing) (recalc 
       → Model.event_result f s (Model.Step actor) ≡ Model.only_answers (record s.progress { journal = counts }) Model.Did → d.format ≡ w.disk.format
       → new.slots ≡ parts.slots → new.maker ≡ parts.maker → StandsAs (record { format = f; history = s.history; counts = counts; disk = d }) p new.tags b
       → TagsPlaced w.disk d parts.tags new.tags a b → IsLeftThrough y a b
-      → IsDoneOver w (Model.Step actor) Model.Did Conditions.Working new p recalc a b
+      → IsDoneOver w (Model.Step actor) Model.Did Conditions.Working new p recalculation a b
   step_did actor counts d new p b told same slots maker stands gives m = record {
     answers = ap (λ (x : Model.EventResult). x.answer) told;
-    done = working_done w parts journal recalc a is (Model.Step actor) (Model.only_answers (record s.progress { journal = counts }) Model.Did) told is.condition_ d same new p b
+    done = working_done w parts journal recalculation a is (Model.Step actor) (Model.only_answers (record s.progress { journal = counts }) Model.Did) told is.condition_ d same new p b
         (subst (λ (x : Flight). IsFlightOf f x s.progress.requests) (sym slots) is.flight) maker refl stands gives 0 s.history refl m;
   }
 
   -- and one that found nothing to do.
   pub step_idle : (actor : Model.Actor) (new : Parts) (p : PlacedRing) (b : List Content) → Model.event_result f s (Model.Step actor) ≡ Model.only_answers s.progress Model.Idle
       → new.slots ≡ parts.slots → new.maker ≡ parts.maker → StandsAs y p new.tags b → TagsPlaced w.disk w.disk parts.tags new.tags a b → IsLeftThrough y a b
-      → IsDoneOver w (Model.Step actor) Model.Idle Conditions.Working new p recalc a b
+      → IsDoneOver w (Model.Step actor) Model.Idle Conditions.Working new p recalculation a b
   step_idle actor new p b told slots maker stands gives m = record {
     answers = ap (λ (x : Model.EventResult). x.answer) told;
-    done = working_done w parts journal recalc a is (Model.Step actor) (Model.only_answers s.progress Model.Idle) told is.condition_ w.disk refl new p b
+    done = working_done w parts journal recalculation a is (Model.Step actor) (Model.only_answers s.progress Model.Idle) told is.condition_ w.disk refl new p b
         (subst (λ (x : Flight). IsFlightOf f x s.progress.requests) (sym slots) is.flight) maker refl stands gives 0 s.history refl m;
   }
 
   -- One in which the disk fails leaves the history.
   pub step_failed : (actor : Model.Actor) (new : Parts) (p : PlacedRing) (b : List Content) → new.slots ≡ parts.slots → new.maker ≡ parts.maker → IsLeftThrough y a b
-      → IsAfter w (Model.FailedStep actor) Conditions.Broken new p recalc a b
+      → IsAfter w (Model.FailedStep actor) Conditions.Broken new p recalculation a b
   step_failed actor new p b slots maker m =
-      broken_done w parts journal recalc a is (Model.FailedStep actor) (Model.only_answers s.progress Model.DiskFailed) (working-is w parts journal recalc a is (Model.FailedStep actor)) (ap Model.after_failure is.condition_) new p recalc b
-      (subst (λ (x : Flight). IsFlightOf f x s.progress.requests) (sym slots) is.flight) maker (standing_now y journal parts.tags a (stands_now w parts journal recalc a is)) m
+      broken_done w parts journal recalculation a is (Model.FailedStep actor) (Model.only_answers s.progress Model.DiskFailed) (working-is w parts journal recalculation a is (Model.FailedStep actor)) (ap Model.after_failure is.condition_) new p recalculation b
+      (subst (λ (x : Flight). IsFlightOf f x s.progress.requests) (sym slots) is.flight) maker (standing_now y journal parts.tags a (stands_now w parts journal recalculation a is)) m
 
   -- What the journal has to do, in journal mode.
   pub journal_step : (actor : Model.Actor) (found : Option JournalCounts) → Model.step f s.progress actor ≡ Model.step_journal s.progress (Model.in_modes (is_journal f.mode) found)
       → (o : Option JournalCounts) → found ≡ o → Model.event_result f s (Model.Step actor) ≡ Model.step_journal s.progress o
   journal_step actor found steps o is_o =
-      working-is w parts journal recalc a is (Model.Step actor) ∙ steps ∙ ap (λ (x : DeviceFormat). Model.step_journal s.progress (Model.in_modes (is_journal x.mode) found)) is.format
+      working-is w parts journal recalculation a is (Model.Step actor) ∙ steps ∙ ap (λ (x : DeviceFormat). Model.step_journal s.progress (Model.in_modes (is_journal x.mode) found)) is.format
       ∙ ap (Model.step_journal s.progress) is_o
 
   -- What a commit, a place or a settle did.
   abbrev pub Steps : Model.Actor → Moved → Parts → PlacedRing → List Content → Type 0
-  Steps actor moved new p b = IsDoneOver w (Model.Step actor) (moved_answer (moved_as moved)) Conditions.Working new p recalc a b
+  Steps actor moved new p b = IsDoneOver w (Model.Step actor) (moved_answer (moved_as moved)) Conditions.Working new p recalculation a b
 
   -- A commit leaves the store.
   pub commit_step : (moved : Moved) (p : PlacedRing) (b : List Content) → CommitsAs moved y journal p parts.tags a b → IsLeftThrough y a b → Steps Model.Commit moved parts p b
@@ -114,19 +114,19 @@ module _ (w : JournaledStanding) (parts : Parts) (journal : PlacedRing) (recalc 
 
   -- A recalculation, by what it did.
   pub recalc_step : {A : Type 0} (moved : Moved) (new : Recalculation) (last : Store) (first final : A) (b : List Content) → last.geometry ≡ parts.tags.geometry
-      → HasStepped moved parts.maker recalc new parts.tags last first final a b → (moved ≡ JournalMoves.Idle → b ≡ a)
+      → HasStepped moved parts.maker recalculation new parts.tags last first final a b → (moved ≡ JournalMoves.Idle → b ≡ a)
       → IsDoneOver w (Model.Step Model.Recalc) (moved_answer (moved_as moved)) Conditions.Working (record parts { tags = last }) journal new a b
-  recalc_step JournalMoves.Did new last first final b same has still = recalc_did w parts journal recalc a is has.region has.least new last b same has.steps
+  recalc_step JournalMoves.Did new last first final b same has still = recalc_did w parts journal recalculation a is has.region has.least new last b same has.steps
   recalc_step JournalMoves.Idle new last first final b same has still =
       subst (λ (r : Recalculation). IsDoneOver w (Model.Step Model.Recalc) Model.Idle Conditions.Working (record parts { tags = last }) journal r a b) (sym has.recalc_)
-      (subst (λ (x : Store). IsDoneOver w (Model.Step Model.Recalc) Model.Idle Conditions.Working (record parts { tags = x }) journal recalc a b) (sym has.store_)
-      (subst (λ (m : List Content). IsDoneOver w (Model.Step Model.Recalc) Model.Idle Conditions.Working parts journal recalc a m) (sym (still refl)) (recalc_idle w parts journal recalc a is has.none)))
+      (subst (λ (x : Store). IsDoneOver w (Model.Step Model.Recalc) Model.Idle Conditions.Working (record parts { tags = x }) journal recalculation a b) (sym has.store_)
+      (subst (λ (m : List Content). IsDoneOver w (Model.Step Model.Recalc) Model.Idle Conditions.Working parts journal recalculation a m) (sym (still refl)) (recalc_idle w parts journal recalculation a is has.none)))
 
   -- The last actor has nothing to do.
-  pub clean_step : IsDoneOver w (Model.Step Model.Clean) Model.Idle Conditions.Working parts journal recalc a a
+  pub clean_step : IsDoneOver w (Model.Step Model.Clean) Model.Idle Conditions.Working parts journal recalculation a a
   clean_step =
-      only_done w Conditions.Working parts journal recalc a is (Model.Step Model.Clean) Model.Idle
-      (working-is w parts journal recalc a is (Model.Step Model.Clean)
+      only_done w Conditions.Working parts journal recalculation a is (Model.Step Model.Clean) Model.Idle
+      (working-is w parts journal recalculation a is (Model.Step Model.Clean)
       ∙ ap (λ (x : DeviceFormat). Model.step_regions s.progress (Model.in_modes (is_bitmap x.mode) (clean f.regions (Model.is_used f s.progress.requests) s.progress.regions))) is.format) refl
 
   -- ---- the end
@@ -134,12 +134,12 @@ module _ (w : JournaledStanding) (parts : Parts) (journal : PlacedRing) (recalc 
   -- All is flushed by a close.
   close_flushes : (Model.event_result w.format w.state Model.Close).changes ≡ Flushed ∷ []
   close_flushes =
-      ap (λ (x : Model.EventResult). x.changes) (working-is w parts journal recalc a is Model.Close) ∙ ap (λ (x : DeviceFormat). if is_recovery x.mode then [] else Flushed ∷ []) is.format
+      ap (λ (x : Model.EventResult). x.changes) (working-is w parts journal recalculation a is Model.Close) ∙ ap (λ (x : DeviceFormat). if is_recovery x.mode then [] else Flushed ∷ []) is.format
 
   -- Where it ends with the journal,
   pub close_done : (new : Parts) (p : PlacedRing) (b : List Content) → HasClosed y p parts.tags new.tags a b → IsLeftThrough y a b → EndsOver w Model.Close Model.IsClosed a b
   close_done new p b closed m = record {
-    answers = ap (λ (x : Model.EventResult). x.answer) (working-is w parts journal recalc a is Model.Close);
+    answers = ap (λ (x : Model.EventResult). x.answer) (working-is w parts journal recalculation a is Model.Close);
     through = left_through w.disk.format w.entry is.opened is.no_bitmap f s Model.Close 0 s.history refl m;
     left = subst (λ (xs : List Change). IsLeftNow (kind_on w.disk.format) w.entry (with_changes xs s.history) b) (sym close_flushes)
         (left_now w.disk.format w.entry is.opened is.no_bitmap (with_change s.history Flushed) b
@@ -150,12 +150,12 @@ module _ (w : JournaledStanding) (parts : Parts) (journal : PlacedRing) (recalc 
   -- and where the disk fails in that.
   pub close_failed : (b : List Content) → IsLeftThrough y a b → EndsOver w Model.FailedClose Model.DiskFailed a b
   close_failed b m =
-      let told = working-is w parts journal recalc a is Model.FailedClose in
+      let told = working-is w parts journal recalculation a is Model.FailedClose in
       record {
         answers = ap (λ (x : Model.EventResult). x.answer) told;
         through = left_through w.disk.format w.entry is.opened is.no_bitmap f s Model.FailedClose 0 s.history refl m;
         left = subst (λ (x : Model.EventResult). IsLeftNow (kind_on w.disk.format) w.entry (with_changes x.changes s.history) b) (sym told)
-            (left_now w.disk.format w.entry is.opened is.no_bitmap s.history b (content_at_end m (standing_now y journal parts.tags a (stands_now w parts journal recalc a is))));
+            (left_now w.disk.format w.entry is.opened is.no_bitmap s.history b (content_at_end m (standing_now y journal parts.tags a (stands_now w parts journal recalculation a is))));
       }
 
 -- ---- for callers
@@ -163,5 +163,5 @@ module _ (w : JournaledStanding) (parts : Parts) (journal : PlacedRing) (recalc 
 pub quiet_kept_law : QuietLaw
 quiet_kept_law w condition device flight moments event is none counts regions own same =
     let new : Parts = record device.parts { slots = flight } in
-    done_on w is.disk is.format event condition new device.journal device.recalc moments moments
-    (quiet_done (standing_on w is.disk) condition device.parts device.journal device.recalc moments is.over event new none own refl refl counts regions same)
+    done_on w is.disk is.format event condition new device.journal device.recalculation moments moments
+    (quiet_done (standing_on w is.disk) condition device.parts device.journal device.recalculation moments is.over event new none own refl refl counts regions same)

@@ -1,8 +1,7 @@
 -- Which fields each image has at each moment of a step and of a close, and which sectors are written in a step.
 use Rattle.std.proofs.Common.{◌≡◌, inl, inr, ℕ, ◌==◌, Bool, true, false, if◌then◌else◌, refl, sym, ◌∙◌, ap, subst, Option, Some, None, List}
 use Rattle.std.proofs.lemmas.Option.{none-some}
-use Rattle.disk_model.specs.Disk.{Content, OnlyAdds}
-use Rattle.disk_model.specs.Moments.{EachSince}
+use Rattle.disk_model.specs.Disk.{Content}
 use Rattle.disk_model.proofs.MomentsLemmas.{EachMoment-kept, EachMoment-then, EachMoment-weaker, no_moment}
 use Rattle.image_model.specs.Geometry.{Geometry}
 use Rattle.image_model.specs.Superblock.{Superblock}
@@ -13,14 +12,12 @@ use Rattle.journal_model.specs.JournaledDisk.{JournaledDisk}
 use Rattle.journal_ring.specs.declared.ring.Moved.{Moved}
 use Rattle.journal_ring.specs.declared.ring.Moved.TheVariants.{Did, Idle}
 use Rattle.recalculate_laws.specs.Calls.{IsCutThrough}
-use Rattle.recalculate_laws.specs.Formats.{IsFormatOf, under_fields}
+use Rattle.recalculate_laws.specs.Formats.{IsFormatOf}
 use Rattle.recalculate_laws.specs.Position.{moved_fields}
-use Rattle.recalculate_laws.proofs.AwaitsLemmas.{moved_same_law}
 use Rattle.recalculation.specs.declared.recalculating.Recalculation.{Recalculation}
-use Rattle.recalculation.specs.Awaiting.{awaiting_of}
 use Rattle.recalculation.specs.Position as Positions
 use Rattle.recalculation.specs.Position.{HasMoved, MovesIn}
-use Rattle.recalculation.specs.Recalculation.{IsOfTagsOrHead, IsRecalculationOf, Moving, SettlesPosition, SettlesPositionIn, StepsPositionIn, Taken, fields_left, fields_or, next_of, to_write}
+use Rattle.recalculation.specs.Recalculation.{HasFieldsThrough, Moving, SettlesPosition, SettlesPositionIn, StepsPositionIn, Taken, fields_behind, fields_left, fields_next, fields_or, next_of, to_write}
 use Rattle.tag_store.specs.Store.{Store, given_tags}
 use Rattle.hmac_tag.specs.TagMaker.{TagRule}
 use Rattle.device_parts.specs.declared.condition.Condition.TheVariants.{Working}
@@ -29,26 +26,20 @@ use Rattle.device_parts.specs.Device.{Standing}
 use Rattle.journal_mode.specs.Closing.{HasClosed, IsAllFree}
 use Rattle.journal_mode.specs.Journal.{PlacedRing}
 use Rattle.journal_mode.specs.Standing.{IsLeftThrough, JournalStanding, StandsAs}
-use Rattle.journal_device.specs.Answers.{HasFieldsThrough, WritesMove, WritesRegion, fields_behind, fields_next}
+use Rattle.journal_device.specs.Answers.{WritesMove}
 use Rattle.journal_device.specs.Device.{IsJournaled, awaiting_in, kept, standing_of, standing_on}
 use Rattle.journal_device.specs.Recalculating.{HasStepped, StepsRegion, StepsRegionIn}
 use Rattle.journal_device.proofs.CutLemmas.{has_position, position_cut, unmoved_cut}
 use Rattle.journal_device.proofs.DoneLemmas.{idle_now, stands_now, works_now}
 use Rattle.journal_device.proofs.EndLemmas.{working}
 use Rattle.journal_device.proofs.RecalcLemmas.{step_cut}
+use Rattle.recalculation.proofs.FieldsLemmas.{behind_is, under_is}
 
 -- ---- which fields
 
--- A format of the device, under some fields, is the device's own under these.
-under_is : (on d : DiskFormat) (s : Superblock) → IsFormatOf on d → under_fields d s ≡ under_fields on s
-under_is on d s same =
-    ap (λ (key : Option (List ℕ)). let f : DiskFormat = record { key = key; sectors = d.sectors; superblock = s; geometry = d.geometry } in f) same.key
-    ∙ ap (λ (sectors : ℕ). let f : DiskFormat = record { key = on.key; sectors = sectors; superblock = s; geometry = d.geometry } in f) same.sectors
-    ∙ ap (λ (g : Geometry). let f : DiskFormat = record { key = on.key; sectors = on.sectors; superblock = s; geometry = g } in f) same.geometry
-
 module _ (w : Standing) (d : JournaledDisk) (new : Superblock) (same : IsFormatOf w.on d.format) where
   -- What a cut leaves is read under the old fields, or under the new ones,
-  cut_fields : {a b : List Content} → IsCutThrough d new a b → HasFieldsThrough w d.superblock new a b
+  cut_fields : {a b : List Content} → IsCutThrough d new a b → HasFieldsThrough w.on d.superblock new a b
   cut_fields cut = EachMoment-weaker (λ c each image of. elim (each image of) [
     | inl old ↦ inl (subst (λ (f : DiskFormat). IsReadAs f image) (under_is w.on d.format d.superblock same) (record {
       readable = old.opens.openable.readable;
@@ -63,22 +54,12 @@ module _ (w : Standing) (d : JournaledDisk) (new : Superblock) (same : IsFormatO
   ]) cut
 
   -- and what a call of the journal leaves under the old ones.
-  left_fields : (y : JournalStanding) → y.disk ≡ d → {a b : List Content} → IsLeftThrough y a b → HasFieldsThrough w d.superblock new a b
+  left_fields : (y : JournalStanding) → y.disk ≡ d → {a b : List Content} → IsLeftThrough y a b → HasFieldsThrough w.on d.superblock new a b
   left_fields y is left = EachMoment-weaker (λ c each image of.
       let opens = (each image of).opens in
       inl (subst (λ (f : DiskFormat). IsReadAs f image)
       (ap (λ (x : JournaledDisk). x.format) is ∙ under_is w.on d.format d.superblock same)
       (record { readable = opens.openable.readable; superblock = opens.superblock; geometry = opens.geometry }))) left
-
--- The fields behind a region are those of the disk, moved to what awaits then.
-behind_is : (d : DiskFormat) (awaiting : ℕ → Bool) (r : Recalculation) → IsRecalculationOf d.superblock d.geometry awaiting r → (region : ℕ)
-    → fields_behind (Some region) r ≡ moved_fields d.superblock d.geometry (with_region region false awaiting)
-behind_is d awaiting r own region =
-    let set = with_region region false (awaiting_of r.awaiting) in
-    ap (λ (s : Superblock). moved_fields s r.awaiting.geometry set) own.fields
-    ∙ ap (λ (g : Geometry). moved_fields d.superblock g set) own.geometry
-    ∙ moved_same_law d.superblock d.geometry set (with_region region false awaiting)
-    (λ other low. ap (λ (t : Bool). if other == region then false else t) (own.regions_ other low))
 
 -- ---- how far a call came that went through
 
@@ -102,34 +83,34 @@ stepped_in rule old new store last a b steps = record {
 
 module _ (parts : Parts) (journal : PlacedRing) (r : Recalculation) (a : List Content) where
   abbrev Heads : (new : Superblock) → List Content → Type 0
-  Heads new b = (w : Standing) → IsJournaled w Working (kept parts journal r) a → HasFieldsThrough w r.position new a b
+  Heads new b = (w : Standing) → IsJournaled w Working (kept parts journal r) a → HasFieldsThrough w.on r.position new a b
 
   -- ---- a step
 
   -- Where nothing is written,
-  pub still_heads : (new : Superblock) (b : List Content) → b ≡ a → (w : Standing) → IsJournaled w Working (kept parts journal r) a → HasFieldsThrough w r.position new a b
+  pub still_heads : (new : Superblock) (b : List Content) → b ≡ a → (w : Standing) → IsJournaled w Working (kept parts journal r) a → HasFieldsThrough w.on r.position new a b
   still_heads new b same w is = EachMoment-kept _ same
 
   -- a call of the journal,
   pub journal_heads : (new : Superblock) (b : List Content) → ((y : JournalStanding) → StandsAs y journal parts.tags a → IsLeftThrough y a b)
-      → (w : Standing) → IsJournaled w Working (kept parts journal r) a → HasFieldsThrough w r.position new a b
+      → (w : Standing) → IsJournaled w Working (kept parts journal r) a → HasFieldsThrough w.on r.position new a b
   journal_heads new b lefts w is =
       let v = standing_on w is.disk in
       let works = works_now v parts journal r a is.over in
-      subst (λ (s : Superblock). HasFieldsThrough w s new a b) (sym works.recalc_.fields)
+      subst (λ (s : Superblock). HasFieldsThrough w.on s new a b) (sym works.recalc_.fields)
       (left_fields w is.disk new is.format (standing_of v) refl (lefts (standing_of v) (stands_now v parts journal r a is.over)))
 
   -- and one of the recalculation, how far it came,
   pub region_heads : (b : List Content) → StepsRegionIn parts.maker r parts.tags a b
-      → (w : Standing) → IsJournaled w Working (kept parts journal r) a → HasFieldsThrough w r.position (fields_next r) a b
+      → (w : Standing) → IsJournaled w Working (kept parts journal r) a → HasFieldsThrough w.on r.position (fields_next r) a b
   region_heads b in_ w is =
       let d = is.disk in
       let v = standing_on w d in
       let works = works_now v parts journal r a is.over in
       let own = works.recalc_ in
       let fields = ap (λ (o : Option ℕ). fields_behind o r) in_.least ∙ behind_is d.format (awaiting_in v) r own in_.region in
-      subst (λ (s : Superblock). HasFieldsThrough w s (fields_next r) a b) (sym own.fields)
-      (subst (λ (s : Superblock). HasFieldsThrough w d.superblock s a b) (sym fields)
+      subst (λ (s : Superblock). HasFieldsThrough w.on s (fields_next r) a b) (sym own.fields)
+      (subst (λ (s : Superblock). HasFieldsThrough w.on d.superblock s a b) (sym fields)
       (cut_fields w d (moved_fields d.superblock d.geometry (with_region in_.region false (awaiting_in v))) is.format
       (step_cut v parts journal r a is.over in_.region in_.least b
       (subst (λ (g : Geometry). StepsPositionIn parts.maker in_.region r g (given_tags parts.tags) a b) (sym works.stands.placed.cells.geometry) in_.through))))
@@ -137,7 +118,7 @@ module _ (parts : Parts) (journal : PlacedRing) (r : Recalculation) (a : List Co
   -- and once it went through.
   pub stepped_heads : {A : Type 0} (moved : Moved) (new : Recalculation) (last : Store) (first final : A) (b : List Content) → (moved ≡ Idle → b ≡ a)
       → HasStepped moved parts.maker r new parts.tags last first final a b
-      → (w : Standing) → IsJournaled w Working (kept parts journal r) a → HasFieldsThrough w r.position (fields_next r) a b
+      → (w : Standing) → IsJournaled w Working (kept parts journal r) a → HasFieldsThrough w.on r.position (fields_next r) a b
   stepped_heads Did new last first final b still has = region_heads b (stepped_in parts.maker r new parts.tags last a b has)
   stepped_heads Idle new last first final b still has = still_heads (fields_next r) b (still refl)
 
@@ -148,7 +129,7 @@ module _ (parts : Parts) (journal : PlacedRing) (r : Recalculation) (a : List Co
       → ((y : JournalStanding) → StandsAs y journal parts.tags a → y.history.pending ≡ None → HasClosed y put parts.tags store a m)
       → ((y : JournalStanding) → StandsAs y journal parts.tags a → IsLeftThrough y a m) → IsAllFree put.ring
       → SettlesPositionIn r store.geometry (given_tags store) m b
-      → (w : Standing) → IsJournaled w Working (kept parts journal r) a → HasFieldsThrough w r.position (fields_left r) a b
+      → (w : Standing) → IsJournaled w Working (kept parts journal r) a → HasFieldsThrough w.on r.position (fields_left r) a b
   close_heads put store m b closes lefts free through w is =
       let v = standing_on w is.disk in
       let y = standing_of v in
@@ -167,14 +148,9 @@ module _ (parts : Parts) (journal : PlacedRing) (r : Recalculation) (a : List Co
             subst (λ (s : Superblock). IsCutThrough d s m b) (sym left) (position_cut d (awaiting_in v) r own works.written (given_tags store) m b works.keeps in_)
       ] in
       EachMoment-then (journal_heads (fields_left r) m lefts w is)
-      (subst (λ (s : Superblock). HasFieldsThrough w s (fields_left r) m b) (sym own.fields) (cut_fields w d (fields_left r) format cut))
+      (subst (λ (s : Superblock). HasFieldsThrough w.on s (fields_left r) m b) (sym own.fields) (cut_fields w d (fields_left r) format cut))
 
 -- ---- which sectors
-
--- Where no region awaits nothing is written in a step.
-pub region_writes : (o : Option ℕ) (g : Geometry) (a b : List Content) → (o ≡ None → b ≡ a) → EachSince (OnlyAdds (IsOfTagsOrHead g)) a b → WritesRegion o g a b
-region_writes None g a b still writes = still refl
-region_writes (Some region) g a b still writes = writes
 
 -- A step that did something, or failed, had a region to take.
 pub stepped_still : {A : Type 0} (moved : Moved) (rule : TagRule) (old new : Recalculation) (store last : Store) (first final : A) (a b : List Content) → (final ≡ first → b ≡ a)

@@ -29,27 +29,27 @@ same_parts : (parts : Parts) (tags : Store) → tags ≡ parts.tags → record p
 same_parts parts tags same = ap (λ (t : Store). let p : Parts = record parts { tags = t } in p) same
 
 -- What is kept is the parts, the journal and the regions.
-pub same_kept : (parts new : Parts) (journal put : PlacedRing) (recalc last : Recalculation) → new ≡ parts → put ≡ journal → last ≡ recalc → kept new put last ≡ kept parts journal recalc
-same_kept parts new journal put recalc last same same_journal same_recalc =
+pub same_kept : (parts new : Parts) (journal put : PlacedRing) (recalculation last : Recalculation) → new ≡ parts → put ≡ journal → last ≡ recalculation → kept new put last ≡ kept parts journal recalculation
+same_kept parts new journal put recalculation last same same_journal same_recalc =
     ap (λ (p : Parts). kept p put last) same ∙ ap (λ (j : PlacedRing). kept parts j last) same_journal ∙ ap (λ (r : Recalculation). kept parts journal r) same_recalc
 
-module _ {A : Type 0} (parts : Parts) (old new : PlacedRing) (recalc : Recalculation) (first last : A) where
+module _ {A : Type 0} (parts : Parts) (old new : PlacedRing) (recalculation : Recalculation) (first last : A) where
   pub idle_commit : (moved : JournalMove.Moved) (before after : List Content) → HasCommitted moved old new first last before after
-      → moved_as moved ≡ Moves.Idle → (kept parts new recalc ≡ kept parts old recalc) × (last ≡ first)
+      → moved_as moved ≡ Moves.Idle → (kept parts new recalculation ≡ kept parts old recalculation) × (last ≡ first)
   idle_commit JournalMoves.Did before after has idle = absurd cc
-  idle_commit JournalMoves.Idle before after has idle = (same_kept parts parts old new recalc recalc refl has.journal refl, has.disk)
+  idle_commit JournalMoves.Idle before after has idle = (same_kept parts parts old new recalculation recalculation refl has.journal refl, has.disk)
 
   pub idle_place : (moved : JournalMove.Moved) (tags : Store) → HasPlaced moved old.placement new.placement old.ring parts.tags tags first last
-      → new.ring ≡ old.ring → moved_as moved ≡ Moves.Idle → (kept (record parts { tags = tags }) new recalc ≡ kept parts old recalc) × (last ≡ first)
+      → new.ring ≡ old.ring → moved_as moved ≡ Moves.Idle → (kept (record parts { tags = tags }) new recalculation ≡ kept parts old recalculation) × (last ≡ first)
   idle_place JournalMoves.Did tags has ring idle = absurd cc
   idle_place JournalMoves.Idle tags has ring idle =
-      (same_kept parts (record parts { tags = tags }) old new recalc recalc (same_parts parts tags has.store) (same_journal old new ring has.placement) refl, has.disk)
+      (same_kept parts (record parts { tags = tags }) old new recalculation recalculation (same_parts parts tags has.store) (same_journal old new ring has.placement) refl, has.disk)
 
   pub idle_settle : (moved : JournalMove.Moved) (tags : Store) → HasSettled moved old.placement new.placement old.ring new.ring parts.tags tags first last
-      → moved_as moved ≡ Moves.Idle → (kept (record parts { tags = tags }) new recalc ≡ kept parts old recalc) × (last ≡ first)
+      → moved_as moved ≡ Moves.Idle → (kept (record parts { tags = tags }) new recalculation ≡ kept parts old recalculation) × (last ≡ first)
   idle_settle JournalMoves.Did tags has idle = absurd cc
   idle_settle JournalMoves.Idle tags has idle =
-      (same_kept parts (record parts { tags = tags }) old new recalc recalc (same_parts parts tags has.store) (same_journal old new has.ring_ has.placement) refl, has.disk)
+      (same_kept parts (record parts { tags = tags }) old new recalculation recalculation (same_parts parts tags has.store) (same_journal old new has.ring_ has.placement) refl, has.disk)
 
 pub idle_recalc : {A : Type 0} (parts : Parts) (journal : PlacedRing) (old new : Recalculation) (tags : Store) (rule : TagRule) (first last : A) (moved : JournalMove.Moved) (a b : List Content)
     → HasStepped moved rule old new parts.tags tags first last a b → moved_as moved ≡ Moves.Idle → (kept (record parts { tags = tags }) journal new ≡ kept parts journal old) × (last ≡ first)

@@ -19,29 +19,29 @@ use Rattle.journal_device.proofs.KindLemmas.{format_again, now_on, through_on}
 -- The device is the one after an event, over a disk of the same format, but for what is to be recalculated. At each
 -- moment of the call each image can be opened, and may be left within the event.
 pub record IsAfter (w : JournaledStanding) (event : Model.Event) (condition : Condition) (parts : Parts)
-    (journal : PlacedRing) (recalc : Recalculation) (before after : List Content) : Type 0 where
+    (journal : PlacedRing) (recalculation : Recalculation) (before after : List Content) : Type 0 where
   pub disk : JournaledDisk
   pub format : IsFormatOf w.disk.format disk.format
-  pub device : IsOverDisk (standing_then w event disk) condition parts journal recalc after
+  pub device : IsOverDisk (standing_then w event disk) condition parts journal recalculation after
   pub through : IsLeftThrough (kind_on w.disk.format) w.entry w.format w.state event before after
 
 -- The device answers the event so, and is the one after it.
 pub record IsDoneOver (w : JournaledStanding) (event : Model.Event) (answer : Model.Answer) (condition : Condition)
-    (parts : Parts) (journal : PlacedRing) (recalc : Recalculation) (before after : List Content) : Type 0 where
+    (parts : Parts) (journal : PlacedRing) (recalculation : Recalculation) (before after : List Content) : Type 0 where
   pub answers : (Model.event_result w.format w.state event).answer ≡ answer
-  pub done : IsAfter w event condition parts journal recalc before after
+  pub done : IsAfter w event condition parts journal recalculation before after
 
 -- The request is served, and answers so.
 abbrev pub IsServedAs : JournaledStanding → (ticket : ℕ) → Served → Parts → PlacedRing → Recalculation
     → (before after : List Content) → Type 0
-IsServedAs w ticket served parts journal recalc before after =
-    IsDoneOver w (Model.Serve ticket) (served_answer served) Working parts journal recalc before after
+IsServedAs w ticket served parts journal recalculation before after =
+    IsDoneOver w (Model.Serve ticket) (served_answer served) Working parts journal recalculation before after
 
 -- The disk failed in it.
 abbrev pub HasFailedIn : JournaledStanding → (ticket : ℕ) → Parts → PlacedRing → Recalculation
     → (before after : List Content) → Type 0
-HasFailedIn w ticket parts journal recalc before after =
-    IsAfter w (Model.FailedServe ticket) Broken parts journal recalc before after
+HasFailedIn w ticket parts journal recalculation before after =
+    IsAfter w (Model.FailedServe ticket) Broken parts journal recalculation before after
 
 -- It ends with an event that answers so.
 pub record EndsOver (w : JournaledStanding) (event : Model.Event) (answer : Model.Answer) (before after : List Content)
@@ -54,19 +54,19 @@ pub record EndsOver (w : JournaledStanding) (event : Model.Event) (answer : Mode
 
 -- What is said over a disk of the device's format is said of the device.
 module _ (w : Standing) (disk : JournaledDisk) (same : IsFormatOf w.on disk.format) (event : Model.Event) where
-  pub done_on : (condition : Condition) (parts : Parts) (journal : PlacedRing) (recalc : Recalculation) (a b : List Content)
-      → IsAfter (standing_on w disk) event condition parts journal recalc a b
-      → HasDone in_journal w event condition (kept parts journal recalc) a b
-  done_on condition parts journal recalc a b done = record {
+  pub done_on : (condition : Condition) (parts : Parts) (journal : PlacedRing) (recalculation : Recalculation) (a b : List Content)
+      → IsAfter (standing_on w disk) event condition parts journal recalculation a b
+      → HasDone in_journal w event condition (kept parts journal recalculation) a b
+  done_on condition parts journal recalculation a b done = record {
     device = record { disk = done.disk; format = format_again w.on disk.format same done.disk.format done.format; over = done.device };
     through = through_on w.on disk.format same w.entry w.format w.state event a b done.through;
   }
 
-  pub is_done_on : (answer : Model.Answer) (condition : Condition) (parts : Parts) (journal : PlacedRing) (recalc : Recalculation) (a b : List Content)
-      → IsDoneOver (standing_on w disk) event answer condition parts journal recalc a b
-      → IsDone in_journal w event answer condition (kept parts journal recalc) a b
-  is_done_on answer condition parts journal recalc a b done =
-      record { answers = done.answers; done = done_on condition parts journal recalc a b done.done }
+  pub is_done_on : (answer : Model.Answer) (condition : Condition) (parts : Parts) (journal : PlacedRing) (recalculation : Recalculation) (a b : List Content)
+      → IsDoneOver (standing_on w disk) event answer condition parts journal recalculation a b
+      → IsDone in_journal w event answer condition (kept parts journal recalculation) a b
+  is_done_on answer condition parts journal recalculation a b done =
+      record { answers = done.answers; done = done_on condition parts journal recalculation a b done.done }
 
   pub ended_on : (answer : Model.Answer) (a b : List Content) → EndsOver (standing_on w disk) event answer a b
       → HasEnded in_journal w event answer a b

@@ -64,7 +64,7 @@ stands_with y journal store last awaiting a b stands same keeps = record {
   };
 }
 
-module _ (w : JournaledStanding) (parts : Parts) (journal : PlacedRing) (recalc : Recalculation) (a : List Content) (is : IsOverDisk w Conditions.Working parts journal recalc a) where
+module _ (w : JournaledStanding) (parts : Parts) (journal : PlacedRing) (recalculation : Recalculation) (a : List Content) (is : IsOverDisk w Conditions.Working parts journal recalculation a) where
   abbrev f : DeviceFormat
   f = w.format
 
@@ -83,8 +83,8 @@ module _ (w : JournaledStanding) (parts : Parts) (journal : PlacedRing) (recalc 
   abbrev tags : Content → ℕ → List ℕ
   tags = given_tags parts.tags
 
-  works : IsWorking (standing_of w) (awaiting_in w) journal recalc parts.tags a
-  works = works_now w parts journal recalc a is
+  works : IsWorking (standing_of w) (awaiting_in w) journal recalculation parts.tags a
+  works = works_now w parts journal recalculation a is
 
   places : w.disk.geometry ≡ parts.tags.geometry
   places = works.stands.placed.cells.geometry
@@ -97,9 +97,9 @@ module _ (w : JournaledStanding) (parts : Parts) (journal : PlacedRing) (recalc 
 
   -- Whether a region is recalculated first is told by what the device knows.
   pub takes_is : (block : ℕ) → block < w.disk.geometry.blocks
-      → takes_first journal recalc block ≡ (awaiting_in w (region_of w.disk.geometry block) && not (is_some (newest_entry w.disk journal.ring block)))
+      → takes_first journal recalculation block ≡ (awaiting_in w (region_of w.disk.geometry block) && not (is_some (newest_entry w.disk journal.ring block)))
   takes_is block low =
-      ap (λ (g : Geometry). awaiting_of recalc.awaiting (region_of g block) && not (is_some (newest_in ring block))) works.recalc_.geometry
+      ap (λ (g : Geometry). awaiting_of recalculation.awaiting (region_of g block) && not (is_some (newest_in ring block))) works.recalc_.geometry
       ∙ ap (λ (t : Bool). t && not (is_some (newest_in ring block))) (works.recalc_.regions_ (region_of d.geometry block) (region_of-lt d.geometry block low))
       ∙ ap (λ (g : Geometry). awaiting_in w (region_of d.geometry block) && not (is_some (last_entry g (entries_of (sections_of ring)) block))) works.stands.device.is_ring.geometry
 
@@ -116,7 +116,7 @@ module _ (w : JournaledStanding) (parts : Parts) (journal : PlacedRing) (recalc 
     inside = region_of-lt d.geometry block low
 
     -- The region awaits where it is recalculated.
-    awaits : takes_first journal recalc block ≡ true → awaiting_in w (region_of w.disk.geometry block) ≡ true
+    awaits : takes_first journal recalculation block ≡ true → awaiting_in w (region_of w.disk.geometry block) ≡ true
     awaits takes = by (awaiting_in w region) refl
       where
         by : (t : Bool) → awaiting_in w (region_of w.disk.geometry block) ≡ t → awaiting_in w (region_of w.disk.geometry block) ≡ true
@@ -124,47 +124,47 @@ module _ (w : JournaledStanding) (parts : Parts) (journal : PlacedRing) (recalc 
         by false e = e ∙ sym (ap (λ (t : Bool). t && not (is_some (newest_entry d ring block))) e) ∙ sym (takes_is block low) ∙ takes
 
     -- It is recalculated, or nothing is done,
-    pub first_taken : (t : Bool) → takes_first journal recalc block ≡ t → (new : Recalculation) (last : Store) (m : List Content) → last.geometry ≡ parts.tags.geometry
-        → TakesFirst t parts.maker (region_of recalc.awaiting.geometry block) recalc new parts.tags last a m
+    pub first_taken : (t : Bool) → takes_first journal recalculation block ≡ t → (new : Recalculation) (last : Store) (m : List Content) → last.geometry ≡ parts.tags.geometry
+        → TakesFirst t parts.maker (region_of recalculation.awaiting.geometry block) recalculation new parts.tags last a m
         → IsWorking (standing_of w) (awaiting_if t (region_of w.disk.geometry block)) journal new last m
     first_taken true takes new last m same taken =
-        let at = subst (λ (g : Geometry). TakesAwaiting parts.maker (region_of g block) recalc new parts.tags.geometry tags (given_tags last) a m) works.recalc_.geometry taken in
-        let there = subst (λ (g : Geometry). TakesAwaiting parts.maker region recalc new g tags (given_tags last) a m) (sym places) at in
-        let region_ = takes_region d.format (awaiting_in w) recalc works.recalc_ parts.maker is.rule region inside (awaits takes) tags (given_tags last) a m there.takes in
+        let at = subst (λ (g : Geometry). TakesAwaiting parts.maker (region_of g block) recalculation new parts.tags.geometry tags (given_tags last) a m) works.recalc_.geometry taken in
+        let there = subst (λ (g : Geometry). TakesAwaiting parts.maker region recalculation new g tags (given_tags last) a m) (sym places) at in
+        let region_ = takes_region d.format (awaiting_in w) recalculation works.recalc_ parts.maker is.rule region inside (awaits takes) tags (given_tags last) a m there.takes in
         let keeps = taken_law d region (awaiting_in w) tags (given_tags last) a m works.keeps region_ in
         record {
           stands = stands_with y journal parts.tags last (with_region region false (awaiting_in w)) a m works.stands same keeps;
           keeps = keeps;
           work = work_taken_law d.format (awaiting_in w) region works.work;
-          recalc_ = taken_is d.format (awaiting_in w) recalc works.recalc_ parts.maker region new tags (given_tags last) a m there;
+          recalc_ = taken_is d.format (awaiting_in w) recalculation works.recalc_ parts.maker region new tags (given_tags last) a m there;
           written = works.written;
         }
     first_taken false takes new last m same taken =
         subst (λ (r : Recalculation). IsWorking y (awaiting_in w) journal r last m) (sym taken.0)
-        (subst (λ (x : Store). IsWorking y (awaiting_in w) journal recalc x m) (sym taken.1)
-        (subst (IsWorking y (awaiting_in w) journal recalc parts.tags) (sym taken.2) works))
+        (subst (λ (x : Store). IsWorking y (awaiting_in w) journal recalculation x m) (sym taken.1)
+        (subst (IsWorking y (awaiting_in w) journal recalculation parts.tags) (sym taken.2) works))
 
     -- at each moment of which each image may be left,
-    pub first_left : (t : Bool) → takes_first journal recalc block ≡ t → (m : List Content) → TakesFirstIn t parts.maker (region_of recalc.awaiting.geometry block) recalc parts.tags a m
+    pub first_left : (t : Bool) → takes_first journal recalculation block ≡ t → (m : List Content) → TakesFirstIn t parts.maker (region_of recalculation.awaiting.geometry block) recalculation parts.tags a m
         → EachMoment a m (EachImage (IsLeftInJournal w.disk.format w.state.history))
     first_left true takes m adds =
-        let at = subst (λ (g : Geometry). TakesAwaitingIn parts.maker (region_of g block) recalc parts.tags.geometry tags a m) works.recalc_.geometry adds in
-        let there = subst (λ (g : Geometry). TakesAwaitingIn parts.maker region recalc g tags a m) (sym places) at in
+        let at = subst (λ (g : Geometry). TakesAwaitingIn parts.maker (region_of g block) recalculation parts.tags.geometry tags a m) works.recalc_.geometry adds in
+        let there = subst (λ (g : Geometry). TakesAwaitingIn parts.maker region recalculation g tags a m) (sym places) at in
         EachMoment-weaker (λ c both. standing_left_law f s.history s.progress.journal d ring c works.stands.device both.0)
-        (taking_law d region (awaiting_in w) tags a m works.keeps (takes_in d.format (awaiting_in w) recalc works.recalc_ parts.maker is.rule region inside (awaits takes) tags a m there))
+        (taking_law d region (awaiting_in w) tags a m works.keeps (takes_in d.format (awaiting_in w) recalculation works.recalc_ parts.maker is.rule region inside (awaits takes) tags a m there))
     first_left false takes m same = EachMoment-kept _ same
 
   -- ---- a step
 
   -- No region awaits.
-  pub recalc_idle : next_of recalc ≡ None → IsDoneOver w (Model.Step Model.Recalc) Model.Idle Conditions.Working parts journal recalc a a
+  pub recalc_idle : next_of recalculation ≡ None → IsDoneOver w (Model.Step Model.Recalc) Model.Idle Conditions.Working parts journal recalculation a a
   recalc_idle none =
-      only_done w Conditions.Working parts journal recalc a is (Model.Step Model.Recalc) Model.Idle
-      (recalc_idle_law f s d ring works.stands.device is.condition_ (sym (next_is d.format (awaiting_in w) recalc works.recalc_) ∙ none)) refl
+      only_done w Conditions.Working parts journal recalculation a is (Model.Step Model.Recalc) Model.Idle
+      (recalc_idle_law f s d ring works.stands.device is.condition_ (sym (next_is d.format (awaiting_in w) recalculation works.recalc_) ∙ none)) refl
 
-  module _ (region : ℕ) (least : next_of recalc ≡ Some region) where
+  module _ (region : ℕ) (least : next_of recalculation ≡ Some region) where
     least_is : least_region (regions w.disk.geometry) (awaiting_in w) ≡ Some region
-    least_is = sym (next_is d.format (awaiting_in w) recalc works.recalc_) ∙ least
+    least_is = sym (next_is d.format (awaiting_in w) recalculation works.recalc_) ∙ least
 
     found : (region < regions w.disk.geometry) × (awaiting_in w region ≡ true)
     found = least_found (regions d.geometry) (awaiting_in w) region least_is
@@ -199,16 +199,16 @@ module _ (w : JournaledStanding) (parts : Parts) (journal : PlacedRing) (recalc 
 
     -- It is recalculated, and the position moves.
     pub recalc_did : (new : Recalculation) (last : Store) (b : List Content) → last.geometry ≡ parts.tags.geometry
-        → StepsPosition parts.maker region recalc new parts.tags.geometry (given_tags parts.tags) (given_tags last) a b
+        → StepsPosition parts.maker region recalculation new parts.tags.geometry (given_tags parts.tags) (given_tags last) a b
         → IsDoneOver w (Model.Step Model.Recalc) Model.Did Conditions.Working (record parts { tags = last }) journal new a b
     recalc_did new last b same stepped =
         let now = given_tags last in
-        let steps = subst (λ (g : Geometry). StepsPosition parts.maker region recalc new g tags now a b) (sym places) stepped in
+        let steps = subst (λ (g : Geometry). StepsPosition parts.maker region recalculation new g tags now a b) (sym places) stepped in
         let mid = steps.mid in
         let made = steps.made in
         let m = steps.between in
-        let taken = takes_region d.format (awaiting_in w) recalc works.recalc_ parts.maker is.rule region found.0 found.1 tags made a m steps.takes.takes in
-        let mid_is = taken_is d.format (awaiting_in w) recalc works.recalc_ parts.maker region mid tags made a m steps.takes in
+        let taken = takes_region d.format (awaiting_in w) recalculation works.recalc_ parts.maker is.rule region found.0 found.1 tags made a m steps.takes.takes in
+        let mid_is = taken_is d.format (awaiting_in w) recalculation works.recalc_ parts.maker region mid tags made a m steps.takes in
         let some = writes_moved d.format then_ mid mid_is position.set (work_moves_law d.format (awaiting_in w) region works.work least_is) in
         let between = steps.settles.between in
         let moved : HasMoved (Some fields) d.geometry now mid.position new.position between b =
@@ -225,8 +225,8 @@ module _ (w : JournaledStanding) (parts : Parts) (journal : PlacedRing) (recalc 
         let event = Model.Step Model.Recalc in
         record {
           answers = ap (λ (x : Model.EventResult). x.answer) told;
-          done = done w Conditions.Working parts journal recalc a is event last_disk Conditions.Working (record parts { tags = last }) journal new b
-              (moved_format_law d.format d.format then_ fields (own_format w Conditions.Working parts journal recalc a is) moves)
+          done = done w Conditions.Working parts journal recalculation a is event last_disk Conditions.Working (record parts { tags = last }) journal new b
+              (moved_format_law d.format d.format then_ fields (own_format w Conditions.Working parts journal recalculation a is) moves)
               (subst (λ (x : Model.EventResult). IsFlightOf f parts.slots x.progress.requests) (sym told) is.flight) refl is.condition_
               (λ _. subst (λ (regions_ : ℕ → Bool). IsWorking (standing_of (standing_then w event last_disk)) regions_ journal new last b)
               (sym (ap (λ (x : Model.EventResult). x.progress.regions.awaiting) told))
@@ -252,25 +252,25 @@ module _ (w : JournaledStanding) (parts : Parts) (journal : PlacedRing) (recalc 
         }
 
     -- What a cut leaves of it.
-    pub step_cut : (b : List Content) → StepsPositionIn parts.maker region recalc w.disk.geometry (given_tags parts.tags) a b
+    pub step_cut : (b : List Content) → StepsPositionIn parts.maker region recalculation w.disk.geometry (given_tags parts.tags) a b
         → IsCutThrough w.disk (moved_fields w.disk.superblock w.disk.geometry (with_region region false (awaiting_in w))) a b
     step_cut b (Taking adds) =
         take_through_law d fields region (awaiting_in w) tags a b works.keeps
-        (takes_in d.format (awaiting_in w) recalc works.recalc_ parts.maker is.rule region found.0 found.1 tags a b adds)
+        (takes_in d.format (awaiting_in w) recalculation works.recalc_ parts.maker is.rule region found.0 found.1 tags a b adds)
     step_cut b (Taken mid made m takes through) =
-        let taken = takes_region d.format (awaiting_in w) recalc works.recalc_ parts.maker is.rule region found.0 found.1 tags made a m takes.takes in
-        let mid_is = taken_is d.format (awaiting_in w) recalc works.recalc_ parts.maker region mid tags made a m takes in
+        let taken = takes_region d.format (awaiting_in w) recalculation works.recalc_ parts.maker is.rule region found.0 found.1 tags made a m takes.takes in
+        let mid_is = taken_is d.format (awaiting_in w) recalculation works.recalc_ parts.maker region mid tags made a m takes in
         EachMoment-then (take_through_law d fields region (awaiting_in w) tags a m works.keeps taken.adds)
         (position_cut d then_ mid mid_is works.written made m b (taken_law d region (awaiting_in w) tags made a m works.keeps taken) through)
 
     -- The disk fails in it.
-    pub recalc_failed : (new : Recalculation) (last : Store) (b : List Content) → StepsPositionIn parts.maker region recalc parts.tags.geometry (given_tags parts.tags) a b
+    pub recalc_failed : (new : Recalculation) (last : Store) (b : List Content) → StepsPositionIn parts.maker region recalculation parts.tags.geometry (given_tags parts.tags) a b
         → IsAfter w (Model.FailedStep Model.Recalc) Conditions.Broken (record parts { tags = last }) journal new a b
     recalc_failed new last b through =
-        let cut = step_cut b (subst (λ (g : Geometry). StepsPositionIn parts.maker region recalc g tags a b) (sym places) through) in
+        let cut = step_cut b (subst (λ (g : Geometry). StepsPositionIn parts.maker region recalculation g tags a b) (sym places) through) in
         let law : KeepsDevice f s (Model.FailedStep Model.Recalc) w.entry d d ring a b = failed_step_law f s d ring region tags w.entry a b enters cut in
-        let told = working-is w parts journal recalc a is (Model.FailedStep Model.Recalc) in
-        done w Conditions.Working parts journal recalc a is (Model.FailedStep Model.Recalc) d Conditions.Broken (record parts { tags = last }) journal new b
-        (own_format w Conditions.Working parts journal recalc a is)
+        let told = working-is w parts journal recalculation a is (Model.FailedStep Model.Recalc) in
+        done w Conditions.Working parts journal recalculation a is (Model.FailedStep Model.Recalc) d Conditions.Broken (record parts { tags = last }) journal new b
+        (own_format w Conditions.Working parts journal recalculation a is)
         (subst (λ (x : Model.EventResult). IsFlightOf f parts.slots x.progress.requests) (sym told) is.flight) refl (ap Model.after_failure is.condition_)
-        (λ same. not_working w parts journal recalc a is same) law.through law.now
+        (λ same. not_working w parts journal recalculation a is same) law.through law.now

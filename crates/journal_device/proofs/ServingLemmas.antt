@@ -70,7 +70,7 @@ alone : (x y : Bool) → y ≡ true → (x && y) ≡ false → x ≡ false
 alone true y e none = absurd (true≢false (sym e ∙ none))
 alone false y e none = refl
 
-module _ (w : JournaledStanding) (parts : Parts) (journal : PlacedRing) (recalc : Recalculation) (a : List Content) (is : IsOverDisk w Conditions.Working parts journal recalc a) where
+module _ (w : JournaledStanding) (parts : Parts) (journal : PlacedRing) (recalculation : Recalculation) (a : List Content) (is : IsOverDisk w Conditions.Working parts journal recalculation a) where
   abbrev f : DeviceFormat
   f = w.format
 
@@ -88,21 +88,21 @@ module _ (w : JournaledStanding) (parts : Parts) (journal : PlacedRing) (recalc 
 
   -- ---- nothing is done
 
-  pub serve_finished : (ticket : ℕ) (b : List Content) → is_in_flight ticket parts.slots ≡ true → turn_of parts.slots ticket ≡ Turns.Finished → b ≡ a → IsServedAs w ticket Serves.Done parts journal recalc a b
+  pub serve_finished : (ticket : ℕ) (b : List Content) → is_in_flight ticket parts.slots ≡ true → turn_of parts.slots ticket ≡ Turns.Finished → b ≡ a → IsServedAs w ticket Serves.Done parts journal recalculation a b
   serve_finished ticket b there turn same =
       let next = next_told ticket Turns.Finished there turn in
       let told = finished-is f s is.condition_ next.k next.asked next.there next.turn_ in
-      subst (λ (t : ℕ). IsServedAs w t Serves.Done parts journal recalc a b) (sym next.ticket_)
-      (subst (λ (x : List Content). IsServedAs w (suc next.k) Serves.Done parts journal recalc a x) (sym same)
-      (only_done w Conditions.Working parts journal recalc a is (Model.Serve (suc next.k)) Model.Done told refl))
+      subst (λ (t : ℕ). IsServedAs w t Serves.Done parts journal recalculation a b) (sym next.ticket_)
+      (subst (λ (x : List Content). IsServedAs w (suc next.k) Serves.Done parts journal recalculation a x) (sym same)
+      (only_done w Conditions.Working parts journal recalculation a is (Model.Serve (suc next.k)) Model.Done told refl))
 
-  pub serve_held : (ticket by : ℕ) (b : List Content) → is_in_flight ticket parts.slots ≡ true → turn_of parts.slots ticket ≡ Turns.Held by → b ≡ a → IsServedAs w ticket (Serves.Held by) parts journal recalc a b
+  pub serve_held : (ticket by : ℕ) (b : List Content) → is_in_flight ticket parts.slots ≡ true → turn_of parts.slots ticket ≡ Turns.Held by → b ≡ a → IsServedAs w ticket (Serves.Held by) parts journal recalculation a b
   serve_held ticket by b there turn same =
       let next = next_told ticket (Turns.Held by) there turn in
       let told = held-is f s is.condition_ next.k next.asked next.there by next.turn_.0 next.turn_.1 in
-      subst (λ (t : ℕ). IsServedAs w t (Serves.Held by) parts journal recalc a b) (sym next.ticket_)
-      (subst (λ (x : List Content). IsServedAs w (suc next.k) (Serves.Held by) parts journal recalc a x) (sym same)
-      (only_done w Conditions.Working parts journal recalc a is (Model.Serve (suc next.k)) (Model.HeldBy by) told refl))
+      subst (λ (t : ℕ). IsServedAs w t (Serves.Held by) parts journal recalculation a b) (sym next.ticket_)
+      (subst (λ (x : List Content). IsServedAs w (suc next.k) (Serves.Held by) parts journal recalculation a x) (sym same)
+      (only_done w Conditions.Working parts journal recalculation a is (Model.Serve (suc next.k)) (Model.HeldBy by) told refl))
 
   -- ---- a request that is served
 
@@ -126,7 +126,7 @@ module _ (w : JournaledStanding) (parts : Parts) (journal : PlacedRing) (recalc 
         record {
           answers = ap (λ (x : Model.EventResult). x.answer) told
               ∙ answer_is f new.slots then_ flight k asked (there_then f s k r served) (open_then f s k r served);
-          done = left_done w parts journal recalc a is (Model.Serve (suc k)) (Model.serve_with f s k r (Some j)) told is.condition_ d same new p now b flight maker
+          done = left_done w parts journal recalculation a is (Model.Serve (suc k)) (Model.serve_with f s k r (Some j)) told is.condition_ d same new p now b flight maker
               (subst (λ (regions : ℕ → Bool). IsWorking (record { format = f; history = with_changes (Model.block_changes (suc k) r r.request) s.history; counts = j; disk = d }) regions p now new.tags b)
               (ap (λ (x : Model.EventResult). x.progress.regions.awaiting) told)
               (subst (λ (q : Asks.Request). IsWorking (record { format = f; history = with_changes (Model.block_changes (suc k) r q) s.history; counts = j; disk = d }) awaiting_served p now new.tags b) (sym e) working))
@@ -139,12 +139,12 @@ module _ (w : JournaledStanding) (parts : Parts) (journal : PlacedRing) (recalc 
         → StandsAs (record { format = f; history = with_changes (Model.block_changes (suc k) r request) s.history; counts = j; disk = d }) p new.tags b
         → TagsPlaced w.disk d parts.tags new.tags a b
         → (kept : ℕ) (h : History) → h ≡ with_changes (take kept (Model.block_changes (suc k) r request)) s.history → EachMoment a b (EachImage (IsLeftInJournal w.disk.format h))
-        → IsServedAs w (suc k) (served_by (turn_of new.slots (suc k))) new p recalc a b
+        → IsServedAs w (suc k) (served_by (turn_of new.slots (suc k))) new p recalculation a b
     kept_done request j e none put_is d same new p b flight maker stands gives kept h within m =
         let z : JournalStanding = record { format = f; history = with_changes (Model.block_changes (suc k) r request) s.history; counts = j; disk = d } in
-        served_done request j e put_is d same new p recalc b flight maker
-        (subst (λ (regions : ℕ → Bool). IsWorking z regions p recalc new.tags b) (sym (awaiting_served_law f s k r served (subst ReadsNone (sym e) none)))
-        (working_then y z (awaiting_in w) journal p recalc parts.tags new.tags a b same (works_now w parts journal recalc a is) stands gives))
+        served_done request j e put_is d same new p recalculation b flight maker
+        (subst (λ (regions : ℕ → Bool). IsWorking z regions p recalculation new.tags b) (sym (awaiting_served_law f s k r served (subst ReadsNone (sym e) none)))
+        (working_then y z (awaiting_in w) journal p recalculation parts.tags new.tags a b same (works_now w parts journal recalculation a is) stands gives))
         kept h within m
 
     -- and where the disk fails while its images are left by what is begun.
@@ -156,11 +156,11 @@ module _ (w : JournaledStanding) (parts : Parts) (journal : PlacedRing) (recalc 
     failed_done request j e put_is new p last b slots maker h begun now m =
         let x : Model.EventResult = record { answer = Model.DiskFailed; changes = Model.first_begun (Model.block_changes (suc k) r request); progress = s.progress } in
         let told : Model.event_result f s (Model.FailedServe (suc k)) ≡ x =
-        working-is w parts journal recalc a is (Model.FailedServe (suc k))
+        working-is w parts journal recalculation a is (Model.FailedServe (suc k))
         ∙ ap (λ (z : Model.EventResult). let result : Model.EventResult = record { answer = Model.DiskFailed; changes = Model.first_begun z.changes; progress = s.progress } in result)
         (serve_is f s k r served request e ∙ ap (Model.serve_with f s k r) put_is)
         ∙ ap (λ (q : Asks.Request). let result : Model.EventResult = record { answer = Model.DiskFailed; changes = Model.first_begun (Model.block_changes (suc k) r q); progress = s.progress } in result) e in
-        broken_done w parts journal recalc a is (Model.FailedServe (suc k)) x told (ap Model.after_failure is.condition_) new p last b
+        broken_done w parts journal recalculation a is (Model.FailedServe (suc k)) x told (ap Model.after_failure is.condition_) new p last b
         (subst (λ (z : Flight). IsFlightOf f z s.progress.requests) (sym slots) is.flight) maker
         (subst (λ (z : History). HasNow (EachImage (IsLeftInJournal w.disk.format z)) a) begun now)
         (subst (λ (z : History). EachMoment a b (EachImage (IsLeftInJournal w.disk.format z))) begun m)
@@ -168,13 +168,13 @@ module _ (w : JournaledStanding) (parts : Parts) (journal : PlacedRing) (recalc 
     -- ---- a flush
 
     flush_done : r.request ≡ Asks.Flush → (new : Parts) (p : PlacedRing) (b : List Content) → new.slots ≡ Slots.with_change (suc k) with_finish parts.slots → new.maker ≡ parts.maker
-        → new.tags ≡ parts.tags → HasFlushed y p parts.tags a b → IsLeftThrough y a b → IsServedAs w (suc k) Serves.Done new p recalc a b
+        → new.tags ≡ parts.tags → HasFlushed y p parts.tags a b → IsLeftThrough y a b → IsServedAs w (suc k) Serves.Done new p recalculation a b
     flush_done e new p b slots maker tags has m =
         let flight = subst (λ (x : Flight). IsFlightOf f x then_) (sym slots)
         (flight_flushed f (cells_now f.blocks.tag s.history) parts.slots s.progress.requests k r is.flight served.there served.unfinished e) in
         let z : JournalStanding = record { format = f; history = with_changes (Model.block_changes (suc k) r Asks.Flush) s.history; counts = commit_all s.progress.journal; disk = has.disk } in
         let as_told = kept_done Asks.Flush (commit_all s.progress.journal) e tt refl has.disk has.format new p b flight maker
-        (subst (λ (x : Store). StandsAs z p x b) (sym tags) (has.flushed (idle_now w parts journal recalc a is)))
+        (subst (λ (x : Store). StandsAs z p x b) (sym tags) (has.flushed (idle_now w parts journal recalculation a is)))
         (subst (λ (x : Store). TagsPlaced w.disk has.disk parts.tags x a b) (sym tags) has.gives) 0 s.history refl m in
         record {
           answers = ap (λ (x : Model.EventResult). x.answer) (result_is f s k r served Asks.Flush (commit_all s.progress.journal) e refl)
@@ -183,10 +183,10 @@ module _ (w : JournaledStanding) (parts : Parts) (journal : PlacedRing) (recalc 
         }
 
     now-left : HasNow (EachImage (IsLeftInJournal w.disk.format s.history)) a
-    now-left = standing_now y journal parts.tags a (stands_now w parts journal recalc a is)
+    now-left = standing_now y journal parts.tags a (stands_now w parts journal recalculation a is)
 
-    flush_failed : r.request ≡ Asks.Flush → (new : Parts) (p : PlacedRing) (b : List Content) → new.slots ≡ parts.slots → new.maker ≡ parts.maker → IsLeftThrough y a b → HasFailedIn w (suc k) new p recalc a b
-    flush_failed e new p b slots maker m = failed_done Asks.Flush (commit_all s.progress.journal) e refl new p recalc b slots maker s.history refl now-left m
+    flush_failed : r.request ≡ Asks.Flush → (new : Parts) (p : PlacedRing) (b : List Content) → new.slots ≡ parts.slots → new.maker ≡ parts.maker → IsLeftThrough y a b → HasFailedIn w (suc k) new p recalculation a b
+    flush_failed e new p b slots maker m = failed_done Asks.Flush (commit_all s.progress.journal) e refl new p recalculation b slots maker s.history refl now-left m
 
     -- ---- a read
 
@@ -194,16 +194,16 @@ module _ (w : JournaledStanding) (parts : Parts) (journal : PlacedRing) (recalc 
     read_failed first count e new now b slots maker m = failed_done (Asks.Read first count) s.progress.journal e refl new journal now b slots maker s.history refl now-left m
 
     -- The regions that await behind it.
-    read_regions : (first count block : ℕ) → r.request ≡ Asks.Read first count → block ≡ first + r.served → block < w.disk.geometry.blocks → (t : Bool) → takes_first journal recalc block ≡ t
-        → (Model.after_event w.format w.state (Model.Serve (suc k))).progress.regions.awaiting ≡ awaiting_if w parts journal recalc a is t (region_of w.disk.geometry block)
+    read_regions : (first count block : ℕ) → r.request ≡ Asks.Read first count → block ≡ first + r.served → block < w.disk.geometry.blocks → (t : Bool) → takes_first journal recalculation block ≡ t
+        → (Model.after_event w.format w.state (Model.Serve (suc k))).progress.regions.awaiting ≡ awaiting_if w parts journal recalculation a is t (region_of w.disk.geometry block)
     read_regions first count block e block_ low t takes =
-        let law = read_regions_law f s w.disk journal.ring k r first count (stands_now w parts journal recalc a is).device served e in
+        let law = read_regions_law f s w.disk journal.ring k r first count (stands_now w parts journal recalculation a is).device served e in
         ap (λ (c : RegionCounts). c.awaiting) law
         ∙ ap (λ (b : ℕ). (if s.progress.regions.awaiting (region_of w.disk.geometry b) && not (is_some (newest_entry w.disk journal.ring b)) then recalculated_region (region_of w.disk.geometry b) s.progress.regions else s.progress.regions).awaiting) (sym block_)
-        ∙ ap (λ (u : Bool). (if u then recalculated_region (region_of w.disk.geometry block) s.progress.regions else s.progress.regions).awaiting) (sym (takes_is w parts journal recalc a is block low) ∙ takes)
+        ∙ ap (λ (u : Bool). (if u then recalculated_region (region_of w.disk.geometry block) s.progress.regions else s.progress.regions).awaiting) (sym (takes_is w parts journal recalculation a is block low) ∙ takes)
         ∙ by t
       where
-        by : (t : Bool) → (if t then recalculated_region (region_of w.disk.geometry block) s.progress.regions else s.progress.regions).awaiting ≡ awaiting_if w parts journal recalc a is t (region_of w.disk.geometry block)
+        by : (t : Bool) → (if t then recalculated_region (region_of w.disk.geometry block) s.progress.regions else s.progress.regions).awaiting ≡ awaiting_if w parts journal recalculation a is t (region_of w.disk.geometry block)
         by true = refl
         by false = refl
 
@@ -246,12 +246,12 @@ module _ (w : JournaledStanding) (parts : Parts) (journal : PlacedRing) (recalc 
           ap (λ (x : DeviceFormat). if is_journal x.mode then option_map (counts_if (Model.is_flushed_by r blocks fua)) (put f.sections f.entries (first + r.served) s.progress.journal.sections)
           else Some s.progress.journal) is.format
 
-      write_no_room : has_room journal.ring ≡ false → IsServedAs w (suc k) Serves.NoRoom parts journal recalc a a
+      write_no_room : has_room journal.ring ≡ false → IsServedAs w (suc k) Serves.NoRoom parts journal recalculation a a
       write_no_room full =
           let none = none_of (put f.sections f.entries (first + r.served) s.progress.journal.sections)
-          (has_room_law f s.history s.progress.journal w.disk journal.ring (first + r.served) (stands_now w parts journal recalc a is).device ∙ full) in
-          only_done w Conditions.Working parts journal recalc a is (Model.Serve (suc k)) Model.NoRoom
-          (working-is w parts journal recalc a is (Model.Serve (suc k)) ∙ serve_is f s k r served (Asks.Write first blocks fua) e
+          (has_room_law f s.history s.progress.journal w.disk journal.ring (first + r.served) (stands_now w parts journal recalculation a is).device ∙ full) in
+          only_done w Conditions.Working parts journal recalculation a is (Model.Serve (suc k)) Model.NoRoom
+          (working-is w parts journal recalculation a is (Model.Serve (suc k)) ∙ serve_is f s k r served (Asks.Write first blocks fua) e
           ∙ ap (Model.serve_with f s k r) (journal_is ∙ ap (option_map (counts_if (Model.is_flushed_by r blocks fua))) none)) refl
 
       module _ (z : BlockWrite) (to : z ≡ write) (mid : PlacedRing) (has : HasPut y z mid parts.tags a) where
@@ -273,7 +273,7 @@ module _ (w : JournaledStanding) (parts : Parts) (journal : PlacedRing) (recalc 
 
         write_done : (t : Bool) → Model.is_flushed_by r blocks fua ≡ t → (new : Parts) (p : PlacedRing) (b : List Content) → new.slots ≡ Slots.with_change (suc k) with_block_counted parts.slots → new.maker ≡ parts.maker
             → new.tags ≡ parts.tags → HasFlushedIf t (after_change (Begun z) has.sections y) p parts.tags a b → (t ≡ false → (p ≡ mid) × (b ≡ a)) → IsLeftThrough (after_change (Begun z) has.sections y) a b
-            → IsServedAs w (suc k) (served_by (turn_of new.slots (suc k))) new p recalc a b
+            → IsServedAs w (suc k) (served_by (turn_of new.slots (suc k))) new p recalculation a b
         write_done true flushes new p b slots maker tags flushed still m =
             kept_done (Asks.Write first blocks fua) (counts_if true has.sections) e tt (put_is true flushes) flushed.disk flushed.format new p b (flight-counted new slots) maker
             (subst (λ (xs : List Change). StandsAs (record { format = f; history = with_changes xs s.history; counts = counts_if true has.sections; disk = flushed.disk }) p new.tags b)
@@ -295,9 +295,9 @@ module _ (w : JournaledStanding) (parts : Parts) (journal : PlacedRing) (recalc 
             1 (with_change s.history (Begun z)) (ap (λ (xs : List Change). with_changes (take 1 xs) s.history) (changes-if false flushes)) m
 
         write_failed : (t : Bool) → Model.is_flushed_by r blocks fua ≡ t → (new : Parts) (p : PlacedRing) (b : List Content) → new.slots ≡ parts.slots → new.maker ≡ parts.maker
-            → IsLeftThrough (after_change (Begun z) has.sections y) a b → HasFailedIn w (suc k) new p recalc a b
+            → IsLeftThrough (after_change (Begun z) has.sections y) a b → HasFailedIn w (suc k) new p recalculation a b
         write_failed t flushes new p b slots maker m =
-            failed_done (Asks.Write first blocks fua) (counts_if t has.sections) e (put_is t flushes) new p recalc b slots maker (with_change s.history (Begun z)) (ap (λ (x : BlockWrite). with_change s.history (Begun x)) to)
+            failed_done (Asks.Write first blocks fua) (counts_if t has.sections) e (put_is t flushes) new p recalculation b slots maker (with_change s.history (Begun z)) (ap (λ (x : BlockWrite). with_change s.history (Begun x)) to)
             (standing_now (after_change (Begun z) has.sections y) mid parts.tags a has.begun) m
 
   -- ---- the request of a ticket
@@ -307,23 +307,23 @@ module _ (w : JournaledStanding) (parts : Parts) (journal : PlacedRing) (recalc 
   rule_told disk ready block bytes =
       ap (λ (rule : TagRule). tag_of rule.key rule.salt rule.size (block * parts.spb) bytes) is.rule
       ∙ ap (λ (n : ℕ). tag_of w.disk.format.key (salt_of w.disk.format.superblock) w.disk.format.geometry.shape.tag_size (block * n) bytes)
-      (ready.spb ∙ sym (ap (λ (g : Geometry). g.shape.spb) (stands_now w parts journal recalc a is).placed.cells.geometry))
+      (ready.spb ∙ sym (ap (λ (g : Geometry). g.shape.spb) (stands_now w parts journal recalculation a is).placed.cells.geometry))
 
   module _ (ticket : ℕ) (there : is_in_flight ticket parts.slots ≡ true) where
     module _ (turn : turn_of parts.slots ticket ≡ Turns.Flush) where
       pub serve_flush_done : (new : Parts) (p : PlacedRing) (b : List Content) → new.slots ≡ Slots.with_change ticket with_finish parts.slots → new.maker ≡ parts.maker
-          → new.tags ≡ parts.tags → HasFlushed y p parts.tags a b → IsLeftThrough y a b → IsServedAs w ticket Serves.Done new p recalc a b
+          → new.tags ≡ parts.tags → HasFlushed y p parts.tags a b → IsLeftThrough y a b → IsServedAs w ticket Serves.Done new p recalculation a b
       serve_flush_done new p b slots maker tags has m =
           let next = next_told ticket Turns.Flush there turn in
           let served : IsServed s next.k next.asked = record { works = is.condition_; there = next.there; unfinished = next.turn_.unfinished; unheld = next.turn_.unheld } in
-          subst (λ (t : ℕ). IsServedAs w t Serves.Done new p recalc a b) (sym next.ticket_)
+          subst (λ (t : ℕ). IsServedAs w t Serves.Done new p recalculation a b) (sym next.ticket_)
           (flush_done next.k next.asked served next.turn_.request new p b (slots ∙ ap (λ (t : ℕ). Slots.with_change t with_finish parts.slots) next.ticket_) maker tags has m)
 
-      pub serve_flush_failed : (new : Parts) (p : PlacedRing) (b : List Content) → new.slots ≡ parts.slots → new.maker ≡ parts.maker → IsLeftThrough y a b → HasFailedIn w ticket new p recalc a b
+      pub serve_flush_failed : (new : Parts) (p : PlacedRing) (b : List Content) → new.slots ≡ parts.slots → new.maker ≡ parts.maker → IsLeftThrough y a b → HasFailedIn w ticket new p recalculation a b
       serve_flush_failed new p b slots maker m =
           let next = next_told ticket Turns.Flush there turn in
           let served : IsServed s next.k next.asked = record { works = is.condition_; there = next.there; unfinished = next.turn_.unfinished; unheld = next.turn_.unheld } in
-          subst (λ (t : ℕ). HasFailedIn w t new p recalc a b) (sym next.ticket_) (flush_failed next.k next.asked served next.turn_.request new p b slots maker m)
+          subst (λ (t : ℕ). HasFailedIn w t new p recalculation a b) (sym next.ticket_) (flush_failed next.k next.asked served next.turn_.request new p b slots maker m)
 
     module _ (block : ℕ) (turn : turn_of parts.slots ticket ≡ Turns.Read block) where
       pub serve_read_failed : (new : Parts) (now : Recalculation) (b : List Content) → new.slots ≡ parts.slots → new.maker ≡ parts.maker → IsLeftThrough y a b → HasFailedIn w ticket new journal now a b
@@ -334,29 +334,29 @@ module _ (w : JournaledStanding) (parts : Parts) (journal : PlacedRing) (recalc 
           (read_failed next.k next.asked served next.turn_.first next.turn_.count next.turn_.request new now b slots maker m)
 
       -- Its region is recalculated first, or not, and then it is read.
-      module _ (low : block < w.disk.geometry.blocks) (t : Bool) (takes : takes_first journal recalc block ≡ t) (first : Recalculation) (store : Store) (m : List Content) (same : store.geometry ≡ parts.tags.geometry)
-          (taken : TakesFirst t parts.maker (region_of recalc.awaiting.geometry block) recalc first parts.tags store a m)
-          (adds : TakesFirstIn t parts.maker (region_of recalc.awaiting.geometry block) recalc parts.tags a m) where
+      module _ (low : block < w.disk.geometry.blocks) (t : Bool) (takes : takes_first journal recalculation block ≡ t) (first : Recalculation) (store : Store) (m : List Content) (same : store.geometry ≡ parts.tags.geometry)
+          (taken : TakesFirst t parts.maker (region_of recalculation.awaiting.geometry block) recalculation first parts.tags store a m)
+          (adds : TakesFirstIn t parts.maker (region_of recalculation.awaiting.geometry block) recalculation parts.tags a m) where
         -- The regions that await then.
         abbrev pub then_awaiting : ℕ → Bool
-        then_awaiting = awaiting_if w parts journal recalc a is t (region_of w.disk.geometry block)
+        then_awaiting = awaiting_if w parts journal recalculation a is t (region_of w.disk.geometry block)
 
-        pub taken_working : IsWorking (standing_of w) (awaiting_if w parts journal recalc a is t (region_of w.disk.geometry block)) journal first store m
-        taken_working = first_taken w parts journal recalc a is block low t takes first store m same taken
+        pub taken_working : IsWorking (standing_of w) (awaiting_if w parts journal recalculation a is t (region_of w.disk.geometry block)) journal first store m
+        taken_working = first_taken w parts journal recalculation a is block low t takes first store m same taken
 
         pub taken_left : IsLeftThrough (standing_of w) a m
-        taken_left = first_left w parts journal recalc a is block low t takes m adds
+        taken_left = first_left w parts journal recalculation a is block low t takes m adds
 
         -- The region of a block that no section holds does not await.
-        pub rests : newest_in journal.ring block ≡ None → awaiting_if w parts journal recalc a is t (region_of w.disk.geometry block) (region_of w.disk.geometry block) ≡ false
+        pub rests : newest_in journal.ring block ≡ None → awaiting_if w parts journal recalculation a is t (region_of w.disk.geometry block) (region_of w.disk.geometry block) ≡ false
         rests none = by t takes
           where
-            by : (u : Bool) → takes_first journal recalc block ≡ u → awaiting_if w parts journal recalc a is u (region_of w.disk.geometry block) (region_of w.disk.geometry block) ≡ false
+            by : (u : Bool) → takes_first journal recalculation block ≡ u → awaiting_if w parts journal recalculation a is u (region_of w.disk.geometry block) (region_of w.disk.geometry block) ≡ false
             by true e = with_region-here (region_of w.disk.geometry block) (region_of w.disk.geometry block) false (awaiting_in w) refl
             by false e =
                 let free : not (is_some (newest_entry w.disk journal.ring block)) ≡ true =
-                ap (λ (o : Option Entry). not (is_some o)) (ap (λ (g : Geometry). last_entry g (entries_of (sections_of journal.ring)) block) (sym (stands_now w parts journal recalc a is).device.is_ring.geometry) ∙ none) in
-                alone (awaiting_in w (region_of w.disk.geometry block)) (not (is_some (newest_entry w.disk journal.ring block))) free (sym (takes_is w parts journal recalc a is block low) ∙ e)
+                ap (λ (o : Option Entry). not (is_some o)) (ap (λ (g : Geometry). last_entry g (entries_of (sections_of journal.ring)) block) (sym (stands_now w parts journal recalculation a is).device.is_ring.geometry) ∙ none) in
+                alone (awaiting_in w (region_of w.disk.geometry block)) (not (is_some (newest_entry w.disk journal.ring block))) free (sym (takes_is w parts journal recalculation a is block low) ∙ e)
 
         pub serve_read_done : (disk : DiskIdentity) (mid new : Parts) (stored : List ℕ) (b : List Content) → IsReady parts disk a
             → mid.slots ≡ parts.slots → mid.maker ≡ parts.maker → mid.spb ≡ parts.spb → length mid.buffer.items ≡ parts.slots.block_size
@@ -384,20 +384,20 @@ module _ (w : JournaledStanding) (parts : Parts) (journal : PlacedRing) (recalc 
             (EachMoment-then taken_left kept.left))
 
     module _ (block : ℕ) (flushes : Bool) (turn : turn_of parts.slots ticket ≡ Turns.Write block flushes) where
-      pub serve_no_room : (b : List Content) → b ≡ a → has_room journal.ring ≡ false → IsServedAs w ticket Serves.NoRoom parts journal recalc a b
+      pub serve_no_room : (b : List Content) → b ≡ a → has_room journal.ring ≡ false → IsServedAs w ticket Serves.NoRoom parts journal recalculation a b
       serve_no_room b same full =
           let next = next_told ticket (Turns.Write block flushes) there turn in
           let served : IsServed s next.k next.asked = record { works = is.condition_; there = next.there; unfinished = next.turn_.unfinished; unheld = next.turn_.unheld } in
-          subst (λ (t : ℕ). IsServedAs w t Serves.NoRoom parts journal recalc a b) (sym next.ticket_)
-          (subst (λ (x : List Content). IsServedAs w (suc next.k) Serves.NoRoom parts journal recalc a x) (sym same)
+          subst (λ (t : ℕ). IsServedAs w t Serves.NoRoom parts journal recalculation a b) (sym next.ticket_)
+          (subst (λ (x : List Content). IsServedAs w (suc next.k) Serves.NoRoom parts journal recalculation a x) (sym same)
           (write_no_room next.k next.asked served next.turn_.first next.turn_.blocks next.turn_.fua next.turn_.request full))
 
       module _ (bytes : List ℕ) (bytes_ : IfSome (slot_of ticket parts.slots) (λ slot. bytes ≡ next_bytes parts.slots.block_size slot)) where
         -- The bytes may be put for the device.
         pub takes_write : (disk : DiskIdentity) → IsReady parts disk a → (tag : List ℕ) → tag ≡ tag_by parts.maker parts.spb block bytes → TakesWrite y (block_write ticket block bytes) tag journal parts.tags a
         takes_write disk ready tag tag_ = record {
-          stands = stands_now w parts journal recalc a is;
-          idle = idle_now w parts journal recalc a is;
+          stands = stands_now w parts journal recalculation a is;
+          idle = idle_now w parts journal recalculation a is;
           tag_ = tag_ ∙ rule_told disk ready block bytes;
         }
 
@@ -417,19 +417,19 @@ module _ (w : JournaledStanding) (parts : Parts) (journal : PlacedRing) (recalc 
 
           pub serve_write_done : (new : Parts) (p : PlacedRing) (b : List Content) → new.slots ≡ Slots.with_change ticket with_block_counted parts.slots → new.maker ≡ parts.maker → new.tags ≡ parts.tags
               → HasFlushedIf flushes begun_standing p parts.tags a b → (flushes ≡ false → (p ≡ mid) × (b ≡ a)) → IsLeftThrough begun_standing a b
-              → IsServedAs w ticket (served_by (turn_of new.slots ticket)) new p recalc a b
+              → IsServedAs w ticket (served_by (turn_of new.slots ticket)) new p recalculation a b
           serve_write_done new p b slots maker tags flushed still m =
               let next = next_told ticket (Turns.Write block flushes) there turn in
               let served : IsServed s next.k next.asked = record { works = is.condition_; there = next.there; unfinished = next.turn_.unfinished; unheld = next.turn_.unheld } in
               let to = write_is next served in
-              subst (λ (t : ℕ). IsServedAs w t (served_by (turn_of new.slots t)) new p recalc a b) (sym next.ticket_)
+              subst (λ (t : ℕ). IsServedAs w t (served_by (turn_of new.slots t)) new p recalculation a b) (sym next.ticket_)
               (write_done next.k next.asked served next.turn_.first next.turn_.blocks next.turn_.fua next.turn_.request (block_write ticket block bytes) to mid has flushes (sym next.turn_.flushes_) new p b
               (slots ∙ ap (λ (t : ℕ). Slots.with_change t with_block_counted parts.slots) next.ticket_) maker tags flushed still m)
 
-          pub serve_write_failed : (new : Parts) (p : PlacedRing) (b : List Content) → new.slots ≡ parts.slots → new.maker ≡ parts.maker → IsLeftThrough begun_standing a b → HasFailedIn w ticket new p recalc a b
+          pub serve_write_failed : (new : Parts) (p : PlacedRing) (b : List Content) → new.slots ≡ parts.slots → new.maker ≡ parts.maker → IsLeftThrough begun_standing a b → HasFailedIn w ticket new p recalculation a b
           serve_write_failed new p b slots maker m =
               let next = next_told ticket (Turns.Write block flushes) there turn in
               let served : IsServed s next.k next.asked = record { works = is.condition_; there = next.there; unfinished = next.turn_.unfinished; unheld = next.turn_.unheld } in
               let to = write_is next served in
-              subst (λ (t : ℕ). HasFailedIn w t new p recalc a b) (sym next.ticket_)
+              subst (λ (t : ℕ). HasFailedIn w t new p recalculation a b) (sym next.ticket_)
               (write_failed next.k next.asked served next.turn_.first next.turn_.blocks next.turn_.fua next.turn_.request (block_write ticket block bytes) to mid has flushes (sym next.turn_.flushes_) new p b slots maker m)

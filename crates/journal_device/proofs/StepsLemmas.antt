@@ -40,24 +40,24 @@ batch_some ring bounds some = by ring.opened some
     by [] some = absurd (some refl)
     by (x ∷ xs) some = omega (arith, bounds.inside)
 
-pub commit_fewer : {A : Type 0} (moved : Moved) (old new : PlacedRing) (first last : A) (recalc now : Recalculation) (a b : List Content)
+pub commit_fewer : {A : Type 0} (moved : Moved) (old new : PlacedRing) (first last : A) (recalculation now : Recalculation) (a b : List Content)
     → HasBounds old.ring → HasCommitted moved old new first last a b → moved_as moved ≡ Moves.Did
-    → steps_left Actors.Commit new now < steps_left Actors.Commit old recalc
-commit_fewer Did old new first last recalc now a b bounds has did =
+    → steps_left Actors.Commit new now < steps_left Actors.Commit old recalculation
+commit_fewer Did old new first last recalculation now a b bounds has did =
     rw has.journal (drop_fewer (next_batch old.ring) old.ring.opened has.some (batch_some old.ring bounds has.some))
-commit_fewer Idle old new first last recalc now a b bounds has did = absurd (not_did did)
+commit_fewer Idle old new first last recalculation now a b bounds has did = absurd (not_did did)
 
 -- ---- a place
 
-pub place_fewer : {A : Type 0} (moved : Moved) (old new : PlacedRing) (before after : Store) (first last : A) (recalc now : Recalculation)
+pub place_fewer : {A : Type 0} (moved : Moved) (old new : PlacedRing) (before after : Store) (first last : A) (recalculation now : Recalculation)
     → HasPlaced moved old.placement new.placement old.ring before after first last → new.ring ≡ old.ring
-    → moved_as moved ≡ Moves.Did → steps_left Actors.Place new now < steps_left Actors.Place old recalc
-place_fewer Did old new before after first last recalc now has same did =
+    → moved_as moved ≡ Moves.Did → steps_left Actors.Place new now < steps_left Actors.Place old recalculation
+place_fewer Did old new before after first last recalculation now has same did =
     let next : placed_in new.placement new.ring ≡ placed_in new.placement old.ring = ap (placed_in new.placement) same in
     let all : length (entries_of new.ring.committed) ≡ length (entries_of old.ring.committed) =
     ap (λ (r : JournalRing). length (entries_of r.committed)) same in
     omega (arith, has.more, has.next, next, all)
-place_fewer Idle old new before after first last recalc now has same did = absurd (not_did did)
+place_fewer Idle old new before after first last recalculation now has same did = absurd (not_did did)
 
 -- ---- a settle
 
@@ -72,14 +72,14 @@ freed_some placed (x ∷ xs) other = by (leb (length x) placed) refl
     by false e =
         absurd (other (ap (λ (t : Bool). if t then unplaced_from (placed - length x) xs else x ∷ xs) e))
 
-pub settle_fewer : {A : Type 0} (moved : Moved) (old new : PlacedRing) (before after : Store) (first last : A) (recalc now : Recalculation)
+pub settle_fewer : {A : Type 0} (moved : Moved) (old new : PlacedRing) (before after : Store) (first last : A) (recalculation now : Recalculation)
     → HasSettled moved old.placement new.placement old.ring new.ring before after first last
-    → moved_as moved ≡ Moves.Did → steps_left Actors.Settle new now < steps_left Actors.Settle old recalc
-settle_fewer Did old new before after first last recalc now has did =
+    → moved_as moved ≡ Moves.Did → steps_left Actors.Settle new now < steps_left Actors.Settle old recalculation
+settle_fewer Did old new before after first last recalculation now has did =
     let n = placed_in old.placement old.ring in
     rw has.left_is (freed_some n old.ring.committed
     (λ same. has.some (ap (λ (xs : List (List Entry)). record old.ring { committed = xs }) same)))
-settle_fewer Idle old new before after first last recalc now has did = absurd (not_did did)
+settle_fewer Idle old new before after first last recalculation now has did = absurd (not_did did)
 
 -- ---- a recalculation
 

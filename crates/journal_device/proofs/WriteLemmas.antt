@@ -42,14 +42,14 @@ on_refusal (Err e) bad holds = holds
 
 -- ---- what is written
 
-pub writes_if : (flushes : Bool) (block : ℕ) (parts : Parts) (journal : PlacedRing) (recalc : Recalculation) (mid : PlacedRing) (before after : List Content) → HasEntryMore journal block mid
-    → WritesIf flushes mid before after → WritesFor (Turns.Write block flushes) parts journal recalc before after
-writes_if true block parts journal recalc mid before after more writes = inr (record { put = mid; more = more; batches = writes })
-writes_if false block parts journal recalc mid before after more writes = writes
+pub writes_if : (flushes : Bool) (block : ℕ) (parts : Parts) (journal : PlacedRing) (recalculation : Recalculation) (mid : PlacedRing) (before after : List Content) → HasEntryMore journal block mid
+    → WritesIf flushes mid before after → WritesFor (Turns.Write block flushes) parts journal recalculation before after
+writes_if true block parts journal recalculation mid before after more writes = inr (record { put = mid; more = more; batches = writes })
+writes_if false block parts journal recalculation mid before after more writes = writes
 
-pub writes_none : (flushes : Bool) (block : ℕ) (parts : Parts) (journal : PlacedRing) (recalc : Recalculation) (before : List Content) → WritesFor (Turns.Write block flushes) parts journal recalc before before
-writes_none true block parts journal recalc before = inl refl
-writes_none false block parts journal recalc before = refl
+pub writes_none : (flushes : Bool) (block : ℕ) (parts : Parts) (journal : PlacedRing) (recalculation : Recalculation) (before : List Content) → WritesFor (Turns.Write block flushes) parts journal recalculation before before
+writes_none true block parts journal recalculation before = inl refl
+writes_none false block parts journal recalculation before = refl
 
 -- ---- what is ready
 
@@ -72,9 +72,9 @@ tags_hold g old new {a} m = EachMoment-weaker (FromStart-weaker a (λ start. Onl
     }) start c adds)) m
 
 -- where a region is recalculated first,
-pub writes_first : (t : Bool) (rule : TagRule) (region block : ℕ) (recalc : Recalculation) (parts : Parts) (a m : List Content) → TakesFirstIn t rule region recalc parts.tags a m → WritesRead t block parts a m
-writes_first true rule region block recalc parts a m adds = tags_hold parts.tags.geometry _ _ adds
-writes_first false rule region block recalc parts a m same = EachMoment-kept _ same
+pub writes_first : (t : Bool) (rule : TagRule) (region block : ℕ) (recalculation : Recalculation) (parts : Parts) (a m : List Content) → TakesFirstIn t rule region recalculation parts.tags a m → WritesRead t block parts a m
+writes_first true rule region block recalculation parts a m adds = tags_hold parts.tags.geometry _ _ adds
+writes_first false rule region block recalculation parts a m same = EachMoment-kept _ same
 
 -- and then the tag of a block is got.
 pub writes_read : (t : Bool) (rule : TagRule) (region block : ℕ) (old new : Recalculation) (parts : Parts) (store : Store) (a m b : List Content) → store.geometry ≡ parts.tags.geometry → TakesFirst t rule region old new parts.tags store a m

@@ -1,21 +1,18 @@
 -- What the calls of a device in journal mode do to its journal, and what they write.
-use Rattle.std.specs.Prelude.{◌≡◌, ◌⊎◌, ℕ, ◌-◌, ◌<◌, Bool, true, false, not, ◌&&◌, is_some, List, length, Option, Some, None}
+use Rattle.std.specs.Prelude.{◌≡◌, ◌⊎◌, ℕ, ◌-◌, ◌<◌, Bool, true, false, not, ◌&&◌, is_some, List, length}
 use Rattle.disk_model.specs.Disk.{Content, EachImage, Image, OnlyAdds}
-use Rattle.disk_model.specs.Moments.{EachMoment, EachSince, HasNow}
+use Rattle.disk_model.specs.Moments.{EachSince, HasNow}
 use Rattle.image_model.specs.Geometry.{Geometry, region_of}
 use Rattle.image_model.specs.Superblock.{Superblock}
 use Rattle.device_model.specs.History.{cells_now}
 use Rattle.device_model.specs.Progress as Model
-use Rattle.device_model.specs.Regions.{with_region}
-use Rattle.place_model.specs.Format.{IsReadAs, format_on, placed_on}
-use Rattle.recalculate_laws.specs.Formats.{under_fields}
-use Rattle.recalculate_laws.specs.Position.{moved_fields}
+use Rattle.place_model.specs.Format.{format_on, placed_on}
 use Rattle.journal_ring.specs.Places.{entry_of}
 use Rattle.request_slots.specs.declared.turn.Turn.{Turn}
 use Rattle.request_slots.specs.declared.turn.Turn.TheVariants as Turns
 use Rattle.recalculation.specs.declared.recalculating.Recalculation.{Recalculation}
 use Rattle.recalculation.specs.Awaiting.{awaiting_of}
-use Rattle.recalculation.specs.Recalculation.{HasFields, IsOfTagsOrHead, count_of, fields_then, next_of}
+use Rattle.recalculation.specs.Recalculation.{HasFields, IsOfTagsOrHead, WritesRegion, count_of, fields_then, next_of}
 use Rattle.tag_store.specs.Store.{HoldsTag, IsOutForTag}
 use Rattle.device_parts.specs.declared.answers.Moved.{Moved}
 use Rattle.device_parts.specs.declared.parts.Parts.{Parts}
@@ -50,8 +47,8 @@ pub record WritesWithBlock (journal : PlacedRing) (block : ℕ) (before after : 
 
 -- The region of the block awaits, and no section that is not free holds the block: a read recalculates it first.
 abbrev pub takes_first : PlacedRing → Recalculation → (block : ℕ) → Bool
-takes_first journal recalc block =
-    awaiting_of recalc.awaiting (region_of recalc.awaiting.geometry block) && not (is_some (newest_in journal.ring block))
+takes_first journal recalculation block =
+    awaiting_of recalculation.awaiting (region_of recalculation.awaiting.geometry block) && not (is_some (newest_in journal.ring block))
 
 -- A read writes sectors of tags, and where it recalculates nothing those alone that make room for the block's.
 abbrev pub WritesRead : (takes : Bool) → (block : ℕ) → Parts → (before after : List Content) → Type 0
@@ -62,14 +59,14 @@ WritesRead false block parts before after = EachSince (OnlyAdds (IsOutForTag blo
 -- What is written in a serve, by what is done next: for a read sectors of tags; for a flush batches of the journal, and
 -- for a write with one the same with its entry, if it finds room; and else nothing.
 abbrev pub WritesFor : Turn → Parts → PlacedRing → Recalculation → (before after : List Content) → Type 0
-WritesFor Turns.Finished parts journal recalc before after = after ≡ before
-WritesFor (Turns.Held by) parts journal recalc before after = after ≡ before
-WritesFor (Turns.Read block) parts journal recalc before after =
-    WritesRead (takes_first journal recalc block) block parts before after
-WritesFor (Turns.Write block true) parts journal recalc before after =
+WritesFor Turns.Finished parts journal recalculation before after = after ≡ before
+WritesFor (Turns.Held by) parts journal recalculation before after = after ≡ before
+WritesFor (Turns.Read block) parts journal recalculation before after =
+    WritesRead (takes_first journal recalculation block) block parts before after
+WritesFor (Turns.Write block true) parts journal recalculation before after =
     (after ≡ before) ⊎ WritesWithBlock journal block before after
-WritesFor (Turns.Write block false) parts journal recalc before after = after ≡ before
-WritesFor Turns.Flush parts journal recalc before after = WritesBatches journal before after
+WritesFor (Turns.Write block false) parts journal recalculation before after = after ≡ before
+WritesFor Turns.Flush parts journal recalculation before after = WritesBatches journal before after
 
 -- ---- a step
 
@@ -78,47 +75,26 @@ abbrev pub moved_as : JournalMove.Moved → Moved
 moved_as JournalMoves.Did = Moves.Did
 moved_as JournalMoves.Idle = Moves.Idle
 
--- What is written where this region is recalculated: sectors of tags, and sector 0; and nothing where there is none.
-abbrev pub WritesRegion : Option ℕ → Geometry → (before after : List Content) → Type 0
-WritesRegion None g before after = after ≡ before
-WritesRegion (Some region) g before after = EachSince (OnlyAdds (IsOfTagsOrHead g)) before after
-
 -- What is written in one: a batch of the journal, an entry in its place, or sectors of tags; and where a region awaits,
 -- what the recalculation of the least one writes.
 abbrev pub WritesAs : Actor → Parts → PlacedRing → Recalculation → (before after : List Content) → Type 0
-WritesAs Actors.Commit parts journal recalc before after = WritesBatch journal.ring before after
-WritesAs Actors.Place parts journal recalc before after = WritesNext journal.placement journal.ring before after
-WritesAs Actors.Settle parts journal recalc before after =
+WritesAs Actors.Commit parts journal recalculation before after = WritesBatch journal.ring before after
+WritesAs Actors.Place parts journal recalculation before after = WritesNext journal.placement journal.ring before after
+WritesAs Actors.Settle parts journal recalculation before after =
     WritesTags journal.placement journal.ring parts.tags before after
-WritesAs Actors.Clean parts journal recalc before after = after ≡ before
-WritesAs Actors.Recalc parts journal recalc before after =
-    WritesRegion (next_of recalc) parts.tags.geometry before after
-
--- The fields once this region is taken out of those that await, and the position has moved: as they are, where there is
--- none.
-abbrev pub fields_behind : Option ℕ → Recalculation → Superblock
-fields_behind None recalc = recalc.position
-fields_behind (Some region) recalc =
-    moved_fields recalc.position recalc.awaiting.geometry (with_region region false (awaiting_of recalc.awaiting))
-
--- Those that a step of the recalculation leaves.
-abbrev pub fields_next : Recalculation → Superblock
-fields_next recalc = fields_behind (next_of recalc) recalc
-
--- At each moment of a call each image can be read in the format of the device, under these fields or under those.
-abbrev pub HasFieldsThrough : Standing → (old new : Superblock) → (before after : List Content) → Type 0
-HasFieldsThrough w old new before after = EachMoment before after
-    (EachImage (λ image. IsReadAs (under_fields w.on old) image ⊎ IsReadAs (under_fields w.on new) image))
+WritesAs Actors.Clean parts journal recalculation before after = after ≡ before
+WritesAs Actors.Recalc parts journal recalculation before after =
+    WritesRegion (next_of recalculation) parts.tags.geometry before after
 
 -- How many steps of an actor still do something at most: a commit for each opened section, a place for each committed
 -- entry that is not placed, a settle for each committed section, a recalculation for each region that awaits.
 abbrev pub steps_left : Actor → PlacedRing → Recalculation → ℕ
-steps_left Actors.Commit journal recalc = length journal.ring.opened
-steps_left Actors.Place journal recalc =
+steps_left Actors.Commit journal recalculation = length journal.ring.opened
+steps_left Actors.Place journal recalculation =
     length (entries_of journal.ring.committed) - placed_in journal.placement journal.ring
-steps_left Actors.Settle journal recalc = length journal.ring.committed
-steps_left Actors.Clean journal recalc = 0
-steps_left Actors.Recalc journal recalc = count_of recalc
+steps_left Actors.Settle journal recalculation = length journal.ring.committed
+steps_left Actors.Clean journal recalculation = 0
+steps_left Actors.Recalc journal recalculation = count_of recalculation
 
 -- A step of the recalculation that did something moves the position as far as the regions that await let it, and a step
 -- of another actor leaves all as it is.

@@ -36,15 +36,15 @@ use Rattle.journal_device.specs.declared.parts.JournalParts.{JournalParts}
 
 -- What is kept is of this disk, as long as the device works, the journal lies on it, and the regions are those of its
 -- blocks.
-pub record IsReady (condition : Condition) (parts : Parts) (journal : PlacedRing) (recalc : Recalculation)
+pub record IsReady (condition : Condition) (parts : Parts) (journal : PlacedRing) (recalculation : Recalculation)
     (disk : DiskIdentity) (moments : List Content) : Type 0 where
   pub parts_ : condition ≡ Working → Devices.IsReady parts disk moments
   pub geometry : journal.ring.geometry ≡ parts.tags.geometry
-  pub regions_ : recalc.awaiting.geometry ≡ parts.tags.geometry
+  pub regions_ : recalculation.awaiting.geometry ≡ parts.tags.geometry
 
 -- What a device in journal mode keeps.
 abbrev pub kept : Parts → PlacedRing → Recalculation → JournalParts
-kept parts journal recalc = record { parts = parts; journal = journal; recalc = recalc }
+kept parts journal recalculation = record { parts = parts; journal = journal; recalculation = recalculation }
 
 -- ---- over its disk
 
@@ -80,12 +80,12 @@ awaiting_in w = w.state.progress.regions.awaiting
 -- What holds as long as a device works: what its journal stands for, with tags that are made in each region that does
 -- not await; each region that does has a block to be recalculated; and these are the regions and the fields that are
 -- kept.
-pub record IsWorking (y : JournalStanding) (awaiting : ℕ → Bool) (journal : PlacedRing) (recalc : Recalculation)
+pub record IsWorking (y : JournalStanding) (awaiting : ℕ → Bool) (journal : PlacedRing) (recalculation : Recalculation)
     (store : Store) (moments : List Content) : Type 0 where
   pub stands : StandsAs y journal store moments
   pub keeps : KeepsAwaitingNow y.disk awaiting (given_tags store) moments
   pub work : AwaitsWork y.disk.format awaiting
-  pub recalc_ : IsRecalculationOf y.disk.superblock y.disk.geometry awaiting recalc
+  pub recalc_ : IsRecalculationOf y.disk.superblock y.disk.geometry awaiting recalculation
   pub written : CanBeWritten y.disk.superblock
 
 -- The kind of device that a disk is opened by in journal mode.
@@ -96,7 +96,7 @@ kind_on d = kind_in Journal d.key d.sectors
 -- on: the requests in flight, the tags' rule and, as long as it works, the journal and the regions that await. Each
 -- image of the disk can be opened, and may be left by the history.
 pub record IsOverDisk (w : JournaledStanding) (condition : Condition) (parts : Parts) (journal : PlacedRing)
-    (recalc : Recalculation) (moments : List Content) : Type 0 where
+    (recalculation : Recalculation) (moments : List Content) : Type 0 where
   pub reached : IsReached w.format w.state
   pub format : w.format ≡ device_format Journal w.disk.format
   pub no_bitmap : has_flag DIRTY_BITMAP w.disk.superblock.flags ≡ false
@@ -106,7 +106,7 @@ pub record IsOverDisk (w : JournaledStanding) (condition : Condition) (parts : P
   pub condition_ : w.state.condition ≡ condition_of condition
   pub told : Content
   pub is_told : content_now moments ≡ Some told
-  pub works : condition ≡ Working → IsWorking (standing_of w) (awaiting_in w) journal recalc parts.tags moments
+  pub works : condition ≡ Working → IsWorking (standing_of w) (awaiting_in w) journal recalculation parts.tags moments
   pub left : IsLeftNow (kind_on w.disk.format) w.entry w.state.history moments
 
 -- ---- as a device of any mode
@@ -120,13 +120,13 @@ pub record IsJournaled (w : Standing) (condition : Condition) (device : JournalP
     : Type 0 where
   pub disk : JournaledDisk
   pub format : IsFormatOf w.on disk.format
-  pub over : IsOverDisk (standing_on w disk) condition device.parts device.journal device.recalc moments
+  pub over : IsOverDisk (standing_on w disk) condition device.parts device.journal device.recalculation moments
 
 -- Journal mode.
 abbrev pub in_journal : DeviceMode JournalParts
 in_journal = record {
   IsDevice = IsJournaled;
-  IsReady = λ condition device disk moments. IsReady condition device.parts device.journal device.recalc disk moments;
+  IsReady = λ condition device disk moments. IsReady condition device.parts device.journal device.recalculation disk moments;
   parts = λ device. device.parts;
   mode_of = λ device. Journal;
   kind = λ w. kind_on w.on;
@@ -142,5 +142,5 @@ QuietLaw = (w : Standing) (condition : Condition) (device : JournalParts) (fligh
     → result.progress.journal ≡ w.state.progress.journal → result.progress.regions ≡ w.state.progress.regions
     → IsFlightOf w.format flight result.progress.requests
     → (Model.after_event w.format w.state event).condition ≡ w.state.condition
-    → HasDone in_journal w event condition (kept (record device.parts { slots = flight }) device.journal device.recalc)
+    → HasDone in_journal w event condition (kept (record device.parts { slots = flight }) device.journal device.recalculation)
     moments moments

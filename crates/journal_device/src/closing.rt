@@ -5,10 +5,10 @@ ghost use Rattle.image_model.specs.declared.flags.TheConstants.{RECALCULATING};
 ghost use Rattle.image_model.specs.Superblock.{has_flag};
 ghost use Rattle.device_parts.specs.Device.{Ends, Standing};
 ghost use Rattle.device_parts.specs.declared.condition.Condition.TheVariants.{Working};
-ghost use Rattle.journal_device.specs.Answers.{HasFieldsThrough, IsAllPlaced, WritesClose};
+ghost use Rattle.journal_device.specs.Answers.{IsAllPlaced, WritesClose};
 ghost use Rattle.journal_device.specs.Device.{IsJournaled, IsReady, in_journal, kept};
 ghost use Rattle.journal_mode.specs.Closing.{IsAllFree};
-ghost use Rattle.recalculation.specs.Recalculation.{fields_left};
+ghost use Rattle.recalculation.specs.Recalculation.{HasFieldsThrough, fields_left};
 
 use device_parts::Parts;
 use journal_mode::Journal;
@@ -25,30 +25,30 @@ pub fn close<D: Disk>(
     disk: &mut D,
     parts: &mut Parts,
     journal: &mut Journal<'_>,
-    recalc: &mut Recalculation,
+    recalculation: &mut Recalculation,
 ) -> Result<(), Failed>
-    requires { IsReady Working parts.old journal.old recalc.old (D.identity disk.old) (D.moments disk.old) }
+    requires { IsReady Working parts.old journal.old recalculation.old (D.identity disk.old) (D.moments disk.old) }
 
-    ensures ends { Ends in_journal (kept parts.old journal.old recalc.old)
+    ensures ends { Ends in_journal (kept parts.old journal.old recalculation.old)
         (D.moments disk.old) (D.moments disk.new) result }
     ensures placed { OnOk result ((w : Standing)
-        → IsJournaled w Working (kept parts.old journal.old recalc.old) (D.moments disk.old)
-        → IsAllPlaced w (fields_left recalc.old) (D.moments disk.new)) }
+        → IsJournaled w Working (kept parts.old journal.old recalculation.old) (D.moments disk.old)
+        → IsAllPlaced w (fields_left recalculation.old) (D.moments disk.new)) }
     ensures free { OnOk result (IsAllFree journal.new.ring) }
 
     ensures cause { HasCause (D.faults disk.old) (D.faults disk.new) result }
 
     ensures identity { D.identity disk.new ≡ D.identity disk.old }
 
-    ensures heads { (w : Standing) → IsJournaled w Working (kept parts.old journal.old recalc.old)
-        (D.moments disk.old) → HasFieldsThrough w recalc.old.position (fields_left recalc.old)
+    ensures heads { (w : Standing) → IsJournaled w Working (kept parts.old journal.old recalculation.old)
+        (D.moments disk.old) → HasFieldsThrough w.on recalculation.old.position (fields_left recalculation.old)
         (D.moments disk.old) (D.moments disk.new) }
-    ensures writes { WritesClose journal.old (has_flag RECALCULATING recalc.old.position.flags)
+    ensures writes { WritesClose journal.old (has_flag RECALCULATING recalculation.old.position.flags)
         parts.old.tags.geometry (D.moments disk.old) (D.moments disk.new) }
 {
     journal.close(disk, &mut parts.tags)?;
-    if !recalc.position.is_set() {
+    if !recalculation.position.is_set() {
         return Ok(());
     }
-    recalc.settle(disk, &mut parts.tags)
+    recalculation.settle(disk, &mut parts.tags)
 }

@@ -12,5 +12,5 @@ pub struct JournalParts<'p> {
     /// The journal in use.
     pub journal: Journal<'p>,
     /// The regions that await the tags of their blocks, and how far sector 0 says that it is.
-    pub recalc: Recalculation,
+    pub recalculation: Recalculation,
 }

@@ -32,31 +32,38 @@ pub fn serve<D: Disk>(
     disk: &mut D,
     parts: &mut Parts,
     journal: &mut Journal<'_>,
-    recalc: &mut Recalculation,
+    recalculation: &mut Recalculation,
     ticket: &Ticket,
 ) -> Result<Served, Failed>
-    requires ready { IsReady Working parts.old journal.old recalc.old (D.identity disk.old) (D.moments disk.old) }
+    requires ready { IsReady Working parts.old journal.old recalculation.old
+        (D.identity disk.old) (D.moments disk.old) }
     requires there { is_in_flight ticket.now parts.old.slots ≡ true }
 
-    ensures next { ServesNext in_journal ticket.now (kept parts.old journal.old recalc.old)
-        (kept parts.new journal.new recalc.new) (D.moments disk.old) (D.moments disk.new) result }
+    ensures next { ServesNext in_journal ticket.now (kept parts.old journal.old recalculation.old)
+        (kept parts.new journal.new recalculation.new) (D.moments disk.old) (D.moments disk.new) result }
 
     ensures cause { HasCause (D.faults disk.old) (D.faults disk.new) result }
 
-    ensures ready { IsReady (condition_by result) parts.new journal.new recalc.new
+    ensures ready { IsReady (condition_by result) parts.new journal.new recalculation.new
         (D.identity disk.new) (D.moments disk.new) }
     ensures identity { D.identity disk.new ≡ D.identity disk.old }
-    ensures writes { WritesFor (turn_of parts.old.slots ticket.now) parts.old journal.old recalc.old
+    ensures writes { WritesFor (turn_of parts.old.slots ticket.now) parts.old journal.old recalculation.old
         (D.moments disk.old) (D.moments disk.new) }
 {
     match parts.slots.turn(ticket) {
         Turn::Finished => Ok(Served::Done),
         Turn::Held { by } => Ok(Served::Held { by }),
-        Turn::Read { block } => serve_read(disk, parts, journal, recalc, ticket, block),
+        Turn::Read { block } => serve_read(disk, parts, journal, recalculation, ticket, block),
         Turn::Write { block, is_flushed } => serve_write(
-            disk, parts, journal, recalc, ticket, block, is_flushed,
+            disk,
+            parts,
+            journal,
+            recalculation,
+            ticket,
+            block,
+            is_flushed,
         ),
-        Turn::Flush => serve_flush(disk, parts, journal, recalc, ticket),
+        Turn::Flush => serve_flush(disk, parts, journal, recalculation, ticket),
     }
 }
 
@@ -66,28 +73,36 @@ fn serve_read<D: Disk>(
     disk: &mut D,
     parts: &mut Parts,
     journal: &Journal<'_>,
-    recalc: &mut Recalculation,
+    recalculation: &mut Recalculation,
     ticket: &Ticket,
     block: u64,
 ) -> Result<Served, Failed>
-    requires ready { IsReady Working parts.old journal.now recalc.old (D.identity disk.old) (D.moments disk.old) }
+    requires ready { IsReady Working parts.old journal.now recalculation.old
+        (D.identity disk.old) (D.moments disk.old) }
     requires there { is_in_flight ticket.now parts.old.slots ≡ true }
     requires turn { turn_of parts.old.slots ticket.now ≡ Turns.Read block }
     requires within { block < parts.old.slots.blocks }
     requires fits { FitsFlight ticket.now parts.old.slots }
 
-    ensures next { ServesNext in_journal ticket.now (kept parts.old journal.now recalc.old)
-        (kept parts.new journal.now recalc.new) (D.moments disk.old) (D.moments disk.new) result }
+    ensures next { ServesNext in_journal ticket.now (kept parts.old journal.now recalculation.old)
+        (kept parts.new journal.now recalculation.new) (D.moments disk.old) (D.moments disk.new) result }
 
     ensures cause { HasCause (D.faults disk.old) (D.faults disk.new) result }
 
-    ensures ready { IsReady (condition_by result) parts.new journal.now recalc.new
+    ensures ready { IsReady (condition_by result) parts.new journal.now recalculation.new
         (D.identity disk.new) (D.moments disk.new) }
     ensures identity { D.identity disk.new ≡ D.identity disk.old }
-    ensures writes { WritesFor (turn_of parts.old.slots ticket.now) parts.old journal.now recalc.old
+    ensures writes { WritesFor (turn_of parts.old.slots ticket.now) parts.old journal.now recalculation.old
         (D.moments disk.old) (D.moments disk.new) }
 {
-    take_first(disk, &mut parts.tags, &parts.maker, journal, recalc, block)?;
+    take_first(
+        disk,
+        &mut parts.tags,
+        &parts.maker,
+        journal,
+        recalculation,
+        block,
+    )?;
     let stored = journal.read_block(disk, &mut parts.tags, block, &mut parts.buffer)?;
     Ok(parts.serve_read(ticket, block, stored))
 }
@@ -97,30 +112,31 @@ fn serve_write<D: Disk>(
     disk: &mut D,
     parts: &mut Parts,
     journal: &mut Journal<'_>,
-    recalc: &Recalculation,
+    recalculation: &Recalculation,
     ticket: &Ticket,
     block: u64,
     is_flushed: bool,
 ) -> Result<Served, Failed>
-    requires ready { IsReady Working parts.old journal.old recalc.now (D.identity disk.old) (D.moments disk.old) }
+    requires ready { IsReady Working parts.old journal.old recalculation.now
+        (D.identity disk.old) (D.moments disk.old) }
     requires there { is_in_flight ticket.now parts.old.slots ≡ true }
     requires turn { turn_of parts.old.slots ticket.now ≡ Turns.Write block is_flushed }
     requires within { block < parts.old.slots.blocks }
     requires fits { FitsFlight ticket.now parts.old.slots }
 
-    ensures next { ServesNext in_journal ticket.now (kept parts.old journal.old recalc.now)
-        (kept parts.new journal.new recalc.now) (D.moments disk.old) (D.moments disk.new) result }
+    ensures next { ServesNext in_journal ticket.now (kept parts.old journal.old recalculation.now)
+        (kept parts.new journal.new recalculation.now) (D.moments disk.old) (D.moments disk.new) result }
 
     ensures cause { HasCause (D.faults disk.old) (D.faults disk.new) result }
 
-    ensures ready { IsReady (condition_by result) parts.new journal.new recalc.now
+    ensures ready { IsReady (condition_by result) parts.new journal.new recalculation.now
         (D.identity disk.new) (D.moments disk.new) }
     ensures identity { D.identity disk.new ≡ D.identity disk.old }
-    ensures writes { WritesFor (turn_of parts.old.slots ticket.now) parts.old journal.old recalc.now
+    ensures writes { WritesFor (turn_of parts.old.slots ticket.now) parts.old journal.old recalculation.now
         (D.moments disk.old) (D.moments disk.new) }
 {
     // The regions are named in the contract alone: no tag is made.
-    let _ = recalc;
+    let _ = recalculation;
     let bytes = parts.slots.next_bytes(ticket);
     let tag = parts.maker.tag(block * parts.spb, bytes);
     if journal.put(block, bytes, &tag).is_err() {
@@ -136,26 +152,27 @@ fn serve_flush<D: Disk>(
     disk: &mut D,
     parts: &mut Parts,
     journal: &mut Journal<'_>,
-    recalc: &Recalculation,
+    recalculation: &Recalculation,
     ticket: &Ticket,
 ) -> Result<Served, Failed>
-    requires ready { IsReady Working parts.old journal.old recalc.now (D.identity disk.old) (D.moments disk.old) }
+    requires ready { IsReady Working parts.old journal.old recalculation.now
+        (D.identity disk.old) (D.moments disk.old) }
     requires there { is_in_flight ticket.now parts.old.slots ≡ true }
     requires turn { turn_of parts.old.slots ticket.now ≡ Turns.Flush }
 
-    ensures next { ServesNext in_journal ticket.now (kept parts.old journal.old recalc.now)
-        (kept parts.new journal.new recalc.now) (D.moments disk.old) (D.moments disk.new) result }
+    ensures next { ServesNext in_journal ticket.now (kept parts.old journal.old recalculation.now)
+        (kept parts.new journal.new recalculation.now) (D.moments disk.old) (D.moments disk.new) result }
 
     ensures cause { HasCause (D.faults disk.old) (D.faults disk.new) result }
 
-    ensures ready { IsReady (condition_by result) parts.new journal.new recalc.now
+    ensures ready { IsReady (condition_by result) parts.new journal.new recalculation.now
         (D.identity disk.new) (D.moments disk.new) }
     ensures identity { D.identity disk.new ≡ D.identity disk.old }
-    ensures writes { WritesFor (turn_of parts.old.slots ticket.now) parts.old journal.old recalc.now
+    ensures writes { WritesFor (turn_of parts.old.slots ticket.now) parts.old journal.old recalculation.now
         (D.moments disk.old) (D.moments disk.new) }
 {
     // The regions are named in the contract alone: no tag is made.
-    let _ = recalc;
+    let _ = recalculation;
     journal.flush(disk, &parts.tags)?;
     parts.slots.finish(ticket);
     Ok(Served::Done)

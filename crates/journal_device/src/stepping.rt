@@ -3,12 +3,12 @@ ghost use Rattle.std.specs.Prelude.{◌≡◌, ◌<◌, IfOk, OnErr};
 ghost use Rattle.disk_model.specs.Causes.{HasCause};
 ghost use Rattle.disk_model.specs.Disk.{OnlyAdds};
 ghost use Rattle.disk_model.specs.Moments.{EachSince};
-ghost use Rattle.recalculation.specs.Recalculation.{IsOfTagsOrHead, StaysOnDisk};
+ghost use Rattle.recalculation.specs.Recalculation.{HasFieldsThrough, IsOfTagsOrHead, StaysOnDisk, fields_next};
 ghost use Rattle.tag_store.specs.Store.{IsStore};
 ghost use Rattle.device_parts.specs.Answers.{StepsNext, actor_of, condition_by};
 ghost use Rattle.device_parts.specs.Device.{Standing};
 ghost use Rattle.device_parts.specs.declared.condition.Condition.TheVariants.{Working};
-ghost use Rattle.journal_device.specs.Answers.{AdvancesAs, HasFieldsThrough, HasNoWork, WritesAs, fields_next, moved_as};
+ghost use Rattle.journal_device.specs.Answers.{AdvancesAs, HasNoWork, WritesAs, moved_as};
 ghost use Rattle.journal_device.specs.Answers.{steps_left};
 ghost use Rattle.journal_device.specs.Device.{IsJournaled, IsReady, in_journal, kept};
 ghost use Rattle.journal_device.specs.Recalculating.{HasStepped, StepsRegionIn};
@@ -34,30 +34,30 @@ pub fn step<D: Disk>(
     disk: &mut D,
     parts: &mut Parts,
     journal: &mut Journal<'_>,
-    recalc: &mut Recalculation,
+    recalculation: &mut Recalculation,
     actor: Actor,
 ) -> Result<Moved, Failed>
-    requires { IsReady Working parts.old journal.old recalc.old (D.identity disk.old) (D.moments disk.old) }
+    requires { IsReady Working parts.old journal.old recalculation.old (D.identity disk.old) (D.moments disk.old) }
 
-    ensures next { StepsNext in_journal actor (kept parts.old journal.old recalc.old)
-        (kept parts.new journal.new recalc.new) (D.moments disk.old) (D.moments disk.new) result }
+    ensures next { StepsNext in_journal actor (kept parts.old journal.old recalculation.old)
+        (kept parts.new journal.new recalculation.new) (D.moments disk.old) (D.moments disk.new) result }
     ensures goes_on { IfOk result (λ moved. moved ≡ Moved.Did
-        → steps_left actor journal.new recalc.new < steps_left actor journal.old recalc.old) }
+        → steps_left actor journal.new recalculation.new < steps_left actor journal.old recalculation.old) }
     ensures idle { IfOk result (λ moved. moved ≡ Moved.Idle
-        → (kept parts.new journal.new recalc.new ≡ kept parts.old journal.old recalc.old)
+        → (kept parts.new journal.new recalculation.new ≡ kept parts.old journal.old recalculation.old)
         × (disk.new ≡ disk.old)) }
-    ensures advances { IfOk result (λ moved. AdvancesAs actor moved recalc.old recalc.new) }
+    ensures advances { IfOk result (λ moved. AdvancesAs actor moved recalculation.old recalculation.new) }
 
     ensures cause { HasCause (D.faults disk.old) (D.faults disk.new) result }
 
-    ensures ready { IsReady (condition_by result) parts.new journal.new recalc.new
+    ensures ready { IsReady (condition_by result) parts.new journal.new recalculation.new
         (D.identity disk.new) (D.moments disk.new) }
     ensures slots { parts.new.slots ≡ parts.old.slots }
     ensures identity { D.identity disk.new ≡ D.identity disk.old }
-    ensures heads { (w : Standing) → IsJournaled w Working (kept parts.old journal.old recalc.old)
-        (D.moments disk.old) → HasFieldsThrough w recalc.old.position (fields_next recalc.old)
+    ensures heads { (w : Standing) → IsJournaled w Working (kept parts.old journal.old recalculation.old)
+        (D.moments disk.old) → HasFieldsThrough w.on recalculation.old.position (fields_next recalculation.old)
         (D.moments disk.old) (D.moments disk.new) }
-    ensures writes { WritesAs actor parts.old journal.old recalc.old (D.moments disk.old) (D.moments disk.new) }
+    ensures writes { WritesAs actor parts.old journal.old recalculation.old (D.moments disk.old) (D.moments disk.new) }
     ensures quiet { HasNoWork (actor_of actor) → disk.new ≡ disk.old }
 {
     let moved = match actor {
@@ -65,7 +65,7 @@ pub fn step<D: Disk>(
         Actor::Place => journal.place(disk, &mut parts.tags)?,
         Actor::Settle => journal.settle(disk, &mut parts.tags)?,
         Actor::Clean => JournalMoved::Idle,
-        Actor::Recalc => recalculate(disk, &mut parts.tags, &parts.maker, recalc)?,
+        Actor::Recalc => recalculate(disk, &mut parts.tags, &parts.maker, recalculation)?,
     };
     Ok(moved_as(moved))
 }
@@ -79,25 +79,26 @@ fn recalculate<D: Disk>(
     disk: &mut D,
     tags: &mut Tags,
     maker: &TagMaker,
-    recalc: &mut Recalculation,
+    recalculation: &mut Recalculation,
 ) -> Result<JournalMoved, Failed>
-    requires same { tags.old.geometry ≡ recalc.old.awaiting.geometry }
-    requires size { maker.now.size ≡ recalc.old.awaiting.geometry.shape.tag_size }
+    requires same { tags.old.geometry ≡ recalculation.old.awaiting.geometry }
+    requires size { maker.now.size ≡ recalculation.old.awaiting.geometry.shape.tag_size }
     requires store { IsStore tags.old (D.identity disk.old) (D.moments disk.old) }
 
-    ensures stepped { IfOk result (λ moved. HasStepped moved maker.now recalc.old recalc.new tags.old tags.new
-        disk.old disk.new (D.moments disk.old) (D.moments disk.new)) }
+    ensures stepped { IfOk result (λ moved. HasStepped moved maker.now recalculation.old recalculation.new
+        tags.old tags.new disk.old disk.new (D.moments disk.old) (D.moments disk.new)) }
 
     ensures cause { HasCause (D.faults disk.old) (D.faults disk.new) result }
-    ensures err { OnErr result (StepsRegionIn maker.now recalc.old tags.old (D.moments disk.old) (D.moments disk.new)) }
+    ensures err { OnErr result (StepsRegionIn maker.now recalculation.old tags.old
+        (D.moments disk.old) (D.moments disk.new)) }
 
-    ensures stays { StaysOnDisk recalc.old recalc.new tags.old tags.new (D.identity disk.old)
+    ensures stays { StaysOnDisk recalculation.old recalculation.new tags.old tags.new (D.identity disk.old)
         (D.identity disk.new) (D.moments disk.new) }
 
     ensures writes { EachSince (OnlyAdds (IsOfTagsOrHead tags.old.geometry))
         (D.moments disk.old) (D.moments disk.new) }
 {
-    match recalc.step(disk, tags, maker)? {
+    match recalculation.step(disk, tags, maker)? {
         Some(_) => Ok(JournalMoved::Did),
         None => Ok(JournalMoved::Idle),
     }

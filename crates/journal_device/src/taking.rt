@@ -23,34 +23,36 @@ pub(crate) fn take_first<D: Disk>(
     tags: &mut Tags,
     maker: &TagMaker,
     journal: &Journal<'_>,
-    recalc: &mut Recalculation,
+    recalculation: &mut Recalculation,
     block: u64,
 ) -> Result<(), Failed>
-    requires block { block < recalc.old.awaiting.geometry.blocks }
-    requires same { tags.old.geometry ≡ recalc.old.awaiting.geometry }
-    requires size { maker.now.size ≡ recalc.old.awaiting.geometry.shape.tag_size }
+    requires block { block < recalculation.old.awaiting.geometry.blocks }
+    requires same { tags.old.geometry ≡ recalculation.old.awaiting.geometry }
+    requires size { maker.now.size ≡ recalculation.old.awaiting.geometry.shape.tag_size }
     requires store { IsStore tags.old (D.identity disk.old) (D.moments disk.old) }
 
-    ensures taken { OnOk result (TakesFirst (takes_first journal.now recalc.old block) maker.now
-        (region_of recalc.old.awaiting.geometry block) recalc.old recalc.new tags.old tags.new
+    ensures taken { OnOk result (TakesFirst (takes_first journal.now recalculation.old block) maker.now
+        (region_of recalculation.old.awaiting.geometry block) recalculation.old recalculation.new tags.old tags.new
         (D.moments disk.old) (D.moments disk.new)) }
 
     ensures cause { HasCause (D.faults disk.old) (D.faults disk.new) result }
-    ensures err { OnErr result (recalc.new ≡ recalc.old) }
+    ensures err { OnErr result (recalculation.new ≡ recalculation.old) }
 
-    ensures stays { StaysOnDisk recalc.old recalc.new tags.old tags.new (D.identity disk.old)
+    ensures stays { StaysOnDisk recalculation.old recalculation.new tags.old tags.new (D.identity disk.old)
         (D.identity disk.new) (D.moments disk.new) }
 
-    ensures through { TakesFirstIn (takes_first journal.now recalc.old block) maker.now
-        (region_of recalc.old.awaiting.geometry block) recalc.old tags.old
+    ensures through { TakesFirstIn (takes_first journal.now recalculation.old block) maker.now
+        (region_of recalculation.old.awaiting.geometry block) recalculation.old tags.old
         (D.moments disk.old) (D.moments disk.new) }
 {
-    let region = recalc.awaiting.region_of(block);
-    if !recalc.awaiting.awaits(region) {
+    let region = recalculation.awaiting.region_of(block);
+    if !recalculation.awaiting.awaits(region) {
         return Ok(());
     }
     if journal.is_journaled(block) {
         return Ok(());
     }
-    recalc.awaiting.recalc_region(disk, tags, maker, region)
+    recalculation
+        .awaiting
+        .recalc_region(disk, tags, maker, region)
 }

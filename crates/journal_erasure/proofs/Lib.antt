@@ -1,5 +1,6 @@
 pub mod PartsLemmas
 pub mod StepsLemmas
+pub mod FillingLemmas
 pub mod EmptyLemmas
 pub mod ErasedLemmas
 pub mod LawsLemmas

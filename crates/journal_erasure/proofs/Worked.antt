@@ -4,8 +4,11 @@ use Rattle.disk_model.specs.Disk.{Content}
 use Rattle.image_model.specs.CommitId.{commit_number, number_of, id_in}
 use Rattle.image_model.specs.Geometry.{Geometry, Shape, section_sectors, section_entries, entries_per_sector, entry_size}
 use Rattle.image_model.specs.Section.{entry_at, is_used}
+use Rattle.image_model.specs.declared.sector_cell.Cell.TheVariants.{Number, Zero}
+use Rattle.image_model.specs.Scan.{SectorCell}
 use Rattle.journal_erasure.specs.declared.newest.NewestSectors.TheVariants.{First}
 use Rattle.journal_erasure.specs.declared.part.Part.TheVariants.{Others, Newest}
+use Rattle.journal_erasure.specs.Filling.{lacks_number}
 use Rattle.journal_erasure.specs.Newest.{is_newest}
 use Rattle.journal_erasure.specs.Parts.{is_of_part, with_chosen}
 use Rattle.journal_erasure.specs.Erasing.{erasure_at_rest}
@@ -63,6 +66,26 @@ with_chosen-newest = refl
 
 with_chosen-behind : with_chosen (is_of_part (First 3) Others) 8 0 5 zeros one_each 13 ≡ (13 ∷ []) ∷ []
 with_chosen-behind = refl
+
+-- Of three sectors of which a scan found the first zero and another number in the third, the second alone bears number 3:
+-- a filling writes the others.
+abbrev scanned : List SectorCell
+scanned = Zero ∷ Number 3 ∷ Number 0 ∷ []
+
+lacks_number-zero : lacks_number scanned 3 0 ≡ true
+lacks_number-zero = refl
+
+lacks_number-own : lacks_number scanned 3 1 ≡ false
+lacks_number-own = refl
+
+lacks_number-other : lacks_number scanned 3 2 ≡ true
+lacks_number-other = refl
+
+with_chosen-zero : with_chosen (lacks_number scanned 3) 8 0 3 zeros one_each 8 ≡ (8 ∷ []) ∷ replicate 512 0 ∷ []
+with_chosen-zero = refl
+
+with_chosen-own : with_chosen (lacks_number scanned 3) 8 0 3 zeros one_each 9 ≡ (9 ∷ []) ∷ []
+with_chosen-own = refl
 
 -- ---- at rest
 

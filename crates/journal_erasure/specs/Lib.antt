@@ -4,3 +4,4 @@ pub mod EmptySections
 pub mod Erasing
 pub mod Erased
 pub mod ErasureLaws
+pub mod Filling

@@ -391,6 +391,7 @@ next_law d image plan geometry e =
       rest = λ next number state. (told ∙ ap next_by state, record { at = (state_law d.geometry d.sectors image plan geometry e).rest next number state });
       mixed = λ number state. told ∙ ap next_by state;
       erasing = λ number state. told ∙ ap next_by state;
+      blank = λ number state. told ∙ ap next_by state;
     }
 
 -- ---- two commits

@@ -5,7 +5,7 @@ use Rattle.disk_model.specs.Disk.{Content}
 use Rattle.image_model.specs.Cells.{Cell}
 use Rattle.image_model.specs.Geometry.{IsGeometry}
 use Rattle.image_model.specs.Grid.{walk_of}
-use Rattle.image_model.specs.declared.journal_plan.State.TheVariants.{Rest, Mixed, Erasing}
+use Rattle.image_model.specs.declared.journal_plan.State.TheVariants.{Rest, Mixed, Erasing, Blank}
 use Rattle.image_model.specs.declared.journal_plan.Plan.{Plan}
 use Rattle.device_model.specs.Mode.{DeviceFormat, Journal}
 use Rattle.device_model.specs.Progress.{opened_device}
@@ -43,6 +43,7 @@ pub record TellsNext (d : DiskFormat) (image : Image) (plan : Plan) : Type 0 whe
       × Rests (record (opened_disk d image) { next = next; number = number })
   pub mixed : (number : ℕ) → plan.state ≡ Mixed number → next_on Journal d image ≡ 0
   pub erasing : (number : ℕ) → plan.state ≡ Erasing number → next_on Journal d image ≡ 0
+  pub blank : (number : ℕ) → plan.state ≡ Blank number → next_on Journal d image ≡ 0
 
 -- It says so of every journal that a scan accepts.
 abbrev pub NextLaw : Type 0

@@ -1,25 +1,24 @@
 -- The cells of a journal's first sectors, and the grid that they give.
-use Rattle.std.proofs.Common.{◌≡◌, inl, inr, ℕ, ◌+◌, ◌*◌, ◌<◌, ◌≤◌, false, refl, sym, ◌∙◌, ap, subst, arith, Some, None, List, [], ◌∷◌, ◌++◌, length, get_or, append-nil, length-append}
-use Rattle.std.specs.Prelude.{nat_lt, ok_or, slice_index_or}
-use Rattle.std.proofs.lemmas.Bool.Decides.{nat_tests}
+use Rattle.std.proofs.Common.{◌≡◌, inl, inr, ℕ, ◌+◌, ◌<◌, ◌≤◌, sym, ◌∙◌, ap, subst, refl, arith, Some, List, [], ◌∷◌, ◌++◌, length, get_or, append-nil, length-append}
 use Rattle.std.proofs.lemmas.Bool.{cases_lt, cases_eq}
 use Rattle.std.proofs.lemmas.List.{get_or_append_left, get_or-append-add, get_or_past, take_all}
 use Rattle.std.proofs.lemmas.List.FromFn.{map-range_with_len_more}
 use Rattle.std.proofs.lemmas.Option.{none-some}
 use Rattle.disk_model.specs.Disk.{Content, Image, last_image, sector_in}
-use Rattle.image_model.specs.Geometry.{Geometry, journal_sectors, section_at, section_sectors, IsGeometry}
-use Rattle.image_model.specs.Grid.{blank_bound, grid_with, sector_cell, walk_of}
-use Rattle.image_model.specs.Scan.{Grid, SectorCell, blank_number, cell_number, is_blank_sector, numbers_of, scan_fault_of, walk_of_grid}
-use Rattle.image_model.specs.Sectors.{bytes_at}
-use Rattle.image_model.specs.Walk.{plan_of}
-use Rattle.image_model.specs.declared.sector_cell.Cell.TheVariants.{Zero}
 use Rattle.image_model.specs.Below.{any_below}
-use Rattle.image_model.proofs.BelowLemmas.{any_none}
+use Rattle.image_model.specs.Geometry.{Geometry, journal_sectors, section_at, section_sectors, IsGeometry}
+use Rattle.image_model.specs.Grid.{IsGridOf, blank_bound, grid_of, grid_with, sector_cell}
+use Rattle.image_model.specs.Scan.{Grid, SectorCell, cell_number}
+use Rattle.image_model.specs.Sectors.{bytes_at}
+use Rattle.image_model.specs.declared.sector_cell.Cell.TheVariants.{Zero}
 use Rattle.image_model.proofs.Bounds.{has_entries}
 use Rattle.image_model.proofs.GeometryLemmas.{data_at-inside, section_at-lt}
 use Rattle.image_model.proofs.GridLemmas.{grid_law}
-use Rattle.journal_reading.specs.Cells.{AreFirstCells, HasCommitNumbers, cell_of_sector, first_cells}
+use Rattle.image_model.proofs.Regions.{fitting_log2_region_is}
+use Rattle.journal_reading.specs.Cells.{AreFirstCells, HasCommitNumbers, HasWholeSectors, cell_of_sector, first_cells}
 use Rattle.journal_reading.specs.Grids.{IsGridFor, IsGridOn}
+use Rattle.journal_reading.specs.Used.{is_used_outside_at}
+use Rattle.journal_reading.proofs.UsedLemmas.{used_by_sectors}
 
 -- ---- the cells
 
@@ -53,9 +52,27 @@ pub first_cells-none : (g : Geometry) (moments : List Content) (cells : List Sec
 first_cells-none g moments cells is = subst (AreFirstCells g moments) (sym is) (record {
   numbers = record { each = λ k number e. absurd (none-some number (ap cell_number (sym (get_or_past [] k Zero (omega arith))) ∙ e)) };
   read = λ c told. refl;
+  whole = λ c told k low. absurd (omega arith);
 })
 
--- What was read of the sector that comes next gives its cell.
+-- What was read of the sector that comes next is that sector.
+pub sector_read : (c : Content) (k : ℕ) (bytes : List ℕ) → bytes ≡ bytes_at (last_image c) (8 + k) 1 → bytes ≡ last_image c (8 + k)
+sector_read c k bytes read = read ∙ append-nil (last_image c (8 + k))
+
+-- With it one more is whole.
+pub whole-next : (c : Content) (k : ℕ) (bytes : List ℕ) (old : List SectorCell) (cell : SectorCell) → k ≡ length old
+    → bytes ≡ bytes_at (last_image c) (8 + k) 1 → length bytes ≡ 512 → HasWholeSectors (last_image c) (length old)
+    → HasWholeSectors (last_image c) (length (old ++ cell ∷ []))
+whole-next c k bytes old cell k_is read size before at low =
+    let long = length-append old (cell ∷ []) in
+    elim (cases_lt at k) [
+      | inl inside ↦ before at (omega arith)
+      | inr past ↦
+          let here : k ≡ at = omega (arith, long, low) in
+          ap (λ (n : ℕ). length (last_image c (8 + n))) (sym here) ∙ ap length (sym (sector_read c k bytes read)) ∙ size
+    ]
+
+-- Its bytes give its cell.
 pub first_cells-next : (g : Geometry) (c : Content) (sectors k : ℕ) (bytes : List ℕ) (old : List SectorCell) (cell : SectorCell)
     → k ≡ length old → sectors ≡ section_sectors g.shape → bytes ≡ bytes_at (last_image c) (8 + k) 1 → length bytes ≡ 512
     → cell ≡ cell_of_sector sectors k (sector_in bytes 0) → old ≡ first_cells g (last_image c) (length old)
@@ -71,80 +88,59 @@ first_cells-next g c sectors k bytes old cell k_is sectors_is read size is befor
     ∙ sym (map-range_with_len_more (sector_cell g image) 0 k k (omega arith))
     ∙ ap (first_cells g image) (sym long)
 
--- ---- the walk
-
--- Where no sector would be a bitmap's none is blank, whatever entries are used.
-outside : (grid : Grid) (k : ℕ) → grid.bitmap ≡ 0 → is_blank_sector grid k ≡ false
-outside grid k none =
-    let past : nat_lt k grid.bitmap ≡ false = grind (arith, nat_tests) in
-    rw past refl
-
-no_blank : (grid : Grid) → grid.bitmap ≡ 0 → blank_number grid ≡ None
-no_blank grid none =
-    let sectors = length grid.cells in
-    let blank = is_blank_sector grid in
-    let low : any_below sectors blank ≡ false = any_none sectors blank (λ k inside. outside grid k none) in
-    rw low refl
-
-plain_walk : (grid : Grid) → grid.bitmap ≡ 0 → walk_of_grid grid
-    ≡ ok_or (plan_of grid.sections grid.sectors (numbers_of grid)) (scan_fault_of grid)
-unfolding walk_of_grid
-plain_walk grid none = rw (no_blank grid none) refl
-
-blank_bound-none : (g : Geometry) → blank_bound g ≡ 0
-unfolding blank_bound
-blank_bound-none g = refl
-
--- The walk of a grid without a bitmap, and with all of the journal's cells, is the image's.
-walk-all_cells : (g : Geometry) (image : Image) (grid : Grid) → grid.sections ≡ g.sections
-    → grid.sectors ≡ section_sectors g.shape → grid.cells ≡ first_cells g image (journal_sectors g)
-    → grid.bitmap ≡ 0 → walk_of_grid grid ≡ walk_of g image
-unfolding grid_with
-walk-all_cells g image grid sections sectors cells none =
-    plain_walk grid none
-    ∙ rw (sections, sectors, cells) refl
-    ∙ sym (plain_walk (grid_with 0 g image) refl)
-    ∙ ap (λ (bitmap : ℕ). walk_of_grid (grid_with bitmap g image)) (sym (blank_bound-none g))
-
 -- ---- the grid
 
--- A grid with a cell for each sector of the journal, of which none would be a bitmap's,
+-- The bitmap that fits is no longer than the journal.
+blank_bound-le : (g : Geometry) (disk : ℕ) → IsGeometry g disk → blank_bound g ≤ journal_sectors g
+unfolding blank_bound
+blank_bound-le g disk is = (fitting_log2_region_is g disk is).fits
+
+-- A grid with a cell for each sector of the journal, and as many bitmap sectors as a bitmap that fits,
 pub grid_for : (g : Geometry) (disk : ℕ) (grid : Grid) → IsGeometry g disk → grid.sections ≡ g.sections
-    → grid.sectors ≡ section_sectors g.shape → length grid.cells ≡ journal_sectors g → grid.bitmap ≡ 0
+    → grid.sectors ≡ section_sectors g.shape → length grid.cells ≡ journal_sectors g → grid.bitmap ≡ blank_bound g
     → HasCommitNumbers grid.cells → IsGridFor g grid
-grid_for g disk grid is sections sectors all none numbers =
+grid_for g disk grid is sections sectors all bound numbers =
     let entries = has_entries g.shape is.spb.0 is.spb.1 is.tag_size.0 is.tag_size.1 in
     let some = is.sections in
     let many = entries.sectors_low in
+    let fits = blank_bound-le g disk is in
     record {
       is_grid = record {
         has_sections = omega arith;
         has_sectors = omega arith;
         cells = rw (sections, sectors) all;
-        bitmap = omega arith;
+        bitmap = omega (arith, fits, all, bound);
         numbers = numbers.each;
       };
       sections = sections;
       sectors = sectors;
-      no_bitmap = none;
+      bitmap = bound;
     }
 
--- and with the cells of an image's journal.
-pub grid_on : (g : Geometry) (disk : ℕ) (image : Image) (grid : Grid) → IsGeometry g disk → IsGridFor g grid
-    → grid.cells ≡ first_cells g image (journal_sectors g) → IsGridOn g image grid
-unfolding grid_with
-grid_on g disk image grid geometry fits cells = record {
-  grid_ = record {
-    is_grid = fits.is_grid;
-    sections = fits.sections;
-    sectors = fits.sectors;
-    numbers = λ i j low narrow.
-        ap (λ (cs : List SectorCell). cell_number (slice_index_or cs (i * grid.sectors + j) Zero)) cells
-        ∙ ap (λ (s : ℕ). cell_number (slice_index_or (first_cells g image (journal_sectors g)) (i * s + j) Zero)) fits.sectors
-        ∙ (grid_law g disk image geometry).numbers i j low narrow;
-  };
-  walk = walk-all_cells g image grid fits.sections fits.sectors cells fits.no_bitmap;
+-- Grids with the same parts are the same.
+same_grid : (one other : Grid) → one.sections ≡ other.sections → one.sectors ≡ other.sectors → one.cells ≡ other.cells
+    → one.bitmap ≡ other.bitmap → one.used_outside ≡ other.used_outside → one ≡ other
+same_grid one other sections sectors cells bitmap used i = record {
+  sections = sections i;
+  sectors = sectors i;
+  cells = cells i;
+  bitmap = bitmap i;
+  used_outside = used i;
 }
+
+-- and with the cells of an image's journal, and what its sectors tell of used entries.
+pub grid_on : (g : Geometry) (disk : ℕ) (image : Image) (grid : Grid) → IsGeometry g disk → IsGridFor g grid
+    → HasWholeSectors image (journal_sectors g) → grid.cells ≡ first_cells g image (journal_sectors g)
+    → grid.used_outside ≡ any_below (journal_sectors g) (is_used_outside_at grid.bitmap g image) → IsGridOn g image grid
+unfolding grid_with
+grid_on g disk image grid geometry fits whole cells used =
+    same_grid grid (grid_of g image) fits.sections fits.sectors cells fits.bitmap
+    (used ∙ ap (λ (bitmap : ℕ). any_below (journal_sectors g) (is_used_outside_at bitmap g image)) fits.bitmap
+    ∙ used_by_sectors (blank_bound g) g disk image geometry whole)
+
+-- So it has its commit numbers.
+pub numbers_on : (g : Geometry) (disk : ℕ) (image : Image) (grid : Grid) → IsGeometry g disk → IsGridOn g image grid → IsGridOf g image grid
+numbers_on g disk image grid geometry is = subst (IsGridOf g image) (sym is) (grid_law g disk image geometry)
 
 -- ---- places and sizes
 

@@ -11,7 +11,7 @@ use Rattle.image_model.specs.declared.journal_plan.Plan.{Plan}
 use Rattle.image_model.specs.declared.scan_fault.ScanFault.{ScanFault}
 use Rattle.image_model.specs.Cells.{block_tag, entry_of}
 use Rattle.image_model.specs.Geometry.{Geometry, section_at, section_sectors}
-use Rattle.image_model.specs.Grid.{walk_of}
+use Rattle.image_model.specs.Grid.{IsGridOf, walk_of}
 use Rattle.image_model.specs.Openable.{JournalBlock, JournalFault, JournalTag, Scan, entry_fault, is_block_start, journal_fault_of}
 use Rattle.image_model.specs.Section.{Entry, entry_at}
 use Rattle.image_model.specs.Sectors.{bytes_at}
@@ -23,7 +23,6 @@ use Rattle.journal_reading.specs.declared.faults.ReplayFault.{ReplayFault}
 use Rattle.journal_reading.specs.declared.faults.ReplayFault.TheVariants.{Memory, Disk, Journal}
 use Rattle.journal_reading.specs.declared.reading.JudgedJournal.{JudgedJournal}
 use Rattle.journal_reading.specs.Faults.{as_fault, refusal_in}
-use Rattle.journal_reading.specs.Grids.{IsGridOn}
 use Rattle.journal_reading.specs.Index.{AddsEntry}
 use Rattle.journal_reading.specs.Journal.{IsJudgedOn}
 use Rattle.journal_reading.specs.Judging.{IsJudgedAt, StaysInside, entry_on}
@@ -175,11 +174,11 @@ module _ (rule : TagRule) (g : Geometry) (image : Image) (plan : Plan) where
         ap (λ (xs : List (ℕ × ℕ)). slice_get (filter_map fault_at xs) 0) (sym (take_all k (places_of g plan.walk) (omega (arith, all))))
         ∙ ap (λ (faults : List JournalFault). slice_get faults 0) judged.right)
 
-    pub judged-all : (journal : JudgedJournal) (k : ℕ) → k ≡ length (places_of g plan.walk) → journal.plan ≡ plan → IsGridOn g image (as_grid journal.grid)
+    pub judged-all : (journal : JudgedJournal) (k : ℕ) → k ≡ length (places_of g plan.walk) → journal.plan ≡ plan → IsGridOf g image (as_grid journal.grid)
         → IsJudgedUpTo k (newest_in journal.newest) journal.count → IsJudgedOn rule g image journal
     judged-all journal k all plan_is grid judged = record {
       on = record {
-        grid_ = grid.grid_;
+        grid_ = grid;
         plan_ = walk ∙ ap (λ (p : Plan). let r : Result Plan ScanFault = Ok p in r) (sym plan_is);
         newest_ = index_all g image plan walk k (newest_in journal.newest) journal.count all judged.index;
         count_ = index_count g image plan walk k (newest_in journal.newest) journal.count all judged.index;

@@ -2,8 +2,8 @@
 use Rattle.std.specs.Prelude.{◌≡◌, ◌≤◌, [], vec_capacity}
 use Rattle.disk_model.specs.Disk.{Image}
 use Rattle.image_model.specs.Geometry.{Geometry, journal_sectors, section_sectors}
-use Rattle.image_model.specs.Grid.{IsGridOf, walk_of}
-use Rattle.image_model.specs.Scan.{Grid, IsGrid, walk_of_grid}
+use Rattle.image_model.specs.Grid.{blank_bound, grid_of}
+use Rattle.image_model.specs.Scan.{Grid, IsGrid}
 use Rattle.sector_window.specs.Window.{Window}
 use Rattle.journal_reading.specs.declared.grid.GridRoom.{GridRoom}
 
@@ -14,14 +14,13 @@ pub record HasGridRoom (g : Geometry) (room : GridRoom) : Type 0 where
   pub window : 1 ≤ room.window.room
   pub shows_none : (let empty : Window = record { room = room.window.room; first = 0; bytes = [] } in room.window ≡ empty)
 
--- The grid is one for a journal of these sections, and no sector of it is a bitmap's.
+-- The grid is one for a journal of these sections, where a bitmap would have as many sectors as one that fits.
 pub record IsGridFor (g : Geometry) (grid : Grid) : Type 0 where
   pub is_grid : IsGrid grid
   pub sections : grid.sections ≡ g.sections
   pub sectors : grid.sectors ≡ section_sectors g.shape
-  pub no_bitmap : grid.bitmap ≡ 0
+  pub bitmap : grid.bitmap ≡ blank_bound g
 
--- It is that of an image: it has its commit numbers, and its walk.
-pub record IsGridOn (g : Geometry) (image : Image) (grid : Grid) : Type 0 where
-  pub grid_ : IsGridOf g image grid
-  pub walk : walk_of_grid grid ≡ walk_of g image
+-- It is that of an image.
+abbrev pub IsGridOn : Geometry → Image → Grid → Type 0
+IsGridOn g image grid = grid ≡ grid_of g image

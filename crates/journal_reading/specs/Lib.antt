@@ -1,4 +1,5 @@
 pub mod Cells
+pub mod Used
 pub mod Grids
 pub mod Journal
 pub mod Places

@@ -10,8 +10,10 @@ ghost use Rattle.sector_window.specs.Window.{HasRoom};
 ghost use Rattle.journal_reading.specs.Cells.{AreFirstCells};
 ghost use Rattle.journal_reading.specs.Grids.{HasGridRoom, IsGridFor, IsGridOn};
 ghost use Rattle.journal_reading.specs.Leaving.{LeavesDisk};
+ghost use Rattle.journal_reading.specs.Used.{is_used_outside_at};
 
 use crate::cells::cell_of;
+use crate::used::has_used_outside;
 use commit_id::{Cell, Grid};
 use layout::Geometry;
 use sector_disk::{Disk, Failed, Memory};
@@ -58,7 +60,8 @@ impl GridRoom {
     }
 }
 
-/// Reads the grid of a journal. No zero sector is taken for a blank one, since no change of mode leaves such yet.
+/// Reads the grid of a journal. Its bitmap's sectors are its first ones, as many as a bitmap that fits it would take:
+/// among these a zero sector may be blank, and no entry of that counts as used.
 ///
 /// # Errors
 ///
@@ -81,19 +84,23 @@ pub fn read_grid<D: Disk>(disk: &mut D, geometry: &Geometry, room: GridRoom) -> 
         mut cells,
         mut window,
     } = room;
+    let bitmap = geometry.blank_bound();
+    let mut used_outside = false;
     for _ in 0..geometry.initial() - JOURNAL_AT {
-        read_cell(disk, geometry, &mut window, &mut cells)?;
+        let used = read_cell(disk, geometry, bitmap, &mut window, &mut cells)?;
+        used_outside = used_outside || used;
     }
     Ok(Grid {
         sections: geometry.sections(),
         sectors: geometry.shape().sectors,
         cells,
-        bitmap: 0,
-        used_outside: false,
+        bitmap,
+        used_outside,
     })
 }
 
-/// Appends what the sector of the journal bears that comes next.
+/// Appends what the sector of the journal bears that comes next, and tells whether a used entry stands in it. Of a zero
+/// sector among the first `bitmap` no entry counts.
 ///
 /// # Errors
 ///
@@ -101,9 +108,10 @@ pub fn read_grid<D: Disk>(disk: &mut D, geometry: &Geometry, room: GridRoom) -> 
 fn read_cell<D: Disk>(
     disk: &mut D,
     geometry: &Geometry,
+    bitmap: u64,
     window: &mut SectorWindow,
     cells: &mut Vec<Cell>,
-) -> Result<(), Failed>
+) -> Result<bool, Failed>
     requires bound { IsBound (D.identity disk.old).name }
     requires geometry { IsGeometry geometry.now (D.identity disk.old).sectors }
     requires window { HasRoom 1 window.old (D.moments disk.old) }
@@ -111,6 +119,8 @@ fn read_cell<D: Disk>(
     requires room { vec_len cells.old < vec_capacity cells.old }
     requires cells { AreFirstCells geometry.now (D.moments disk.old) cells.old.items }
 
+    ensures used { IfOk result (λ used. HasNow (λ c. used
+        ≡ is_used_outside_at bitmap geometry.now (last_image c) (vec_len cells.old)) (D.moments disk.old)) }
     ensures cells { OnOk result (AreFirstCells geometry.now (D.moments disk.old) cells.new.items) }
     ensures more { OnOk result (vec_len cells.new ≡ vec_len cells.old + 1) }
 
@@ -123,6 +133,8 @@ fn read_cell<D: Disk>(
     let k = cells.len() as u64;
     let at = JOURNAL_AT + k;
     window.show(disk, at, 1)?;
-    cells.push_reserved(cell_of(window.run(at, 1), k, geometry.shape().sectors));
-    Ok(())
+    let shape = geometry.shape();
+    let bytes = window.run(at, 1);
+    cells.push_reserved(cell_of(bytes, k, shape.sectors));
+    Ok(has_used_outside(shape, bitmap, k, bytes))
 }

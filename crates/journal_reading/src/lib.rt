@@ -14,6 +14,7 @@ mod judging;
 mod newest;
 mod places;
 mod reading;
+mod used;
 
 pub use entries::read_entry;
 pub use faults::{JournalFault, ReplayFault};

@@ -6,6 +6,7 @@
 ghost use Rattle.std.specs.Prelude.{◌≡◌, ◌<◌, ◌^◌, IfOk};
 ghost use Rattle.image_model.specs.Geometry.{bitmap_sectors, data_at, fitting_log2_region, geometry_of, initial, IsGeometry, region_of, regions, section_at, tag_at};
 ghost use Rattle.image_model.specs.GeometryLaws.{IsFitting, LiesApart};
+ghost use Rattle.image_model.specs.Grid.{blank_bound};
 ghost use Rattle.image_model.specs.Superblock.{IsAccepted};
 ghost use Rattle.commit_id.specs.Shape.{as_shape, IsShape};
 
@@ -172,5 +173,14 @@ impl Geometry {
     {
         let journal = self.layout.journal_sectors();
         fitting_log2_region(self.layout.blocks, self.layout.log2_region, journal)
+    }
+
+    /// How many sectors a bitmap that fits the journal would take. Among so many first ones of the journal
+    /// a zero sector may be a blank one.
+    #[tactic(auto, unfolding(image_model::specs::Grid::blank_bound))]
+    pub fn blank_bound(&self) -> u64
+        ensures { result ≡ blank_bound self.now }
+    {
+        bitmap_sectors_for(self.layout.blocks, self.fitting_log2_region())
     }
 }

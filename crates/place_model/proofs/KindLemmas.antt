@@ -1,9 +1,13 @@
 -- What may be left, by the superblock of what is left.
-use Rattle.std.proofs.Common.{◌≡◌, sym, ◌∙◌, ap, subst}
+use Rattle.std.proofs.Common.{◌≡◌, true, false, refl, sym, ◌∙◌, ap, subst}
 use Rattle.disk_model.specs.Disk.{Image}
+use Rattle.image_model.specs.declared.flags.TheConstants.{DIRTY_BITMAP}
+use Rattle.image_model.specs.Superblock.{has_flag}
+use Rattle.device_model.specs.Mode.{Bitmap}
 use Rattle.place_model.specs.Format.{DiskFormat, OpensAs, format_on}
 use Rattle.place_model.specs.Left.{IsLeftInDirect, IsLeftPlaced, IsLeftInJournal, IsLeftInBitmap}
-use Rattle.place_model.specs.Opened.{blocks_of}
+use Rattle.place_model.specs.Opened.{blocks_of, opened_on}
+use Rattle.place_model.specs.Changed.{bitmap_format, changed_device, judged_image, opened_format, opened_in}
 use Rattle.place_model.specs.Kind.{JournalKindLaw, BitmapKindLaw, DirectKindLaw, PlacedKindLaw}
 use Rattle.place_model.proofs.FormatLemmas.{format_on-is, format_on-read}
 
@@ -37,3 +41,25 @@ placed_kind_law d entry h left is may =
       blocks = ap blocks_of (format ∙ sym is);
       left_is = subst (λ (x : DiskFormat). IsLeftPlaced x h left) (sym format) may;
     }
+
+-- ---- bitmap mode
+
+-- Where the image has a bitmap an opening leaves its format, and the device is the one on it,
+pub opened_format-bitmap : (d : DiskFormat) → has_flag DIRTY_BITMAP d.superblock.flags ≡ true → opened_format Bitmap d ≡ d
+opened_format-bitmap d set = rw set refl
+
+pub opened_in-bitmap : (d : DiskFormat) (image : Image) → has_flag DIRTY_BITMAP d.superblock.flags ≡ true → opened_in Bitmap d image ≡ opened_on Bitmap d image
+opened_in-bitmap d image set = rw set refl
+
+pub judged_image-bitmap : (d : DiskFormat) (entry made : Image) → has_flag DIRTY_BITMAP d.superblock.flags ≡ true → judged_image Bitmap d entry made ≡ entry
+judged_image-bitmap d entry made set = rw set refl
+
+-- and where it has a journal they are those of the change.
+pub opened_format-journal : (d : DiskFormat) → has_flag DIRTY_BITMAP d.superblock.flags ≡ false → opened_format Bitmap d ≡ bitmap_format d
+opened_format-journal d clear = rw clear refl
+
+pub opened_in-journal : (d : DiskFormat) (image : Image) → has_flag DIRTY_BITMAP d.superblock.flags ≡ false → opened_in Bitmap d image ≡ changed_device d image
+opened_in-journal d image clear = rw clear refl
+
+pub judged_image-journal : (d : DiskFormat) (entry made : Image) → has_flag DIRTY_BITMAP d.superblock.flags ≡ false → judged_image Bitmap d entry made ≡ made
+judged_image-journal d entry made clear = rw clear refl

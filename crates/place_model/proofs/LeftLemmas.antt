@@ -1,13 +1,19 @@
 -- What may be left before a write may be left while it is under way.
-use Rattle.std.proofs.Common.{◌≡◌, ℕ, ◌≤◌, sym, ◌∙◌, ap, arith, Option, None, Some, List, [], ◌∷◌, ◌++◌, length, take, append-nil, length-append}
+use Rattle.std.proofs.Common.{◌≡◌, ℕ, ◌≤◌, true, refl, sym, ◌∙◌, ap, arith, Option, None, Some, List, [], ◌∷◌, ◌++◌, length, take, append-nil, length-append}
 use Rattle.std.specs.Option.{option_to_list}
 use Rattle.std.proofs.lemmas.List.{take-append-le}
-use Rattle.disk_model.specs.Disk.{sector_in}
+use Rattle.std.proofs.lemmas.Bool.{and_parts}
+use Rattle.disk_model.specs.Disk.{Image, sector_in}
+use Rattle.image_model.specs.declared.flags.TheConstants.{DIRTY_BITMAP}
+use Rattle.image_model.specs.Bitmap.{awaits, is_dirty}
+use Rattle.image_model.specs.Cells.{Cell, cells_of}
+use Rattle.image_model.specs.Geometry.{region_of}
+use Rattle.image_model.specs.Superblock.{has_flag}
 use Rattle.device_model.specs.Cut.{all_writes}
-use Rattle.device_model.specs.History.{BlockWrite, History, Begun, with_change, cells_after}
+use Rattle.device_model.specs.History.{BlockWrite, History, Begun, opened, with_change, cells_after}
 use Rattle.device_model.proofs.CutLemmas.{IsUnflushed-begun}
-use Rattle.place_model.specs.Format.{tagger_of}
-use Rattle.place_model.specs.Left.{DirectPendingLaw, PlacedPendingLaw, JournalPendingLaw, BitmapPendingLaw}
+use Rattle.place_model.specs.Format.{DiskFormat, HasCells, cells_on, tagger_of}
+use Rattle.place_model.specs.Left.{IsLeftInBitmap, DirectPendingLaw, PlacedPendingLaw, JournalPendingLaw, BitmapPendingLaw}
 
 module _ (h : History) (write : BlockWrite) (idle : h.pending ≡ None) where
   all-before : all_writes h ≡ h.writes
@@ -63,5 +69,31 @@ bitmap_pending_law d h write image idle is = record {
         };
     dirty = is.left.dirty;
     clean = is.left.clean;
+  };
+}
+
+-- ---- without a write
+
+-- With a bitmap a dirty block has the tag of its bytes,
+dirty_tag : (d : DiskFormat) (image : Image) (b : ℕ) → has_flag DIRTY_BITMAP d.superblock.flags ≡ true → is_dirty d.geometry image (region_of d.geometry b) ≡ true
+    → (cells_on d image b).tag ≡ tagger_of d b (cells_on d image b).bytes
+unfolding cells_of awaits
+dirty_tag d image b set dirty = rw (set, dirty) refl
+
+-- so an image with the cells at opening may be left before any write.
+pub unwritten_left : (d : DiskFormat) (base : ℕ → Cell) (image : Image) → HasCells d base image → IsLeftInBitmap d (opened base) image
+unwritten_left d base image has = record {
+  opens = has.opens;
+  left = record {
+    sectors = λ b k low k_low. record {
+      kept = 0;
+      has_flushed = omega arith;
+      has_no_more = omega arith;
+      is = ap (λ (cell : Cell). sector_in cell.bytes k) (has.each b low);
+    };
+    dirty = λ b low is.
+        let both = and_parts (has_flag DIRTY_BITMAP d.superblock.flags) (is_dirty d.geometry image (region_of d.geometry b)) is in
+        dirty_tag d image b both.0 both.1;
+    clean = λ b low is. has.each b low;
   };
 }

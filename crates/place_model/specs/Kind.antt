@@ -1,5 +1,6 @@
 -- The devices of each mode, as a command sees them: which images they open, in which state, and what a cut may leave.
--- Own: a disk is opened under one key, and in the mode that its flags tell.
+-- Own: a disk is opened under one key; in journal and in direct mode one without a bitmap, and in bitmap mode any, whose
+-- journal becomes a bitmap.
 use Rattle.std.specs.Prelude.{◌≡◌, ℕ, Option, List}
 use Rattle.disk_model.specs.Disk.{Image}
 use Rattle.image_model.specs.Openable.{IsReadable, IsOpenable}
@@ -8,7 +9,8 @@ use Rattle.device_model.specs.History.{History}
 use Rattle.device_model.specs.Mode.{Mode, Journal, Bitmap, Direct, Recovery}
 use Rattle.place_model.specs.Format.{DiskFormat, format_on}
 use Rattle.place_model.specs.Left.{IsLeftInDirect, IsLeftPlaced, IsLeftInJournal, IsLeftInBitmap}
-use Rattle.place_model.specs.Opened.{IsModeOf, blocks_of, device_format, opened_on, opened_placed}
+use Rattle.place_model.specs.Changed.{opened_format, opened_in}
+use Rattle.place_model.specs.Opened.{IsModeOf, blocks_of, device_format, opened_placed}
 
 -- The image can be opened in this mode: in recovery mode one that can be read.
 abbrev pub CanOpenIn : Mode → Option (List ℕ) → ℕ → Image → Type 0
@@ -33,8 +35,8 @@ pub record MayBeLeftIn (mode : Mode) (key : Option (List ℕ)) (sectors : ℕ) (
 abbrev pub kind_in : Mode → Option (List ℕ) → ℕ → DeviceKind
 kind_in mode key sectors = record {
   CanOpen = CanOpenIn mode key sectors;
-  format = λ image. device_format mode (format_on key sectors image);
-  opened = λ image. opened_on mode (format_on key sectors image) image;
+  format = λ image. device_format mode (opened_format mode (format_on key sectors image));
+  opened = λ image. opened_in mode (format_on key sectors image) image;
   MayBeLeft = MayBeLeftIn mode key sectors;
 }
 

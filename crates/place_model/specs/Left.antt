@@ -1,9 +1,11 @@
 -- What a cut may leave of a device: an image that can be opened, or read, whose cells its history allows.
 -- Own: what each mode promises.
-use Rattle.std.specs.Prelude.{◌≡◌, None}
+use Rattle.std.specs.Prelude.{◌≡◌, ℕ, Bool, ◌&&◌, None}
 use Rattle.disk_model.specs.Disk.{Image}
+use Rattle.image_model.specs.declared.flags.TheConstants.{DIRTY_BITMAP}
 use Rattle.image_model.specs.Bitmap.{is_dirty}
 use Rattle.image_model.specs.Geometry.{region_of}
+use Rattle.image_model.specs.Superblock.{has_flag}
 use Rattle.device_model.specs.Cut.{MayBeLeftDirect, MayBeLeftJournal, MayBeLeftBitmap}
 use Rattle.device_model.specs.History.{BlockWrite, History, Begun, with_change}
 use Rattle.place_model.specs.Format.{DiskFormat, tagger_of, placed_on, cells_on, IsReadAs, OpensAs}
@@ -24,12 +26,17 @@ pub record IsLeftInJournal (d : DiskFormat) (h : History) (image : Image) : Type
   pub opens : OpensAs d image
   pub left : MayBeLeftJournal (tagger_of d) d.geometry.blocks h (cells_on d image)
 
--- The image may be left in bitmap mode: each sector of a block holds what some of the first writes gave it, and where the
--- image's bit is clear the block holds what all writes gave it.
+-- The image has a bitmap, in which the bit of the block's region is set.
+abbrev pub is_block_dirty : DiskFormat → Image → ℕ → Bool
+is_block_dirty d image b =
+    has_flag DIRTY_BITMAP d.superblock.flags && is_dirty d.geometry image (region_of d.geometry b)
+
+-- The image may be left in bitmap mode: each sector of a block holds what some of the first writes gave it, and where no
+-- bit of the image says else the block holds what all writes gave it.
 pub record IsLeftInBitmap (d : DiskFormat) (h : History) (image : Image) : Type 0 where
   pub opens : OpensAs d image
   pub left : MayBeLeftBitmap (tagger_of d) d.geometry.blocks d.geometry.shape.spb
-      (λ b. is_dirty d.geometry image (region_of d.geometry b)) h (cells_on d image)
+      (is_block_dirty d image) h (cells_on d image)
 
 -- ---- laws
 

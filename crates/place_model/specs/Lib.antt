@@ -7,6 +7,7 @@ pub mod Blocks
 pub mod Journal
 pub mod Left
 pub mod Opened
+pub mod Changed
 pub mod FirstSync
 pub mod Kind
 pub mod Placed

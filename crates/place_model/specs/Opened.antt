@@ -1,6 +1,6 @@
 -- The device of an image that has just been opened: its format, history and counts.
--- Own: the mode is the image's own, which a device may change before its first request.
-use Rattle.std.specs.Prelude.{◌≡◌, ℕ, ◌*◌, Bool, true, false, not, ◌&&◌, Result, Ok, Err}
+-- Own: the mode is the image's own. `Changed.antt` has the device where an opening changes the mode.
+use Rattle.std.specs.Prelude.{◌≡◌, ℕ, ◌*◌, Bool, false, not, ◌&&◌, Result, Ok, Err}
 use Rattle.disk_model.specs.Disk.{Image}
 use Rattle.image_model.specs.declared.flags.TheConstants.{DIRTY_BITMAP}
 use Rattle.image_model.specs.Bitmap.{is_dirty, region_awaits}
@@ -44,11 +44,12 @@ device_format mode d = record {
   region_of = region_of d.geometry;
 }
 
--- The mode is one that the flags tell: journal or direct without a bitmap, bitmap with one, and recovery in any case.
+-- An image with these flags is opened in the mode: in journal and in direct mode one without a bitmap, in bitmap and in
+-- recovery mode any.
 -- Source: Linux, drivers/md/dm-integrity.c, dm_integrity_ctr and SB_FLAG_DIRTY_BITMAP.
 abbrev pub IsModeOf : Mode → Superblock → Type 0
 IsModeOf Journal s = has_flag DIRTY_BITMAP s.flags ≡ false
-IsModeOf Bitmap s = has_flag DIRTY_BITMAP s.flags ≡ true
+IsModeOf Bitmap s = Unit {0}
 IsModeOf Direct s = has_flag DIRTY_BITMAP s.flags ≡ false
 IsModeOf Recovery s = Unit {0}
 

@@ -1,12 +1,11 @@
 -- Sector 0 is written with other fields, beside a store of tags.
-use Rattle.std.proofs.Common.{◌≡◌, ◌++◌, inl, inr, ℕ, ◌<◌, refl, sym, ◌∙◌, ap, subst, arith, Option, Some, List, length, drop, Result, Ok, Err, OnErr, OnOk}
+use Rattle.std.proofs.Common.{◌≡◌, ◌++◌, inl, inr, ℕ, sym, ◌∙◌, ap, subst, arith, Some, List, length, drop, Result, Ok, Err, OnErr, OnOk}
 use Rattle.std.proofs.lemmas.Option.{same_Some}
-use Rattle.disk_model.specs.Disk.{AddsSome, Content, OnlyAdds, Reads, last_candidate, last_image, newest_only, with_run}
+use Rattle.disk_model.specs.Disk.{AddsSome, Content, OnlyAdds, Reads, last_candidate, last_image, newest_only}
 use Rattle.disk_model.specs.Identity.{DiskIdentity}
 use Rattle.disk_model.specs.Moments.{EachSince, IsChangedBy, content_now}
 use Rattle.disk_model.proofs.DiskLemmas.{AddsSome-none, IsOfRun-one, Reads-one, with_run-other}
 use Rattle.disk_model.proofs.MomentsLemmas.{write_adds}
-use Rattle.image_model.specs.Geometry.{Geometry, IsGeometry}
 use Rattle.image_model.specs.Superblock.{Superblock, superblock_bytes}
 use Rattle.place_model.proofs.TagsLemmas.{tag_byte-behind}
 use Rattle.direct_laws.specs.CallLaws.{GivesTags}

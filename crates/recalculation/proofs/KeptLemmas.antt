@@ -1,7 +1,7 @@
 -- What is kept beside a disk stays that of the disk, through a region that is recalculated and a position that moves:
 -- for the devices of each mode.
-use Rattle.std.proofs.Common.{◌≡◌, ◌≢◌, ◌⊎◌, inl, inr, ℕ, ◌<◌, ◌==◌, nat_le, ◌&&◌, Bool, true, false, if◌then◌else◌, refl, sym, ◌∙◌, ap, subst, Option, Some, None, List}
-use Rattle.std.proofs.lemmas.Bool.{and_from, and_left, and_parts, cases_Bool, cases_eq, true≢false}
+use Rattle.std.proofs.Common.{◌≡◌, inl, inr, ℕ, ◌<◌, ◌==◌, nat_le, ◌&&◌, Bool, true, false, if◌then◌else◌, sym, ◌∙◌, ap, subst, Some, None, List}
+use Rattle.std.proofs.lemmas.Bool.{cases_eq, true≢false}
 use Rattle.disk_model.specs.Disk.{Content}
 use Rattle.image_model.specs.declared.flags.TheConstants.{RECALCULATING}
 use Rattle.image_model.specs.Bitmap.{is_to_recalculate}
@@ -25,7 +25,7 @@ use Rattle.recalculate_laws.specs.Taking.{TakesRegion}
 use Rattle.recalculate_laws.proofs.AwaitsLemmas.{moved_same_law}
 use Rattle.recalculation.specs.declared.recalculating.Recalculation.{Recalculation}
 use Rattle.recalculation.specs.Awaiting.{AwaitingRegions, IsOpening, awaiting_blocks, awaiting_of}
-use Rattle.recalculation.specs.Position.{HasMoved, MovesIn, WritesFields, WritesFieldsIn, fields_to_write}
+use Rattle.recalculation.specs.Position.{WritesFields}
 use Rattle.recalculation.specs.Recalculation.{AwaitsBlocksOf, IsRecalculationOf, TakesAwaiting, TakesAwaitingIn, next_of, to_write}
 use Rattle.recalculation.specs.Rule.{tagger_by}
 use Rattle.recalculation.proofs.LawsLemmas.{same_blocks_law, same_moments_law}

@@ -9,5 +9,7 @@ pub mod PositionLemmas
 pub mod HeadLemmas
 pub mod StepLemmas
 pub mod KeptLemmas
+pub mod AllLemmas
+pub mod FieldsLemmas
 pub mod Worked
 mod ScratchServes

@@ -1,20 +1,20 @@
 -- The position as fields: the region that it moves to, and that its fields may be written.
-use Rattle.std.proofs.Common.{◌≡◌, ◌≢◌, inl, inr, bit_and, ℕ, ◌+◌, ◌-◌, ◌*◌, ◌/◌, ◌%◌, ◌^◌, ◌<◌, ◌≤◌, ◌==◌, max, min, nat_le, nat_lt, not, ◌&&◌, Bool, true, false, if◌then◌else◌, refl, sym, ◌∙◌, ap, subst, arith, Option, Some, None, find}
+use Rattle.std.proofs.Common.{◌≡◌, inl, inr, bit_and, ℕ, ◌+◌, ◌-◌, ◌*◌, ◌/◌, ◌%◌, ◌^◌, ◌<◌, ◌≤◌, ◌==◌, max, min, nat_le, nat_lt, not, ◌&&◌, Bool, true, false, if◌then◌else◌, sym, ◌∙◌, ap, subst, arith, Option, Some, None, find}
 use Rattle.std.specs.Int.{w32, bit_not}
 use Rattle.std.specs.List.{range_with_len}
 use Rattle.std.specs.Option.{option_map}
-use Rattle.std.proofs.lemmas.Bool.{and_from, and_left, and_parts, and_right, cases_Bool, cases_lt, eq-eqb, eqb-true, false_from_ne_true, lt-ltb, le-leb, leb-true, ltb-true, not_from_false, true≢false}
+use Rattle.std.proofs.lemmas.Bool.{and_from, and_parts, and_right, cases_Bool, cases_lt, eq-eqb, eqb-true, false_from_ne_true, lt-ltb, le-leb, leb-true, ltb-true}
 use Rattle.std.proofs.lemmas.Nat.{and_le_l, div-add-mod', mod_below, mul-le, pow_pos}
 use Rattle.std.proofs.lemmas.Option.{none-some, same_Some}
 use Rattle.image_model.specs.declared.flags.TheConstants.{KNOWN_FLAGS, RECALCULATING}
 use Rattle.image_model.specs.Geometry.{Geometry, IsGeometry, region_of, regions}
-use Rattle.image_model.specs.Superblock.{IsAccepted, Superblock, has_flag}
+use Rattle.image_model.specs.Superblock.{Superblock, has_flag}
 use Rattle.image_model.proofs.SuperblockLemmas.{version_for-accepted}
 use Rattle.device_model.specs.Regions.{least_region}
 use Rattle.change_model.specs.Fields.{with_version, without_flag}
 use Rattle.change_model.proofs.FieldsLemmas.{and_none}
 use Rattle.dirty_bitmap.specs.Regions.{Regions, has_region, next_in}
-use Rattle.recalculate_laws.specs.Position.{HasPosition, IsSamePosition, moved_fields, region_end}
+use Rattle.recalculate_laws.specs.Position.{IsSamePosition, moved_fields, region_end}
 use Rattle.recalculation.specs.declared.left.Left.{Left}
 use Rattle.recalculation.specs.declared.places.Places.{Places}
 use Rattle.recalculation.specs.Awaiting.{AwaitingRegions, IsLeft, awaiting_of, is_left}

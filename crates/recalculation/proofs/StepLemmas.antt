@@ -92,15 +92,20 @@ count_fewer one other r from (suc count) above under was is same =
           omega (arith, here, rest, first, second)
     ]
 
--- One fewer awaits once one that awaited is taken out.
+-- One region fewer passes once one that passed is taken out,
+pub regions_fewer : (g : Geometry) (one other : ℕ → Bool) (r : ℕ) → r < regions g → one r ≡ true → AreSameBits g other (with_region r false one)
+    → count_by other (range_with_len 0 (regions g)) < count_by one (range_with_len 0 (regions g))
+regions_fewer g one other r low was same =
+    let fewer = count_fewer one other r 0 (regions g) (omega arith) (omega (arith, low)) was (same r low ∙ with_region-here r r false one refl)
+    (λ i high at. same i (omega (arith, high)) ∙ with_region-other r i false one (λ e. at (sym e))) in
+    omega (arith, fewer)
+
+-- as the least one.
 pub fewer_await : (g : Geometry) (one other : ℕ → Bool) (r : ℕ) → least_region (regions g) one ≡ Some r → AreSameBits g other (with_region r false one)
     → count_by other (range_with_len 0 (regions g)) < count_by one (range_with_len 0 (regions g))
 fewer_await g one other r least same =
     let found = least_found (regions g) one r least in
-    let low = found.0 in
-    let fewer = count_fewer one other r 0 (regions g) (omega arith) (omega (arith, low)) found.1 (same r found.0 ∙ with_region-here r r false one refl)
-    (λ i high at. same i (omega (arith, high)) ∙ with_region-other r i false one (λ e. at (sym e))) in
-    omega (arith, fewer)
+    regions_fewer g one other r found.0 found.1 same
 
 -- ---- the chain of a step
 

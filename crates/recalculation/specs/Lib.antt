@@ -7,3 +7,4 @@ pub mod Taking
 pub mod Laws
 pub mod Position
 pub mod Recalculation
+pub mod All

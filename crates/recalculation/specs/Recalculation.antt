@@ -3,17 +3,20 @@
 -- Own: the position moves behind tags that are synced.
 use Rattle.std.specs.Prelude.{◌≡◌, ◌⊎◌, ℕ, ◌<◌, Bool, true, false, List, Option, Some, None, Ok}
 use Rattle.std.specs.List.{count_by, range_with_len}
-use Rattle.disk_model.specs.Disk.{Content, EachImage}
+use Rattle.disk_model.specs.Disk.{Content, EachImage, OnlyAdds}
 use Rattle.disk_model.specs.Identity.{DiskIdentity}
-use Rattle.disk_model.specs.Moments.{HasNow}
+use Rattle.disk_model.specs.Moments.{EachMoment, EachSince, HasNow}
 use Rattle.image_model.specs.Bitmap.{is_to_recalculate}
 use Rattle.image_model.specs.Geometry.{Geometry, region_of, regions}
 use Rattle.image_model.specs.Superblock.{Superblock, superblock_of}
 use Rattle.device_model.specs.Regions.{least_region, with_region}
+use Rattle.place_model.specs.Format.{DiskFormat, IsReadAs}
 use Rattle.direct_laws.specs.CallLaws.{AddsTags}
 use Rattle.bitmap_laws.specs.CallLaws.{AreSameBits, region_tags}
 use Rattle.bitmap_laws.specs.ServeLaws.{Recalculates}
 use Rattle.recalculate_laws.specs.Calls.{SettlesBy}
+use Rattle.recalculate_laws.specs.Formats.{under_fields}
+use Rattle.recalculate_laws.specs.Position.{moved_fields}
 use Rattle.hmac_tag.specs.TagMaker.{TagRule}
 use Rattle.direct_mode.specs.Settling.{SettlesIn}
 use Rattle.tag_store.specs.Store.{HoldsTag, IsStore, Store}
@@ -129,3 +132,26 @@ pub data StepsPositionIn (rule : TagRule) (region : ℕ) (old : Recalculation) (
   Taken : (mid : Recalculation) (made : Content → ℕ → List ℕ) (between : List Content)
       → TakesAwaiting rule region old mid g tags made before between → SettlesPositionIn mid g made between after
       → StepsPositionIn rule region old g tags before after
+
+-- ---- what a step writes, and which fields it leaves
+
+-- What is written where this region is recalculated: sectors of tags, and sector 0; and nothing where there is none.
+abbrev pub WritesRegion : Option ℕ → Geometry → (before after : List Content) → Type 0
+WritesRegion None g before after = after ≡ before
+WritesRegion (Some region) g before after = EachSince (OnlyAdds (IsOfTagsOrHead g)) before after
+
+-- The fields once this region is taken out of those that await, and the position has moved: as they are, where there is
+-- none.
+abbrev pub fields_behind : Option ℕ → Recalculation → Superblock
+fields_behind None r = r.position
+fields_behind (Some region) r =
+    moved_fields r.position r.awaiting.geometry (with_region region false (awaiting_of r.awaiting))
+
+-- Those that a step leaves.
+abbrev pub fields_next : Recalculation → Superblock
+fields_next r = fields_behind (next_of r) r
+
+-- At each moment of a call each image can be read in this format, under these fields or under those.
+abbrev pub HasFieldsThrough : DiskFormat → (old new : Superblock) → (before after : List Content) → Type 0
+HasFieldsThrough d old new before after = EachMoment before after
+    (EachImage (λ image. IsReadAs (under_fields d old) image ⊎ IsReadAs (under_fields d new) image))

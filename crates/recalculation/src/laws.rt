@@ -1,6 +1,7 @@
 //! What the words of the contracts say, for the layers of every mode: each law is the contract of a function that does
 //! nothing.
 
+ghost use Rattle.recalculation.specs.All.{RecoveredCellsLaw, RecoveredChangesLaw};
 ghost use Rattle.recalculation.specs.Laws.{BitmapBlocksLaw, OpenedBitsLaw, OpenedPositionLaw, PositionBlocksLaw};
 ghost use Rattle.recalculation.specs.Laws.{SameBlocksLaw, SameMomentsLaw};
 
@@ -17,4 +18,11 @@ pub fn region_is_recalculated()
     ensures moments { SameMomentsLaw }
     ensures bitmap { BitmapBlocksLaw }
     ensures position { PositionBlocksLaw }
+{}
+
+/// All regions are recalculated of an image that was recovered: at each moment each image has its cells, and then a
+/// change of mode begins, where the journal was emptied.
+pub fn recovered_regions_are_recalculated()
+    ensures cells { RecoveredCellsLaw }
+    ensures changes { RecoveredChangesLaw }
 {}

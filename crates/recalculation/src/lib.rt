@@ -5,8 +5,10 @@
 //! written but tags, and sector 0 where the position moves.
 #![tactic(auto)]
 
+mod all;
 mod awaiting;
 mod block_run;
+mod head;
 mod laws;
 mod left;
 mod places;
@@ -14,7 +16,9 @@ mod position;
 mod recalculating;
 mod taking;
 
+pub use all::recalculate_all;
 pub use awaiting::Awaiting;
-pub use laws::{region_is_recalculated, regions_await};
+pub use head::head_with;
+pub use laws::{recovered_regions_are_recalculated, region_is_recalculated, regions_await};
 pub use position::Position;
 pub use recalculating::Recalculation;

@@ -15,10 +15,11 @@ ghost use Rattle.recalculation.specs.Position.{CanBeWritten, HasMoved, MayMove, 
 ghost use Rattle.tag_store.specs.Store.{IsStore, given_tags};
 
 use crate::awaiting::Awaiting;
+use crate::head::head_with;
 use image_model::{RECALCULATING, Super};
 use sector_disk::{Disk, Failed};
 use std::marker::Model;
-use superblock::{version_for, write};
+use superblock::version_for;
 use tag_store::Tags;
 
 /// The fields as they stand in sector 0, where tags are recalculated without a bitmap.
@@ -182,9 +183,7 @@ fn write_fields<D: Disk>(disk: &mut D, tags: &Tags, fields: &Super) -> Result<()
 {
     // The store is named in the contract alone: no tag moves.
     let _ = tags;
-    let mut head = [0; 512];
-    disk.read_run(0, &mut head)?;
-    write(fields, &mut head);
+    let head = head_with(disk, fields)?;
     disk.write_run(0, &head)?;
     disk.sync()
 }

@@ -1,7 +1,7 @@
 -- What the state of a journal says once its entries are in place.
 use Rattle.std.proofs.Common.{◌≡◌, ◌↔◌, ◌⊎◌, inl, inr, ℕ, ◌*◌, ◌<◌, Bool, false, refl, sym, ◌∙◌, ap, subst, arith, Some, Result, IfOk, List, [], ◌∷◌, length}
 use Rattle.image_model.specs.declared.journal_plan.Plan.{Plan}
-use Rattle.image_model.specs.declared.journal_plan.State.TheVariants.{Rest, Mixed, Erasing, Blank}
+use Rattle.image_model.specs.declared.journal_plan.State.TheVariants.{Rest, Mixed, Erasing}
 use Rattle.image_model.specs.declared.scan_fault.ScanFault.{ScanFault}
 use Rattle.image_model.specs.Cells.{replayed_entries}
 use Rattle.image_model.specs.Geometry.{Geometry, IsGeometry, journal_sectors, section_sectors}
@@ -32,17 +32,9 @@ use Rattle.tag_store.specs.Store.{Store, given_tags}
 use Rattle.replay.proofs.RecoveryLemmas.{KeepsCells-moved, moved, settled_recovered}
 
 -- The plan follows the rules of the scan.
-rules : (g : Geometry) (journal : JudgedJournal) → FitsJournal g journal → IsPlanOf (as_grid journal.grid) (sections_of journal.plan.walk) journal.plan.state
+pub rules : (g : Geometry) (journal : JudgedJournal) → FitsJournal g journal → IsPlanOf (as_grid journal.grid) (sections_of journal.plan.walk) journal.plan.state
 rules g journal fits =
     subst (λ (r : Result Plan ScanFault). IfOk r (λ (plan : Plan). IsPlanOf (as_grid journal.grid) (sections_of plan.walk) plan.state)) fits.plan_ (scan_law (as_grid journal.grid) fits.grid_.is_grid).plan
-
--- No journal is blank.
-pub not_blank : (g : Geometry) (journal : JudgedJournal) (number : ℕ) → FitsJournal g journal → journal.plan.state ≡ Blank number → ⊥
-not_blank g journal number fits state =
-    let blank = subst (IsPlanOf (as_grid journal.grid) (sections_of journal.plan.walk)) state (rules g journal fits) in
-    let low = blank.0.some.2.0 in
-    let none = fits.grid_.no_bitmap in
-    absurd (omega (arith, low, none))
 
 -- A journal at rest goes on in one of its sections.
 pub rest_place : (g : Geometry) (journal : JudgedJournal) (next number : ℕ) (used : Bool) → FitsJournal g journal → journal.plan.state ≡ Rest next number

@@ -10,7 +10,9 @@ pub mod TurnedLemmas
 pub mod InPlaceLemmas
 pub mod ReadPlacesLemmas
 pub mod RecoveryLemmas
+pub mod BehindLemmas
 pub mod ErasedLemmas
+pub mod FillingLemmas
 pub mod FinishingLemmas
 pub mod WritesLemmas
 pub mod Worked

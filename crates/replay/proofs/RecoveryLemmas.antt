@@ -108,7 +108,14 @@ module _ (f : DiskFormat) (g : Geometry) (disk : DiskIdentity) (store : Store) (
 
   -- Once they are settled they are replayed.
   pub replayed_after : (journal : JudgedJournal) → IsJournalOn g (last_image start) journal → IsReplayed (after_settle (all_placed (opened_disk f (last_image start)))) g journal
-  replayed_after journal on = record { geometry = geometry_is; on = on; entries = entries_are; settled = refl; placed = refl }
+  replayed_after journal on = record {
+    geometry = geometry_is;
+    whole = λ sector low. whole sector (omega (arith, low, enters.sectors_are));
+    on = on;
+    entries = entries_are;
+    settled = refl;
+    placed = refl;
+  }
 
   -- The cells stay while they are placed.
   pub cells_through : {a after : List Content} → EachMoment a after (StandsFor (all_placed (opened_disk f (last_image start))))

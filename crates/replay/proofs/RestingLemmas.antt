@@ -25,7 +25,8 @@ some_sectors g sectors geometry =
     let low = has.sectors_low in
     omega arith
 
-same_plan : {one other : Plan} → ◌≡◌ {A = Result Plan ScanFault} (Ok one) (Ok other) → one ≡ other
+-- A plan that two scans give is one.
+pub same_plan : {one other : Plan} → ◌≡◌ {A = Result Plan ScanFault} (Ok one) (Ok other) → one ≡ other
 same_plan e = cc
 
 -- The scan of a journal at rest finds it so.

@@ -39,9 +39,11 @@ pub record GoesOnIn (g : Geometry) (at : Recovered) : Type 0 where
   pub next : at.next < g.sections
   pub number : at.number < 4
 
--- The entries of the disk's journal, of which this is kept, are all in their places and synced.
+-- The entries of the disk's journal, of which this is kept, are all in their places and synced. The journal is one of an
+-- image of whole sectors.
 pub record IsReplayed (d : JournaledDisk) (g : Geometry) (journal : JudgedJournal) : Type 0 where
   pub geometry : d.geometry ≡ g
+  pub whole : (sector : ℕ) → sector < d.sectors → length (d.journal sector) ≡ 512
   pub on : IsJournalOn g d.journal journal
   pub entries : d.entries ≡ replayed_entries g d.journal
   pub settled : d.settled ≡ length d.entries

@@ -1,14 +1,19 @@
 -- Which sectors a recovery writes, and with which bytes.
 -- Source: Linux, drivers/md/dm-integrity.c, do_journal_write and init_journal.
-use Rattle.std.specs.Prelude.{◌≡◌, ◌⊎◌, ℕ, ◌/◌, List}
+use Rattle.std.specs.Prelude.{◌≡◌, ◌⊎◌, ℕ, ◌+◌, ◌/◌, ◌<◌, true, Ok, List}
 use Rattle.std.specs.List.{Contains}
 use Rattle.disk_model.specs.Disk.{Content, Image, IsOfRun, OnlyAdds, last_image, newest_only}
 use Rattle.disk_model.specs.Moments.{EachSince, HasNow}
 use Rattle.image_model.specs.Cells.{replayed_entries}
 use Rattle.image_model.specs.Geometry.{Geometry, data_at, section_at}
+use Rattle.image_model.specs.Grid.{blank_bound, is_zero_sector, walk_of}
+use Rattle.image_model.specs.Scan.{SectorCell}
 use Rattle.image_model.specs.Section.{Entry}
+use Rattle.image_model.specs.declared.journal_plan.Plan.{Plan}
+use Rattle.image_model.specs.declared.journal_plan.State.TheVariants.{Blank}
 use Rattle.buffer_cache.specs.Cached.{HasNoMark}
 use Rattle.journal_erasure.specs.EmptySections.{AreEmptySections}
+use Rattle.journal_erasure.specs.Filling.{IsOfLacking}
 use Rattle.journal_reading.specs.declared.reading.JudgedJournal.{JudgedJournal}
 use Rattle.journal_reading.specs.Journal.{journal_image}
 use Rattle.tag_store.specs.Store.{HoldsTag, Store}
@@ -27,6 +32,20 @@ IsOfPlacing g Among sector x = IsOfEntry g Among sector x ⊎ HoldsTag g sector
 -- They are those of a journal of empty sections, all of one commit number.
 pub record IsOfEmptyJournal (g : Geometry) (sector : ℕ) (x : List ℕ) : Type 0 where
   pub number : ℕ
+  pub bytes : List ℕ
+  pub empty : AreEmptySections g number bytes
+  pub in_place : IsOfRun (section_at g 0) bytes sector x
+
+-- They are those of an empty sector of this number, in a sector of the journal whose cell does not have it.
+pub record IsOfUnnumbered (g : Geometry) (cells : List SectorCell) (number sector : ℕ) (x : List ℕ) : Type 0 where
+  pub bytes : List ℕ
+  pub empty : AreEmptySections g number bytes
+  pub lacking : IsOfLacking g cells number bytes sector x
+
+-- They are those of an empty sector of this number, in place of a blank sector of the image's journal.
+pub record IsOfBlankSector (g : Geometry) (number : ℕ) (image : Image) (sector : ℕ) (x : List ℕ) : Type 0 where
+  pub inside : sector < 8 + blank_bound g
+  pub zeros : is_zero_sector (image sector) ≡ true
   pub bytes : List ℕ
   pub empty : AreEmptySections g number bytes
   pub in_place : IsOfRun (section_at g 0) bytes sector x
@@ -56,7 +75,17 @@ abbrev pub AddsPlacing : Geometry → (before after : List Content) → Type 0
 AddsPlacing g before after =
     EachSince (λ start. OnlyAdds (IsOfPlacing g (Contains (replayed_entries g (last_image start)))) start) before after
 
--- and with these the empty sections of an erased journal.
+-- and with these the empty sections of a journal that is erased or filled.
 abbrev pub AddsRecovery : Geometry → (before after : List Content) → Type 0
 AddsRecovery g before after =
     EachSince (λ start. OnlyAdds (IsOfRecovery g (replayed_entries g (last_image start))) start) before after
+
+-- Where the journal of the image at the start is blank with a number, nothing is written but sectors of tags, and empty
+-- sectors of that number in place of its blank ones.
+abbrev pub FillsBlank : Geometry → (start c : Content) → Type 0
+FillsBlank g start c = (plan : Plan) (number : ℕ) → walk_of g (last_image start) ≡ Ok plan → plan.state ≡ Blank number
+    → OnlyAdds (λ sector x. HoldsTag g sector ⊎ IsOfBlankSector g number (last_image start) sector x) start c
+
+-- So it is of each content since the start of a call.
+abbrev pub FillsBlanks : Geometry → (before after : List Content) → Type 0
+FillsBlanks g before after = EachSince (FillsBlank g) before after

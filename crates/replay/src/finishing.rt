@@ -1,18 +1,20 @@
-//! What follows once all entries are in their places: a journal at rest goes on, and any other is erased.
+//! What follows once all entries are in their places: a journal at rest goes on, a blank one is filled, and any other
+//! is erased.
 ghost use Rattle.std.specs.Prelude.{◌≡◌, ◌↔◌, ◌⊎◌, false, ℕ, ◌<◌, ◌≤◌, get_or, slice_index_or, IfOk, OnOk};
 ghost use Rattle.disk_model.specs.Causes.{HasCause};
 ghost use Rattle.disk_model.specs.Disk.{OnlyAdds};
 ghost use Rattle.disk_model.specs.Moments.{EachSince};
 ghost use Rattle.image_model.specs.Walk.{sections_of};
-ghost use Rattle.image_model.specs.declared.journal_plan.State.TheVariants.{Erasing, Mixed, Rest};
+ghost use Rattle.image_model.specs.declared.journal_plan.State.TheVariants.{Blank, Erasing, Mixed, Rest};
 ghost use Rattle.journal_erasure.specs.Erasing.{IsErasureFor, IsErasureOf};
 ghost use Rattle.tag_store.specs.Store.{IsStore};
 ghost use Rattle.place_model.specs.Opened.{next_by};
 ghost use Rattle.replay.specs.Calls.{LeavesCutsOfEach, LeavesEach, LeavesErased, LeavesReplayed};
 ghost use Rattle.replay.specs.Recovery.{GoesOnIn, IsReplayed};
 ghost use Rattle.replay.specs.Replaying.{HasScratch, IsReplaying};
-ghost use Rattle.replay.specs.Writes.{IsOfEmptyJournal};
+ghost use Rattle.replay.specs.Writes.{IsOfEmptyJournal, IsOfUnnumbered};
 
+use crate::filling::fill_journal;
 use crate::recovered::Recovered;
 use commit_id::State;
 use journal_erasure::{Erasure, erase};
@@ -24,7 +26,7 @@ use tag_store::Tags;
 /// How many commit numbers there are.
 ///
 /// Source: Linux, `drivers/md/dm-integrity.c`, `N_COMMIT_IDS`.
-const NUMBERS: u8 = 4;
+pub(crate) const NUMBERS: u8 = 4;
 
 /// Erases a journal whose entries are all in their places and synced, and tells where writing goes on. What stood in
 /// `scratch` is lost.
@@ -129,8 +131,8 @@ fn is_used(next: u64, count: u64) -> bool
     next != 0 || count != 0
 }
 
-/// Goes on where a journal is at rest, and erases it where a commit or an erasure was cut. What stood in `scratch` is
-/// lost.
+/// Goes on where a journal is at rest, fills it where a change of mode left it blank, and erases it where a commit or
+/// an erasure was cut. What stood in `scratch` is lost.
 ///
 /// # Errors
 ///
@@ -161,6 +163,9 @@ pub(crate) fn finish<D: Disk>(
     ensures cuts { LeavesCutsOfEach (λ d. IsReplayed d geometry.now journal.now) tags.now
         (D.moments disk.old) (D.moments disk.new) }
     ensures moments { EachSince (OnlyAdds (IsOfEmptyJournal geometry.now)) (D.moments disk.old) (D.moments disk.new) }
+    ensures blank { (number : ℕ) → journal.now.plan.state ≡ Blank number
+        → EachSince (OnlyAdds (IsOfUnnumbered geometry.now journal.now.grid.cells.items number))
+        (D.moments disk.old) (D.moments disk.new) }
 {
     match journal.plan.state {
         State::Rest { next, number } => Ok(Recovered {
@@ -172,6 +177,6 @@ pub(crate) fn finish<D: Disk>(
         State::Erasing { newest } => {
             erase_scanned(disk, geometry, tags, journal, newest, scratch)
         }
-        State::Blank { .. } => unreachable!(),
+        State::Blank { number } => { fill_journal(disk, geometry, tags, journal, number, scratch) }
     }
 }

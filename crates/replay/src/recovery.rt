@@ -11,7 +11,7 @@ ghost use Rattle.replay.specs.Calls.{KeepsImageCells, KeepsRoom, RecoversImage};
 ghost use Rattle.replay.specs.Emptied.{IsRecoveredAlready, StaysResting};
 ghost use Rattle.replay.specs.Recovery.{GoesOnIn};
 ghost use Rattle.replay.specs.Replaying.{IsReplaying};
-ghost use Rattle.replay.specs.Writes.{AddsRecovery, OnlySyncsWhere};
+ghost use Rattle.replay.specs.Writes.{AddsRecovery, FillsBlanks, OnlySyncsWhere};
 
 use crate::entering::replay_journal;
 use crate::finishing::finish;
@@ -28,10 +28,11 @@ use tag_store::Tags;
 /// 1. Where the journal has entries that count it is read once more, into `pool`, which has as many sectors.
 /// 2. The newest entry of each block is brought to its place, in their order: what differs there is written, data or
 ///    tag. The tags are written back; sync.
-/// 3. A journal at rest goes on. One in which a commit or an erasure was cut is erased.
+/// 3. A journal at rest goes on. Of one that a cut change of mode left blank the blank sectors are written as empty
+///    ones; sync. One in which a commit or an erasure was cut is erased.
 ///
-/// Source: Linux, `drivers/md/dm-integrity.c`, `replay_journal`. Own: the erasure, and that nothing is written that
-/// stands there already.
+/// Source: Linux, `drivers/md/dm-integrity.c`, `replay_journal`. Own: the erasure, the blanks, and that nothing is
+/// written that stands there already.
 ///
 /// # Errors
 ///
@@ -63,6 +64,8 @@ pub fn recover<D: Disk>(
     ensures moments { AddsRecovery geometry.now (D.moments disk.old) (D.moments disk.new) }
     // Nothing is written of a journal at rest,
     ensures rest { StaysResting geometry.now (D.moments disk.old) (D.moments disk.new) }
+    // of a blank one its blank sectors alone are,
+    ensures blank { FillsBlanks geometry.now (D.moments disk.old) (D.moments disk.new) }
     // and no sector at all where its entries are in their places.
     ensures in_place { OnlySyncsWhere (IsRecoveredAlready geometry.now) tags.old
         (D.moments disk.old) (D.moments disk.new) }

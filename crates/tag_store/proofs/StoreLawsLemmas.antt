@@ -6,7 +6,7 @@ use Rattle.std.proofs.lemmas.Option.{none-some}
 use Rattle.disk_model.specs.Disk.{Content, Image, last_image, newest_only}
 use Rattle.disk_model.specs.Moments.{content_now}
 use Rattle.image_model.specs.Cells.{placed_cells_of}
-use Rattle.image_model.specs.Geometry.{Geometry, IsGeometry, tag_at}
+use Rattle.image_model.specs.Geometry.{Geometry, IsGeometry, tag_at, tag_offset}
 use Rattle.image_model.proofs.GeometryLemmas.{tag_at-inside, data_at-inside}
 use Rattle.place_model.specs.Tags.{IsOfTags, tag_byte_at, with_block_tag}
 use Rattle.place_model.proofs.PlacedLemmas.{placed_tag-byte}
@@ -16,7 +16,7 @@ use Rattle.buffer_cache.specs.HeldSectors.{held_in}
 use Rattle.buffer_cache.proofs.CachedLemmas.{IsOfDisk-elsewhere, IsOfDisk-none, changed_now}
 use Rattle.tag_store.specs.Spans.{IsInSpan, IsSpan}
 use Rattle.tag_store.specs.Store.{HoldsTag, IsFirstOfTag, IsMarkedTags, Store, given, given_tags, tags_in, with_tag}
-use Rattle.tag_store.specs.StoreLaws.{AreWhole, DirectLaw, ElsewhereLaw, FreshLaw, KeepsOthersLaw, OthersLaw, MarkedLaw, PutLaw, ReadsTagsLaw, RestLaw, SameTagsLaw, SyncedLaw}
+use Rattle.tag_store.specs.StoreLaws.{AreWhole, DirectLaw, ElsewhereLaw, FreshLaw, KeepsOthersLaw, MarkedLaw, OtherRegionsLaw, OthersLaw, PutLaw, ReadsTagsLaw, RestLaw, SameTagsLaw, SyncedLaw}
 use Rattle.tag_store.proofs.PutLemmas.{with_span-other, with_tag-byte, with_tag-length, with_tag-rest}
 use Rattle.tag_store.proofs.SpansLemmas.{first_in_span, next_in_span, with_given_piece-none, with_given_piece-other}
 use Rattle.tag_store.proofs.StoreLemmas.{HoldsTag-span, tag-span, tags_in-same}
@@ -168,3 +168,20 @@ pub same_tags_law : SameTagsLaw
 same_tags_law store disk moments c d is whole whole_now alike b low =
     tags_in-same store.geometry disk.sectors is.geometry (given store c) (given store d) whole whole_now
     (λ sector holds. ap (held_or (held_in store.sectors sector)) (alike sector holds)) b low
+
+-- Blocks and tags lie where they lay, whatever the regions are.
+holds_under : (g : Geometry) (log2_region sector : ℕ) → HoldsTag g sector → HoldsTag (record g { log2_region = log2_region }) sector
+unfolding tag_byte_at tag_at tag_offset
+holds_under g log2_region sector holds = record { block = holds.block; byte = holds.byte; block_low = holds.block_low; byte_low = holds.byte_low; is = holds.is }
+
+pub other_regions_law : OtherRegionsLaw
+unfolding placed_cells_of tag_at tag_offset
+other_regions_law store disk moments log2_region is geometry = (
+  record {
+    bound = is.bound;
+    geometry = geometry;
+    cache = is.cache;
+    tags_only = λ sector held there. holds_under store.geometry log2_region sector (is.tags_only sector held there);
+  },
+  λ c b. refl,
+)

@@ -121,3 +121,16 @@ abbrev pub SameTagsLaw : Type 0
 SameTagsLaw = (store : Store) (disk : DiskIdentity) (moments : List Content) (c d : Content)
     → IsStore store disk moments → AreWhole disk.sectors (given store c) → AreWhole disk.sectors (given store d) → ReadTagsAlike store.geometry c d
     → (b : ℕ) → b < store.geometry.blocks → given_tags store d b ≡ given_tags store c b
+
+-- ---- other regions
+
+-- The same store of a disk whose regions are others.
+abbrev pub under_regions : Store → (log2_region : ℕ) → Store
+under_regions store log2_region = record store { geometry = record store.geometry { log2_region = log2_region } }
+
+-- It gives the same tags, and is of the disk.
+abbrev pub OtherRegionsLaw : Type 0
+OtherRegionsLaw = (store : Store) (disk : DiskIdentity) (moments : List Content) (log2_region : ℕ)
+    → IsStore store disk moments → IsGeometry (under_regions store log2_region).geometry disk.sectors
+    → IsStore (under_regions store log2_region) disk moments
+    × ((c : Content) (b : ℕ) → given_tags (under_regions store log2_region) c b ≡ given_tags store c b)

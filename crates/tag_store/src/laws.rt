@@ -1,7 +1,7 @@
 //! What the words of a store's contracts say, for the layers of every mode: each law is the contract of a function that
 //! does nothing.
 
-ghost use Rattle.tag_store.specs.StoreLaws.{DirectLaw, ElsewhereLaw, FreshLaw, KeepsOthersLaw, OthersLaw, MarkedLaw, PutBytesLaw, PutLaw, PutTagsLaw, PutWholeLaw, ReadsTagsLaw, RestLaw, SameTagsLaw, SyncedLaw};
+ghost use Rattle.tag_store.specs.StoreLaws.{DirectLaw, ElsewhereLaw, FreshLaw, KeepsOthersLaw, MarkedLaw, OtherRegionsLaw, OthersLaw, PutBytesLaw, PutLaw, PutTagsLaw, PutWholeLaw, ReadsTagsLaw, RestLaw, SameTagsLaw, SyncedLaw};
 
 /// A tag that is put changes the tag of its block, and no other byte.
 pub fn tag_is_put()
@@ -26,10 +26,12 @@ pub fn reads_give_what_is_given()
     ensures others { KeepsOthersLaw }
 {}
 
-/// A store over a fresh cache is of its disk, and stays so where another call leaves the sectors of tags.
+/// A store over a fresh cache is of its disk, and stays so where another call leaves the sectors of tags, and under other
+/// regions.
 pub fn store_is_of_its_disk()
     ensures fresh { FreshLaw }
     ensures elsewhere { ElsewhereLaw }
     ensures synced { SyncedLaw }
     ensures tags { SameTagsLaw }
+    ensures regions { OtherRegionsLaw }
 {}

@@ -41,6 +41,14 @@ impl Tags {
         Tags { geometry, cache }
     }
 
+    /// The same tags under another geometry, whose blocks and tags lie in the same places.
+    pub fn under(self, geometry: Geometry) -> Tags
+        ensures { result ≡ record { geometry = geometry; sectors = self.sectors } }
+    {
+        let Tags { cache, .. } = self;
+        Tags { geometry, cache }
+    }
+
     /// Reads the tag of a block.
     ///
     /// The sectors of tags that go out of memory for it are written first, where they were changed. So nothing is

@@ -6,8 +6,8 @@ use Rattle.direct_laws.specs.ServeLaws.{WritesBack}
 use Rattle.recalculation.specs.Rest.{KeepsRest}
 use Rattle.recalculation.proofs.RestLemmas.{KeepsRest-still}
 use Rattle.tag_store.specs.Store.{given_tags}
-use Rattle.direct_mode.proofs.StoreCalls.{gets_tag, reads_whole}
-use Rattle.bitmap_mode.proofs.CellLemmas.{back_kept, rest_kept}
+use Rattle.direct_mode.proofs.StoreCalls.{back_kept, gets_tag, reads_whole}
+use Rattle.bitmap_mode.proofs.CellLemmas.{rest_kept}
 use Rattle.bitmap_mode.proofs.cells.read_cell.Goals as goal
 
 pub returns-in_err-read_block-clause-back : goal.returns-in_err-read_block-clause-back

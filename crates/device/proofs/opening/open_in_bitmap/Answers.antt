@@ -29,7 +29,7 @@ returns-in_err-opened-clause-leaves g c = record {
   identity = c.open_bitmap.ensures.identity;
   left = c.open_bitmap.ensures.left;
   refused = c.in_err-opened.ensures.refused.judged;
-  writes = c.open_bitmap.ensures.synced;
+  writes = c.open_bitmap.ensures.writes;
 }
 
 pub returns-clause-leaves : goal.returns-clause-leaves
@@ -37,7 +37,7 @@ returns-clause-leaves g c = record {
   identity = c.open_bitmap.ensures.identity;
   left = c.open_bitmap.ensures.left;
   refused = c.in_ok-opened.ensures.refused.judged;
-  writes = c.open_bitmap.ensures.synced;
+  writes = c.open_bitmap.ensures.writes;
 }
 
 pub returns-clause-accepted : goal.returns-clause-accepted

@@ -45,7 +45,7 @@ returns-in-Journal-clause-next g c =
     let state = c.in-Journal.state in
     let r = state.recalculation in
     let old = kept parts.common state.journal r in
-    let new = kept c.serve-in-Journal.new.parts c.serve-in-Journal.new.journal c.serve-in-Journal.new.recalc in
+    let new = kept c.serve-in-Journal.new.parts c.serve-in-Journal.new.journal c.serve-in-Journal.new.recalculation in
     let a = g.D.Disk.moments c.args.disk.now in
     let b = g.D.Disk.moments c.serve-in-Journal.new.disk in
     serves_plain in_journal Model.Journal in_journal_mode plain_journal old new a b (λ w is. tt)

@@ -10,13 +10,11 @@ use Rattle.device.specs.Answers.{HasNoWork, WritesInStep}
 use Rattle.device.specs.Device.{IsReadyIn, mode_of}
 use Rattle.device_model.specs.Mode as Model
 use Rattle.image_model.specs.Geometry.{Geometry}
-use Rattle.recalculation.specs.Recalculation.{IsOfTagsOrHead}
-use Rattle.direct_device.specs.Answers.{fields_next}
+use Rattle.recalculation.specs.Recalculation.{IsOfTagsOrHead, fields_next}
 use Rattle.direct_device.specs.Device.{in_direct, kept as direct_kept}
-use Rattle.journal_device.specs.Answers.{fields_next as journal_next}
 use Rattle.journal_device.specs.Device.{in_journal, kept}
 use Rattle.bitmap_device.specs.Device.{in_bitmap, kept as bitmap_kept}
-use Rattle.device.proofs.AwaitingLemmas.{no_more_next_direct, no_more_next_journal}
+use Rattle.device.proofs.AwaitingLemmas.{no_more_next}
 use Rattle.device.proofs.ModeLemmas.{does_plain, idle_plain, in_bitmap_mode, in_direct_mode, in_journal_mode, parts_in, plain_bitmap, plain_direct, plain_journal}
 use Rattle.device.proofs.MovingLemmas.{direct_keeps, direct_stays, direct_tags, head_outside, journal_keeps, journal_tags, step_adds}
 use Rattle.device.proofs.StepLemmas.{bitmap_goes_on, direct_goes_on, journal_goes_on, not_did, rests_recovery}
@@ -31,7 +29,7 @@ returns-in-Direct-clause-next g c =
     let new = direct_kept c.step.new.parts c.step.new.recalculation in
     let a = g.D.Disk.moments c.args.disk.now in
     let b = g.D.Disk.moments c.step.new.disk in
-    let moved = λ (y : Geometry). no_more_next_direct y r in
+    let moved = λ (y : Geometry). no_more_next y r in
     let reads = g.met.D.Disk.reads_an_image c.args.disk.now in
     let W = IsOfTagsOrHead parts.common.tags.geometry in
     let outside = head_outside parts.common.tags.geometry in
@@ -75,11 +73,11 @@ returns-in-Journal-clause-next g c =
     let state = c.in-Journal.state in
     let r = state.recalculation in
     let old = kept parts.common state.journal r in
-    let new = kept c.step-in-Journal.new.parts c.step-in-Journal.new.journal c.step-in-Journal.new.recalc in
+    let new = kept c.step-in-Journal.new.parts c.step-in-Journal.new.journal c.step-in-Journal.new.recalculation in
     let a = g.D.Disk.moments c.args.disk.now in
     let b = g.D.Disk.moments c.step-in-Journal.new.disk in
     does_plain in_journal Model.Journal in_journal_mode plain_journal old new a b (λ w is. tt)
-    (journal_keeps old a b (journal_next r) (λ y. no_more_next_journal y r) c.step-in-Journal.ensures.heads new (g.met.D.Disk.reads_an_image c.step-in-Journal.new.disk))
+    (journal_keeps old a b (fields_next r) (λ y. no_more_next y r) c.step-in-Journal.ensures.heads new (g.met.D.Disk.reads_an_image c.step-in-Journal.new.disk))
     (Step actor) (FailedStep actor) moved_answer parts (parts_in parts c.in-Journal.is) c.step-in-Journal.result c.step-in-Journal.ensures.next
 
 pub returns-in-Journal-clause-idle : goal.returns-in-Journal-clause-idle
@@ -87,14 +85,14 @@ returns-in-Journal-clause-idle g c =
     let parts = c.args.parts.now in
     let state = c.in-Journal.state in
     idle_plain in_journal Model.Journal in_journal_mode plain_journal (kept parts.common state.journal state.recalculation)
-    (kept c.step-in-Journal.new.parts c.step-in-Journal.new.journal c.step-in-Journal.new.recalc)
+    (kept c.step-in-Journal.new.parts c.step-in-Journal.new.journal c.step-in-Journal.new.recalculation)
     (λ (m : Moved). m ≡ Idle) parts c.args.disk.now c.step-in-Journal.new.disk (parts_in parts c.in-Journal.is)
     c.step-in-Journal.result c.step-in-Journal.ensures.idle
 
 pub returns-in-Journal-clause-goes_on : goal.returns-in-Journal-clause-goes_on
 returns-in-Journal-clause-goes_on g c =
     let state = c.in-Journal.state in
-    rw c.in-Journal.is (journal_goes_on c.args.actor state.journal c.step-in-Journal.new.journal state.recalculation c.step-in-Journal.new.recalc c.step-in-Journal.result
+    rw c.in-Journal.is (journal_goes_on c.args.actor state.journal c.step-in-Journal.new.journal state.recalculation c.step-in-Journal.new.recalculation c.step-in-Journal.result
     c.step-in-Journal.ensures.goes_on c.step-in-Journal.ensures.advances)
 
 pub returns-in-Bitmap-clause-goes_on : goal.returns-in-Bitmap-clause-goes_on
@@ -141,7 +139,7 @@ returns-in-Direct-clause-tags g c =
     let a = g.D.Disk.moments c.args.disk.now in
     let b = g.D.Disk.moments c.step.new.disk in
     subst (λ (m : Mode). KeepsClearTags m common (Step (actor_of c.args.actor)) a b) (sym c.in-Direct.is)
-    (direct_tags (direct_kept common r) a b (g.met.D.Disk.reads_an_image c.args.disk.now) (fields_next r) (λ y. no_more_next_direct y r) c.step.ensures.heads)
+    (direct_tags (direct_kept common r) a b (g.met.D.Disk.reads_an_image c.args.disk.now) (fields_next r) (λ y. no_more_next y r) c.step.ensures.heads)
 
 pub returns-in-Journal-clause-tags : goal.returns-in-Journal-clause-tags
 returns-in-Journal-clause-tags g c =
@@ -151,7 +149,7 @@ returns-in-Journal-clause-tags g c =
     let a = g.D.Disk.moments c.args.disk.now in
     let b = g.D.Disk.moments c.step-in-Journal.new.disk in
     subst (λ (m : Mode). KeepsClearTags m common (Step (actor_of c.args.actor)) a b) (sym c.in-Journal.is)
-    (journal_tags (kept common state.journal r) a b (journal_next r) (λ y. no_more_next_journal y r) c.step-in-Journal.ensures.heads)
+    (journal_tags (kept common state.journal r) a b (fields_next r) (λ y. no_more_next y r) c.step-in-Journal.ensures.heads)
 
 pub returns-in-Bitmap-clause-tags : goal.returns-in-Bitmap-clause-tags
 returns-in-Bitmap-clause-tags g c =

@@ -1,29 +1,48 @@
-use Rattle.std.proofs.Common.{List, Option, subst}
+use Rattle.std.proofs.Common.{◌≡◌, true, false, sym, ◌∙◌, ap, subst}
 use Rattle.device_model.specs.Mode as Model
 use Rattle.hmac_tag.specs.TagMaker.{key_of}
-use Rattle.image_judging.specs.Faults.{bitmap_fault_of}
-use Rattle.bitmap_device.specs.declared.parts.BitmapParts.{BitmapParts}
-use Rattle.device_opening.specs.Opening.{LeavesOpenable}
-use Rattle.device_opening.proofs.JudgedLemmas.{done_cause, shift}
-use Rattle.device_opening.proofs.RefusedLemmas.{open_refuses}
+use Rattle.device_opening.specs.Judged.{HasBitmapFormat, HasJournalFormat}
+use Rattle.device_opening.specs.Opening.{LeavesOpenable, OnlySyncs}
+use Rattle.image_format.specs.declared.open_fault.OpenFault.{OpenFault}
+use Rattle.image_format.specs.declared.reading.ImageFormat.{ImageFormat}
+use Rattle.std.proofs.Common.{Result, Ok}
+use Rattle.image_format.specs.Format.{in_direct_mode}
+use Rattle.device_opening.proofs.JudgedLemmas.{shift}
+use Rattle.device_opening.proofs.OpenedMadeLemmas.{found_writes, in_direct_mode-clear}
 use Rattle.device_opening.proofs.bitmap.open_bitmap.Goals as goal
 
-pub returns-clause-refused : goal.returns-clause-refused
-returns-clause-refused g c =
-    open_refuses (bitmap_fault_of (key_of c.args.hash) c.args.consent (g.D.Disk.identity c.args.disk.now).sectors) (g.D.Disk.moments c.args.disk.now) (g.D.Disk.moments c.open_judged.new.disk)
-    BitmapParts c.in_ok-device.device (c.in_ok-image.ensures.refused (λ e. cc) (λ e. cc))
+pub open_found-requires-clause-found : goal.open_found-requires-clause-found
+open_found-requires-clause-found g c =
+    shift (λ i x. HasBitmapFormat i.sectors c.in_ok-format.format x) (sym c.read_format.ensures.identity) (sym c.read_format.ensures.kept) (record {
+      format_ = record { accepted = c.in_ok-format.ensures.format; bitmap = sym c.has_bitmap.ensures ∙ c.if-has_bitmap.true };
+      reads = c.in_ok-format.ensures.reads;
+      told = c.in_ok-format.ensures.told (λ e. cc);
+    })
 
-pub returns-clause-cause : goal.returns-clause-cause
-returns-clause-cause g c = done_cause _ _ _ _ _ _ c.in_ok-image.ensures.cause c.in_ok-device.ensures.cause
+pub open_made-requires-clause-found : goal.open_made-requires-clause-found
+open_made-requires-clause-found g c =
+    let clear = sym c.has_bitmap.ensures ∙ c.if-has_bitmap.false in
+    shift (λ i x. HasJournalFormat i.sectors c.in_ok-format.format x) (sym c.read_format.ensures.identity) (sym c.read_format.ensures.kept) (record {
+      format_ = record { accepted = c.in_ok-format.ensures.format; no_bitmap = clear };
+      reads = c.in_ok-format.ensures.reads;
+      told = λ x told. in_direct_mode-clear c.in_ok-format.format clear ∙ ap in_direct_mode (c.in_ok-format.ensures.told (λ e. cc) x told);
+    })
 
-pub returns-in_err-device-clause-left : goal.returns-in_err-device-clause-left
-returns-in_err-device-clause-left g c =
-    let b = g.D.Disk.moments c.open_judged.new.disk in
-    subst (λ (k : Option (List _)). LeavesOpenable Model.Bitmap k (g.D.Disk.identity c.args.disk.now).sectors (g.D.Disk.moments c.args.disk.now) b) c.in_ok-image.ensures.key
-    (shift (λ i x. LeavesOpenable Model.Bitmap c.in_ok-image.image.maker.key i.sectors x b) c.judge_bitmap.ensures.identity c.judge_bitmap.ensures.kept c.open_judged.ensures.left)
+pub returns-then-has_bitmap-clause-left : goal.returns-then-has_bitmap-clause-left
+returns-then-has_bitmap-clause-left g c =
+    shift (λ i x. LeavesOpenable Model.Bitmap (key_of c.args.hash) i.sectors x (g.D.Disk.moments c.open_found.new.disk)) c.read_format.ensures.identity c.read_format.ensures.kept c.open_found.ensures.left
 
-pub returns-clause-left : goal.returns-clause-left
-returns-clause-left g c =
-    let b = g.D.Disk.moments c.open_judged.new.disk in
-    subst (λ (k : Option (List _)). LeavesOpenable Model.Bitmap k (g.D.Disk.identity c.args.disk.now).sectors (g.D.Disk.moments c.args.disk.now) b) c.in_ok-image.ensures.key
-    (shift (λ i x. LeavesOpenable Model.Bitmap c.in_ok-image.image.maker.key i.sectors x b) c.judge_bitmap.ensures.identity c.judge_bitmap.ensures.kept c.open_judged.ensures.left)
+pub returns-else-has_bitmap-clause-left : goal.returns-else-has_bitmap-clause-left
+returns-else-has_bitmap-clause-left g c =
+    shift (λ i x. LeavesOpenable Model.Bitmap (key_of c.args.hash) i.sectors x (g.D.Disk.moments c.open_made.new.disk)) c.read_format.ensures.identity c.read_format.ensures.kept c.open_made.ensures.left
+
+pub returns-then-has_bitmap-clause-writes : goal.returns-then-has_bitmap-clause-writes
+returns-then-has_bitmap-clause-writes g c =
+    let b = g.D.Disk.moments c.open_found.new.disk in
+    found_writes (key_of c.args.hash) (g.D.Disk.identity c.args.disk.now) c.in_ok-format.format (g.D.Disk.moments c.args.disk.now) b
+    (record {
+      format_ = record { accepted = c.in_ok-format.ensures.format; bitmap = sym c.has_bitmap.ensures ∙ c.if-has_bitmap.true };
+      reads = c.in_ok-format.ensures.reads;
+      told = c.in_ok-format.ensures.told (λ e. cc);
+    })
+    (shift (λ i x. OnlySyncs x b) c.read_format.ensures.identity c.read_format.ensures.kept c.open_found.ensures.synced)

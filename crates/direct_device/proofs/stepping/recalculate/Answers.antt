@@ -6,10 +6,11 @@ use Rattle.device_parts.specs.declared.condition.Condition.TheVariants.{Broken, 
 use Rattle.device_parts.specs.declared.parts.Parts.{Parts}
 use Rattle.recalculation.specs.Recalculation.{StepsPosition, count_of, next_of}
 use Rattle.direct_device.specs.Device.{standing_on}
-use Rattle.direct_device.proofs.FieldsLemmas.{region_writes, step_heads}
+use Rattle.direct_device.proofs.FieldsLemmas.{step_heads}
 use Rattle.direct_device.proofs.OverDisk.{done_on}
-use Rattle.direct_device.proofs.StepLemmas.{err_or_ok, failed_next, fields_stepped, step_done, step_idle}
+use Rattle.direct_device.proofs.StepLemmas.{err_or_ok, failed_next, step_done, step_idle}
 use Rattle.direct_device.proofs.stepping.recalculate.Goals as goal
+use Rattle.recalculation.proofs.FieldsLemmas.{fields_stepped, region_writes}
 
 pub returns-in_err-step-clause-next : goal.returns-in_err-step-clause-next
 returns-in_err-step-clause-next g c =

@@ -1,4 +1,4 @@
-use Rattle.std.proofs.Common.{inl, inr, ◌<◌, arith, sym, ◌∙◌, ap, length}
+use Rattle.std.proofs.Common.{inl, inr, ◌<◌, arith, ◌∙◌, ap, length}
 use Rattle.std.proofs.lemmas.Bool.{cases_eq}
 use Rattle.image_model.specs.Scan.{cell_number}
 use Rattle.image_model.specs.declared.sector_cell.Cell.TheVariants.{Zero}

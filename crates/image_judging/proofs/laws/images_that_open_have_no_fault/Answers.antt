@@ -5,4 +5,4 @@ pub returns-clause-journal : goal.returns-clause-journal
 returns-clause-journal c = opens_law c.images_that_open_are_told.ensures.direct
 
 pub returns-clause-bitmap : goal.returns-clause-bitmap
-returns-clause-bitmap c = bitmap_opens_law c.images_that_open_are_told.ensures.bitmap
+returns-clause-bitmap c = bitmap_opens_law c.images_that_open_are_told.ensures.read (opens_law c.images_that_open_are_told.ensures.direct)

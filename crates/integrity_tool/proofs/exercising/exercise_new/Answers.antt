@@ -4,7 +4,7 @@ use Rattle.command_ending.specs.declared.ended.Ended.{Ended}
 use Rattle.command_model.specs.Exercise.{Tally}
 use Rattle.integrity_tool.specs.Exercised.{IsExercisedOn, new_standing}
 use Rattle.integrity_tool.specs.Refusing.{ended_by_opening}
-use Rattle.integrity_tool.proofs.ExercisingLemmas.{exercised_on, not_opened}
+use Rattle.integrity_tool.proofs.ExercisingLemmas.{exercised_on, not_opened, opened_new}
 use Rattle.integrity_tool.proofs.exercising.exercise_new.Goals as goal
 
 pub returns-in-Err-clause-exercised : goal.returns-in-Err-clause-exercised
@@ -22,8 +22,9 @@ pub returns-in-Ok-clause-exercised : goal.returns-in-Ok-clause-exercised
 returns-in-Ok-clause-exercised g c made told can =
     let disk = g.D.Disk.identity c.args.disk.now in
     let w = new_standing disk.sectors made in
+    let opened = opened_new c.images_that_open_have_no_fault.ensures.journal disk _ c.args.count c.args.seed (g.D.Disk.moments c.args.disk.now) _ made told can c.in-Ok.ensures.leaves in
     subst (λ (r : Result Tally Ended). IsExercisedOn disk.sectors c.args.count c.args.seed made r (g.D.Disk.moments c.args.disk.now)
     (g.D.Disk.moments c.exercise_device-ended.result.1.now)) (sym c.ended_count.ensures)
     (exercised_on c.images_that_open_have_no_fault.ensures.journal disk _ c.args.count c.args.seed (g.D.Disk.moments c.args.disk.now) _ made told can
     c.in-Ok.ensures.leaves c.exercise_device-ended.result.0 _
-    (c.exercise_device-ended.ensures.exercised w (c.in-Ok.ensures.opened.device made told)))
+    (c.exercise_device-ended.ensures.exercised w (c.in-Ok.ensures.opened.device made told opened.0 opened.1)))

@@ -3,6 +3,7 @@ use Rattle.disk_model.specs.Disk.{last_image}
 use Rattle.device_model.specs.Ending.{Ending}
 use Rattle.hmac_tag.specs.TagMaker.{key_of}
 use Rattle.device.specs.Opening.{asked_mode}
+use Rattle.place_model.specs.Changed.{opened_format}
 use Rattle.place_model.specs.Format.{format_on}
 use Rattle.place_model.specs.Kind.{kind_in}
 use Rattle.device_parts.specs.Device.{opened_standing}
@@ -13,7 +14,7 @@ use Rattle.integrity_tool.specs.Opening.{EndsImage, HasRunOn}
 use Rattle.integrity_tool.specs.Outset.{outset_on}
 use Rattle.integrity_tool.specs.Refusing.{ended_by_opening}
 use Rattle.integrity_tool.specs.Running.{ending_by}
-use Rattle.integrity_tool.proofs.OpeningLemmas.{given_back, no_memory_at_close, opening_moments, ran_on, read_at_close, read_at_lines, read_on_image, refused_by_memory, refused_by_opening, still_opened, taken_is_less}
+use Rattle.integrity_tool.proofs.OpeningLemmas.{given_back, no_memory_at_close, opened_content, opening_moments, ran_on, read_at_close, read_at_lines, read_on_image, refused_by_memory, refused_by_opening, still_opened, taken_is_less}
 use Rattle.integrity_tool.proofs.StartLemmas.{read_further, read_none}
 use Rattle.integrity_tool.proofs.TakenLemmas.{none_taken}
 use Rattle.integrity_tool.proofs.ClosedLemmas.{closed_as, closed_behind}
@@ -50,13 +51,16 @@ returns-in-Ok-run_lines-clause-runs g c left told start told_start =
     let mode = c.args.mode in
     let key = key_of c.args.hash in
     let disk = g.D.Disk.identity c.args.disk.now in
-    let w = opened_standing (asked_mode mode) key disk.sectors (last_image start) in
+    let made = opened_content c.images_that_open_have_no_fault.ensures.journal c.images_that_open_have_no_fault.ensures.bitmap mode key disk _ _ _ start told_start left c.in-Ok.ensures.leaves in
+    let w = opened_standing (asked_mode mode) key disk.sectors (last_image start) (last_image made.0) in
     let opened = c.in-Ok.ensures.opened in
     let run = has_run w.format w.state left in
-    let at = c.in-Ok-run_lines.ensures.lines w left run.0 (opened.device start told_start) told run.1 in
+    let at = c.in-Ok-run_lines.ensures.lines w left run.0 (opened.device start told_start made.0 made.1) told run.1 in
     let after = g.D.Disk.moments c.close-closed.result.1.now in
     let all = ran_on c.images_that_open_have_no_fault.ensures.journal c.images_that_open_have_no_fault.ensures.bitmap mode key disk _ _ _ start told_start left c.in-Ok.ensures.leaves (c.in-Ok.ensures.accepted start told_start)
-    run.0 (close_ending c.close-closed.result.0) after _ _ run.1
+    run.0 (close_ending c.close-closed.result.0) after _ _ run.1 made.0 made.1
+    (g.met.D.Disk.reads_an_image c.in-Ok.device.disk.now made.0 made.1) c.in-Ok.device.parts opened.asked_ (opened.device start told_start made.0 made.1)
+    (opened.blocks start told_start made.0 made.1)
     (at.leads _ _ _ (c.close-closed.ensures.stopped at.here at.device)) in (
       subst (λ (e : Ending). HasRunOn (outset_on mode key disk.sectors (last_image start)) start left e after
           (g.O.Sink.held c.args.out.now) (g.O.Sink.held c.close-closed.new.out))
@@ -70,14 +74,17 @@ returns-in-Err-run_lines-clause-runs g c left told start told_start =
     let mode = c.args.mode in
     let key = key_of c.args.hash in
     let disk = g.D.Disk.identity c.args.disk.now in
-    let w = opened_standing (asked_mode mode) key disk.sectors (last_image start) in
+    let made = opened_content c.images_that_open_have_no_fault.ensures.journal c.images_that_open_have_no_fault.ensures.bitmap mode key disk _ _ _ start told_start left c.in-Ok.ensures.leaves in
+    let w = opened_standing (asked_mode mode) key disk.sectors (last_image start) (last_image made.0) in
     let opened = c.in-Ok.ensures.opened in
     let run = has_run w.format w.state left in
     let ending = ending_of c.in-Err-run_lines.fault in
     given_back mode key disk.sectors start left ending (g.D.Disk.moments c.args.disk.now) _ _
     (ran_on c.images_that_open_have_no_fault.ensures.journal c.images_that_open_have_no_fault.ensures.bitmap mode key disk _ _ _ start told_start left c.in-Ok.ensures.leaves (c.in-Ok.ensures.accepted start told_start)
-    run.0 ending (g.D.Disk.moments c.run_lines.new.device.disk.now) _ _ run.1
-    (c.in-Err-run_lines.ensures.stopped w left run.0 (opened.device start told_start) told run.1)) (ap g.D.Disk.moments c.give_back.ensures.disk)
+    run.0 ending (g.D.Disk.moments c.run_lines.new.device.disk.now) _ _ run.1 made.0 made.1
+    (g.met.D.Disk.reads_an_image c.in-Ok.device.disk.now made.0 made.1) c.in-Ok.device.parts opened.asked_ (opened.device start told_start made.0 made.1)
+    (opened.blocks start told_start made.0 made.1)
+    (c.in-Err-run_lines.ensures.stopped w left run.0 (opened.device start told_start made.0 made.1) told run.1)) (ap g.D.Disk.moments c.give_back.ensures.disk)
 
 pub returns-in-Err-clause-taken : goal.returns-in-Err-clause-taken
 returns-in-Err-clause-taken g c = none_taken _ _ refl
@@ -90,14 +97,15 @@ returns-in-Ok-run_lines-clause-ahead g c left told start told_start =
     let mode = c.args.mode in
     let key = key_of c.args.hash in
     let disk = g.D.Disk.identity c.args.disk.now in
-    let w = opened_standing (asked_mode mode) key disk.sectors (last_image start) in
+    let made = opened_content c.images_that_open_have_no_fault.ensures.journal c.images_that_open_have_no_fault.ensures.bitmap mode key disk _ _ _ start told_start left c.in-Ok.ensures.leaves in
+    let w = opened_standing (asked_mode mode) key disk.sectors (last_image start) (last_image made.0) in
     let opened = c.in-Ok.ensures.opened in
     let run = has_run w.format w.state left in
-    let at = c.in-Ok-run_lines.ensures.lines w left run.0 (opened.device start told_start) told run.1 in
+    let at = c.in-Ok-run_lines.ensures.lines w left run.0 (opened.device start told_start made.0 made.1) told run.1 in
     let stopped = c.close-closed.ensures.stopped at.here at.device in
     read_on_image mode key disk.sectors (last_image start) left (c.in-Ok.ensures.accepted start told_start) run.0 _ _ _ run.1
     (read_further run.0 left _ _ _
-    (c.run_lines.ensures.taken.1 w left run.0 (opened.device start told_start) told run.1)
+    (c.run_lines.ensures.taken.1 w left run.0 (opened.device start told_start made.0 made.1) told run.1)
     (record { more = stopped.text; is = stopped.told }))
 
 pub returns-in-Err-run_lines-clause-ahead : goal.returns-in-Err-run_lines-clause-ahead
@@ -105,11 +113,12 @@ returns-in-Err-run_lines-clause-ahead g c left told start told_start =
     let mode = c.args.mode in
     let key = key_of c.args.hash in
     let disk = g.D.Disk.identity c.args.disk.now in
-    let w = opened_standing (asked_mode mode) key disk.sectors (last_image start) in
+    let made = opened_content c.images_that_open_have_no_fault.ensures.journal c.images_that_open_have_no_fault.ensures.bitmap mode key disk _ _ _ start told_start left c.in-Ok.ensures.leaves in
+    let w = opened_standing (asked_mode mode) key disk.sectors (last_image start) (last_image made.0) in
     let opened = c.in-Ok.ensures.opened in
     let run = has_run w.format w.state left in
     read_on_image mode key disk.sectors (last_image start) left (c.in-Ok.ensures.accepted start told_start) run.0 _ _ _ run.1
-    (c.run_lines.ensures.taken.1 w left run.0 (opened.device start told_start) told run.1)
+    (c.run_lines.ensures.taken.1 w left run.0 (opened.device start told_start made.0 made.1) told run.1)
 
 pub returns-in-Ok-run_lines-clause-taken : goal.returns-in-Ok-run_lines-clause-taken
 returns-in-Ok-run_lines-clause-taken g c = c.run_lines.ensures.taken.0
@@ -148,10 +157,11 @@ returns-in-Ok-run_lines-clause-closed g c =
     let kind = kind_in (asked_mode mode) key disk.sectors in
     let opened = c.in-Ok.ensures.opened in
     closed_as c.close-closed.result.0 c.ended_by_close.result c.ended_by_close.ensures _ (λ rests left told start told_start.
-    let w = opened_standing (asked_mode mode) key disk.sectors (last_image start) in
+    let made = opened_content c.images_that_open_have_no_fault.ensures.journal c.images_that_open_have_no_fault.ensures.bitmap mode key disk _ _ _ start told_start left c.in-Ok.ensures.leaves in
+    let w = opened_standing (asked_mode mode) key disk.sectors (last_image start) (last_image made.0) in
     let run = has_run w.format w.state left in
-    let at = c.in-Ok-run_lines.ensures.lines w left run.0 (opened.device start told_start) told run.1 in
-    closed_behind kind (last_image start) (format_on key disk.sectors (last_image start)) left w at.here _ _ _ refl refl refl
+    let at = c.in-Ok-run_lines.ensures.lines w left run.0 (opened.device start told_start made.0 made.1) told run.1 in
+    closed_behind kind (last_image start) (opened_format (asked_mode mode) (format_on key disk.sectors (last_image start))) left w at.here _ _ _ refl refl refl
     at.device (rests at.here at.device) at.comes) c.close-closed.ensures.rests
 
 pub returns-in-Err-clause-unread : goal.returns-in-Err-clause-unread

@@ -13,14 +13,14 @@ pub returns-in-Finished-clause-next : goal.returns-in-Finished-clause-next
 returns-in-Finished-clause-next g c =
     let parts = c.args.parts.now in
     let journal = c.args.journal.now in
-    let recalc = c.args.recalc.now in
+    let recalculation = c.args.recalculation.now in
     let ticket = c.args.ticket.now in
     let a = g.D.Disk.moments c.args.disk.now in
     record {
       does = record {
         done = λ w is.
-            is_done_on w is.disk is.format (Serve ticket) (served_answer Serves.Done) Working parts journal recalc a a
-            (serve_finished (standing_on w is.disk) parts journal recalc a is.over ticket _ c.requires.there
+            is_done_on w is.disk is.format (Serve ticket) (served_answer Serves.Done) Working parts journal recalculation a a
+            (serve_finished (standing_on w is.disk) parts journal recalculation a is.over ticket _ c.requires.there
             (sym c.turn.ensures.turn ∙ c.in-Finished.is) refl);
         err = tt;
       };
@@ -33,14 +33,14 @@ pub returns-in-Held-clause-next : goal.returns-in-Held-clause-next
 returns-in-Held-clause-next g c =
     let parts = c.args.parts.now in
     let journal = c.args.journal.now in
-    let recalc = c.args.recalc.now in
+    let recalculation = c.args.recalculation.now in
     let ticket = c.args.ticket.now in
     let a = g.D.Disk.moments c.args.disk.now in
     record {
       does = record {
         done = λ w is.
-            is_done_on w is.disk is.format (Serve ticket) (served_answer (Serves.Held c.in-Held.by)) Working parts journal recalc a a
-            (serve_held (standing_on w is.disk) parts journal recalc a is.over ticket c.in-Held.by _ c.requires.there
+            is_done_on w is.disk is.format (Serve ticket) (served_answer (Serves.Held c.in-Held.by)) Working parts journal recalculation a a
+            (serve_held (standing_on w is.disk) parts journal recalculation a is.over ticket c.in-Held.by _ c.requires.there
             (sym c.turn.ensures.turn ∙ c.in-Held.is) refl);
         err = tt;
       };

@@ -17,7 +17,7 @@ pub returns-in_err-flush-clause-next : goal.returns-in_err-flush-clause-next
 returns-in_err-flush-clause-next g c =
     let parts = c.args.parts.now in
     let journal = c.args.journal.now in
-    let recalc = c.args.recalc.now in
+    let recalculation = c.args.recalculation.now in
     let ticket = c.args.ticket.now in
     let a = g.D.Disk.moments c.args.disk.now in
     let b = g.D.Disk.moments c.flush.new.disk in
@@ -26,9 +26,9 @@ returns-in_err-flush-clause-next g c =
         done = search rules;
         err = on_err_always c.from_residual.result (λ w is.
             let v = standing_on w is.disk in
-            done_on w is.disk is.format (FailedServe ticket) Broken parts c.flush.new.self recalc a b
-            (serve_flush_failed v parts journal recalc a is.over ticket c.requires.there c.requires.turn _ _ _ refl refl
-            (c.flush.ensures.left (standing_of v) (stands_now v parts journal recalc a is.over))));
+            done_on w is.disk is.format (FailedServe ticket) Broken parts c.flush.new.self recalculation a b
+            (serve_flush_failed v parts journal recalculation a is.over ticket c.requires.there c.requires.turn _ _ _ refl refl
+            (c.flush.ensures.left (standing_of v) (stands_now v parts journal recalculation a is.over))));
       };
       goes_on = search rules;
       waiting = search rules;
@@ -39,7 +39,7 @@ pub returns-clause-next : goal.returns-clause-next
 returns-clause-next g c =
     let parts = c.args.parts.now in
     let journal = c.args.journal.now in
-    let recalc = c.args.recalc.now in
+    let recalculation = c.args.recalculation.now in
     let ticket = c.args.ticket.now in
     let a = g.D.Disk.moments c.args.disk.now in
     let b = g.D.Disk.moments c.flush.new.disk in
@@ -48,9 +48,9 @@ returns-clause-next g c =
       does = record {
         done = λ w is.
             let v = standing_on w is.disk in
-            let stands = stands_now v parts journal recalc a is.over in
-            is_done_on w is.disk is.format (Serve ticket) (served_answer Serves.Done) Working new c.flush.new.self recalc a b
-            (serve_flush_done v parts journal recalc a is.over ticket c.requires.there c.requires.turn _ _ _ c.finish.ensures refl refl
+            let stands = stands_now v parts journal recalculation a is.over in
+            is_done_on w is.disk is.format (Serve ticket) (served_answer Serves.Done) Working new c.flush.new.self recalculation a b
+            (serve_flush_done v parts journal recalculation a is.over ticket c.requires.there c.requires.turn _ _ _ c.finish.ensures refl refl
             (c.in_ok-flush.ensures.flushed (standing_of v) stands) (c.flush.ensures.left (standing_of v) stands));
         err = tt;
       };

@@ -59,7 +59,7 @@ pub returns-in_err-take_first-clause-next : goal.returns-in_err-take_first-claus
 returns-in_err-take_first-clause-next g c =
     let parts = c.args.parts.now in
     let journal = c.args.journal.now in
-    let recalc = c.args.recalc.now in
+    let recalculation = c.args.recalculation.now in
     let ticket = c.args.ticket.now in
     let a = g.D.Disk.moments c.args.disk.now in
     let b = g.D.Disk.moments c.take_first.new.disk in
@@ -69,10 +69,10 @@ returns-in_err-take_first-clause-next g c =
         err = on_err_always c.from_residual.result (λ w at.
             let v = standing_on w at.disk in
             let is = at.over in
-            done_on w at.disk at.format (FailedServe ticket) Broken _ journal c.take_first.new.recalc a b
-            (serve_read_failed v parts journal recalc a is ticket c.requires.there c.args.block c.requires.turn _ c.take_first.new.recalc b refl refl
-            (first_left v parts journal recalc a is c.args.block (block_there v parts journal recalc a is (g.D.Disk.identity c.args.disk.now) (c.requires.ready.parts_ refl) c.args.block c.requires.within)
-            (takes_first journal recalc c.args.block) refl b c.take_first.ensures.through)));
+            done_on w at.disk at.format (FailedServe ticket) Broken _ journal c.take_first.new.recalculation a b
+            (serve_read_failed v parts journal recalculation a is ticket c.requires.there c.args.block c.requires.turn _ c.take_first.new.recalculation b refl refl
+            (first_left v parts journal recalculation a is c.args.block (block_there v parts journal recalculation a is (g.D.Disk.identity c.args.disk.now) (c.requires.ready.parts_ refl) c.args.block c.requires.within)
+            (takes_first journal recalculation c.args.block) refl b c.take_first.ensures.through)));
       };
       goes_on = search rules;
       waiting = search rules;
@@ -90,18 +90,18 @@ pub returns-in_err-take_first-clause-writes : goal.returns-in_err-take_first-cla
 returns-in_err-take_first-clause-writes g c =
     let parts = c.args.parts.now in
     let journal = c.args.journal.now in
-    let recalc = c.args.recalc.now in
+    let recalculation = c.args.recalculation.now in
     let a = g.D.Disk.moments c.args.disk.now in
     let b = g.D.Disk.moments c.take_first.new.disk in
-    subst (λ (t : Turn). WritesFor t parts journal recalc a b) (sym c.requires.turn)
-    (writes_first (takes_first journal recalc c.args.block) _ _ c.args.block recalc parts a b c.take_first.ensures.through)
+    subst (λ (t : Turn). WritesFor t parts journal recalculation a b) (sym c.requires.turn)
+    (writes_first (takes_first journal recalculation c.args.block) _ _ c.args.block recalculation parts a b c.take_first.ensures.through)
 
 pub returns-in_err-stored-clause-next : goal.returns-in_err-stored-clause-next
 returns-in_err-stored-clause-next g c =
     let parts = c.args.parts.now in
     let journal = c.args.journal.now in
-    let recalc = c.args.recalc.now in
-    let first = c.take_first.new.recalc in
+    let recalculation = c.args.recalculation.now in
+    let first = c.take_first.new.recalculation in
     let store = c.take_first.new.tags in
     let ticket = c.args.ticket.now in
     let block = c.args.block in
@@ -114,12 +114,12 @@ returns-in_err-stored-clause-next g c =
         err = on_err_always c.from_residual-in_err-stored.result (λ w at.
             let v = standing_on w at.disk in
             let is = at.over in
-            let low = block_there v parts journal recalc a is (g.D.Disk.identity c.args.disk.now) (c.requires.ready.parts_ refl) block c.requires.within in
-            let t = takes_first journal recalc block in
-            let working = first_taken v parts journal recalc a is block low t refl first store m c.take_first.ensures.stays.places c.in_ok-take_first.ensures.taken in
+            let low = block_there v parts journal recalculation a is (g.D.Disk.identity c.args.disk.now) (c.requires.ready.parts_ refl) block c.requires.within in
+            let t = takes_first journal recalculation block in
+            let working = first_taken v parts journal recalculation a is block low t refl first store m c.take_first.ensures.stays.places c.in_ok-take_first.ensures.taken in
             done_on w at.disk at.format (FailedServe ticket) Broken _ journal first a b
-            (serve_read_failed v parts journal recalc a is ticket c.requires.there block c.requires.turn _ first b refl refl
-            (EachMoment-then (first_left v parts journal recalc a is block low t refl m c.take_first.ensures.through)
+            (serve_read_failed v parts journal recalculation a is ticket c.requires.there block c.requires.turn _ first b refl refl
+            (EachMoment-then (first_left v parts journal recalculation a is block low t refl m c.take_first.ensures.through)
             (c.read_block.ensures.kept (standing_of v) working.stands).left)));
       };
       goes_on = search rules;
@@ -138,12 +138,12 @@ pub returns-in_err-stored-clause-writes : goal.returns-in_err-stored-clause-writ
 returns-in_err-stored-clause-writes g c =
     let parts = c.args.parts.now in
     let journal = c.args.journal.now in
-    let recalc = c.args.recalc.now in
+    let recalculation = c.args.recalculation.now in
     let a = g.D.Disk.moments c.args.disk.now in
     let m = g.D.Disk.moments c.take_first.new.disk in
     let b = g.D.Disk.moments c.read_block.new.disk in
-    subst (λ (t : Turn). WritesFor t parts journal recalc a b) (sym c.requires.turn)
-    (writes_read (takes_first journal recalc c.args.block) _ _ c.args.block recalc c.take_first.new.recalc parts c.take_first.new.tags a m b c.take_first.ensures.stays.places
+    subst (λ (t : Turn). WritesFor t parts journal recalculation a b) (sym c.requires.turn)
+    (writes_read (takes_first journal recalculation c.args.block) _ _ c.args.block recalculation c.take_first.new.recalculation parts c.take_first.new.tags a m b c.take_first.ensures.stays.places
     c.in_ok-take_first.ensures.taken c.take_first.ensures.through c.read_block.ensures.moments)
 
 -- ---- the block is read
@@ -152,8 +152,8 @@ pub returns-clause-next : goal.returns-clause-next
 returns-clause-next g c =
     let parts = c.args.parts.now in
     let journal = c.args.journal.now in
-    let recalc = c.args.recalc.now in
-    let first = c.take_first.new.recalc in
+    let recalculation = c.args.recalculation.now in
+    let first = c.take_first.new.recalculation in
     let store = c.take_first.new.tags in
     let ticket = c.args.ticket.now in
     let block = c.args.block in
@@ -171,18 +171,18 @@ returns-clause-next g c =
         done = λ w at.
             let v = standing_on w at.disk in
             let is = at.over in
-            let low = block_there v parts journal recalc a is (g.D.Disk.identity c.args.disk.now) (c.requires.ready.parts_ refl) block c.requires.within in
-            let t = takes_first journal recalc block in
-            let working = taken_working v parts journal recalc a is ticket c.requires.there block c.requires.turn low t refl first store m c.take_first.ensures.stays.places c.in_ok-take_first.ensures.taken c.take_first.ensures.through in
+            let low = block_there v parts journal recalculation a is (g.D.Disk.identity c.args.disk.now) (c.requires.ready.parts_ refl) block c.requires.within in
+            let t = takes_first journal recalculation block in
+            let working = taken_working v parts journal recalculation a is ticket c.requires.there block c.requires.turn low t refl first store m c.take_first.ensures.stays.places c.in_ok-take_first.ensures.taken c.take_first.ensures.through in
             is_done_on w at.disk at.format (Serve ticket) (served_answer c.serve_read.result) Working new journal first a b
             (subst (λ (x : Served). IsServedAs v ticket x new journal first a b) (sym c.serve_read.ensures.answer)
-            (serve_read_done v parts journal recalc a is ticket c.requires.there block c.requires.turn low t refl first store m c.take_first.ensures.stays.places c.in_ok-take_first.ensures.taken c.take_first.ensures.through
+            (serve_read_done v parts journal recalculation a is ticket c.requires.there block c.requires.turn low t refl first store m c.take_first.ensures.stays.places c.in_ok-take_first.ensures.taken c.take_first.ensures.through
             (g.D.Disk.identity c.args.disk.now) mid new stored b (c.requires.ready.parts_ refl) refl refl refl
             whole c.serve_read.ensures.slots (c.read_block.ensures.kept (standing_of v) working.stands)
             (subst (λ (xs : List ℕ). HasNow (λ x. IsCellNow (standing_of v) block xs stored) m) (sym bytes)
-            (c.in_ok-stored.ensures.whole (standing_of v) (then_awaiting v parts journal recalc a is ticket c.requires.there block c.requires.turn low t refl first store m c.take_first.ensures.stays.places c.in_ok-take_first.ensures.taken c.take_first.ensures.through)
-            working.stands (idle_now v parts journal recalc a is) working.keeps
-            (rests v parts journal recalc a is ticket c.requires.there block c.requires.turn low t refl first store m c.take_first.ensures.stays.places c.in_ok-take_first.ensures.taken c.take_first.ensures.through)))));
+            (c.in_ok-stored.ensures.whole (standing_of v) (then_awaiting v parts journal recalculation a is ticket c.requires.there block c.requires.turn low t refl first store m c.take_first.ensures.stays.places c.in_ok-take_first.ensures.taken c.take_first.ensures.through)
+            working.stands (idle_now v parts journal recalculation a is) working.keeps
+            (rests v parts journal recalculation a is ticket c.requires.there block c.requires.turn low t refl first store m c.take_first.ensures.stays.places c.in_ok-take_first.ensures.taken c.take_first.ensures.through)))));
         err = tt;
       };
       goes_on = λ did. c.serve_read.ensures.fewer;
@@ -203,7 +203,7 @@ returns-clause-ready g c =
     let places = c.read_block.ensures.geometry ∙ c.take_first.ensures.stays.places in
     let mid : Parts = record parts { tags = c.read_block.new.tags; buffer = with_items parts.buffer c.read_block.new.out } in
     let whole : length mid.buffer.items ≡ parts.slots.block_size = search rules in
-    subst (λ (p : Parts). IsReady Working p journal c.take_first.new.recalc (g.D.Disk.identity disk) b) (sym c.serve_read.ensures.slots)
+    subst (λ (p : Parts). IsReady Working p journal c.take_first.new.recalculation (g.D.Disk.identity disk) b) (sym c.serve_read.ensures.slots)
     (record {
       parts_ = λ _. ready_read parts (record mid { slots = after_read ticket block stored mid })
           (g.D.Disk.identity c.args.disk.now) (g.D.Disk.identity disk) a b (c.requires.ready.parts_ refl) c.read_block.ensures.store
@@ -216,10 +216,10 @@ pub returns-clause-writes : goal.returns-clause-writes
 returns-clause-writes g c =
     let parts = c.args.parts.now in
     let journal = c.args.journal.now in
-    let recalc = c.args.recalc.now in
+    let recalculation = c.args.recalculation.now in
     let a = g.D.Disk.moments c.args.disk.now in
     let m = g.D.Disk.moments c.take_first.new.disk in
     let b = g.D.Disk.moments c.read_block.new.disk in
-    subst (λ (t : Turn). WritesFor t parts journal recalc a b) (sym c.requires.turn)
-    (writes_read (takes_first journal recalc c.args.block) _ _ c.args.block recalc c.take_first.new.recalc parts c.take_first.new.tags a m b c.take_first.ensures.stays.places
+    subst (λ (t : Turn). WritesFor t parts journal recalculation a b) (sym c.requires.turn)
+    (writes_read (takes_first journal recalculation c.args.block) _ _ c.args.block recalculation c.take_first.new.recalculation parts c.take_first.new.tags a m b c.take_first.ensures.stays.places
     c.in_ok-take_first.ensures.taken c.take_first.ensures.through c.read_block.ensures.moments)

@@ -61,7 +61,7 @@ pub returns-then-is_err-clause-next : goal.returns-then-is_err-clause-next
 returns-then-is_err-clause-next g c =
     let parts = c.args.parts.now in
     let journal = c.args.journal.now in
-    let recalc = c.args.recalc.now in
+    let recalculation = c.args.recalculation.now in
     let ticket = c.args.ticket.now in
     let a = g.D.Disk.moments c.args.disk.now in
     let bad = sym c.is_err.ensures.value ∙ c.if-is_err.true in
@@ -70,14 +70,14 @@ returns-then-is_err-clause-next g c =
       does = record {
         done = λ w is.
             let v = standing_on w is.disk in
-            is_done_on w is.disk is.format (Serve ticket) (served_answer Serves.NoRoom) Working parts c.put.new.self recalc a a
-            (subst (λ (j : PlacedRing). IsServedAs v ticket Serves.NoRoom parts j recalc a a) (sym same)
-            (serve_no_room v parts journal recalc a is.over ticket c.requires.there c.args.block c.args.is_flushed c.requires.turn a refl
+            is_done_on w is.disk is.format (Serve ticket) (served_answer Serves.NoRoom) Working parts c.put.new.self recalculation a a
+            (subst (λ (j : PlacedRing). IsServedAs v ticket Serves.NoRoom parts j recalculation a a) (sym same)
+            (serve_no_room v parts journal recalculation a is.over ticket c.requires.there c.args.block c.args.is_flushed c.requires.turn a refl
             (full_if_refused c.put.result (has_room journal.ring) bad c.put.ensures.room)));
         err = tt;
       };
       goes_on = λ did. absurd cc;
-      waiting = λ waits. (same_kept parts parts journal c.put.new.self recalc recalc refl same refl, refl);
+      waiting = λ waits. (same_kept parts parts journal c.put.new.self recalculation recalculation refl same refl, refl);
       flight = same_flight parts.slots;
     }
 
@@ -85,10 +85,10 @@ pub returns-then-is_err-clause-writes : goal.returns-then-is_err-clause-writes
 returns-then-is_err-clause-writes g c =
     let parts = c.args.parts.now in
     let journal = c.args.journal.now in
-    let recalc = c.args.recalc.now in
+    let recalculation = c.args.recalculation.now in
     let a = g.D.Disk.moments c.args.disk.now in
-    subst (λ (t : Turn). WritesFor t parts journal recalc a a) (sym c.requires.turn)
-    (writes_none c.args.is_flushed c.args.block parts journal recalc a)
+    subst (λ (t : Turn). WritesFor t parts journal recalculation a a) (sym c.requires.turn)
+    (writes_none c.args.is_flushed c.args.block parts journal recalculation a)
 
 -- ---- the disk fails
 
@@ -96,7 +96,7 @@ pub returns-in_err-flush_if-clause-next : goal.returns-in_err-flush_if-clause-ne
 returns-in_err-flush_if-clause-next g c =
     let parts = c.args.parts.now in
     let journal = c.args.journal.now in
-    let recalc = c.args.recalc.now in
+    let recalculation = c.args.recalculation.now in
     let ticket = c.args.ticket.now in
     let a = g.D.Disk.moments c.args.disk.now in
     let b = g.D.Disk.moments c.flush_if.new.disk in
@@ -108,12 +108,12 @@ returns-in_err-flush_if-clause-next g c =
         err = on_err_always c.from_residual.result (λ w at.
             let v = standing_on w at.disk in
             let is = at.over in
-            let takes = takes_write v parts journal recalc a is ticket c.requires.there c.args.block c.args.is_flushed c.requires.turn bytes c.next_bytes-bytes.ensures.bytes
+            let takes = takes_write v parts journal recalculation a is ticket c.requires.there c.args.block c.args.is_flushed c.requires.turn bytes c.next_bytes-bytes.ensures.bytes
             (g.D.Disk.identity c.args.disk.now) (c.requires.ready.parts_ refl) c.tag-tag.result c.tag-tag.ensures in
             let has = put_ok c.put.result good c.put.ensures.written (standing_of v) ticket parts.tags a takes in
-            let begun = begun_standing v parts journal recalc a is ticket c.requires.there c.args.block c.args.is_flushed c.requires.turn bytes c.next_bytes-bytes.ensures.bytes c.put.new.self has in
-            done_on w at.disk at.format (FailedServe ticket) Broken parts c.flush_if.new.journal recalc a b
-            (serve_write_failed v parts journal recalc a is ticket c.requires.there c.args.block c.args.is_flushed c.requires.turn bytes c.next_bytes-bytes.ensures.bytes
+            let begun = begun_standing v parts journal recalculation a is ticket c.requires.there c.args.block c.args.is_flushed c.requires.turn bytes c.next_bytes-bytes.ensures.bytes c.put.new.self has in
+            done_on w at.disk at.format (FailedServe ticket) Broken parts c.flush_if.new.journal recalculation a b
+            (serve_write_failed v parts journal recalculation a is ticket c.requires.there c.args.block c.args.is_flushed c.requires.turn bytes c.next_bytes-bytes.ensures.bytes
             c.put.new.self has parts c.flush_if.new.journal b refl refl (c.flush_if.ensures.left begun has.begun)));
       };
       goes_on = search rules;
@@ -125,12 +125,12 @@ pub returns-in_err-flush_if-clause-writes : goal.returns-in_err-flush_if-clause-
 returns-in_err-flush_if-clause-writes g c =
     let parts = c.args.parts.now in
     let journal = c.args.journal.now in
-    let recalc = c.args.recalc.now in
+    let recalculation = c.args.recalculation.now in
     let a = g.D.Disk.moments c.args.disk.now in
     let b = g.D.Disk.moments c.flush_if.new.disk in
     let good = sym c.is_err.ensures.value ∙ c.if-is_err.false in
-    subst (λ (t : Turn). WritesFor t parts journal recalc a b) (sym c.requires.turn)
-    (writes_if c.args.is_flushed c.args.block parts journal recalc c.put.new.self a b
+    subst (λ (t : Turn). WritesFor t parts journal recalculation a b) (sym c.requires.turn)
+    (writes_if c.args.is_flushed c.args.block parts journal recalculation c.put.new.self a b
     (record { bytes = c.next_bytes-bytes.result.now; tag = c.tag-tag.result; is = put_ok c.put.result good c.put.ensures.put }) c.flush_if.ensures.writes)
 
 -- ---- the block is put
@@ -139,7 +139,7 @@ pub returns-clause-next : goal.returns-clause-next
 returns-clause-next g c =
     let parts = c.args.parts.now in
     let journal = c.args.journal.now in
-    let recalc = c.args.recalc.now in
+    let recalculation = c.args.recalculation.now in
     let ticket = c.args.ticket.now in
     let a = g.D.Disk.moments c.args.disk.now in
     let b = g.D.Disk.moments c.flush_if.new.disk in
@@ -151,13 +151,13 @@ returns-clause-next g c =
         done = λ w at.
             let v = standing_on w at.disk in
             let is = at.over in
-            let takes = takes_write v parts journal recalc a is ticket c.requires.there c.args.block c.args.is_flushed c.requires.turn bytes c.next_bytes-bytes.ensures.bytes
+            let takes = takes_write v parts journal recalculation a is ticket c.requires.there c.args.block c.args.is_flushed c.requires.turn bytes c.next_bytes-bytes.ensures.bytes
             (g.D.Disk.identity c.args.disk.now) (c.requires.ready.parts_ refl) c.tag-tag.result c.tag-tag.ensures in
             let has = put_ok c.put.result good c.put.ensures.written (standing_of v) ticket parts.tags a takes in
-            let begun = begun_standing v parts journal recalc a is ticket c.requires.there c.args.block c.args.is_flushed c.requires.turn bytes c.next_bytes-bytes.ensures.bytes c.put.new.self has in
-            is_done_on w at.disk at.format (Serve ticket) (served_answer c.served.result) Working new c.flush_if.new.journal recalc a b
-            (subst (λ (x : Served). IsServedAs v ticket x new c.flush_if.new.journal recalc a b) (sym c.served.ensures)
-            (serve_write_done v parts journal recalc a is ticket c.requires.there c.args.block c.args.is_flushed c.requires.turn bytes c.next_bytes-bytes.ensures.bytes
+            let begun = begun_standing v parts journal recalculation a is ticket c.requires.there c.args.block c.args.is_flushed c.requires.turn bytes c.next_bytes-bytes.ensures.bytes c.put.new.self has in
+            is_done_on w at.disk at.format (Serve ticket) (served_answer c.served.result) Working new c.flush_if.new.journal recalculation a b
+            (subst (λ (x : Served). IsServedAs v ticket x new c.flush_if.new.journal recalculation a b) (sym c.served.ensures)
+            (serve_write_done v parts journal recalculation a is ticket c.requires.there c.args.block c.args.is_flushed c.requires.turn bytes c.next_bytes-bytes.ensures.bytes
             c.put.new.self has new c.flush_if.new.journal b c.count_block.ensures refl refl
             (c.in_ok-flush_if.ensures.done begun has.begun) c.in_ok-flush_if.ensures.still (c.flush_if.ensures.left begun has.begun)));
         err = tt;
@@ -173,7 +173,7 @@ pub returns-clause-ready : goal.returns-clause-ready
 returns-clause-ready g c =
     let parts = c.args.parts.now in
     let journal = c.args.journal.now in
-    let recalc = c.args.recalc.now in
+    let recalculation = c.args.recalculation.now in
     let ticket = c.args.ticket.now in
     let disk = c.flush_if.new.disk in
     let a = g.D.Disk.moments c.args.disk.now in
@@ -194,10 +194,10 @@ pub returns-clause-writes : goal.returns-clause-writes
 returns-clause-writes g c =
     let parts = c.args.parts.now in
     let journal = c.args.journal.now in
-    let recalc = c.args.recalc.now in
+    let recalculation = c.args.recalculation.now in
     let a = g.D.Disk.moments c.args.disk.now in
     let b = g.D.Disk.moments c.flush_if.new.disk in
     let good = sym c.is_err.ensures.value ∙ c.if-is_err.false in
-    subst (λ (t : Turn). WritesFor t parts journal recalc a b) (sym c.requires.turn)
-    (writes_if c.args.is_flushed c.args.block parts journal recalc c.put.new.self a b
+    subst (λ (t : Turn). WritesFor t parts journal recalculation a b) (sym c.requires.turn)
+    (writes_if c.args.is_flushed c.args.block parts journal recalculation c.put.new.self a b
     (record { bytes = c.next_bytes-bytes.result.now; tag = c.tag-tag.result; is = put_ok c.put.result good c.put.ensures.put }) c.flush_if.ensures.writes)

@@ -9,8 +9,8 @@ use Rattle.device_parts.specs.Answers.{actor_of}
 use Rattle.direct_mode.proofs.ServingLemmas.{on_err_always}
 use Rattle.journal_mode.proofs.FlushLemmas.{one_is}
 use Rattle.journal_mode.proofs.ClosingLemmas.{batch_geometry}
-use Rattle.recalculation.specs.Recalculation.{next_of}
-use Rattle.journal_device.specs.Answers.{HasNoWork, fields_next}
+use Rattle.recalculation.specs.Recalculation.{fields_next, next_of}
+use Rattle.journal_device.specs.Answers.{HasNoWork}
 use Rattle.journal_device.specs.Device.{standing_of, standing_on}
 use Rattle.journal_device.proofs.ConditionLemmas.{works_no_more}
 use Rattle.journal_device.proofs.DoneLemmas.{stands_now}
@@ -18,11 +18,12 @@ use Rattle.journal_device.proofs.OverDisk.{IsAfter, done_on, is_done_on}
 use Rattle.journal_device.proofs.RecalcLemmas.{recalc_failed}
 use Rattle.journal_device.proofs.EventLemmas.{clean_step, commit_step, place_step, recalc_step, settle_step, step_failed}
 use Rattle.journal_device.proofs.StepsLemmas.{commit_fewer, not_did, place_fewer, recalc_advances, recalc_fewer, settle_fewer}
-use Rattle.journal_device.proofs.FieldsLemmas.{failed_still, journal_heads, region_heads, region_writes, still_heads, stepped_heads, stepped_still}
+use Rattle.journal_device.proofs.FieldsLemmas.{failed_still, journal_heads, region_heads, still_heads, stepped_heads, stepped_still}
 use Rattle.journal_device.proofs.IdleLemmas.{idle_commit, idle_place, idle_recalc, idle_settle, still_recalc}
 use Rattle.journal_device.proofs.WriteLemmas.{ready_tags}
 use Rattle.journal_device.proofs.stepping.step.Goals as goal
 use Rattle.journal_device.proofs.stepping.step.Goals.{in-Commit+in_ok-moved-in-Commit, in-Place+in_ok-moved-in-Place, in-Settle+in_ok-moved-in-Settle, in-Clean, in-Recalc+in_ok-moved-in-Recalc}
+use Rattle.recalculation.proofs.FieldsLemmas.{region_writes}
 
 pub returns-in_err-moved-in-Commit-clause-next : goal.returns-in_err-moved-in-Commit-clause-next
 returns-in_err-moved-in-Commit-clause-next g c = record {
@@ -30,12 +31,12 @@ returns-in_err-moved-in-Commit-clause-next g c = record {
   err = on_err_always c.from_residual.result (λ w is.
       let parts = c.args.parts.now in
       let journal = c.args.journal.now in
-      let recalc = c.args.recalc.now in
+      let recalculation = c.args.recalculation.now in
       let a = g.D.Disk.moments c.args.disk.now in
       let v = standing_on w is.disk in
-      done_on w is.disk is.format _ Broken parts c.commit.new.self recalc a (g.D.Disk.moments c.commit.new.disk)
-      (step_failed v parts journal recalc a is.over _ parts c.commit.new.self (g.D.Disk.moments c.commit.new.disk) refl refl
-      (c.commit.ensures.left (standing_of v) (stands_now v parts journal recalc a is.over))));
+      done_on w is.disk is.format _ Broken parts c.commit.new.self recalculation a (g.D.Disk.moments c.commit.new.disk)
+      (step_failed v parts journal recalculation a is.over _ parts c.commit.new.self (g.D.Disk.moments c.commit.new.disk) refl refl
+      (c.commit.ensures.left (standing_of v) (stands_now v parts journal recalculation a is.over))));
 }
 
 pub returns-in_err-moved-in-Place-clause-next : goal.returns-in_err-moved-in-Place-clause-next
@@ -44,13 +45,13 @@ returns-in_err-moved-in-Place-clause-next g c = record {
   err = on_err_always c.from_residual-in_err-moved-in-Place.result (λ w is.
       let parts = c.args.parts.now in
       let journal = c.args.journal.now in
-      let recalc = c.args.recalc.now in
+      let recalculation = c.args.recalculation.now in
       let a = g.D.Disk.moments c.args.disk.now in
       let v = standing_on w is.disk in
       let new : Parts = record parts { tags = c.place.new.tags } in
-      done_on w is.disk is.format _ Broken new c.place.new.self recalc a (g.D.Disk.moments c.place.new.disk)
-      (step_failed v parts journal recalc a is.over _ new c.place.new.self (g.D.Disk.moments c.place.new.disk) refl refl
-      (c.place.ensures.left (standing_of v) (stands_now v parts journal recalc a is.over))));
+      done_on w is.disk is.format _ Broken new c.place.new.self recalculation a (g.D.Disk.moments c.place.new.disk)
+      (step_failed v parts journal recalculation a is.over _ new c.place.new.self (g.D.Disk.moments c.place.new.disk) refl refl
+      (c.place.ensures.left (standing_of v) (stands_now v parts journal recalculation a is.over))));
 }
 
 pub returns-in_err-moved-in-Settle-clause-next : goal.returns-in_err-moved-in-Settle-clause-next
@@ -59,13 +60,13 @@ returns-in_err-moved-in-Settle-clause-next g c = record {
   err = on_err_always c.from_residual-in_err-moved-in-Settle.result (λ w is.
       let parts = c.args.parts.now in
       let journal = c.args.journal.now in
-      let recalc = c.args.recalc.now in
+      let recalculation = c.args.recalculation.now in
       let a = g.D.Disk.moments c.args.disk.now in
       let v = standing_on w is.disk in
       let new : Parts = record parts { tags = c.settle.new.tags } in
-      done_on w is.disk is.format _ Broken new c.settle.new.self recalc a (g.D.Disk.moments c.settle.new.disk)
-      (step_failed v parts journal recalc a is.over _ new c.settle.new.self (g.D.Disk.moments c.settle.new.disk) refl refl
-      (c.settle.ensures.left (standing_of v) (stands_now v parts journal recalc a is.over))));
+      done_on w is.disk is.format _ Broken new c.settle.new.self recalculation a (g.D.Disk.moments c.settle.new.disk)
+      (step_failed v parts journal recalculation a is.over _ new c.settle.new.self (g.D.Disk.moments c.settle.new.disk) refl refl
+      (c.settle.ensures.left (standing_of v) (stands_now v parts journal recalculation a is.over))));
 }
 
 pub returns-in_err-moved-in-Recalc-clause-next : goal.returns-in_err-moved-in-Recalc-clause-next
@@ -74,14 +75,14 @@ returns-in_err-moved-in-Recalc-clause-next g c = record {
   err = on_err_always c.from_residual-in_err-moved-in-Recalc.result (λ w is.
       let parts = c.args.parts.now in
       let journal = c.args.journal.now in
-      let recalc = c.args.recalc.now in
+      let recalculation = c.args.recalculation.now in
       let a = g.D.Disk.moments c.args.disk.now in
       let b = g.D.Disk.moments c.recalculate.new.disk in
       let v = standing_on w is.disk in
       let through = c.in_err-moved-in-Recalc.ensures.err in
-      done_on w is.disk is.format (FailedStep (actor_of c.args.actor)) Broken (record parts { tags = c.recalculate.new.tags }) journal c.recalculate.new.recalc a b
-      (subst (λ (x : Actor). IsAfter v (FailedStep (actor_of x)) Broken (record parts { tags = c.recalculate.new.tags }) journal c.recalculate.new.recalc a b) (sym c.in-Recalc.is)
-      (recalc_failed v parts journal recalc a is.over through.region through.least c.recalculate.new.recalc c.recalculate.new.tags b through.through)));
+      done_on w is.disk is.format (FailedStep (actor_of c.args.actor)) Broken (record parts { tags = c.recalculate.new.tags }) journal c.recalculate.new.recalculation a b
+      (subst (λ (x : Actor). IsAfter v (FailedStep (actor_of x)) Broken (record parts { tags = c.recalculate.new.tags }) journal c.recalculate.new.recalculation a b) (sym c.in-Recalc.is)
+      (recalc_failed v parts journal recalculation a is.over through.region through.least c.recalculate.new.recalculation c.recalculate.new.tags b through.through)));
 }
 
 pub returns-clause-next : goal.returns-clause-next
@@ -89,27 +90,27 @@ returns-clause-next g c = record {
   done = λ w at.
       let parts = c.args.parts.now in
       let journal = c.args.journal.now in
-      let recalc = c.args.recalc.now in
+      let recalculation = c.args.recalculation.now in
       let before = g.D.Disk.moments c.args.disk.now in
       let v = standing_on w at.disk in
       let is = at.over in
-      let stands = stands_now v parts journal recalc before is in
+      let stands = stands_now v parts journal recalculation before is in
       is_done_on w at.disk at.format (Step (actor_of c.args.actor)) _ Working _ _ _ before _
       (elim c.match-actor.branch [
-        | in-Commit+in_ok-moved-in-Commit x ↦ rw (c.moved_as.ensures, x.moved-is, x.disk-is, x.parts-is, x.journal-is, x.recalc-is, x.in-Commit.is)
-            (commit_step v parts journal recalc before is _ x.commit.new.self (g.D.Disk.moments x.commit.new.disk)
+        | in-Commit+in_ok-moved-in-Commit x ↦ rw (c.moved_as.ensures, x.moved-is, x.disk-is, x.parts-is, x.journal-is, x.recalculation-is, x.in-Commit.is)
+            (commit_step v parts journal recalculation before is _ x.commit.new.self (g.D.Disk.moments x.commit.new.disk)
             (x.in_ok-moved-in-Commit.ensures.committed (standing_of v) stands) (x.commit.ensures.left (standing_of v) stands))
-        | in-Place+in_ok-moved-in-Place x ↦ rw (c.moved_as.ensures, x.moved-is, x.disk-is, x.parts-is, x.journal-is, x.recalc-is, x.in-Place.is)
-            (place_step v parts journal recalc before is _ (record parts { tags = x.place.new.tags }) x.place.new.self (g.D.Disk.moments x.place.new.disk) refl refl
+        | in-Place+in_ok-moved-in-Place x ↦ rw (c.moved_as.ensures, x.moved-is, x.disk-is, x.parts-is, x.journal-is, x.recalculation-is, x.in-Place.is)
+            (place_step v parts journal recalculation before is _ (record parts { tags = x.place.new.tags }) x.place.new.self (g.D.Disk.moments x.place.new.disk) refl refl
             (x.in_ok-moved-in-Place.ensures.placed (standing_of v) stands) (x.place.ensures.left (standing_of v) stands))
-        | in-Settle+in_ok-moved-in-Settle x ↦ rw (c.moved_as.ensures, x.moved-is, x.disk-is, x.parts-is, x.journal-is, x.recalc-is, x.in-Settle.is)
-            (settle_step v parts journal recalc before is _ (record parts { tags = x.settle.new.tags }) x.settle.new.self (g.D.Disk.moments x.settle.new.disk) refl refl
+        | in-Settle+in_ok-moved-in-Settle x ↦ rw (c.moved_as.ensures, x.moved-is, x.disk-is, x.parts-is, x.journal-is, x.recalculation-is, x.in-Settle.is)
+            (settle_step v parts journal recalculation before is _ (record parts { tags = x.settle.new.tags }) x.settle.new.self (g.D.Disk.moments x.settle.new.disk) refl refl
             (x.in_ok-moved-in-Settle.ensures.settled (standing_of v) stands) (x.settle.ensures.left (standing_of v) stands))
-        | in-Clean x ↦ rw (c.moved_as.ensures, x.moved-is, x.disk-is, x.parts-is, x.journal-is, x.recalc-is, x.in-Clean.is) (clean_step v parts journal recalc before is)
-        | in-Recalc+in_ok-moved-in-Recalc x ↦ rw (c.moved_as.ensures, x.moved-is, x.disk-is, x.parts-is, x.journal-is, x.recalc-is, x.in-Recalc.is)
-            (recalc_step v parts journal recalc before is x.in_ok-moved-in-Recalc.moved x.recalculate.new.recalc x.recalculate.new.tags c.args.disk.now x.recalculate.new.disk
+        | in-Clean x ↦ rw (c.moved_as.ensures, x.moved-is, x.disk-is, x.parts-is, x.journal-is, x.recalculation-is, x.in-Clean.is) (clean_step v parts journal recalculation before is)
+        | in-Recalc+in_ok-moved-in-Recalc x ↦ rw (c.moved_as.ensures, x.moved-is, x.disk-is, x.parts-is, x.journal-is, x.recalculation-is, x.in-Recalc.is)
+            (recalc_step v parts journal recalculation before is x.in_ok-moved-in-Recalc.moved x.recalculate.new.recalculation x.recalculate.new.tags c.args.disk.now x.recalculate.new.disk
             (g.D.Disk.moments x.recalculate.new.disk) x.recalculate.ensures.stays.places x.in_ok-moved-in-Recalc.ensures.stepped
-            (λ idle. ap (λ y. g.D.Disk.moments y) (still_recalc x.in_ok-moved-in-Recalc.moved parts.maker recalc x.recalculate.new.recalc parts.tags x.recalculate.new.tags c.args.disk.now x.recalculate.new.disk before _ x.in_ok-moved-in-Recalc.ensures.stepped idle)))
+            (λ idle. ap (λ y. g.D.Disk.moments y) (still_recalc x.in_ok-moved-in-Recalc.moved parts.maker recalculation x.recalculate.new.recalculation parts.tags x.recalculate.new.tags c.args.disk.now x.recalculate.new.disk before _ x.in_ok-moved-in-Recalc.ensures.stepped idle)))
       ]);
   err = tt;
 }
@@ -118,27 +119,27 @@ pub returns-clause-ready : goal.returns-clause-ready
 returns-clause-ready g c =
     let parts = c.args.parts.now in
     let journal = c.args.journal.now in
-    let recalc = c.args.recalc.now in
+    let recalculation = c.args.recalculation.now in
     let before = g.D.Disk.moments c.args.disk.now in
     let disk = g.D.Disk.identity c.args.disk.now in
     elim c.match-actor.branch [
-      | in-Commit+in_ok-moved-in-Commit x ↦ rw (x.disk-is, x.parts-is, x.journal-is, x.recalc-is) (record {
+      | in-Commit+in_ok-moved-in-Commit x ↦ rw (x.disk-is, x.parts-is, x.journal-is, x.recalculation-is) (record {
         parts_ = λ _. ready_tags parts parts.tags disk (g.D.Disk.identity x.commit.new.disk) before (g.D.Disk.moments x.commit.new.disk) (c.requires.parts_ refl) x.in_ok-moved-in-Commit.ensures.store refl;
         geometry = batch_geometry journal x.commit.new.self (inr (one_is journal x.commit.new.self _ _ _ _ _ x.in_ok-moved-in-Commit.ensures.moved)) ∙ c.requires.geometry;
         regions_ = c.requires.regions_;
       })
-      | in-Place+in_ok-moved-in-Place x ↦ rw (x.disk-is, x.parts-is, x.journal-is, x.recalc-is) (record {
+      | in-Place+in_ok-moved-in-Place x ↦ rw (x.disk-is, x.parts-is, x.journal-is, x.recalculation-is) (record {
         parts_ = λ _. ready_tags parts x.place.new.tags disk (g.D.Disk.identity x.place.new.disk) before (g.D.Disk.moments x.place.new.disk) (c.requires.parts_ refl) x.place.ensures.store x.place.ensures.geometry;
         geometry = ap (λ r. r.geometry) x.place.ensures.ring ∙ c.requires.geometry ∙ sym x.place.ensures.geometry;
         regions_ = c.requires.regions_ ∙ sym x.place.ensures.geometry;
       })
-      | in-Settle+in_ok-moved-in-Settle x ↦ rw (x.disk-is, x.parts-is, x.journal-is, x.recalc-is) (record {
+      | in-Settle+in_ok-moved-in-Settle x ↦ rw (x.disk-is, x.parts-is, x.journal-is, x.recalculation-is) (record {
         parts_ = λ _. ready_tags parts x.settle.new.tags disk (g.D.Disk.identity x.settle.new.disk) before (g.D.Disk.moments x.settle.new.disk) (c.requires.parts_ refl) x.settle.ensures.store x.settle.ensures.geometry.0;
         geometry = x.settle.ensures.geometry.1 ∙ c.requires.geometry ∙ sym x.settle.ensures.geometry.0;
         regions_ = c.requires.regions_ ∙ sym x.settle.ensures.geometry.0;
       })
-      | in-Clean x ↦ rw (x.disk-is, x.parts-is, x.journal-is, x.recalc-is) c.requires
-      | in-Recalc+in_ok-moved-in-Recalc x ↦ rw (x.disk-is, x.parts-is, x.journal-is, x.recalc-is) (record {
+      | in-Clean x ↦ rw (x.disk-is, x.parts-is, x.journal-is, x.recalculation-is) c.requires
+      | in-Recalc+in_ok-moved-in-Recalc x ↦ rw (x.disk-is, x.parts-is, x.journal-is, x.recalculation-is) (record {
         parts_ = λ _. ready_tags parts x.recalculate.new.tags disk (g.D.Disk.identity x.recalculate.new.disk) before (g.D.Disk.moments x.recalculate.new.disk) (c.requires.parts_ refl) x.recalculate.ensures.stays.store_ x.recalculate.ensures.stays.places;
         geometry = c.requires.geometry ∙ sym x.recalculate.ensures.stays.places;
         regions_ = x.recalculate.ensures.stays.geometry ∙ c.requires.regions_ ∙ sym x.recalculate.ensures.stays.places;
@@ -148,35 +149,35 @@ returns-clause-ready g c =
 pub returns-clause-goes_on : goal.returns-clause-goes_on
 returns-clause-goes_on g c =
     let journal = c.args.journal.now in
-    let recalc = c.args.recalc.now in
+    let recalculation = c.args.recalculation.now in
     elim c.match-actor.branch [
-      | in-Commit+in_ok-moved-in-Commit x ↦ rw (c.moved_as.ensures, x.moved-is, x.journal-is, x.recalc-is, x.in-Commit.is)
-          (λ did. commit_fewer x.in_ok-moved-in-Commit.moved journal x.commit.new.self _ _ recalc recalc _ _ x.commit.ensures.bounds x.in_ok-moved-in-Commit.ensures.moved did)
-      | in-Place+in_ok-moved-in-Place x ↦ rw (c.moved_as.ensures, x.moved-is, x.journal-is, x.recalc-is, x.in-Place.is)
-          (λ did. place_fewer x.in_ok-moved-in-Place.moved journal x.place.new.self _ _ _ _ recalc recalc x.in_ok-moved-in-Place.ensures.moved x.place.ensures.ring did)
-      | in-Settle+in_ok-moved-in-Settle x ↦ rw (c.moved_as.ensures, x.moved-is, x.journal-is, x.recalc-is, x.in-Settle.is)
-          (λ did. settle_fewer x.in_ok-moved-in-Settle.moved journal x.settle.new.self _ _ _ _ recalc recalc x.in_ok-moved-in-Settle.ensures.moved did)
+      | in-Commit+in_ok-moved-in-Commit x ↦ rw (c.moved_as.ensures, x.moved-is, x.journal-is, x.recalculation-is, x.in-Commit.is)
+          (λ did. commit_fewer x.in_ok-moved-in-Commit.moved journal x.commit.new.self _ _ recalculation recalculation _ _ x.commit.ensures.bounds x.in_ok-moved-in-Commit.ensures.moved did)
+      | in-Place+in_ok-moved-in-Place x ↦ rw (c.moved_as.ensures, x.moved-is, x.journal-is, x.recalculation-is, x.in-Place.is)
+          (λ did. place_fewer x.in_ok-moved-in-Place.moved journal x.place.new.self _ _ _ _ recalculation recalculation x.in_ok-moved-in-Place.ensures.moved x.place.ensures.ring did)
+      | in-Settle+in_ok-moved-in-Settle x ↦ rw (c.moved_as.ensures, x.moved-is, x.journal-is, x.recalculation-is, x.in-Settle.is)
+          (λ did. settle_fewer x.in_ok-moved-in-Settle.moved journal x.settle.new.self _ _ _ _ recalculation recalculation x.in_ok-moved-in-Settle.ensures.moved did)
       | in-Clean x ↦ rw (c.moved_as.ensures, x.moved-is) (λ did. absurd (not_did did))
-      | in-Recalc+in_ok-moved-in-Recalc x ↦ rw (c.moved_as.ensures, x.moved-is, x.journal-is, x.recalc-is, x.in-Recalc.is)
-          (λ did. recalc_fewer x.in_ok-moved-in-Recalc.moved _ recalc x.recalculate.new.recalc _ _ journal journal _ _ _ _ x.in_ok-moved-in-Recalc.ensures.stepped did)
+      | in-Recalc+in_ok-moved-in-Recalc x ↦ rw (c.moved_as.ensures, x.moved-is, x.journal-is, x.recalculation-is, x.in-Recalc.is)
+          (λ did. recalc_fewer x.in_ok-moved-in-Recalc.moved _ recalculation x.recalculate.new.recalculation _ _ journal journal _ _ _ _ x.in_ok-moved-in-Recalc.ensures.stepped did)
     ]
 
 pub returns-clause-idle : goal.returns-clause-idle
 returns-clause-idle g c =
     let parts = c.args.parts.now in
     let journal = c.args.journal.now in
-    let recalc = c.args.recalc.now in
+    let recalculation = c.args.recalculation.now in
     let disk = c.args.disk.now in
     elim c.match-actor.branch [
-      | in-Commit+in_ok-moved-in-Commit x ↦ rw (c.moved_as.ensures, x.moved-is, x.disk-is, x.parts-is, x.journal-is, x.recalc-is)
-          (idle_commit parts journal x.commit.new.self recalc disk x.commit.new.disk _ _ _ x.in_ok-moved-in-Commit.ensures.moved)
-      | in-Place+in_ok-moved-in-Place x ↦ rw (c.moved_as.ensures, x.moved-is, x.disk-is, x.parts-is, x.journal-is, x.recalc-is)
-          (idle_place parts journal x.place.new.self recalc disk x.place.new.disk _ x.place.new.tags x.in_ok-moved-in-Place.ensures.moved x.place.ensures.ring)
-      | in-Settle+in_ok-moved-in-Settle x ↦ rw (c.moved_as.ensures, x.moved-is, x.disk-is, x.parts-is, x.journal-is, x.recalc-is)
-          (idle_settle parts journal x.settle.new.self recalc disk x.settle.new.disk _ x.settle.new.tags x.in_ok-moved-in-Settle.ensures.moved)
-      | in-Clean x ↦ rw (x.disk-is, x.parts-is, x.journal-is, x.recalc-is) (λ idle. (refl, refl))
-      | in-Recalc+in_ok-moved-in-Recalc x ↦ rw (c.moved_as.ensures, x.moved-is, x.disk-is, x.parts-is, x.journal-is, x.recalc-is)
-          (idle_recalc parts journal recalc x.recalculate.new.recalc x.recalculate.new.tags _ disk x.recalculate.new.disk _ _ _ x.in_ok-moved-in-Recalc.ensures.stepped)
+      | in-Commit+in_ok-moved-in-Commit x ↦ rw (c.moved_as.ensures, x.moved-is, x.disk-is, x.parts-is, x.journal-is, x.recalculation-is)
+          (idle_commit parts journal x.commit.new.self recalculation disk x.commit.new.disk _ _ _ x.in_ok-moved-in-Commit.ensures.moved)
+      | in-Place+in_ok-moved-in-Place x ↦ rw (c.moved_as.ensures, x.moved-is, x.disk-is, x.parts-is, x.journal-is, x.recalculation-is)
+          (idle_place parts journal x.place.new.self recalculation disk x.place.new.disk _ x.place.new.tags x.in_ok-moved-in-Place.ensures.moved x.place.ensures.ring)
+      | in-Settle+in_ok-moved-in-Settle x ↦ rw (c.moved_as.ensures, x.moved-is, x.disk-is, x.parts-is, x.journal-is, x.recalculation-is)
+          (idle_settle parts journal x.settle.new.self recalculation disk x.settle.new.disk _ x.settle.new.tags x.in_ok-moved-in-Settle.ensures.moved)
+      | in-Clean x ↦ rw (x.disk-is, x.parts-is, x.journal-is, x.recalculation-is) (λ idle. (refl, refl))
+      | in-Recalc+in_ok-moved-in-Recalc x ↦ rw (c.moved_as.ensures, x.moved-is, x.disk-is, x.parts-is, x.journal-is, x.recalculation-is)
+          (idle_recalc parts journal recalculation x.recalculate.new.recalculation x.recalculate.new.tags _ disk x.recalculate.new.disk _ _ _ x.in_ok-moved-in-Recalc.ensures.stepped)
     ]
 
 pub returns-in_err-moved-in-Commit-clause-quiet : goal.returns-in_err-moved-in-Commit-clause-quiet
@@ -220,61 +221,61 @@ returns-in_err-moved-in-Recalc-clause-ready g c = record {
 pub returns-clause-advances : goal.returns-clause-advances
 returns-clause-advances g c =
     elim c.match-actor.branch [
-      | in-Commit+in_ok-moved-in-Commit x ↦ rw (x.recalc-is, x.in-Commit.is) refl
-      | in-Place+in_ok-moved-in-Place x ↦ rw (x.recalc-is, x.in-Place.is) refl
-      | in-Settle+in_ok-moved-in-Settle x ↦ rw (x.recalc-is, x.in-Settle.is) refl
-      | in-Clean x ↦ rw (x.recalc-is, x.in-Clean.is) refl
-      | in-Recalc+in_ok-moved-in-Recalc x ↦ rw (c.moved_as.ensures, x.moved-is, x.recalc-is, x.in-Recalc.is)
-          (recalc_advances x.in_ok-moved-in-Recalc.moved _ c.args.recalc.now x.recalculate.new.recalc _ _ _ _ _ _ x.in_ok-moved-in-Recalc.ensures.stepped)
+      | in-Commit+in_ok-moved-in-Commit x ↦ rw (x.recalculation-is, x.in-Commit.is) refl
+      | in-Place+in_ok-moved-in-Place x ↦ rw (x.recalculation-is, x.in-Place.is) refl
+      | in-Settle+in_ok-moved-in-Settle x ↦ rw (x.recalculation-is, x.in-Settle.is) refl
+      | in-Clean x ↦ rw (x.recalculation-is, x.in-Clean.is) refl
+      | in-Recalc+in_ok-moved-in-Recalc x ↦ rw (c.moved_as.ensures, x.moved-is, x.recalculation-is, x.in-Recalc.is)
+          (recalc_advances x.in_ok-moved-in-Recalc.moved _ c.args.recalculation.now x.recalculate.new.recalculation _ _ _ _ _ _ x.in_ok-moved-in-Recalc.ensures.stepped)
     ]
 
 -- ---- the fields
 
 pub returns-in_err-moved-in-Commit-clause-heads : goal.returns-in_err-moved-in-Commit-clause-heads
 returns-in_err-moved-in-Commit-clause-heads g c =
-    journal_heads c.args.parts.now c.args.journal.now c.args.recalc.now (g.D.Disk.moments c.args.disk.now) (fields_next c.args.recalc.now) (g.D.Disk.moments c.commit.new.disk) c.commit.ensures.left
+    journal_heads c.args.parts.now c.args.journal.now c.args.recalculation.now (g.D.Disk.moments c.args.disk.now) (fields_next c.args.recalculation.now) (g.D.Disk.moments c.commit.new.disk) c.commit.ensures.left
 
 pub returns-in_err-moved-in-Place-clause-heads : goal.returns-in_err-moved-in-Place-clause-heads
 returns-in_err-moved-in-Place-clause-heads g c =
-    journal_heads c.args.parts.now c.args.journal.now c.args.recalc.now (g.D.Disk.moments c.args.disk.now) (fields_next c.args.recalc.now) (g.D.Disk.moments c.place.new.disk) c.place.ensures.left
+    journal_heads c.args.parts.now c.args.journal.now c.args.recalculation.now (g.D.Disk.moments c.args.disk.now) (fields_next c.args.recalculation.now) (g.D.Disk.moments c.place.new.disk) c.place.ensures.left
 
 pub returns-in_err-moved-in-Settle-clause-heads : goal.returns-in_err-moved-in-Settle-clause-heads
 returns-in_err-moved-in-Settle-clause-heads g c =
-    journal_heads c.args.parts.now c.args.journal.now c.args.recalc.now (g.D.Disk.moments c.args.disk.now) (fields_next c.args.recalc.now) (g.D.Disk.moments c.settle.new.disk) c.settle.ensures.left
+    journal_heads c.args.parts.now c.args.journal.now c.args.recalculation.now (g.D.Disk.moments c.args.disk.now) (fields_next c.args.recalculation.now) (g.D.Disk.moments c.settle.new.disk) c.settle.ensures.left
 
 pub returns-in_err-moved-in-Recalc-clause-heads : goal.returns-in_err-moved-in-Recalc-clause-heads
 returns-in_err-moved-in-Recalc-clause-heads g c =
-    region_heads c.args.parts.now c.args.journal.now c.args.recalc.now (g.D.Disk.moments c.args.disk.now) (g.D.Disk.moments c.recalculate.new.disk) c.in_err-moved-in-Recalc.ensures.err
+    region_heads c.args.parts.now c.args.journal.now c.args.recalculation.now (g.D.Disk.moments c.args.disk.now) (g.D.Disk.moments c.recalculate.new.disk) c.in_err-moved-in-Recalc.ensures.err
 
 pub returns-in_err-moved-in-Recalc-clause-writes : goal.returns-in_err-moved-in-Recalc-clause-writes
 returns-in_err-moved-in-Recalc-clause-writes g c =
     let parts = c.args.parts.now in
-    let recalc = c.args.recalc.now in
+    let recalculation = c.args.recalculation.now in
     let a = g.D.Disk.moments c.args.disk.now in
     let b = g.D.Disk.moments c.recalculate.new.disk in
-    rw c.in-Recalc.is (region_writes (next_of recalc) parts.tags.geometry a b (failed_still parts.maker recalc parts.tags a b c.in_err-moved-in-Recalc.ensures.err) c.recalculate.ensures.writes)
+    rw c.in-Recalc.is (region_writes (next_of recalculation) parts.tags.geometry a b (failed_still parts.maker recalculation parts.tags a b c.in_err-moved-in-Recalc.ensures.err) c.recalculate.ensures.writes)
 
 pub returns-clause-heads : goal.returns-clause-heads
 returns-clause-heads g c =
     let parts = c.args.parts.now in
     let journal = c.args.journal.now in
-    let recalc = c.args.recalc.now in
+    let recalculation = c.args.recalculation.now in
     let a = g.D.Disk.moments c.args.disk.now in
     elim c.match-actor.branch [
-      | in-Commit+in_ok-moved-in-Commit x ↦ rw x.disk-is (journal_heads parts journal recalc a (fields_next recalc) (g.D.Disk.moments x.commit.new.disk) x.commit.ensures.left)
-      | in-Place+in_ok-moved-in-Place x ↦ rw x.disk-is (journal_heads parts journal recalc a (fields_next recalc) (g.D.Disk.moments x.place.new.disk) x.place.ensures.left)
-      | in-Settle+in_ok-moved-in-Settle x ↦ rw x.disk-is (journal_heads parts journal recalc a (fields_next recalc) (g.D.Disk.moments x.settle.new.disk) x.settle.ensures.left)
-      | in-Clean x ↦ rw x.disk-is (still_heads parts journal recalc a (fields_next recalc) a refl)
+      | in-Commit+in_ok-moved-in-Commit x ↦ rw x.disk-is (journal_heads parts journal recalculation a (fields_next recalculation) (g.D.Disk.moments x.commit.new.disk) x.commit.ensures.left)
+      | in-Place+in_ok-moved-in-Place x ↦ rw x.disk-is (journal_heads parts journal recalculation a (fields_next recalculation) (g.D.Disk.moments x.place.new.disk) x.place.ensures.left)
+      | in-Settle+in_ok-moved-in-Settle x ↦ rw x.disk-is (journal_heads parts journal recalculation a (fields_next recalculation) (g.D.Disk.moments x.settle.new.disk) x.settle.ensures.left)
+      | in-Clean x ↦ rw x.disk-is (still_heads parts journal recalculation a (fields_next recalculation) a refl)
       | in-Recalc+in_ok-moved-in-Recalc x ↦ rw x.disk-is
-          (stepped_heads parts journal recalc a x.in_ok-moved-in-Recalc.moved x.recalculate.new.recalc x.recalculate.new.tags c.args.disk.now x.recalculate.new.disk (g.D.Disk.moments x.recalculate.new.disk)
-          (λ idle. ap (λ y. g.D.Disk.moments y) (still_recalc x.in_ok-moved-in-Recalc.moved parts.maker recalc x.recalculate.new.recalc parts.tags x.recalculate.new.tags c.args.disk.now x.recalculate.new.disk a _ x.in_ok-moved-in-Recalc.ensures.stepped idle))
+          (stepped_heads parts journal recalculation a x.in_ok-moved-in-Recalc.moved x.recalculate.new.recalculation x.recalculate.new.tags c.args.disk.now x.recalculate.new.disk (g.D.Disk.moments x.recalculate.new.disk)
+          (λ idle. ap (λ y. g.D.Disk.moments y) (still_recalc x.in_ok-moved-in-Recalc.moved parts.maker recalculation x.recalculate.new.recalculation parts.tags x.recalculate.new.tags c.args.disk.now x.recalculate.new.disk a _ x.in_ok-moved-in-Recalc.ensures.stepped idle))
           x.in_ok-moved-in-Recalc.ensures.stepped)
     ]
 
 pub returns-clause-writes : goal.returns-clause-writes
 returns-clause-writes g c =
     let parts = c.args.parts.now in
-    let recalc = c.args.recalc.now in
+    let recalculation = c.args.recalculation.now in
     let a = g.D.Disk.moments c.args.disk.now in
     elim c.match-actor.branch [
       | in-Commit+in_ok-moved-in-Commit x ↦ rw (x.disk-is, x.in-Commit.is) x.commit.ensures.moments
@@ -282,7 +283,7 @@ returns-clause-writes g c =
       | in-Settle+in_ok-moved-in-Settle x ↦ rw (x.disk-is, x.in-Settle.is) x.settle.ensures.moments
       | in-Clean x ↦ rw (x.disk-is, x.in-Clean.is) refl
       | in-Recalc+in_ok-moved-in-Recalc x ↦ rw (x.disk-is, x.in-Recalc.is)
-          (region_writes (next_of recalc) parts.tags.geometry a (g.D.Disk.moments x.recalculate.new.disk)
-          (stepped_still x.in_ok-moved-in-Recalc.moved parts.maker recalc x.recalculate.new.recalc parts.tags x.recalculate.new.tags c.args.disk.now x.recalculate.new.disk a (g.D.Disk.moments x.recalculate.new.disk)
+          (region_writes (next_of recalculation) parts.tags.geometry a (g.D.Disk.moments x.recalculate.new.disk)
+          (stepped_still x.in_ok-moved-in-Recalc.moved parts.maker recalculation x.recalculate.new.recalculation parts.tags x.recalculate.new.tags c.args.disk.now x.recalculate.new.disk a (g.D.Disk.moments x.recalculate.new.disk)
           (λ same. ap (λ y. g.D.Disk.moments y) same) x.in_ok-moved-in-Recalc.ensures.stepped) x.recalculate.ensures.writes)
     ]

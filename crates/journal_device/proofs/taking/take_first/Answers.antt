@@ -17,24 +17,24 @@ on_both (Ok x) f p q = f p q
 on_both (Err e) f p q = tt
 
 -- The region awaits, and no section holds the block.
-takes : (journal : PlacedRing) (recalc : Recalculation) (block region : ℕ) → region ≡ region_of recalc.awaiting.geometry block → awaiting_of recalc.awaiting region ≡ true → is_some (newest_in journal.ring block) ≡ false
-    → takes_first journal recalc block ≡ true
-takes journal recalc block region here waits none =
-    and_from (awaiting_of recalc.awaiting (region_of recalc.awaiting.geometry block)) (not (is_some (newest_in journal.ring block))) (sym (ap (awaiting_of recalc.awaiting) here) ∙ waits) (ap not none)
+takes : (journal : PlacedRing) (recalculation : Recalculation) (block region : ℕ) → region ≡ region_of recalculation.awaiting.geometry block → awaiting_of recalculation.awaiting region ≡ true → is_some (newest_in journal.ring block) ≡ false
+    → takes_first journal recalculation block ≡ true
+takes journal recalculation block region here waits none =
+    and_from (awaiting_of recalculation.awaiting (region_of recalculation.awaiting.geometry block)) (not (is_some (newest_in journal.ring block))) (sym (ap (awaiting_of recalculation.awaiting) here) ∙ waits) (ap not none)
 
 pub awaits-requires : goal.awaits-requires
 awaits-requires g c =
-    let geometry = c.args.recalc.now.awaiting.geometry in
+    let geometry = c.args.recalculation.now.awaiting.geometry in
     subst (λ (r : ℕ). r < regions geometry) (sym c.region_of-region.ensures) (region_of-lt geometry c.args.block c.requires.block)
 
 pub recalc_region-requires-clause-region : goal.recalc_region-requires-clause-region
 recalc_region-requires-clause-region g c =
-    let geometry = c.args.recalc.now.awaiting.geometry in
+    let geometry = c.args.recalculation.now.awaiting.geometry in
     subst (λ (r : ℕ). r < regions geometry) (sym c.region_of-region.ensures) (region_of-lt geometry c.args.block c.requires.block)
 
 pub returns-clause-taken : goal.returns-clause-taken
 returns-clause-taken g c =
-    let old = c.args.recalc.now in
+    let old = c.args.recalculation.now in
     let store = c.args.tags.now in
     let rule = c.args.maker.now in
     let a = g.D.Disk.moments c.args.disk.now in
@@ -49,7 +49,7 @@ returns-clause-taken g c =
 
 pub returns-clause-through : goal.returns-clause-through
 returns-clause-through g c =
-    let old = c.args.recalc.now in
+    let old = c.args.recalculation.now in
     let store = c.args.tags.now in
     let rule = c.args.maker.now in
     let a = g.D.Disk.moments c.args.disk.now in

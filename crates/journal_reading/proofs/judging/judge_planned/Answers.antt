@@ -5,11 +5,13 @@ use Rattle.disk_model.specs.Disk.{last_image}
 use Rattle.disk_model.specs.Identity.{DiskIdentity, IsBound}
 use Rattle.disk_model.specs.Moments.{content_now}
 use Rattle.image_model.specs.Geometry.{IsGeometry, section_sectors}
+use Rattle.image_model.specs.Scan.{walk_of_grid}
 use Rattle.commit_id.specs.Grid.{as_grid}
 use Rattle.sector_window.proofs.WindowLemmas.{fresh_window}
 use Rattle.journal_reading.specs.Newest.{newest_in}
 use Rattle.journal_reading.specs.Places.{places_of}
 use Rattle.journal_reading.specs.declared.reading.JudgedJournal.{JudgedJournal}
+use Rattle.journal_reading.proofs.CellsLemmas.{numbers_on}
 use Rattle.journal_reading.proofs.JudgingLemmas.{judged-all, judged-next, judged-none, judged-refused}
 use Rattle.journal_reading.proofs.PlacesLemmas.{IsWalk-fits}
 use Rattle.journal_reading.proofs.judging.judge_planned.Goals as goal
@@ -44,7 +46,7 @@ returns-in_err-used-clause-refused g c =
     let places = places_of c.args.geometry.now c.args.plan.walk in
     let p = err_from_is_err_and c.from_residual-in_err-used.result c.from_residual-in_err-used.ensures.1 in
     rw (p.1, p.2) (λ not_memory not_disk content told.
-    judged-refused c.args.maker.now c.args.geometry.now (last_image content) c.args.plan (sym (c.requires.grid content told).walk ∙ c.requires.plan)
+    judged-refused c.args.maker.now c.args.geometry.now (last_image content) c.args.plan (sym (ap walk_of_grid (c.requires.grid content told)) ∙ c.requires.plan)
     JudgedJournal c.loop-k.k (get_or places c.loop-k.k (0, 0)) (newest_in c.loop-k.newest) (newest_in c.judge_at.new.newest) c.loop-k.count (Err c.in_err-used.field-0.0) c.in_err-used.field-0.0
     (slice_get-get_or places c.loop-k.k (0, 0) (omega (arith, c.loop-k-test.true, c.entry_count-k-end.ensures))) refl (λ e. not_memory (cc)) (λ e. not_disk (cc))
     (c.in_err-used.ensures.judged content (ap content_now c.loop-k.invariant.kept ∙ told)) (c.loop-k.invariant.judged content told))
@@ -72,8 +74,10 @@ returns-clause-fits g c = record { grid_ = c.requires.fits; plan_ = c.requires.p
 pub returns-clause-judged : goal.returns-clause-judged
 returns-clause-judged g c content told =
     let journal : JudgedJournal = record { grid = c.args.grid; plan = c.args.plan; newest = c.loop-k.newest; count = c.loop-k.count } in
-    judged-all c.args.maker.now c.args.geometry.now (last_image content) c.args.plan (sym (c.requires.grid content told).walk ∙ c.requires.plan) journal c.loop-k.k
-    (omega (arith, c.loop-k-test.false, c.loop-k.auto.k-end, c.entry_count-k-end.ensures)) refl (c.requires.grid content told) (c.loop-k.invariant.judged content told)
+    judged-all c.args.maker.now c.args.geometry.now (last_image content) c.args.plan (sym (ap walk_of_grid (c.requires.grid content told)) ∙ c.requires.plan) journal c.loop-k.k
+    (omega (arith, c.loop-k-test.false, c.loop-k.auto.k-end, c.entry_count-k-end.ensures)) refl
+    (numbers_on c.args.geometry.now (g.D.Disk.identity c.args.disk.now).sectors (last_image content) (as_grid c.args.grid) c.requires.geometry (c.requires.grid content told))
+    (c.loop-k.invariant.judged content told)
 
 pub returns-clause-refused : goal.returns-clause-refused
 returns-clause-refused g c not_memory not_disk content told = sym (returns-clause-judged g c content told).right

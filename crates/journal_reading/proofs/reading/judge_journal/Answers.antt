@@ -2,6 +2,7 @@ use Rattle.std.proofs.Common.{sym, ap, ◌∙◌}
 use Rattle.std.proofs.lemmas.Result.{IfOk-weaker}
 use Rattle.disk_model.specs.Disk.{last_image}
 use Rattle.disk_model.specs.Moments.{content_now}
+use Rattle.image_model.specs.Scan.{walk_of_grid}
 use Rattle.journal_reading.proofs.JudgingLemmas.{fault_of_scan}
 use Rattle.journal_reading.proofs.reading.judge_journal.Goals as goal
 
@@ -19,4 +20,4 @@ returns-in-Ok-clause-refused g c not_memory not_disk content told =
 pub returns-in-Err-clause-refused : goal.returns-in-Err-clause-refused
 returns-in-Err-clause-refused g c not_memory not_disk content told =
     sym (fault_of_scan c.args.maker.now.key c.args.maker.now.salt c.args.geometry.now (last_image content) c.in-Err.fault
-    (sym (c.in_ok-grid.ensures.grid content told).walk ∙ c.in-Err.ensures.fault))
+    (sym (ap walk_of_grid (c.in_ok-grid.ensures.grid content told)) ∙ c.in-Err.ensures.fault))

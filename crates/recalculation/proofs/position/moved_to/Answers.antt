@@ -1,4 +1,4 @@
-use Rattle.std.proofs.Common.{◌≡◌, sym, ◌∙◌, ◌&&◌, nat_lt}
+use Rattle.std.proofs.Common.{sym, ◌∙◌, ◌&&◌, nat_lt}
 use Rattle.bitmap_laws.proofs.LeastLemmas.{least_found}
 use Rattle.image_model.specs.Geometry.{regions}
 use Rattle.recalculate_laws.specs.Position.{region_end}

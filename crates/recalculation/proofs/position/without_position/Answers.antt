@@ -1,6 +1,3 @@
-use Rattle.std.proofs.Common.{◌∙◌, sym, subst}
-use Rattle.image_model.specs.Superblock.{Superblock}
-use Rattle.recalculation.specs.Position.{CanBeWritten}
 use Rattle.recalculation.proofs.PositionLemmas.{can_end}
 use Rattle.recalculation.proofs.position.without_position.Goals as goal
 

@@ -2,7 +2,7 @@ use Rattle.std.proofs.Common.{◌^◌, inl, refl, sym, ◌∙◌, ap}
 use Rattle.std.proofs.lemmas.Result.{IfOk-weaker}
 use Rattle.disk_model.proofs.MomentsLemmas.{no_moment}
 use Rattle.place_model.specs.Opened.{next_by}
-use Rattle.replay.proofs.FinishingLemmas.{not_blank, rest_left, rest_place}
+use Rattle.replay.proofs.FinishingLemmas.{rest_left, rest_place}
 use Rattle.replay.proofs.ReplayingLemmas.{geometry_of}
 use Rattle.replay.proofs.finishing.finish.Goals as goal
 
@@ -21,9 +21,6 @@ erase_scanned-requires-clause-newest g c = inl c.in-Mixed.is
 pub returns-in-Mixed-clause-left : goal.returns-in-Mixed-clause-left
 returns-in-Mixed-clause-left g c = IfOk-weaker c.erase_scanned.result _ _ (λ at left pending. left) c.erase_scanned.ensures.left
 
-pub unreachable-requires : goal.unreachable-requires
-unreachable-requires g c = not_blank c.args.geometry.now c.args.journal.now c.in-Blank.number c.requires.replaying.fits c.in-Blank.is
-
 pub returns-in-Erasing-clause-left : goal.returns-in-Erasing-clause-left
 returns-in-Erasing-clause-left g c = IfOk-weaker c.erase_scanned-in-Erasing.result _ _ (λ at left pending. left) c.erase_scanned-in-Erasing.ensures.left
 
@@ -41,3 +38,9 @@ returns-in-Mixed-clause-next g c = IfOk-weaker c.erase_scanned.result _ _ (λ at
 
 pub returns-in-Erasing-clause-next : goal.returns-in-Erasing-clause-next
 returns-in-Erasing-clause-next g c = IfOk-weaker c.erase_scanned-in-Erasing.result _ _ (λ at first. first ∙ sym (ap next_by c.in-Erasing.is)) c.erase_scanned-in-Erasing.ensures.next
+
+pub returns-in-Blank-clause-left : goal.returns-in-Blank-clause-left
+returns-in-Blank-clause-left g c = IfOk-weaker c.fill_journal.result _ _ (λ at left pending. left) c.fill_journal.ensures.left
+
+pub returns-in-Blank-clause-next : goal.returns-in-Blank-clause-next
+returns-in-Blank-clause-next g c = IfOk-weaker c.fill_journal.result _ _ (λ at first. first ∙ sym (ap next_by c.in-Blank.is)) c.fill_journal.ensures.next

@@ -8,6 +8,7 @@ use Rattle.place_model.specs.Opened.{next_after_walk}
 use Rattle.journal_model.specs.Steps.{after_settle}
 use Rattle.replay.specs.Replaying.{all_placed}
 use Rattle.replay.specs.Writes.{OnlySyncs}
+use Rattle.replay.proofs.FillingLemmas.{placing_fills, recovery_fills}
 use Rattle.replay.proofs.ReplayingLemmas.{geometry_of}
 use Rattle.replay.proofs.RecoveryLemmas.{cells_stay_erased, leaves_same, replayed_after}
 use Rattle.replay.proofs.RestingLemmas.{placing_rests, recovery_rests, state_at_rest}
@@ -71,3 +72,13 @@ returns-clause-in_place g c none start told already =
     let at = state_at_rest G (2 ^ 48) (last_image start) c.args.journal.now.plan geometry (c.requires.journal start told).plan_ already.rests in
     subst (λ (m : List Content). OnlySyncs (g.D.Disk.moments c.args.disk.now) m) (sym (c.finish.ensures.rest already.rests.next already.rests.number at))
     (c.replay_journal.ensures.in_place none start told already.in_place)
+
+pub returns-in_err-replay_journal-clause-blank : goal.returns-in_err-replay_journal-clause-blank
+returns-in_err-replay_journal-clause-blank g c =
+    let geometry = geometry_of c.args.geometry.now c.args.tags.now (g.D.Disk.identity c.args.disk.now) (g.D.Disk.moments c.args.disk.now) c.requires.replaying.geometry c.requires.replaying.store_is in
+    placing_fills c.args.geometry.now (2 ^ 48) c.args.journal.now geometry c.requires.journal c.replay_journal.ensures.moments
+
+pub returns-clause-blank : goal.returns-clause-blank
+returns-clause-blank g c =
+    let geometry = geometry_of c.args.geometry.now c.args.tags.now (g.D.Disk.identity c.args.disk.now) (g.D.Disk.moments c.args.disk.now) c.requires.replaying.geometry c.requires.replaying.store_is in
+    recovery_fills c.args.geometry.now (2 ^ 48) c.args.journal.now geometry c.requires.journal c.replay_journal.ensures.moments c.finish.ensures.blank c.finish.ensures.moments

@@ -1,4 +1,4 @@
-use Rattle.std.proofs.Common.{◌≡◌, sym, ◌∙◌, subst, Option}
+use Rattle.std.proofs.Common.{sym, ◌∙◌, subst, Option}
 use Rattle.image_model.specs.Superblock.{Superblock}
 use Rattle.recalculation.specs.Position.{MovesIn}
 use Rattle.recalculation.proofs.position.Position.advance.Goals as goal

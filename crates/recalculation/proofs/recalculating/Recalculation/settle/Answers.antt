@@ -1,7 +1,5 @@
-use Rattle.std.proofs.Common.{rules, ◌≡◌, sym, subst, ap, List, ℕ}
+use Rattle.std.proofs.Common.{rules, subst}
 use Rattle.std.proofs.lemmas.Result.{on_ok_weaker}
-use Rattle.disk_model.specs.Disk.{OnlyAdds}
-use Rattle.disk_model.specs.Moments.{EachSince}
 use Rattle.disk_model.proofs.MomentsLemmas.{adds_then}
 use Rattle.image_model.specs.Geometry.{Geometry}
 use Rattle.tag_store.specs.Store.{given_tags}

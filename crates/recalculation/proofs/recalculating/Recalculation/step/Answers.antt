@@ -1,11 +1,11 @@
-use Rattle.std.proofs.Common.{◌≡◌, ℕ, sym, ◌∙◌, ap}
-use Rattle.disk_model.proofs.MomentsLemmas.{adds_then, no_moment}
+use Rattle.std.proofs.Common.{sym, ◌∙◌}
+use Rattle.disk_model.proofs.MomentsLemmas.{no_moment}
 use Rattle.bitmap_laws.proofs.LeastLemmas.{least_found}
 use Rattle.image_model.specs.Geometry.{regions}
 use Rattle.tag_store.specs.Store.{given_tags}
 use Rattle.recalculation.specs.declared.recalculating.Recalculation.{Recalculation}
-use Rattle.recalculation.specs.Awaiting.{awaiting_blocks, awaiting_of}
-use Rattle.recalculation.specs.Recalculation.{IsOfTagsOrHead, StepsPositionIn, Taken, Taking, next_of}
+use Rattle.recalculation.specs.Awaiting.{awaiting_of}
+use Rattle.recalculation.specs.Recalculation.{StepsPositionIn, Taken, Taking, next_of}
 use Rattle.recalculation.proofs.StepLemmas.{adds_taking, count_fewer_of, has_taken, none_next, settled_there, settles_there, some_next, tags_taken, writes_there}
 use Rattle.recalculation.proofs.recalculating.Recalculation.step.Goals as goal
 

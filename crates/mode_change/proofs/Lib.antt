@@ -1,0 +1,4 @@
+pub mod FormatLemmas
+pub mod StepLemmas
+pub mod ChangeLemmas
+pub mod Worked
