@@ -1,8 +1,9 @@
-"""The images with a journal that `checks/change` opens in bitmap mode: new, with entries in place and not in place,
-half written, half erased and blank ones, under a key and without, and with tags that are to be made anew."""
+"""The images that `checks/change` opens in another mode than theirs. With a journal: new, with entries in place and not
+in place, half written, half erased and blank ones, and with tags that are to be made anew. With a bitmap of which no
+bit, one, some or all are set. Both under a key and without."""
 import struct
 
-from change_rules import FLAGS, POSITION, Opening, with_writes
+from change_rules import FLAGS, JOURNAL, POSITION, Opening, with_bitmap, with_writes
 from image_answers import Answers, Bytes, Geometry
 from image_layout import RECALCULATING
 from journal_program import SECTOR, changed, mixed, read_file, write_file
@@ -22,10 +23,20 @@ SETS = (
     (THREE, True, ("entries", "mixed"), (None, "front")),
     (WIDE, False, ("entries", "erasing", "blank"), (None, "middle")),
 )
+# Which images with a bitmap are made of each form: whether there is a key, the bits that are set, and whether a flag of
+# old says that tags are to be made anew.
+BITMAPS = (
+    (ONE, False, ("no bit", "one bit", "all bits"), False),
+    (ONE, True, ("no bit", "one bit", "all bits"), False),
+    (ONE, False, ("some bits",), True),
+    (THREE, False, ("no bit", "one bit", "some bits"), False),
+    (THREE, True, ("one bit", "all bits"), True),
+    (WIDE, False, ("no bit", "all bits"), False),
+)
 
 
 class Image:
-    """An image with a journal, its key if it has one, and the bytes of its blocks."""
+    """An image, its key if it has one, and the bytes of its blocks."""
 
     def __init__(self, name, content, key, is_cut_everywhere):
         self.name, self.content, self.key, self.is_cut_everywhere = name, content, key, is_cut_everywhere
@@ -49,7 +60,27 @@ def images(program, judge, folder):
                 name = f"{form[0]}{', a key' if is_keyed else ''}, {kind}{', tags from the ' + place if place else ''}"
                 content = with_tags_to_make(journals[kind], place) if place else journals[kind]
                 made.append(Image(name, content, KEY if is_keyed else None, form is ONE and not place))
+    for form, is_keyed, kinds, is_old in BITMAPS:
+        key = KEY if is_keyed else None
+        closed = with_bitmap(journals_of(program, judge, folder, form, is_keyed)["closed"], key)
+        for kind in kinds:
+            name = f"{form[0]}{', a key' if is_keyed else ''}, {kind}{', a flag of old' if is_old else ''}"
+            made.append(Image(name, with_bits(closed, kind, is_old), key, form is ONE))
     return made
+
+
+def with_bits(image, kind, is_old):
+    """An image with a bitmap with some bits set, and some tags of their blocks altered."""
+    made = bytearray(image)
+    count = Geometry(Bytes(image)).region_count()
+    regions = {"no bit": range(0), "one bit": [min(5, count - 1)], "some bits": range(0, count, 3),
+               "all bits": range(count)}[kind]
+    for region in regions:
+        made[JOURNAL * SECTOR + region // 8] |= 1 << region % 8
+    if is_old:
+        struct.pack_into("<I", made, FLAGS, made[FLAGS] | RECALCULATING)
+        struct.pack_into("<Q", made, POSITION, 16)
+    return with_altered_tags(bytes(made))
 
 
 def journals_of(program, judge, folder, form, is_keyed):
@@ -102,7 +133,12 @@ def with_tags_to_make(image, place):
     position = {"front": 0, "middle": provided // 2 + 3, "end": provided}[place]
     struct.pack_into("<I", made, FLAGS, made[FLAGS] | RECALCULATING)
     struct.pack_into("<Q", made, POSITION, position)
-    geometry = Geometry(Bytes(bytes(made)))
+    return with_altered_tags(bytes(made))
+
+
+def with_altered_tags(image):
+    """The image with some of the tags altered that are to be made anew."""
+    made, geometry = bytearray(image), Geometry(Bytes(image))
     for block in geometry.awaiting():
         area, within = divmod(block * geometry.spb, geometry.interleave)
         begin = 8 + geometry.journal + area * (geometry.tag_run + geometry.interleave)

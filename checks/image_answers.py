@@ -290,9 +290,9 @@ class Answers:
     def check(self):
         return self.answered(self.checked)
 
-    def run(self, blocks, mode="J", consents=False):
-        """That of a run in a mode which reads these blocks, one by one, and consents to tags that are made anew."""
-        return self.answered(lambda g: self.read(g, blocks, mode, consents))
+    def run(self, blocks, consents=False):
+        """That of a run in any mode which reads these blocks, one by one, and consents to tags that are made anew."""
+        return self.answered(lambda g: self.read(g, blocks, consents))
 
     def cells(self):
         """The bytes and the tag of each block, as an opening gives them: one that awaits has the tag of its bytes."""
@@ -330,9 +330,7 @@ class Answers:
         lines.append(f"blocks {g.blocks} bad {len(lines)} awaiting {len(awaiting)}\n")
         return int(len(lines) > 1), "".join(lines)
 
-    def read(self, g, blocks, mode, consents):
-        if g.has_bitmap and mode != "B":
-            raise Refused(f"mode 0x{g.fields.flags:x}")
+    def read(self, g, blocks, consents):
         awaiting = g.awaiting()
         if self.key and awaiting and not consents:
             raise Refused(f"consent 0x{g.fields.flags:x}")

@@ -10,7 +10,8 @@ use Rattle.device_model.specs.History.{Flushed, History, with_changes}
 use Rattle.device_model.specs.Mode.{is_recovery}
 use Rattle.device_model.specs.Progress as Model
 use Rattle.device_model.proofs.SubmissionLemmas.{result-working}
-use Rattle.place_model.specs.Format.{DiskFormat}
+use Rattle.place_model.specs.Format.{DiskFormat, OpensAs}
+use Rattle.bitmap_model.proofs.CutOfLemmas.{standing_law}
 use Rattle.bitmap_laws.specs.CallLaws.{StandsThrough}
 use Rattle.bitmap_laws.specs.Device.{with_regions}
 use Rattle.bitmap_laws.proofs.EventLemmas.{close_law, quiet_events_law}
@@ -23,7 +24,7 @@ use Rattle.bitmap_mode.specs.Closing.{Closes, HasClosed, MayClose, closed_disk}
 use Rattle.bitmap_mode.specs.Standing.{MayTurnInto}
 use Rattle.bitmap_mode.specs.States.{States}
 use Rattle.bitmap_mode.proofs.DeviceLemmas.{closed, failed_to_close}
-use Rattle.bitmap_device.specs.Answers.{HasBitsLeft}
+use Rattle.bitmap_device.specs.Answers.{HasBitmapLeft}
 use Rattle.bitmap_device.specs.Device.{BitmapStanding, IsBitmapped, IsOverDisk, KeepsTagsBy, KeepsTagsIn, in_bitmap, kept, marked_on, standing_on}
 use Rattle.bitmap_device.proofs.OverDisk.{EndsOver, ended_on, stands, works}
 use Rattle.bitmap_device.proofs.TagLemmas.{tags_through, tags_unwritten}
@@ -81,19 +82,23 @@ module _ (parts : Parts) (states : States) (a b : List Content) where
         (close_failed v parts states a b is.over tags (may is.disk (marked_on v) (stands v parts states a is.over)));
   }
 
-  -- The bits that are left are those of the regions that the device counted.
-  pub bits_left : {T E : Type 0} (result : Result T E) (now : States) (tags : Store) → OnOk result (Closes states now parts.tags tags a b)
-      → OnOk result ((w : Standing) → IsBitmapped w Working (kept parts states) a → HasBitsLeft w b)
-  bits_left (Ok done) now tags closes = λ w is.
+  -- Each image opens in the device's format, and the bits that are left are those of the regions that the device counted.
+  pub bitmap_left : {T E : Type 0} (result : Result T E) (now : States) (tags : Store) → OnOk result (Closes states now parts.tags tags a b)
+      → OnOk result ((w : Standing) → IsBitmapped w Working (kept parts states) a → HasBitmapLeft w b)
+  bitmap_left (Ok done) now tags closes = λ w is.
       let v = standing_on w is.disk in
       let has = closes is.disk (marked_on v) (stands v parts states a is.over) in
       let are = is.over.device.regions (works v parts states a is.over) in
       let counts = w.state.progress.regions in
-      subst (λ (x : DiskFormat). HasNow (EachImage (λ image. (region : ℕ) → region < regions x.geometry → is_dirty x.geometry image region ≡ (counts.set_bits region && counts.awaiting region))) b) is.format
-      (λ c told image is_image region low.
-      has.images c told image is_image region low
-      ∙ sym (ap (λ (t : Bool). t && counts.awaiting region) (are.set_bits region low) ∙ ap (λ (t : Bool). is.disk.bits region && t) (are.awaiting region low)))
-  bits_left (Err fault) now tags closes = tt
+      record {
+        opens = subst (λ (x : DiskFormat). HasNow (EachImage (OpensAs x)) b) is.format
+            (λ c told image is_image. (standing_law (closed_disk is.disk) c (has.stands.now c told).cells.stands image is_image).opens);
+        bits = subst (λ (x : DiskFormat). HasNow (EachImage (λ image. (region : ℕ) → region < regions x.geometry → is_dirty x.geometry image region ≡ (counts.set_bits region && counts.awaiting region))) b) is.format
+            (λ c told image is_image region low.
+            has.images c told image is_image region low
+            ∙ sym (ap (λ (t : Bool). t && counts.awaiting region) (are.set_bits region low) ∙ ap (λ (t : Bool). is.disk.bits region && t) (are.awaiting region low)));
+      }
+  bitmap_left (Err fault) now tags closes = tt
 
 -- ---- the tags
 

@@ -7,6 +7,7 @@ use Rattle.image_model.specs.Bitmap.{is_dirty}
 use Rattle.image_model.specs.Geometry.{Geometry, region_of, regions}
 use Rattle.device_model.specs.Progress as Model
 use Rattle.device_model.specs.Regions.{least_region, with_region}
+use Rattle.place_model.specs.Format.{OpensAs}
 use Rattle.bitmap_laws.specs.CallLaws.{AddsBits}
 use Rattle.dirty_bitmap.specs.Bits.{bits_of}
 use Rattle.request_slots.specs.Flight.{Flight, count_in, first_in, slot_of}
@@ -108,3 +109,9 @@ abbrev pub HasBitsLeft : Standing → List Content → Type 0
 HasBitsLeft w moments = let counts = w.state.progress.regions in
     HasNow (EachImage (λ image. (region : ℕ) → region < regions w.on.geometry
     → is_dirty w.on.geometry image region ≡ (counts.set_bits region && counts.awaiting region))) moments
+
+-- So it is, and each image can be opened in the device's own format: its superblock has the same fields, the flag of a
+-- bitmap among them.
+pub record HasBitmapLeft (w : Standing) (moments : List Content) : Type 0 where
+  pub opens : HasNow (EachImage (OpensAs w.on)) moments
+  pub bits : HasBitsLeft w moments

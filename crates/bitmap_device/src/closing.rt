@@ -7,7 +7,7 @@ ghost use Rattle.device_model.specs.Progress as Model;
 ghost use Rattle.device_parts.specs.Device.{Ends, Standing};
 ghost use Rattle.device_parts.specs.declared.condition.Condition.TheVariants.{Working};
 ghost use Rattle.bitmap_mode.specs.Closing.{IsOfClose};
-ghost use Rattle.bitmap_device.specs.Answers.{HasBitsLeft};
+ghost use Rattle.bitmap_device.specs.Answers.{HasBitmapLeft};
 ghost use Rattle.bitmap_device.specs.Device.{IsBitmapped, IsReady, KeepsTagsBy, in_bitmap, kept};
 
 use bitmap_mode::RegionStates;
@@ -27,9 +27,9 @@ pub fn close<D: Disk>(
     requires { IsReady parts.old regions.old (D.identity disk.old) (D.moments disk.old) }
 
     ensures ends { Ends in_bitmap (kept parts.old regions.old) (D.moments disk.old) (D.moments disk.new) result }
-    ensures bits { OnOk result ((w : Standing)
+    ensures bitmap { OnOk result ((w : Standing)
         → IsBitmapped w Working (kept parts.old regions.old) (D.moments disk.old)
-        → HasBitsLeft w (D.moments disk.new)) }
+        → HasBitmapLeft w (D.moments disk.new)) }
     ensures tags { KeepsTagsBy Model.Close (kept parts.old regions.old) (D.moments disk.old) (D.moments disk.new) }
 
     ensures cause { HasCause (D.faults disk.old) (D.faults disk.new) result }

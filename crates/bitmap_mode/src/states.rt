@@ -133,6 +133,15 @@ impl RegionStates {
         self.awaiting.next().is_some()
     }
 
+    /// The regions that await, alone: each of their blocks does.
+    pub fn into_awaiting(self) -> Awaiting
+        ensures awaiting { result ≡ self.awaiting }
+        ensures first { result.first ≡ 0 }
+        ensures geometry { result.geometry ≡ self.geometry }
+    {
+        self.awaiting
+    }
+
     /// Writes a block: the bit of its region is set and synced, where it is clear, and then its bytes are written by
     /// one call, and its tag is put. Then all is flushed, where that is asked. A region that awaits still does.
     ///

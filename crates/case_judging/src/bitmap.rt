@@ -66,7 +66,7 @@ impl Bitmap {
     }
 
     /// The byte where the bitmap ends.
-    fn end(&self) -> usize {
+    pub(crate) fn end(&self) -> usize {
         let parts = self.regions.saturating_add(PART_BITS - 1) / PART_BITS;
         parts.saturating_mul(PART).saturating_add(BITMAP_AT as u64) as usize
     }

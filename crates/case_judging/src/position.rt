@@ -64,8 +64,8 @@ pub fn is_recalculating(bytes: &[u8]) -> bool {
     }
 }
 
-/// The image of a form without that flag that reads as this one does: each block that awaits has the tag of its data. No
-/// entry of a journal is looked at. The version is the highest, and the position 0, whatever they were.
+/// The image of a form without that flag that reads as this one does: each block that awaits has the tag of its data.
+/// No entry of a journal is looked at. The version is the highest, and the position 0, whatever they were.
 pub fn with_tags_made(alloc: Global, form: &Form, image: &[u8]) -> Result<Vec<u8>, AllocError> {
     let mut bytes = Vec::from_slice(alloc, image)?;
     let Some(position) = position_of(image) else {

@@ -8,6 +8,6 @@ mod telling;
 
 pub use running::{Command, Ended, run};
 pub use telling::{
-    Repeated, add, image_left, is_bitmapped, is_journaled, is_keyed, is_recovering, outcome_of,
-    put_rows, told_of,
+    Repeated, add, image_left, is_bitmapped, is_direct, is_journaled, is_keyed, is_recovering,
+    outcome_of, put_rows, told_of,
 };

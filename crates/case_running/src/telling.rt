@@ -116,6 +116,11 @@ pub fn is_journaled(case: &Case) -> bool {
     is_run(case) && case.words.iter().any(|word| word.as_str() == "J")
 }
 
+/// Whether the words of a case are those of a run in direct mode.
+pub fn is_direct(case: &Case) -> bool {
+    is_run(case) && case.words.iter().any(|word| word.as_str() == "D")
+}
+
 /// Whether the words of a case are those of a run in bitmap mode.
 pub fn is_bitmapped(case: &Case) -> bool {
     is_run(case) && case.words.iter().any(|word| word.as_str() == "B")

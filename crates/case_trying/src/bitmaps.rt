@@ -4,7 +4,8 @@ use crate::reads::Reads;
 use crate::trying::Counts;
 use anyhow::{Result, bail};
 use case_judging::{
-    Bitmap, Images, Known, bitmap_of, is_same_outside_journal, judge_bitmapped, judge_bits,
+    Bitmap, Images, Known, behind_journal, bitmap_of, is_same_outside_journal, judge_bitmapped,
+    judge_bits, judge_kept,
 };
 use case_running::{Command, Ended, is_bitmapped, is_keyed};
 use case_text::Case;
@@ -31,12 +32,22 @@ pub fn bitmapped_by(
     base: &[u8],
     script: &str,
 ) -> Result<Option<Bitmapped>> {
-    let Some(mut bitmap) = bitmap_of(base) else {
-        return Ok(None);
-    };
     if !is_bitmapped(case) {
         return Ok(None);
     }
+    bitmapped_on(alloc, case, base, script)
+}
+
+/// What the runs of a script are judged by, under the key of a case, that begin with an image that has a bitmap.
+pub(crate) fn bitmapped_on(
+    alloc: Global,
+    case: &Case,
+    base: &[u8],
+    script: &str,
+) -> Result<Option<Bitmapped>> {
+    let Some(mut bitmap) = bitmap_of(base) else {
+        return Ok(None);
+    };
     let is_keyed = is_keyed(case);
     if is_keyed {
         bitmap = bitmap.under(&case.key);
@@ -53,6 +64,41 @@ pub fn bitmapped_by(
         consenting: Reads::by_words(alloc, &form, words, CONSENT, &case.key)?,
         is_keyed,
     }))
+}
+
+impl Bitmapped {
+    /// Whether another image has the blocks of the one that each run begins with, each with the tag of its data where
+    /// its bit was set.
+    pub(crate) fn is_same_behind(&self, other: &[u8]) -> bool {
+        let form = &self.bitmap.form;
+        behind_journal(form, self.base.bytes()) == behind_journal(form, other)
+    }
+}
+
+/// Looks at an image that is left of an opening which makes a journal of its bitmap, and that has this still. A run in
+/// bitmap mode reads its blocks, under a key with consent to the bits that are set.
+pub fn judge_bitmap_kept<C: Command>(
+    alloc: Global,
+    command: &C,
+    counts: &mut Counts,
+    bitmapped: &Bitmapped,
+    base: &[u8],
+    left: &[u8],
+) -> Result<()> {
+    let Bitmapped { bitmap, images, .. } = bitmapped;
+    judge_kept(alloc, bitmap, images, base, left)?;
+    if bitmapped.is_keyed && bitmap.has_set(left) {
+        judge_refused(alloc, command, counts, bitmapped, left)?;
+    }
+    read_again(
+        alloc,
+        command,
+        counts,
+        bitmapped,
+        &bitmapped.consenting,
+        left,
+    )?;
+    Ok(())
 }
 
 /// Looks at an image that is left and has no bitmap yet, where the undisturbed opening makes this one of the image that

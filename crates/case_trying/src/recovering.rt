@@ -187,16 +187,31 @@ pub fn judge_recovered<C: Command>(
     if let Some(reading) = recovered.position {
         judge_position(alloc, base, left, recovered.script.as_str(), text, reading)?;
     }
-    if counts.images % 4 != 0 {
-        let reads = &recovered.later.journaled;
-        read_again(alloc, command, counts, recovered, reads, left, &blocks)?;
-        return Ok(());
-    }
-    judge_both(alloc, command, counts, recovered, left, &blocks)
+    judge_later(alloc, command, counts, recovered, left, &blocks)
 }
 
-/// Reads all blocks of what is left in journal mode, and then in direct mode, which empties the journal.
-fn judge_both<C: Command>(
+/// Looks at an image that is left and has no journal yet, where the undisturbed opening makes the one that runs begin
+/// with. Later runs read its blocks, and make the same of it outside of the journal.
+pub(crate) fn judge_without_journal<C: Command>(
+    alloc: Global,
+    command: &C,
+    counts: &mut Counts,
+    recovered: &Recovered,
+    left: &[u8],
+) -> Result<()> {
+    judge_later(
+        alloc,
+        command,
+        counts,
+        recovered,
+        left,
+        recovered.base.bytes(),
+    )
+}
+
+/// Reads all blocks of what is left in journal mode, and of every fourth image in direct mode too, which empties the
+/// journal.
+fn judge_later<C: Command>(
     alloc: Global,
     command: &C,
     counts: &mut Counts,
@@ -206,6 +221,9 @@ fn judge_both<C: Command>(
 ) -> Result<()> {
     let reads = &recovered.later.journaled;
     read_again(alloc, command, counts, recovered, reads, left, blocks)?;
+    if counts.images % 4 != 0 {
+        return Ok(());
+    }
     let reads = &recovered.later.direct;
     let after = read_again(alloc, command, counts, recovered, reads, left, blocks)?;
     if !has_empty_journal(alloc, &recovered.base.form, after.disk.bytes())? {

@@ -2,11 +2,13 @@
 use crate::bitmaps::{Bitmapped, bitmapped_by, judge_bitmap_left};
 use crate::changing::{Changed, changed_by, judge_changed};
 use crate::reads::Reads;
-use crate::recovering::{Recovered, judge_recovered, recovered_by};
+use crate::recovering::{Lines, Recovered, judge_recovered, recovered_by};
 use crate::resizing::{Resized, judge_resized, resized_by};
 use anyhow::{Result, bail};
 use case_disks::choice_from;
-use case_judging::{Images, Known, Met, Told, form_of, judge_left, judge_made, judge_text};
+use case_judging::{
+    Images, Known, Met, Told, bitmap_of, form_of, judge_left, judge_made, judge_text,
+};
 use case_running::{Command, Ended, is_keyed, is_recovering, outcome_of, run};
 use case_text::{CHOICES, Case, Fails, Kind, name_of, with_failure};
 use cut_disk::CutDisk;
@@ -46,7 +48,7 @@ pub struct Trial {
     recovered: Option<Recovered>,
     /// What its runs are judged by, if they are in bitmap mode.
     bitmapped: Option<Bitmapped>,
-    /// What its runs are judged by, if their opening makes a bitmap of a journal.
+    /// What its runs are judged by, if their opening makes a bitmap of a journal, or a journal of a bitmap.
     changed: Option<Changed>,
 }
 
@@ -65,7 +67,7 @@ impl Trial {
         let text = undisturbed.text.as_str();
         let resized = resized_by(alloc, command, case, &base, undisturbed)?;
         let is_recovering = is_recovering(case);
-        let changed = changed_by(alloc, command, case, &base, script)?;
+        let changed = changed_by(alloc, command, case, &base, Lines { script, text })?;
         let recovered = if is_recovering || resized.is_some() || changed.is_some() {
             None
         } else {
@@ -264,6 +266,13 @@ fn judge_blocks<C: Command>(
     }
     if let Some(bitmapped) = &trial.bitmapped {
         return judge_bitmap_left(alloc, command, counts, bitmapped, base, left, text);
+    }
+    // A command that runs no script on an image with a bitmap only reads it.
+    if bitmap_of(base).is_some() {
+        if left != base {
+            bail!("a command that only reads has changed the disk");
+        }
+        return Ok(());
     }
     judge_left(alloc, &trial.images, left, text)?;
     counts.runs = counts.runs.saturating_add(1);

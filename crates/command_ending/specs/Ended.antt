@@ -16,7 +16,7 @@ use Rattle.command_ending.specs.declared.ended.Ended.TheVariants.{Words, Key, Li
 use Rattle.command_ending.specs.declared.form_fault.FormFault.{FormFault}
 use Rattle.command_ending.specs.declared.form_fault.FormFault.TheVariants.{TooLong, NotText, WrongWord, WrongNumber, WrongByte, WrongRuns, MissingWord, ExtraWord}
 use Rattle.command_ending.specs.declared.image_fault.ImageFault.{ImageFault}
-use Rattle.command_ending.specs.declared.image_fault.ImageFault.TheVariants.{Super, Geom, Mode, Journal}
+use Rattle.command_ending.specs.declared.image_fault.ImageFault.TheVariants.{Super, Geom, Journal}
 use Rattle.command_ending.specs.declared.image_fault.ImageFault.TheVariants as ImageFaults
 use Rattle.command_ending.specs.declared.key_refusal.KeyRefusal.{KeyRefusal}
 use Rattle.command_ending.specs.declared.key_refusal.KeyRefusal.TheVariants.{Empty, Long}
@@ -41,7 +41,6 @@ refusal_of (Meaning fault) = Endings.ByMeaning (meaning_of fault)
 abbrev pub image_fault_of : ImageFault → Endings.ImageFault
 image_fault_of (Super fault) = Endings.BySuperblock fault
 image_fault_of (Geom fault) = Endings.ByGeometry fault
-image_fault_of (Mode flags) = Endings.ByMode flags
 image_fault_of (ImageFaults.Consent flags) = Endings.ByConsent flags
 image_fault_of (Journal fault) = Endings.ByJournal (as_fault fault)
 

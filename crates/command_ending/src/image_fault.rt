@@ -11,8 +11,6 @@ pub enum ImageFault {
     Super(SuperFault),
     /// The disk has no room for what the superblock tells.
     Geom(GeomFault),
-    /// The superblock has other flags than the mode wants.
-    Mode { flags: u32 },
     /// Tags under a key would be made anew without consent. The superblock has these flags.
     Consent { flags: u32 },
     /// Its journal is refused: the commit numbers make no plan, or an entry may not be replayed.

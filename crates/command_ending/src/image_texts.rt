@@ -30,7 +30,6 @@ pub(crate) fn put_image_fault<O: Sink>(out: &mut O, fault: ImageFault) -> Result
     match fault {
         ImageFault::Super(fault) => put_super_fault(out, fault),
         ImageFault::Geom(fault) => put_geom_fault(out, fault),
-        ImageFault::Mode { flags } => put_flags(out, b"mode ", flags),
         ImageFault::Consent { flags } => put_flags(out, b"consent ", flags),
         ImageFault::Journal(fault) => put_journal_fault(out, fault),
     }

@@ -6,6 +6,7 @@ mod ClearTagsLemmas
 pub mod ModeLemmas
 pub mod MovingLemmas
 pub mod JudgedLemmas
+mod RestLemmas
 pub mod StepLemmas
 pub mod RequestLemmas
 pub mod OpeningLemmas

@@ -1,7 +1,5 @@
 -- Events one after the other, and what may be left of them.
 use Rattle.std.proofs.Common.{◌≡◌, ℕ, zero, suc, ◌+◌, List, [], ◌∷◌, ◌++◌, length, take, refl, sym, ◌∙◌, ap, subst, Some, append-nil, append_assoc}
-use Rattle.std.specs.List.{AllByRecursion}
-use Rattle.std.proofs.lemmas.List.{append_cancel_right}
 use Rattle.std.proofs.lemmas.List.Sums.{fold-append}
 use Rattle.std.proofs.lemmas.Option.{none-some, same_Some}
 use Rattle.std.proofs.Math.Seq.{take-append-add}
@@ -20,26 +18,11 @@ use Rattle.device.specs.declared.mode.DeviceParts.{DeviceParts}
 use Rattle.device_parts.specs.Device.{HasDone}
 use Rattle.device.specs.Device.{IsDevice, any_mode, kind_of}
 use Rattle.device_parts.specs.Device.{Standing}
+use Rattle.device_opening.proofs.MomentsLemmas.{EachMoment-both}
 use Rattle.device.proofs.ModeLemmas.{left_now}
 use Rattle.device.specs.Run.{HasBegun, HasFailed, HasRun, IsCutOff, IsLeftWithin, failed_of, standing_behind}
 use Rattle.device.specs.Tags.{Leaves, LeavesIn}
 use Rattle.device.proofs.TagsLemmas.{leaves_all, leaves_left, leaves_then}
-
--- ---- moments
-
--- Two facts of each moment are one.
-all_both : (P Q : Content → Type 0) (xs : List Content) → AllByRecursion P xs → AllByRecursion Q xs
-    → AllByRecursion (λ c. P c × Q c) xs
-all_both P Q [] p q = tt
-all_both P Q (x ∷ xs) p q = ((p.0, q.0), all_both P Q xs p.1 q.1)
-
-pub EachMoment-both : {a b : List Content} {P Q : Content → Type 0} → EachMoment a b P → EachMoment a b Q
-    → EachMoment a b (λ c. P c × Q c)
-EachMoment-both {a} {b} {P} {Q} p q = record {
-  since = p.since;
-  grows = p.grows;
-  each = all_both P Q p.since p.each (subst (AllByRecursion Q) (append_cancel_right q.since p.since a (sym q.grows ∙ p.grows)) q.each);
-}
 
 -- ---- changes
 

@@ -1,8 +1,8 @@
 -- What the calls of a device write in its mode, how long its actors have work, and which tags they leave alone.
-use Rattle.std.specs.Prelude.{◌≡◌, ℕ, ◌<◌, List, Option}
-use Rattle.disk_model.specs.Disk.{Content, OnlyAdds}
-use Rattle.disk_model.specs.Moments.{EachSince}
-use Rattle.image_model.specs.declared.flags.TheConstants.{RECALCULATING}
+use Rattle.std.specs.Prelude.{◌≡◌, ℕ, ◌<◌, false, List, Option}
+use Rattle.disk_model.specs.Disk.{Content, EachImage, OnlyAdds}
+use Rattle.disk_model.specs.Moments.{EachSince, HasNow}
+use Rattle.image_model.specs.declared.flags.TheConstants.{DIRTY_BITMAP, RECALCULATING}
 use Rattle.image_model.specs.Superblock.{has_flag}
 use Rattle.device_model.specs.Mode as Modes
 use Rattle.device_model.specs.Progress as Model
@@ -29,7 +29,7 @@ use Rattle.bitmap_mode.specs.Closing.{IsOfClose}
 use Rattle.bitmap_mode.specs.States.{States}
 use Rattle.bitmap_device.specs.Answers as InBitmap
 use Rattle.bitmap_device.specs.Device.{KeepsTagsBy, kept as bitmap_kept}
-use Rattle.device.specs.Awaiting.{HasNoMoreIn}
+use Rattle.device.specs.Awaiting.{HasNoMoreIn, fields_of}
 use Rattle.device.specs.Device.{IsEmptied, IsInJournalMode}
 use Rattle.device.specs.declared.mode.Mode.TheVariants.{Bitmap, Direct, Journal, Recovery}
 
@@ -114,13 +114,19 @@ HasNoWork Modes.Recovery actor = Unit {0}
 
 -- ---- a close
 
--- In direct and in journal mode the position in each image is as far as the regions that await let it, and without one
--- the flag is cleared. In journal mode each image also has in place of each block the cell that the history gives it. In
--- bitmap mode those bits are set that were before it and whose regions await.
+-- No image has the flag of a bitmap.
+abbrev pub HasNoBitmap : Content → Type 0
+HasNoBitmap c = EachImage (λ image. has_flag DIRTY_BITMAP (fields_of image).flags ≡ false) c
+
+-- In direct and in journal mode no image has a bitmap, and the position in each is as far as the regions that await let
+-- it, and without one the flag is cleared. In journal mode each image also has in place of each block the cell that the
+-- history gives it. In bitmap mode each image opens in the device's own format, the flag of a bitmap included, and
+-- those bits are set that were before it and whose regions await.
 abbrev pub IsAtRest : Mode → Standing → List Content → Type 0
-IsAtRest (Direct recalculation) w moments = HasFields (fields_left recalculation) moments
-IsAtRest (Journal state) w moments = InJournal.IsAllPlaced w (fields_left state.recalculation) moments
-IsAtRest (Bitmap regions) w moments = InBitmap.HasBitsLeft w moments
+IsAtRest (Direct recalculation) w moments = HasFields (fields_left recalculation) moments × HasNow HasNoBitmap moments
+IsAtRest (Journal state) w moments =
+    InJournal.IsAllPlaced w (fields_left state.recalculation) moments × HasNow HasNoBitmap moments
+IsAtRest (Bitmap regions) w moments = InBitmap.HasBitmapLeft w moments
 IsAtRest Recovery w moments = Unit {0}
 
 -- What is written in one: in direct mode sectors of tags, in journal mode batches and then what is not placed, in both

@@ -15,7 +15,8 @@ use Rattle.device_parts.specs.declared.answers.Served.{Served}
 use Rattle.device_parts.specs.declared.answers.StepFault.{StepFault}
 use Rattle.device_parts.specs.declared.condition.Condition.{Condition}
 use Rattle.device_parts.specs.declared.condition.Condition.TheVariants.{Working}
-use Rattle.device_parts.specs.Answers.{HasServed, HasStepped, HasTaken, IsSerial, actor_of, answer_by, condition_by, event_by, turns_left}
+use Rattle.device_parts.specs.Answers.{HasServed, HasStepped, HasTaken, IsSerial, actor_of, answer_by, condition_by}
+use Rattle.device_parts.specs.Answers.{event_by, turns_left}
 use Rattle.device_parts.specs.Device.{Answers, HasEnded, IsDone, KeepsParts, Standing}
 use Rattle.device.specs.declared.mode.DeviceParts.{DeviceParts}
 use Rattle.device.specs.Answers.{IsAtRest, WritesInClose, WritesInServe, WritesInStep, refusal_in}

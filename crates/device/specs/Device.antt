@@ -63,8 +63,8 @@ kind_by mode key sectors = kind_in mode key sectors
 abbrev pub kind_of : Standing → DeviceKind
 kind_of w = kind_by w.format.mode w.on.key w.on.sectors
 
--- It is one in direct mode, over a disk of which each image has an empty journal, by its own fields. As long as it works
--- these say of no block more that it awaits than the image that was opened.
+-- It is one in direct mode, over a disk of which each image has an empty journal, by its own fields. As long as it
+-- works these say of no block more that it awaits than the image that was opened.
 pub record IsEmptied (w : Standing) (condition : Condition) (device : DirectParts) (moments : List Content)
     : Type 0 where
   pub direct : IsDirect w condition device moments

@@ -7,11 +7,11 @@ use Rattle.disk_model.specs.Moments.{HasNow}
 use Rattle.device_model.specs.Mode as Model
 use Rattle.image_judging.specs.declared.opening_fault.OpeningFault.{OpeningFault}
 use Rattle.image_judging.specs.declared.opening_fault.OpeningFault.TheVariants as Faults
-use Rattle.image_judging.specs.Faults.{ImageFault, bitmap_fault_of, fault_in, fault_of}
+use Rattle.image_judging.specs.Faults.{ImageFault, fault_in, fault_of}
 use Rattle.device_parts.specs.Device.{HasOpened}
 use Rattle.device_opening.specs.Changing.{WritesBitmap}
-use Rattle.device_opening.specs.DirectOpening.{WritesEmptying}
-use Rattle.device_opening.specs.Opening.{KeepsRefused, LeavesOpenable, WritesOpening}
+use Rattle.device_opening.specs.JournalMaking.{WritesDirect, WritesJournal}
+use Rattle.device_opening.specs.Opening.{KeepsRefused, LeavesOpenable}
 use Rattle.device_opening.specs.RecoveryOpening.{format_fault_of}
 use Rattle.device.specs.declared.mode.DeviceParts.{DeviceParts}
 use Rattle.device.specs.Device.{any_mode}
@@ -29,7 +29,7 @@ asked_mode Recovery = Model.Recovery
 abbrev pub fault_in_mode : OpenMode → Option (List ℕ) → (sectors : ℕ) → Image → Option ImageFault
 fault_in_mode (Direct consent) key sectors image = fault_of key consent sectors image
 fault_in_mode (Journal consent) key sectors image = fault_of key consent sectors image
-fault_in_mode (Bitmap consent) key sectors image = bitmap_fault_of key consent sectors image
+fault_in_mode (Bitmap consent) key sectors image = fault_of key consent sectors image
 fault_in_mode Recovery key sectors image = format_fault_of sectors image
 
 -- The device is open in that mode on the image that reads gave, which is one that can be opened. No request is in
@@ -49,20 +49,21 @@ IsSettledIn (Journal consent) moments = Unit {0}
 IsSettledIn (Bitmap consent) moments = Unit {0}
 IsSettledIn Recovery moments = Unit {0}
 
--- The disk is not opened in this mode. The image tells why, where the disk did not fail and there was memory; and unless
--- the disk failed it is as it was, not even synced.
+-- The disk is not opened in this mode. The image tells why, where the disk did not fail and there was memory; and
+-- unless the disk failed it is as it was, not even synced.
 pub record IsRefused (mode : OpenMode) (key : Option (List ℕ)) (disk : DiskIdentity) (fault : OpeningFault)
     (before after : List Content) : Type 0 where
   pub told : fault ≢ Faults.Disk → fault ≢ Faults.Memory
       → HasNow (λ c. fault_in {T = DeviceParts} (Err fault) ≡ fault_in_mode mode key disk.sectors (last_image c)) before
   pub untouched : fault ≢ Faults.Disk → after ≡ before
 
--- What an opening may write: what a recovery does. In direct mode the empty sections are those of the emptying, too,
--- and where the journal was empty nothing of it is written. In bitmap mode nothing is of an image with a bitmap, and a
--- journal becomes one; in recovery mode the disk is not synced either.
-abbrev pub WritesInOpening : OpenMode → (key : Option (List ℕ)) → (sectors : ℕ) → (before after : List Content) → Type 0
-WritesInOpening (Direct consent) key sectors before after = WritesEmptying key sectors before after
-WritesInOpening (Journal consent) key sectors before after = WritesOpening key sectors before after
+-- What an opening may write: what a recovery does, and what a change of the mode does. In direct mode the empty
+-- sections are those of the emptying, too, and where the journal was empty nothing of it is written. In bitmap mode
+-- nothing is of an image with a bitmap; in recovery mode the disk is not synced either.
+abbrev pub WritesInOpening : OpenMode → (key : Option (List ℕ)) → (sectors : ℕ) → (before after : List Content)
+    → Type 0
+WritesInOpening (Direct consent) key sectors before after = WritesDirect key sectors before after
+WritesInOpening (Journal consent) key sectors before after = WritesJournal key sectors before after
 WritesInOpening (Bitmap consent) key sectors before after = WritesBitmap key sectors before after
 WritesInOpening Recovery key sectors before after = after ≡ before
 

@@ -34,10 +34,11 @@ pub struct Device<'d, 'p, D: Disk> {
 impl<'d, 'p, D: Disk> Device<'d, 'p, D> {
     /// Opens a device on a disk in the mode that is asked for, whose tags are made by this hash. All memory that it
     /// ever takes is taken before the first write, and the region gets the journal's sectors. In each mode but
-    /// recovery mode the disk is synced. In direct and journal mode all that its journal holds comes to its place, and
+    /// recovery mode the disk is synced. In direct and journal mode all that a journal holds comes to its place, and
     /// each region awaits that has a block which is to be recalculated. In direct mode the journal is then emptied,
     /// unless every entry of it is unused and it has one commit number: no image of the disk has an entry that counts
-    /// then. In bitmap mode each region awaits whose bit is set, and nothing is written; where there is a journal it is
+    /// then. Where there is a bitmap each region whose bit is set is recalculated, and it becomes an empty journal. In
+    /// bitmap mode each region awaits whose bit is set, and nothing is written; where there is a journal it is
     /// recovered and emptied, each region that awaits is recalculated, and it becomes a bitmap of which no bit is set.
     /// In recovery mode the disk is called for one read.
     ///
@@ -49,11 +50,10 @@ impl<'d, 'p, D: Disk> Device<'d, 'p, D> {
     /// - `Disk`: the disk failed.
     /// - `Super`: the superblock is refused. A disk without a sector has no magic. Nothing was done.
     /// - `Geom`: the disk has no room for what the superblock tells. Nothing was done.
-    /// - `Mode`: there is a bitmap, in journal or direct mode. Nothing was done.
-    /// - `Consent`: a block is to be recalculated or a bit is set, there is a key, and consent is withheld. Nothing was
-    ///   done.
-    /// - `Journal`: the journal is refused, which recovery mode does not read, nor bitmap mode where there is a bitmap.
-    ///   Nothing was done.
+    /// - `Consent`: a bit of a bitmap is set, or without one some block is to be recalculated, there is a key, and
+    ///   consent is withheld; in recovery mode it is not asked for. Nothing was done.
+    /// - `Journal`: the journal is refused, which is not read in recovery mode, nor where there is a bitmap. Nothing
+    ///   was done.
     pub fn open(
         alloc: Global,
         disk: &'d mut D,

@@ -16,10 +16,10 @@ use std::alloc::Global;
 /// The mode that a device is opened in.
 #[derive(Clone, Copy, Debug, PartialEq, Eq)]
 pub enum OpenMode {
-    /// Writes go to their places. What the journal holds comes to its place at the opening, which then empties it.
-    /// Whether tags may be made anew that a key protects, as in the next two.
+    /// Writes go to their places. What a journal holds comes to its place at the opening, which then empties it, and
+    /// makes an empty journal of a bitmap. Whether tags may be made anew that a key protects, as in the next two.
     Direct(Consent),
-    /// Writes go to the journal first.
+    /// Writes go to the journal first. Where the image has a bitmap the opening makes an empty journal of it.
     Journal(Consent),
     /// Writes set the bit of their region first, and go to their places then. Where the image has a journal the opening
     /// makes a bitmap of it.
@@ -29,11 +29,12 @@ pub enum OpenMode {
 }
 
 /// Opens a device on a disk. All memory that it ever takes is taken before the first write, and the region gets the
-/// journal's sectors. In each mode but recovery mode the disk is synced. In direct and journal mode its image is
-/// recovered, so that all that the journal holds comes to its place; in direct mode the journal is then emptied, unless
-/// every entry of it is unused and it has one commit number. In bitmap mode nothing is written where there is a bitmap;
-/// a journal is recovered and emptied, each region that awaits is recalculated, and then it becomes a bitmap of which
-/// no bit is set. In recovery mode nothing is written.
+/// journal's sectors. In each mode but recovery mode the disk is synced. In direct and journal mode an image with a
+/// journal is recovered, so that all that the journal holds comes to its place; in direct mode the journal is then
+/// emptied, unless every entry of it is unused and it has one commit number. Of one with a bitmap each region whose bit
+/// is set is recalculated, and then the bitmap becomes an empty journal. In bitmap mode nothing is written where there
+/// is a bitmap; a journal is recovered and emptied, each region that awaits is recalculated, and then it becomes a
+/// bitmap of which no bit is set. In recovery mode nothing is written.
 ///
 /// # Errors
 ///
@@ -43,11 +44,10 @@ pub enum OpenMode {
 /// - `Disk`: the disk failed.
 /// - `Super`: the superblock is refused. A disk without a sector has no magic. Nothing was done.
 /// - `Geom`: the disk has no room for what the superblock tells. Nothing was done.
-/// - `Mode`: there is a bitmap, in journal or direct mode. Nothing was done.
-/// - `Consent`: a block is to be recalculated, in bitmap mode a bit is set, there is a key, and consent is withheld.
-///   Nothing was done.
-/// - `Journal`: the journal is refused, which recovery mode does not read, nor bitmap mode where there is a bitmap.
-///   Nothing was done.
+/// - `Consent`: a bit of a bitmap is set, or without one some block is to be recalculated, there is a key, and consent
+///   is withheld; in recovery mode it is not asked for. Nothing was done.
+/// - `Journal`: the journal is refused, which is not read in recovery mode, nor where there is a bitmap. Nothing was
+///   done.
 pub(crate) fn open<'p, D: Disk>(
     alloc: Global,
     disk: &mut D,

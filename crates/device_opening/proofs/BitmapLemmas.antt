@@ -14,12 +14,9 @@ use Rattle.image_model.proofs.GeometryOf.{geometry_given}
 use Rattle.device_model.specs.Mode.{Bitmap}
 use Rattle.device_model.specs.Regions.{least_region}
 use Rattle.place_model.specs.Format.{DiskFormat, HasWholeSectors, format_on}
-use Rattle.place_model.specs.Changed.{opened_format}
-use Rattle.place_model.specs.Kind.{kind_in}
-use Rattle.place_model.specs.Opened.{blocks_of, device_format, opened_on}
+use Rattle.place_model.specs.Opened.{device_format, opened_on}
 use Rattle.place_model.proofs.FormatLemmas.{reads_on}
-use Rattle.place_model.proofs.KindLemmas.{judged_image-bitmap, opened_format-bitmap, opened_in-bitmap}
-use Rattle.device_model.specs.Progress.{DeviceState}
+use Rattle.place_model.proofs.KindLemmas.{in_bitmap_mode}
 use Rattle.direct_laws.specs.CallLaws.{ReadsImage}
 use Rattle.bitmap_model.specs.Opening.{opened_disk}
 use Rattle.bitmap_laws.specs.Device.{IsBitmapDevice}
@@ -32,7 +29,7 @@ use Rattle.hmac_tag.specs.TagMaker.{TagRule}
 use Rattle.image_format.specs.declared.reading.ImageFormat.{ImageFormat}
 use Rattle.image_format.specs.Format.{IsBitmapFormat, disk_format, format_of}
 use Rattle.image_judging.specs.declared.consent.Consent.{Consent}
-use Rattle.image_judging.specs.Faults.{ByConsent, bitmap_fault_by, bitmap_fault_of, dirty_fault, has_dirty_region, lacks_consent}
+use Rattle.image_judging.specs.Faults.{ByConsent, dirty_fault, fault_by_format, fault_of, has_dirty_region, lacks_consent}
 use Rattle.recalculation.specs.Awaiting.{awaiting_of}
 use Rattle.tag_store.specs.Store.{IsStore, Store, given_tags}
 use Rattle.request_slots.specs.Flight.{Flight, no_requests}
@@ -47,6 +44,7 @@ use Rattle.device_opening.specs.declared.bitmap_judging.JudgedBitmap.{JudgedBitm
 use Rattle.device_opening.specs.declared.room.DeviceRoom.{DeviceRoom}
 use Rattle.device_opening.specs.BitmapOpening.{AreRegionsOf, HasJudgedBitmap}
 use Rattle.device_opening.specs.Opening.{IsRoomFor, LeavesOpenable}
+use Rattle.device_opening.proofs.StandingLemmas.{same_blocks, standing_at, standing_same}
 use Rattle.device_opening.proofs.JudgedLemmas.{own_layout}
 
 -- ---- what is judged
@@ -59,7 +57,7 @@ bitmap_fits sectors format is =
 
 -- Of an image with a bitmap it is want of consent.
 dirty_fault-bitmap : (key : Option (List ℕ)) (consent : Consent) (image : Image) (format : ImageFormat) → has_flag DIRTY_BITMAP format.fields.flags ≡ true
-    → dirty_fault key consent image format ≡ bitmap_fault_by key consent image (Ok format)
+    → dirty_fault key consent image format ≡ fault_by_format key consent image (Ok format)
 dirty_fault-bitmap key consent image format set = rw set refl
 
 module _ (key : Option (List ℕ)) (consent : Consent) (sectors : ℕ) (format : ImageFormat) (s : States) (a : List Content)
@@ -75,11 +73,11 @@ module _ (key : Option (List ℕ)) (consent : Consent) (sectors : ℕ) (format :
 
   -- The fault of the image is want of consent, or it has none.
   pub consent_fault : (lacks : Bool) → lacks ≡ lacks_consent key consent (is_some (least_awaiting s))
-      → HasNow (λ c. (if lacks then Some (ByConsent format.fields.flags) else None) ≡ bitmap_fault_of key consent sectors (last_image c)) a
+      → HasNow (λ c. (if lacks then Some (ByConsent format.fields.flags) else None) ≡ fault_of key consent sectors (last_image c)) a
   consent_fault lacks is c now =
       ap (λ (b : Bool). if b then Some (ByConsent format.fields.flags) else None) (is ∙ ap (lacks_consent key consent) (some_dirty c now))
       ∙ dirty_fault-bitmap key consent (last_image c) format set
-      ∙ ap (bitmap_fault_by key consent (last_image c)) (told c now)
+      ∙ ap (fault_by_format key consent (last_image c)) (told c now)
 
 -- ---- what is open
 
@@ -143,16 +141,12 @@ module _ (disk : DiskIdentity) (image : JudgedBitmap) (a b : List Content) (judg
     abbrev found_standing : Content → Standing
     found_standing start =
         let f = format_on key disk.sectors (last_image start) in
-        record { format = device_format Bitmap f; state = opened_on Bitmap f (last_image start); on = f; entry = last_image start }
+        standing_at Bitmap f (opened_on Bitmap f (last_image start)) (last_image start)
 
     -- is the one that was opened.
     standing_is : (start : Content) → content_now a ≡ Some start → (made : Image) → found_standing start ≡ opened_standing Bitmap key disk.sectors (last_image start) made
     standing_is start now made =
-        let f = format_on key disk.sectors (last_image start) in
-        let set = set_on start now in
-        ap (λ (x : DiskFormat). let w : Standing = record { format = device_format Bitmap x; state = opened_on Bitmap f (last_image start); on = x; entry = last_image start } in w) (sym (opened_format-bitmap f set))
-        ∙ ap (λ (s : DeviceState). let w : Standing = record { format = (kind_in Bitmap key disk.sectors).format (last_image start); state = s; on = opened_format Bitmap f; entry = last_image start } in w) (sym (opened_in-bitmap f (last_image start) set))
-        ∙ ap (λ (x : Image). let w : Standing = record { format = (kind_in Bitmap key disk.sectors).format (last_image start); state = (kind_in Bitmap key disk.sectors).opened (last_image start); on = opened_format Bitmap f; entry = x } in w) (sym (judged_image-bitmap f (last_image start) made set))
+        sym (standing_same Bitmap key disk.sectors (last_image start) made (in_bitmap_mode (format_on key disk.sectors (last_image start)) (set_on start now)))
 
     device_found : (start : Content) → content_now a ≡ Some start → let w = found_standing start in IsBitmapDevice w.format w.state (opened_disk w.on w.entry)
     device_found start now = opening_law (format_on key disk.sectors (last_image start)) (last_image start) (set_on start now)
@@ -169,7 +163,7 @@ module _ (disk : DiskIdentity) (image : JudgedBitmap) (a b : List Content) (judg
         has.slots ∙ ap (λ (g : Geometry). no_requests g.blocks (512 * g.shape.spb)) (sym (own_geometry start now)) in
         record {
           device = device_found start now;
-          reads = reads_on key disk.sectors entry (can start now).opens.0.readable;
+          reads = reads_on key disk.sectors entry (can start now).opens.readable;
           opened = refl;
           base = λ n low. refl;
           flight = record {
@@ -203,7 +197,7 @@ module _ (disk : DiskIdentity) (image : JudgedBitmap) (a b : List Content) (judg
             format = refl;
             over = over_disk moments start now;
           });
-      blocks = λ start now made now_made. ap (λ (x : Image). blocks_of (format_on key disk.sectors x)) (judged_image-bitmap (format_on key disk.sectors (last_image start)) (last_image start) (last_image made) (set_on start now));
+      blocks = λ start now made now_made. same_blocks Bitmap key disk.sectors (last_image start) (last_image made) (in_bitmap_mode (format_on key disk.sectors (last_image start)) (set_on start now));
       ready = record { parts_ = ready; geometry = judged.regions_.geometry ∙ sym same };
       asked_ = refl;
       requests = slots_are;

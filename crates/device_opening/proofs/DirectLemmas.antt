@@ -3,18 +3,18 @@ use Rattle.std.proofs.Common.{◌≡◌, ℕ, ◌*◌, ◌<◌, true, false, ref
 use Rattle.std.proofs.lemmas.Option.{none-some, same_Some}
 use Rattle.disk_model.specs.Disk.{Content, EachImage, HasNothingPending, Image, last_image}
 use Rattle.disk_model.specs.Identity.{DiskIdentity}
-use Rattle.disk_model.specs.Moments.{EachSince, HasNow, content_now}
+use Rattle.disk_model.specs.Moments.{HasNow, content_now}
 use Rattle.image_model.specs.declared.flags.TheConstants.{DIRTY_BITMAP}
 use Rattle.image_model.specs.Bitmap.{is_to_recalculate}
 use Rattle.image_model.specs.Geometry.{region_of}
 use Rattle.image_model.specs.Superblock.{has_flag}
 use Rattle.device_model.specs.Mode.{Direct}
+use Rattle.device_model.specs.Progress.{DeviceState}
 use Rattle.place_model.specs.Format.{DiskFormat, HasCells, cells_on, format_on}
 use Rattle.place_model.specs.Kind.{CanOpenIn, kind_in}
 use Rattle.place_model.specs.Left.{IsLeftInDirect}
 use Rattle.place_model.specs.Opened.{awaiting_on, base_on, blocks_of, device_format, next_on, opened_on, set_bits_on}
-use Rattle.place_model.proofs.FormatLemmas.{format_on-is}
-use Rattle.place_model.proofs.KindLemmas.{direct_kind_law}
+use Rattle.place_model.proofs.KindLemmas.{direct_kind_law, opened_format-same, opened_in-same}
 use Rattle.direct_model.specs.DirectDisk as InDirect
 use Rattle.direct_model.specs.DirectDisk.{DirectDisk}
 use Rattle.direct_model.proofs.DirectLemmas.{placed_standing_law}
@@ -34,19 +34,20 @@ use Rattle.replay.specs.Recovery.{LeavesRecovered}
 use Rattle.request_slots.specs.Flight.{Flight, no_requests}
 use Rattle.device_parts.specs.declared.condition.Condition.TheVariants.{Working}
 use Rattle.device_parts.specs.declared.parts.Parts.{Parts}
-use Rattle.device_parts.specs.Device.{CanOpenRead, HasOpened, rule_on}
+use Rattle.device_parts.specs.Device.{CanOpenRead, HasOpened, Standing, rule_on}
 use Rattle.direct_device.specs.declared.parts.DirectParts.{DirectParts}
-use Rattle.direct_device.specs.Device.{IsOverDisk as IsDevice, in_direct, kept}
+use Rattle.direct_device.specs.Device.{IsDirect, IsOverDisk as IsDevice, in_direct, kept}
 use Rattle.device_opening.specs.declared.judging.JudgedImage.{JudgedImage}
 use Rattle.device_opening.specs.Judged.{HasJudged, judged_format}
-use Rattle.device_opening.specs.DirectOpening.{HasOpenOn, IsOpenOn, KeepsEmpty, LeavesEmpty, WritesEmptying, opened_standing}
+use Rattle.device_opening.specs.DirectOpening.{HasOpenOn, IsOpenOn, LeavesEmpty, opened_standing}
 use Rattle.device_opening.specs.Opening.{IsLeftOpening, IsOfOpening, IsRecalculationFor, IsUnasked, LeavesImage}
 use Rattle.device_opening.proofs.EmptiedLemmas.{empty_same}
 use Rattle.device_opening.proofs.EmptyingLemmas.{left_empty}
-use Rattle.device_opening.proofs.JudgedLemmas.{format_now, left_by, opens_now, own_format, own_since, own_writes}
+use Rattle.device_opening.proofs.JudgedLemmas.{format_now, left_by, opens_now, own_format, reads_now}
 use Rattle.device_opening.proofs.MomentsLemmas.{settled_by}
 use Rattle.device_opening.proofs.OpenedRegions.{direct_regions, region_opened, work_awaits}
 use Rattle.device_opening.proofs.SettledLemmas.{settled_keeps, without_writes}
+use Rattle.device_opening.proofs.StandingLemmas.{same_blocks, standing_same}
 
 -- ---- what is open
 
@@ -127,7 +128,7 @@ module _ (f : DiskFormat) (image : Image) (at : Recovered) (parts : Parts) (afte
 module _ (f : DiskFormat) (image left : Image) (clear : has_flag DIRTY_BITMAP f.superblock.flags ≡ false) (has : HasCells f (cells_on f image) left) where
   -- An image with the cells at opening can be opened,
   pub cells_open : CanOpenIn Direct f.key f.sectors left
-  cells_open = (has.opens.openable, ap (λ (d : DiskFormat). has_flag DIRTY_BITMAP d.superblock.flags) (format_on-is f left has.opens) ∙ clear)
+  cells_open = has.opens.openable
 
   cells_left : IsLeftInDirect f (opened_on Direct f image).history left
   cells_left = record { opens = has.opens; left = record { flushed = λ b low kept. has.each b low } }
@@ -135,16 +136,19 @@ module _ (f : DiskFormat) (image left : Image) (clear : has_flag DIRTY_BITMAP f.
   -- and may be left of the device before its first request.
   pub cells_may_be_left : format_on f.key f.sectors image ≡ f → (kind_in Direct f.key f.sectors).MayBeLeft image ((kind_in Direct f.key f.sectors).opened image).history left
   cells_may_be_left own =
-      subst (λ (x : DiskFormat). (kind_in Direct f.key f.sectors).MayBeLeft image (opened_on Direct x image).history left) (sym own)
-      (direct_kind_law f image (opened_on Direct f image).history left own cells_left)
+      subst (λ (s : DeviceState). (kind_in Direct f.key f.sectors).MayBeLeft image s.history left)
+      (sym (opened_in-same Direct (format_on f.key f.sectors image) (ap (λ (x : DiskFormat). has_flag DIRTY_BITMAP x.superblock.flags) own ∙ clear) image))
+      (subst (λ (x : DiskFormat). (kind_in Direct f.key f.sectors).MayBeLeft image (opened_on Direct x image).history left) (sym own)
+      (direct_kind_law f image (opened_on Direct f image).history left own cells_left))
 
 -- ---- behind the judging
 
 module _ (key : Option (List ℕ)) (disk : DiskIdentity) (image : JudgedImage) (a : List Content) (judged : HasJudged disk.sectors image a) (same : image.maker.key ≡ key) where
   can_read : CanOpenRead Direct key disk.sectors a
-  can_read c told =
-      let opens = opens_now key disk image a judged same c told in
-      (opens.openable, ap (λ (d : DiskFormat). has_flag DIRTY_BITMAP d.superblock.flags) (format_on-is (own_format key disk image a judged same) (last_image c) opens) ∙ judged.format.no_bitmap)
+  can_read c told = (opens_now key disk image a judged same c told).openable
+
+  clear_now : HasNow (λ c. has_flag DIRTY_BITMAP (format_on key disk.sectors (last_image c)).superblock.flags ≡ false) a
+  clear_now c told = ap (λ (d : DiskFormat). has_flag DIRTY_BITMAP d.superblock.flags) (reads_now key disk image a judged same c told).own ∙ judged.format.no_bitmap
 
   own_open : {b : List Content} (device : DirectParts) → HasOpenOn (judged_format disk.sectors image) device a b
       → HasNow (λ start. IsOpenOn (format_on key disk.sectors (last_image start)) (last_image start) device b) a
@@ -153,17 +157,17 @@ module _ (key : Option (List ℕ)) (disk : DiskIdentity) (image : JudgedImage) (
   -- What was judged is open,
   pub has_opened : {b : List Content} (device : DirectParts) → HasOpenOn (judged_format disk.sectors image) device a b → IsUnasked device.parts device.recalculation disk b
       → HasOpened in_direct Direct key disk device a b
-  has_opened device opened is = record {
+  has_opened {b} device opened is = record {
     device = λ start told made told_made.
         let on = own_open device opened start told in
         let f = format_on key disk.sectors (last_image start) in
-        record {
+        subst (λ (w : Standing). IsDirect w Working device b) (sym (standing_same Direct key disk.sectors (last_image start) (last_image made) (clear_now start told))) (record {
           disk = on.disk;
-          format = subst (IsFormatOf f) (sym on.format) (own_format_law f (can_read start told).1);
+          format = subst (IsFormatOf f) (sym on.format) (own_format_law f (clear_now start told));
           over = on.device;
-        };
+        });
     ready = record { parts_ = is.ready; geometry = is.regions_ };
-    blocks = λ start told made told_made. refl;
+    blocks = λ start told made told_made. same_blocks Direct key disk.sectors (last_image start) (last_image made) (clear_now start told);
     asked_ = refl;
     requests = is.requests;
     can = can_read;
@@ -172,8 +176,10 @@ module _ (key : Option (List ℕ)) (disk : DiskIdentity) (image : JudgedImage) (
   -- over an empty journal,
   pub leaves_empty : {b : List Content} (device : DirectParts) → HasOpenOn (judged_format disk.sectors image) device a b → LeavesImage (own_format key disk image a judged same) a b
       → LeavesEmpty key disk.sectors a b
-  leaves_empty device opened leaves = record {
-    emptied = λ start told. (own_open device opened start told).emptied;
+  leaves_empty {b} device opened leaves = record {
+    emptied = λ start told.
+        let f = format_on key disk.sectors (last_image start) in
+        subst (λ (x : DiskFormat). HasNow (EachImage (HasEmptyJournal x)) b) (sym (opened_format-same Direct f (clear_now start told))) (own_open device opened start told).emptied;
     settled = settled_by a (IsOfOpening image.format.geometry) HasNothingPending leaves.writes (λ start told. (opened start told).settled);
   }
 
@@ -183,7 +189,3 @@ module _ (key : Option (List ℕ)) (disk : DiskIdentity) (image : JudgedImage) (
       left_by key disk image a judged same Direct
       (λ entry left has. cells_open (own_format key disk image a judged same) entry left judged.format.no_bitmap has)
       (λ entry left has own. cells_may_be_left (own_format key disk image a judged same) entry left judged.format.no_bitmap has own) leaves
-
-  -- and what is written is so by the image's own format.
-  pub writes_emptying : {b : List Content} → LeavesImage (own_format key disk image a judged same) a b → EachSince (KeepsEmpty image.format.geometry) a b → WritesEmptying key disk.sectors a b
-  writes_emptying leaves keeps = record { recovers = own_writes key disk image a judged same leaves; keeps = own_since key disk image a judged same KeepsEmpty keeps }

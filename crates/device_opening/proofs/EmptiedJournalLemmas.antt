@@ -1,13 +1,12 @@
 -- The journal of an image that was recovered and emptied is an empty one.
-use Rattle.std.proofs.Common.{◌≡◌, inl, inr, ℕ, zero, suc, ◌+◌, ◌-◌, ◌<◌, ◌≤◌, refl, sym, ◌∙◌, ap, subst, arith, Some, List, [], ◌∷◌, ◌++◌, length}
+use Rattle.std.proofs.Common.{◌≡◌, inl, inr, ℕ, zero, suc, ◌+◌, ◌-◌, ◌<◌, ◌≤◌, refl, sym, ◌∙◌, ap, arith, List, [], ◌∷◌, ◌++◌, length}
 use Rattle.std.specs.List.{flat_map, range_with_len}
 use Rattle.std.proofs.lemmas.Bool.{cases_eq}
 use Rattle.std.proofs.lemmas.Grind.{flat_map-append}
 use Rattle.std.proofs.lemmas.List.Concat.{flat_map-cons}
 use Rattle.disk_model.specs.Disk.{Content, IsImage, last_image}
 use Rattle.image_model.specs.Cells.{replayed_entries}
-use Rattle.image_model.specs.Geometry.{Geometry, IsGeometry, section_at, section_sectors}
-use Rattle.image_model.specs.Section.{Entry}
+use Rattle.image_model.specs.Geometry.{Geometry, IsGeometry, section_at}
 use Rattle.image_model.specs.Walk.{later, ring}
 use Rattle.image_model.proofs.GeometryLemmas.{data_at-inside, section_at-lt}
 use Rattle.place_model.specs.Journal.{IsOfJournal, entries_in}

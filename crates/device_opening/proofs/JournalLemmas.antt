@@ -8,13 +8,13 @@ use Rattle.image_model.specs.declared.flags.TheConstants.{DIRTY_BITMAP}
 use Rattle.image_model.specs.Geometry.{Geometry}
 use Rattle.image_model.specs.Superblock.{has_flag}
 use Rattle.device_model.specs.Mode.{Journal}
+use Rattle.device_model.specs.Progress.{DeviceState}
 use Rattle.device_model.proofs.ReachedLemmas.{IsReached-opened}
-use Rattle.place_model.specs.Format.{DiskFormat, HasCells, OpensAs, cells_on, format_on}
+use Rattle.place_model.specs.Format.{DiskFormat, HasCells, cells_on, format_on}
 use Rattle.place_model.specs.Kind.{CanOpenIn, kind_in}
 use Rattle.place_model.specs.Left.{IsLeftInJournal}
 use Rattle.place_model.specs.Opened.{awaiting_on, blocks_of, device_format, next_on, opened_on}
-use Rattle.place_model.proofs.FormatLemmas.{format_on-is}
-use Rattle.place_model.proofs.KindLemmas.{journal_kind_law}
+use Rattle.place_model.proofs.KindLemmas.{journal_kind_law, opened_in-same}
 use Rattle.direct_laws.specs.MomentLaws.{IsLeftNow}
 use Rattle.journal_model.specs.Opening.{opened_disk}
 use Rattle.journal_model.specs.Recovery.{IsRecovered}
@@ -30,21 +30,21 @@ use Rattle.journal_mode.specs.Standing.{StandsAs}
 use Rattle.journal_mode.proofs.OpeningLemmas.{recovered_stands_law}
 use Rattle.tag_store.specs.Store.{given_tags}
 use Rattle.replay.specs.declared.recovered.Recovered.{Recovered}
-use Rattle.replay.specs.Emptied.{IsRecoveredAlready}
 use Rattle.replay.specs.Recovery.{LeavesRecovered}
 use Rattle.request_slots.specs.Flight.{Flight, no_requests}
 use Rattle.device_parts.specs.declared.condition.Condition.TheVariants.{Working}
-use Rattle.device_parts.specs.Device.{CanOpenRead, HasOpened, opened_standing as standing_opened, rule_on}
+use Rattle.device_parts.specs.Device.{CanOpenRead, HasOpened, Standing, rule_on}
 use Rattle.journal_device.specs.declared.parts.JournalParts.{JournalParts}
-use Rattle.journal_device.specs.Device.{IsOverDisk, IsWorking, in_journal, kind_on, standing_on}
+use Rattle.journal_device.specs.Device.{IsJournaled, IsOverDisk, IsWorking, in_journal, kind_on, standing_on}
 use Rattle.journal_device.proofs.DoneLemmas.{told_then}
 use Rattle.journal_device.proofs.KindLemmas.{left_now, standing_now}
 use Rattle.device_opening.specs.declared.judging.JudgedImage.{JudgedImage}
 use Rattle.device_opening.specs.Judged.{HasJudged, judged_format}
 use Rattle.device_opening.specs.JournalOpening.{HasEmptyRing, HasOpenOn, IsOpenOn}
-use Rattle.device_opening.specs.Opening.{IsLeftOpening, IsRecalculationFor, IsUnasked, KeepsRecovered, LeavesImage}
+use Rattle.device_opening.specs.Opening.{IsLeftOpening, IsRecalculationFor, IsUnasked, LeavesImage}
 use Rattle.device_opening.proofs.JudgedLemmas.{format_now, left_by, opens_now, own_format, reads_now}
 use Rattle.device_opening.proofs.OpenedRegions.{journal_regions}
+use Rattle.device_opening.proofs.StandingLemmas.{same_blocks, standing_at, standing_same}
 
 -- ---- what is open
 
@@ -88,21 +88,23 @@ module _ (f : DiskFormat) (image : Image) (at : Recovered) (device : JournalPart
     rule = maker;
   }
 
-module _ (key : Option (List ℕ)) (disk : DiskIdentity) (device : JournalParts) (a b : List Content) (can : CanOpenRead Journal key disk.sectors a) (is : IsUnasked device.parts device.recalculation disk b) where
+module _ (key : Option (List ℕ)) (disk : DiskIdentity) (device : JournalParts) (a b : List Content) (can : CanOpenRead Journal key disk.sectors a)
+    (clear : HasNow (λ c. has_flag DIRTY_BITMAP (format_on key disk.sectors (last_image c)).superblock.flags ≡ false) a) (is : IsUnasked device.parts device.recalculation disk b) where
   -- It is the device of the image,
   over_disk : {P : Content → Type 0} → EachMoment a b P → (start : Content) → content_now a ≡ Some start
-      → (on : IsOpenOn (format_on key disk.sectors (last_image start)) (last_image start) device b) (made : Content)
-      → IsOverDisk (standing_on (standing_opened Journal key disk.sectors (last_image start) (last_image made)) on.disk) Working device.parts device.journal device.recalculation b
-  over_disk moments start told on made =
+      → (on : IsOpenOn (format_on key disk.sectors (last_image start)) (last_image start) device b)
+      → let f = format_on key disk.sectors (last_image start) in
+      IsOverDisk (standing_on (standing_at Journal f (opened_on Journal f (last_image start)) (last_image start)) on.disk) Working device.parts device.journal device.recalculation b
+  over_disk moments start told on =
       let image = last_image start in
       let f = format_on key disk.sectors image in
-      let clear : has_flag DIRTY_BITMAP f.superblock.flags ≡ false = (can start told).1 in
+      let none : has_flag DIRTY_BITMAP f.superblock.flags ≡ false = clear start told in
       let now = told_then a b start told moments in
       let slots : device.parts.slots ≡ no_requests f.geometry.blocks (512 * f.geometry.shape.spb) = is.requests ∙ ap (λ (g : Geometry). no_requests g.blocks (512 * g.shape.spb)) (sym on.geometry) in
       record {
         reached = IsReached-opened (device_format Journal f) _ _ _ _;
         format = ap (device_format Journal) (sym on.format);
-        no_bitmap = subst (λ (x : DiskFormat). has_flag DIRTY_BITMAP x.superblock.flags ≡ false) (sym on.format) clear;
+        no_bitmap = subst (λ (x : DiskFormat). has_flag DIRTY_BITMAP x.superblock.flags ≡ false) (sym on.format) none;
         opened = subst (λ (x : DiskFormat). blocks_of x ≡ blocks_of (format_on x.key x.sectors image)) (sym on.format) refl;
         flight = record {
           blocks = ap (λ (x : Flight). x.blocks) slots;
@@ -118,7 +120,7 @@ module _ (key : Option (List ℕ)) (disk : DiskIdentity) (device : JournalParts)
         is_told = now.is;
         works = λ _. on.works;
         left = subst (λ (x : DiskFormat). IsLeftNow (kind_on x) image (opened_on Journal f image).history b) (sym on.format)
-            (left_now f image refl clear (opened_on Journal f image).history b
+            (left_now f image refl none (opened_on Journal f image).history b
             (subst (λ (x : DiskFormat). HasNow (EachImage (IsLeftInJournal x (opened_on Journal f image).history)) b) on.format
             (standing_now (opened_standing f image on.disk) device.journal device.parts.tags b on.works.stands)));
       }
@@ -130,28 +132,24 @@ module _ (key : Option (List ℕ)) (disk : DiskIdentity) (device : JournalParts)
     device = λ start told made told_made.
         let on = opened start told in
         let f = format_on key disk.sectors (last_image start) in
-        record {
+        subst (λ (w : Standing). IsJournaled w Working device b) (sym (standing_same Journal key disk.sectors (last_image start) (last_image made) (clear start told))) (record {
           disk = on.disk;
-          format = subst (IsFormatOf f) (sym on.format) (own_format_law f (can start told).1);
-          over = over_disk moments start told on made;
-        };
+          format = subst (IsFormatOf f) (sym on.format) (own_format_law f (clear start told));
+          over = over_disk moments start told on;
+        });
     ready = record { parts_ = λ _. is.ready; geometry = ap (λ (j : PlacedRing). j.ring.geometry) empty; regions_ = is.regions_ };
-    blocks = λ start told made told_made. refl;
+    blocks = λ start told made told_made. same_blocks Journal key disk.sectors (last_image start) (last_image made) (clear start told);
     asked_ = refl;
     requests = is.requests;
     can = can;
   }
-
--- An image that can be opened in a format without a bitmap can be in journal mode.
-pub can_open : (f : DiskFormat) (image : Image) → has_flag DIRTY_BITMAP f.superblock.flags ≡ false → OpensAs f image → CanOpenIn Journal f.key f.sectors image
-can_open f image clear opens = (opens.openable, ap (λ (d : DiskFormat). has_flag DIRTY_BITMAP d.superblock.flags) (format_on-is f image opens) ∙ clear)
 
 -- ---- what a cut leaves
 
 module _ (f : DiskFormat) (image left : Image) (clear : has_flag DIRTY_BITMAP f.superblock.flags ≡ false) (has : HasCells f (cells_on f image) left) where
   -- An image with the cells at opening can be opened,
   pub cells_open : CanOpenIn Journal f.key f.sectors left
-  cells_open = can_open f left clear has.opens
+  cells_open = has.opens.openable
 
   cells_left : IsLeftInJournal f (opened_on Journal f image).history left
   cells_left = record {
@@ -167,20 +165,25 @@ module _ (f : DiskFormat) (image left : Image) (clear : has_flag DIRTY_BITMAP f.
   -- and may be left of the device before its first request.
   pub cells_may_be_left : format_on f.key f.sectors image ≡ f → (kind_in Journal f.key f.sectors).MayBeLeft image ((kind_in Journal f.key f.sectors).opened image).history left
   cells_may_be_left own =
-      subst (λ (x : DiskFormat). (kind_in Journal f.key f.sectors).MayBeLeft image (opened_on Journal x image).history left) (sym own)
-      (journal_kind_law f image (opened_on Journal f image).history left own cells_left)
+      subst (λ (s : DeviceState). (kind_in Journal f.key f.sectors).MayBeLeft image s.history left)
+      (sym (opened_in-same Journal (format_on f.key f.sectors image) (ap (λ (x : DiskFormat). has_flag DIRTY_BITMAP x.superblock.flags) own ∙ clear) image))
+      (subst (λ (x : DiskFormat). (kind_in Journal f.key f.sectors).MayBeLeft image (opened_on Journal x image).history left) (sym own)
+      (journal_kind_law f image (opened_on Journal f image).history left own cells_left))
 
 -- ---- behind the judging
 
 module _ (key : Option (List ℕ)) (disk : DiskIdentity) (image : JudgedImage) (a : List Content) (judged : HasJudged disk.sectors image a) (same : image.maker.key ≡ key) where
   can_read : CanOpenRead Journal key disk.sectors a
-  can_read c told = can_open (own_format key disk image a judged same) (last_image c) judged.format.no_bitmap (opens_now key disk image a judged same c told)
+  can_read c told = (opens_now key disk image a judged same c told).openable
+
+  clear_now : HasNow (λ c. has_flag DIRTY_BITMAP (format_on key disk.sectors (last_image c)).superblock.flags ≡ false) a
+  clear_now c told = ap (λ (d : DiskFormat). has_flag DIRTY_BITMAP d.superblock.flags) (reads_now key disk image a judged same c told).own ∙ judged.format.no_bitmap
 
   -- What was judged is open,
   pub has_opened : {b : List Content} {P : Content → Type 0} (device : JournalParts) → EachMoment a b P → HasOpenOn (judged_format disk.sectors image) device a b → IsUnasked device.parts device.recalculation disk b
       → HasEmptyRing device → HasOpened in_journal Journal key disk device a b
   has_opened {b} device moments opened is empty =
-      opened_by key disk device a b can_read is moments empty
+      opened_by key disk device a b can_read clear_now is moments empty
       (λ start at. subst (λ (f : DiskFormat). IsOpenOn f (last_image start) device b) (format_now key disk image a judged same start at) (opened start at))
 
   -- each image that is left may be left of it,
@@ -189,8 +192,3 @@ module _ (key : Option (List ℕ)) (disk : DiskIdentity) (image : JudgedImage) (
       left_by key disk image a judged same Journal
       (λ entry left has. cells_open (own_format key disk image a judged same) entry left judged.format.no_bitmap has)
       (λ entry left has own. cells_may_be_left (own_format key disk image a judged same) entry left judged.format.no_bitmap has own) leaves
-
-  -- and what is not written is so by the image's own format.
-  pub own_recovered : {b : List Content} → KeepsRecovered (λ found. image.format.geometry) a b → KeepsRecovered (λ found. (format_on key disk.sectors found).geometry) a b
-  own_recovered keeps start told already =
-      keeps start told (subst (λ (g : Geometry). IsRecoveredAlready g (last_image start)) (ap (λ (d : DiskFormat). d.geometry) (reads_now key disk image a judged same start told).own) already)

@@ -23,7 +23,7 @@ use Rattle.place_model.specs.Format.{DiskFormat, HasCells, OpensAs, cells_on, fo
 use Rattle.place_model.specs.Kind.{kind_in}
 use Rattle.place_model.proofs.FormatLemmas.{opens_from, reads_tells}
 use Rattle.image_format.specs.declared.reading.ImageFormat.{ImageFormat}
-use Rattle.image_format.specs.Format.{IsFormat, IsReadNow, direct_format_of, disk_format}
+use Rattle.image_format.specs.Format.{IsFormat, IsReadNow, disk_format, format_of}
 use Rattle.image_judging.specs.declared.consent.Consent.{Consent}
 use Rattle.image_judging.specs.declared.opening_fault.OpeningFault.{OpeningFault}
 use Rattle.image_judging.specs.Faults.{ByConsent, ByJournal, HasOpenCause, fault_of, lacks_consent}
@@ -35,7 +35,7 @@ use Rattle.device_opening.specs.declared.judging.JudgedImage.{JudgedImage}
 use Rattle.device_opening.specs.declared.recovering.RecoveredImage.{RecoveredImage}
 use Rattle.device_opening.specs.declared.room.DeviceRoom.{DeviceRoom}
 use Rattle.device_opening.specs.Judged.{HasJudged, judged_format, rule_of}
-use Rattle.device_opening.specs.Opening.{IsLeftOpening, IsOfImage, IsOfOpening, IsRecalculationFor, IsRoomFor, IsUnasked, LeavesImage, WritesOpening}
+use Rattle.device_opening.specs.Opening.{IsLeftOpening, IsOfImage, IsOfOpening, IsRecalculationFor, IsRoomFor, IsUnasked, LeavesImage}
 use Rattle.device_opening.proofs.MomentsLemmas.{since_from}
 
 -- What is known of the disk behind a read is known of it before.
@@ -48,17 +48,18 @@ shift P {mid} {old} {m} {a} is same p = subst (λ (i : DiskIdentity). P i a) is 
 pub own_layout : (sectors : ℕ) (format : ImageFormat) → IsFormat sectors format → format.geometry ≡ layout_of format.fields
 own_layout sectors format is = ((geometry_given format.fields sectors format.geometry).0 is.told).0
 
-module _ (key : Option (List ℕ)) (consent : Consent) (disk : DiskIdentity) (format : ImageFormat) (a : List Content) (told : HasNow (λ c. Ok format ≡ direct_format_of disk.sectors (last_image c)) a) where
+module _ (key : Option (List ℕ)) (consent : Consent) (disk : DiskIdentity) (format : ImageFormat) (a : List Content) (told : HasNow (λ c. Ok format ≡ format_of disk.sectors (last_image c)) a)
+    (clear : has_flag DIRTY_BITMAP format.fields.flags ≡ false) where
   -- Where consent is lacking that is the fault of the image,
   pub consent_now : lacks_consent key consent (some_await format.fields) ≡ true → HasNow (λ c. Some (ByConsent format.fields.flags) ≡ fault_of key consent disk.sectors (last_image c)) a
-  consent_now lacks c at = sym (fault_of-lacking key consent disk.sectors format (last_image c) (told c at) lacks)
+  consent_now lacks c at = sym (fault_of-lacking key consent disk.sectors format (last_image c) (told c at) clear lacks)
 
   -- and else it has the fault that its journal has.
   pub fault_now : (rule : TagRule) → rule ≡ rule_of key format → lacks_consent key consent (some_await format.fields) ≡ false → (fault : Option model.JournalFault)
       → HasNow (λ c. fault ≡ journal_fault_of rule.key rule.salt format.geometry (last_image c)) a → HasNow (λ c. option_map ByJournal fault ≡ fault_of key consent disk.sectors (last_image c)) a
   fault_now rule rule_is given fault has c at =
       ap (option_map ByJournal) (has c at ∙ ap (λ (r : TagRule). journal_fault_of r.key r.salt format.geometry (last_image c)) rule_is)
-      ∙ sym (fault_of-format key consent disk.sectors format (last_image c) (told c at) given)
+      ∙ sym (fault_of-format key consent disk.sectors format (last_image c) (told c at) clear given)
 
 -- One whose journal has none can be opened.
 pub judged_opens : (key : Option (List ℕ)) (sectors : ℕ) (format : ImageFormat) (rule : TagRule) (c : Content) → rule ≡ rule_of key format → has_flag DIRTY_BITMAP format.fields.flags ≡ false
@@ -106,9 +107,6 @@ module _ (key : Option (List ℕ)) (disk : DiskIdentity) (image : JudgedImage) (
       → EachSince (λ start. P (format_on key disk.sectors (last_image start)).geometry start) a b
   own_since P m = EachMoment-weaker (FromStart-weaker a (P image.format.geometry) (λ start. P (format_on key disk.sectors (last_image start)).geometry start)
       (λ start c told adds. subst (λ (g : Geometry). P g start c) (ap (λ (d : DiskFormat). d.geometry) (sym (reads_now start told).own)) adds)) m
-
-  pub own_writes : {b : List Content} → LeavesImage own_format a b → WritesOpening key disk.sectors a b
-  own_writes leaves = own_since IsOfOpening leaves.writes
 
   -- In a mode that opens each image with these cells, and that may be left so, each image that is left is one of these.
   pub left_by : (mode : Mode) {b : List Content} → ((entry left : Image) → HasCells own_format (cells_on own_format entry) left → (kind_in mode key disk.sectors).CanOpen left)

@@ -8,10 +8,16 @@ pub mod EmptiedJournalLemmas
 pub mod EmptiedLemmas
 pub mod EmptyingLemmas
 pub mod ApartLemmas
+pub mod StandingLemmas
 pub mod MadeLemmas
 pub mod MadeDeviceLemmas
+pub mod JournalChangeLemmas
 pub mod OpenedMadeLemmas
 pub mod JournalLemmas
 pub mod DirectLemmas
+pub mod JournalMakingLemmas
+pub mod RecalculatedLemmas
+pub mod MadeJournalLemmas
+pub mod MadeOpeningLemmas
 pub mod BitmapLemmas
 pub mod RecoveryLemmas

@@ -1,25 +1,23 @@
 -- The device in bitmap mode on the bitmap that was made of a journal.
-use Rattle.std.proofs.Common.{◌≡◌, inl, inr, ℕ, ◌+◌, ◌*◌, ◌<◌, ◌≤◌, Bool, true, false, refl, sym, ◌∙◌, ap, subst, arith, Option, None, Some, List, length, option_map}
+use Rattle.std.proofs.Common.{◌≡◌, ℕ, ◌+◌, ◌*◌, ◌<◌, ◌≤◌, true, false, refl, sym, ◌∙◌, ap, subst, arith, Option, Some, List, length}
 use Rattle.std.proofs.lemmas.Option.{none-some, same_Some}
 use Rattle.disk_model.specs.Disk.{Content, Image, IsImage, last_image, newest_only, with_run}
 use Rattle.disk_model.specs.Identity.{DiskIdentity}
-use Rattle.disk_model.specs.Moments.{HasNow, IsChangedBy, content_now}
+use Rattle.disk_model.specs.Moments.{IsChangedBy, content_now}
 use Rattle.disk_model.proofs.DiskLemmas.{last_image-with_run_out}
 use Rattle.image_model.specs.declared.flags.TheConstants.{DIRTY_BITMAP}
 use Rattle.image_model.specs.Cells.{block_tag, placed_cells_of, salt_of}
-use Rattle.image_model.specs.Geometry.{Geometry, bitmap_sectors, initial, journal_sectors, regions, IsGeometry}
+use Rattle.image_model.specs.Geometry.{Geometry, journal_sectors, regions, IsGeometry}
 use Rattle.image_model.specs.Sectors.{zero_bytes}
 use Rattle.image_model.proofs.GeometryLemmas.{data_at-inside}
 use Rattle.image_model.specs.Superblock.{has_flag}
 use Rattle.device_model.specs.Mode.{Bitmap}
-use Rattle.device_model.specs.Progress.{DeviceState}
 use Rattle.place_model.specs.Changed as Places
 use Rattle.place_model.specs.Changed.{changed_device, opened_format}
 use Rattle.place_model.specs.Format.{DiskFormat, HasWholeSectors, OpensAs, cells_on, format_on}
-use Rattle.place_model.specs.Kind.{kind_in}
 use Rattle.place_model.specs.Opened.{blocks_of, device_format, set_bits_on}
 use Rattle.place_model.proofs.FormatLemmas.{format_on-is, opens_reads}
-use Rattle.place_model.proofs.KindLemmas.{judged_image-journal, opened_format-journal, opened_in-journal}
+use Rattle.place_model.proofs.KindLemmas.{not_in_bitmap_mode}
 use Rattle.place_model.proofs.TagsLemmas.{tag_byte-behind}
 use Rattle.bitmap_model.specs.BitmapDisk.{BitmapDisk, StandsFor}
 use Rattle.bitmap_model.specs.Steps.{KeepsCells}
@@ -30,7 +28,6 @@ use Rattle.bitmap_laws.proofs.DeviceLemmas.{beginning_law}
 use Rattle.bitmap_laws.proofs.MomentLemmas.{left_now_law}
 use Rattle.bitmap_laws.proofs.OwnTagLemmas.{own_tags_begin}
 use Rattle.change_model.specs.Change.{ModeChange}
-use Rattle.change_model.specs.Ends.{IsNewBitmap, format_after}
 use Rattle.image_format.specs.declared.reading.ImageFormat.{ImageFormat}
 use Rattle.image_format.specs.Format.{disk_format}
 use Rattle.std.proofs.lemmas.List.{length-replicate}
@@ -53,6 +50,7 @@ use Rattle.device_parts.specs.Device.{IsOfSameBlocks, Standing, opened_standing,
 use Rattle.bitmap_mode.specs.States.{States}
 use Rattle.bitmap_device.specs.Device.{IsBitmapped, IsOverDisk, kept, standing_on}
 use Rattle.device_opening.specs.Changing.{HasNoRegions}
+use Rattle.device_opening.proofs.StandingLemmas.{changed_blocks, standing_at, standing_changed}
 
 module _ (key : Option (List ℕ)) (sectors : ℕ) (f : ImageFormat) (entry : Image) (m : ModeChange) (others : ℕ → List ℕ) (last : Content)
     (own : format_on key sectors entry ≡ disk_format key sectors f) (clear : has_flag DIRTY_BITMAP f.fields.flags ≡ false)
@@ -69,18 +67,16 @@ module _ (key : Option (List ℕ)) (sectors : ℕ) (f : ImageFormat) (entry : Im
 
   -- ---- which device it is
 
+  none : has_flag DIRTY_BITMAP (format_on key sectors entry).superblock.flags ≡ false
+  none = ap (λ (x : DiskFormat). has_flag DIRTY_BITMAP x.superblock.flags) own ∙ clear
+
   abbrev made_standing : Standing
-  made_standing = record { format = device_format Bitmap after; state = changed_device before entry; on = after; entry = made }
+  made_standing = standing_at Bitmap after (changed_device before entry) made
 
   pub standing_made : made_standing ≡ opened_standing Bitmap key sectors entry made
   standing_made =
-      let d = format_on key sectors entry in
-      let none : has_flag DIRTY_BITMAP d.superblock.flags ≡ false = ap (λ (x : DiskFormat). has_flag DIRTY_BITMAP x.superblock.flags) own ∙ clear in
-      let format : after ≡ opened_format Bitmap d = ap Places.bitmap_format (sym own) ∙ sym (opened_format-journal d none) in
-      let state : changed_device before entry ≡ (kind_in Bitmap key sectors).opened entry = ap (λ (x : DiskFormat). changed_device x entry) (sym own) ∙ sym (opened_in-journal d entry none) in
-      ap (λ (x : DiskFormat). let w : Standing = record { format = device_format Bitmap x; state = changed_device before entry; on = x; entry = made } in w) format
-      ∙ ap (λ (s : DeviceState). let w : Standing = record { format = device_format Bitmap (opened_format Bitmap d); state = s; on = opened_format Bitmap d; entry = made } in w) state
-      ∙ ap (λ (x : Image). let w : Standing = record { format = device_format Bitmap (opened_format Bitmap d); state = (kind_in Bitmap key sectors).opened entry; on = opened_format Bitmap d; entry = x } in w) (sym (judged_image-journal d entry made none))
+      ap (λ (x : DiskFormat). standing_at Bitmap (Places.bitmap_format x) (changed_device x entry) made) (sym own)
+      ∙ sym (standing_changed Bitmap key sectors entry made (not_in_bitmap_mode (format_on key sectors entry) none))
 
   -- ---- its disk
 
@@ -121,12 +117,9 @@ module _ (key : Option (List ℕ)) (sectors : ℕ) (f : ImageFormat) (entry : Im
   -- It has the blocks of the one at entry.
   pub same_blocks : salt_of (bitmap_fields f.fields) ≡ salt_of f.fields → IsOfSameBlocks Bitmap key sectors entry made
   same_blocks salt =
-      let d = format_on key sectors entry in
-      let none : has_flag DIRTY_BITMAP d.superblock.flags ≡ false = ap (λ (x : DiskFormat). has_flag DIRTY_BITMAP x.superblock.flags) own ∙ clear in
-      ap (λ (x : Image). blocks_of (format_on key sectors x)) (judged_image-journal d entry made none)
-      ∙ sym blocks
+      changed_blocks Bitmap key sectors entry made (not_in_bitmap_mode (format_on key sectors entry) none) (sym blocks
       ∙ ap (λ (x : Option (List ℕ)). let s : BlockFormat = record { blocks = f.geometry.blocks; block_size = 512 * f.geometry.shape.spb; tag = λ b bytes. block_tag key x f.geometry (b * f.geometry.shape.spb) bytes } in s) salt
-      ∙ ap blocks_of (sym own)
+      ∙ ap blocks_of (sym own)) (format_on-is after made opens ∙ ap Places.bitmap_format (sym own))
 
   -- ---- what is kept
 

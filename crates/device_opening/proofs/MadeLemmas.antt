@@ -1,22 +1,22 @@
 -- What a cut leaves while a bitmap is made of a journal, and what is written in that.
-use Rattle.std.proofs.Common.{◌≡◌, ◌⊎◌, inl, inr, ⊎_elim, ℕ, ◌<◌, ◌≤◌, Bool, false, refl, sym, ◌∙◌, ap, subst, arith, Option, Some, List}
+use Rattle.std.proofs.Common.{◌≡◌, ◌⊎◌, inl, inr, ⊎_elim, ℕ, true, false, sym, ◌∙◌, subst, arith, Option, Some, List}
 use Rattle.std.proofs.lemmas.Option.{same_Some}
-use Rattle.disk_model.specs.Disk.{Content, EachImage, HasNothingPending, Image, IsImage, OnlyAdds, last_image, newest_only}
-use Rattle.disk_model.specs.Moments.{EachMoment, EachSince, HasNow, content_now}
+use Rattle.disk_model.specs.Disk.{Content, HasNothingPending, Image, OnlyAdds, last_image, newest_only}
+use Rattle.disk_model.specs.Moments.{EachSince, HasNow, content_now}
 use Rattle.disk_model.proofs.DiskLemmas.{OnlyAdds-join, OnlyAdds-wider}
 use Rattle.disk_model.proofs.MomentsLemmas.{EachMoment-join, EachMoment-then, EachMoment-weaker, FromStart-weaker, content_at_end}
 use Rattle.image_model.specs.declared.flags.TheConstants.{DIRTY_BITMAP}
 use Rattle.image_model.specs.Cells.{replayed_entries}
 use Rattle.image_model.specs.Geometry.{Geometry, IsGeometry}
-use Rattle.image_model.specs.Superblock.{Superblock, has_flag}
+use Rattle.image_model.specs.Openable.{IsOpenable}
+use Rattle.image_model.specs.Superblock.{has_flag}
 use Rattle.image_model.specs.SuperblockLaws.{FitsBytes}
-use Rattle.device_model.specs.Mode.{Bitmap}
+use Rattle.device_model.specs.Mode.{Bitmap, Direct, Journal, Mode}
 use Rattle.device_model.specs.Progress.{DeviceState}
-use Rattle.place_model.specs.Changed.{bitmap_fields}
-use Rattle.place_model.specs.Format.{DiskFormat, HasCells, OpensAs, cells_on, format_on}
-use Rattle.place_model.specs.Kind.{CanOpenIn, kind_in}
-use Rattle.place_model.specs.Left.{IsLeftInBitmap}
-use Rattle.place_model.proofs.KindLemmas.{opened_in-journal}
+use Rattle.place_model.specs.Changed.{bitmap_fields, changed_device, changes_mode}
+use Rattle.place_model.specs.Format.{DiskFormat, OpensAs, cells_on, format_on}
+use Rattle.place_model.specs.Kind.{IsLeftIn, kind_in}
+use Rattle.place_model.proofs.KindLemmas.{not_in_bitmap_mode, opened_in-changed}
 use Rattle.place_model.proofs.LeftLemmas.{unwritten_left}
 use Rattle.direct_laws.specs.CallLaws.{ReadsImage}
 use Rattle.change_model.specs.Change.{IsOfHead}
@@ -38,19 +38,43 @@ use Rattle.device_opening.proofs.MomentsLemmas.{each_from, now_told}
 -- ---- what a cut leaves
 
 module _ (key : Option (List ℕ)) (sectors : ℕ) (entry left : Image) (keeps : KeepsEntry (format_on key sectors entry) entry left) where
-  -- An image that keeps the cells of the one at entry can be opened in bitmap mode,
-  pub entry_opens : CanOpenIn Bitmap key sectors left
-  entry_opens = (keeps.has.opens.openable, tt)
+  -- An image that keeps the cells of the one at entry can be opened,
+  pub entry_opens : IsOpenable key sectors left
+  entry_opens = keeps.has.opens.openable
 
-  -- and may be left of the device before its first request.
+  -- and may be left of the device that changes the mode, before its first request:
+  entry_left : (mode : Mode) → changes_mode mode (format_on key sectors entry).superblock ≡ true → IsLeftIn mode key sectors entry (changed_device (format_on key sectors entry) entry).history left
+      → (kind_in mode key sectors).MayBeLeft entry ((kind_in mode key sectors).opened entry).history left
+  entry_left mode is left_is = record {
+    blocks = keeps.same;
+    left_is = subst (λ (s : DeviceState). IsLeftIn mode key sectors entry s.history left) (sym (opened_in-changed mode (format_on key sectors entry) is entry)) left_is;
+  }
+
+  -- in bitmap mode,
   pub entry_may_be_left : has_flag DIRTY_BITMAP (format_on key sectors entry).superblock.flags ≡ false
       → (kind_in Bitmap key sectors).MayBeLeft entry ((kind_in Bitmap key sectors).opened entry).history left
-  entry_may_be_left clear = record {
-    blocks = keeps.same;
-    left_is =
-        subst (λ (s : DeviceState). IsLeftInBitmap (format_on key sectors left) s.history left) (sym (opened_in-journal (format_on key sectors entry) entry clear))
-        (unwritten_left (format_on key sectors left) (cells_on (format_on key sectors entry) entry) left keeps.has);
-  }
+  entry_may_be_left clear =
+      entry_left Bitmap (not_in_bitmap_mode (format_on key sectors entry) clear)
+      (unwritten_left (format_on key sectors left) (cells_on (format_on key sectors entry) entry) left keeps.has)
+
+  -- in journal mode,
+  pub entry_left_journal : has_flag DIRTY_BITMAP (format_on key sectors entry).superblock.flags ≡ true
+      → (kind_in Journal key sectors).MayBeLeft entry ((kind_in Journal key sectors).opened entry).history left
+  entry_left_journal set =
+      entry_left Journal set (record {
+        opens = keeps.has.opens;
+        left = record {
+          kept = 0;
+          has_flushed = omega arith;
+          has_no_more = omega arith;
+          each = λ b low. keeps.has.each b low;
+        };
+      })
+
+  -- and in direct mode.
+  pub entry_left_direct : has_flag DIRTY_BITMAP (format_on key sectors entry).superblock.flags ≡ true
+      → (kind_in Direct key sectors).MayBeLeft entry ((kind_in Direct key sectors).opened entry).history left
+  entry_left_direct set = entry_left Direct set (record { opens = keeps.has.opens; left = record { flushed = λ b low kept. keeps.has.each b low } })
 
 -- ---- what is written before the change
 

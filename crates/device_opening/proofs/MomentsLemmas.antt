@@ -7,10 +7,25 @@ use Rattle.disk_model.specs.Moments.{EachMoment, EachSince, FromStart, HasNow, I
 use Rattle.disk_model.proofs.DiskLemmas.{OnlyAdds-none}
 use Rattle.disk_model.proofs.MomentsLemmas.{EachMoment-join, EachMoment-weaker, FromStart-weaker}
 use Rattle.std.specs.List.{AllByRecursion, Contains}
+use Rattle.std.proofs.lemmas.List.{append_cancel_right}
 use Rattle.image_model.specs.Cells.{replayed_entries}
 use Rattle.image_model.specs.Geometry.{Geometry}
 use Rattle.journal_mode.specs.Emptied.{KeepsResting}
 use Rattle.journal_mode.specs.Writes.{IsOfPlacing}
+
+-- Two facts of each moment are one.
+all_both : (P Q : Content → Type 0) (xs : List Content) → AllByRecursion P xs → AllByRecursion Q xs
+    → AllByRecursion (λ c. P c × Q c) xs
+all_both P Q [] p q = tt
+all_both P Q (x ∷ xs) p q = ((p.0, q.0), all_both P Q xs p.1 q.1)
+
+pub EachMoment-both : {a b : List Content} {P Q : Content → Type 0} → EachMoment a b P → EachMoment a b Q
+    → EachMoment a b (λ c. P c × Q c)
+EachMoment-both {a} {b} {P} {Q} p q = record {
+  since = p.since;
+  grows = p.grows;
+  each = all_both P Q p.since p.each (subst (AllByRecursion Q) (append_cancel_right q.since p.since a (sym q.grows ∙ p.grows)) q.each);
+}
 
 -- What is told at the start is known of it.
 from_told : (o : Option Content) (P : Content → Type 0) (start : Content) → o ≡ Some start → IsSomeAnd o P → P start

@@ -1,9 +1,9 @@
 -- What an opening that makes a bitmap tells, by the format that was read.
-use Rattle.std.proofs.Common.{◌≡◌, ℕ, Bool, true, false, refl, if◌then◌else◌, sym, ◌∙◌, ap, subst, Option, None, Some, Result, Ok, Err, List}
+use Rattle.std.proofs.Common.{◌≡◌, ℕ, false, sym, ◌∙◌, ap, subst, Option, Some, List}
 use Rattle.std.proofs.lemmas.Bool.{true≢false}
-use Rattle.disk_model.specs.Disk.{Content, EachImage, Image, last_image, newest_only}
+use Rattle.disk_model.specs.Disk.{Content, EachImage, last_image, newest_only}
 use Rattle.disk_model.specs.Identity.{DiskIdentity}
-use Rattle.disk_model.specs.Moments.{EachMoment, EachSince, HasNow, content_now}
+use Rattle.disk_model.specs.Moments.{EachMoment, content_now}
 use Rattle.disk_model.proofs.MomentsLemmas.{EachMoment-weaker, FromStart-weaker}
 use Rattle.image_model.specs.declared.flags.TheConstants.{DIRTY_BITMAP}
 use Rattle.image_model.specs.Superblock.{has_flag}
@@ -11,41 +11,16 @@ use Rattle.device_model.specs.Mode.{Bitmap}
 use Rattle.place_model.specs.Format.{DiskFormat, format_on}
 use Rattle.place_model.specs.Kind.{kind_in}
 use Rattle.change_model.specs.Opened.{KeepsEntry}
-use Rattle.image_format.specs.declared.open_fault.OpenFault.{OpenFault}
 use Rattle.image_format.specs.declared.reading.ImageFormat.{ImageFormat}
-use Rattle.image_format.specs.Format.{disk_format, format_of, in_direct_mode}
-use Rattle.image_format.proofs.FormatLemmas.{in_direct_mode-ok}
-use Rattle.image_judging.specs.declared.consent.Consent.{Consent}
-use Rattle.image_judging.specs.Faults.{bitmap_fault_by, bitmap_fault_of, direct_fault_by, fault_of}
+use Rattle.image_format.specs.Format.{disk_format}
 use Rattle.device_opening.specs.Changing.{IsOfBitmapOpening, IsOfMade, LeavesMade, WritesBitmap}
 use Rattle.device_parts.specs.Device.{CanOpenRead}
 use Rattle.image_model.specs.Openable.{IsOpenable}
 use Rattle.device_opening.specs.declared.judging.JudgedImage.{JudgedImage}
 use Rattle.device_opening.specs.Judged.{HasBitmapFormat, HasJournalFormat, HasJudged}
-use Rattle.device_opening.specs.Opening.{IsLeftOpening, LeavesOpenable, OnlySyncs}
+use Rattle.device_opening.specs.Opening.{LeavesOpenable, OnlySyncs}
 use Rattle.device_opening.proofs.MadeLemmas.{entry_may_be_left, entry_opens}
 use Rattle.device_opening.proofs.MomentsLemmas.{since_from}
-
--- What tells direct mode a format tells it.
-format_told : (r : Result ImageFormat OpenFault) (format : ImageFormat) → Ok format ≡ in_direct_mode r → Ok format ≡ r
-format_told (Ok f) format e = ap (λ (x : ImageFormat). let r : Result ImageFormat OpenFault = Ok x in r) (in_direct_mode-ok f format e).0
-format_told (Err x) format e = absurd (cc)
-
--- Without a bitmap direct mode takes a format as it is.
-pub in_direct_mode-clear : (format : ImageFormat) → has_flag DIRTY_BITMAP format.fields.flags ≡ false → ◌≡◌ {A = Result ImageFormat OpenFault} (Ok format) (in_direct_mode (Ok format))
-in_direct_mode-clear format clear = rw clear refl
-
--- Without a bitmap the fault in bitmap mode is the one in journal mode.
-by_journal : (key : Option (List ℕ)) (consent : Consent) (image : Image) (format : ImageFormat) → has_flag DIRTY_BITMAP format.fields.flags ≡ false
-    → direct_fault_by key consent image (Ok format) ≡ bitmap_fault_by key consent image (Ok format)
-by_journal key consent image format clear = rw clear refl
-
-module _ (key : Option (List ℕ)) (consent : Consent) (disk : DiskIdentity) (format : ImageFormat) (a : List Content) (found : HasJournalFormat disk.sectors format a) where
-  pub same_faults : HasNow (λ c. fault_of key consent disk.sectors (last_image c) ≡ bitmap_fault_of key consent disk.sectors (last_image c)) a
-  same_faults c told =
-      ap (direct_fault_by key consent (last_image c)) (sym (found.told c told))
-      ∙ by_journal key consent (last_image c) format found.format_.no_bitmap
-      ∙ ap (bitmap_fault_by key consent (last_image c)) (format_told (format_of disk.sectors (last_image c)) format (found.told c told))
 
 module _ (key : Option (List ℕ)) (disk : DiskIdentity) (format : ImageFormat) (a b : List Content) (found : HasJournalFormat disk.sectors format a)
     (leaves : LeavesMade (disk_format key disk.sectors format) a b) where
@@ -92,4 +67,4 @@ found_writes key disk format a b found synced =
 pub can_made : (key : Option (List ℕ)) (disk : DiskIdentity) (format : ImageFormat) (a : List Content) → HasJournalFormat disk.sectors format a → (image : JudgedImage) → HasJudged disk.sectors image a
     → image.maker.key ≡ key → CanOpenRead Bitmap key disk.sectors a
 can_made key disk format a found image judged same c told =
-    (subst (λ (k : Option (List ℕ)). IsOpenable k disk.sectors (last_image c)) same (judged.now c told).opens.openable, tt)
+    subst (λ (k : Option (List ℕ)). IsOpenable k disk.sectors (last_image c)) same (judged.now c told).opens.openable

@@ -37,7 +37,6 @@ format_told T sectors image fault memory disk told = by fault memory disk ∙ ap
     by FormatFaults.Disk memory disk = absurd (disk refl)
     by (FormatFaults.Super fault) memory disk = refl
     by (FormatFaults.Geom fault) memory disk = refl
-    by (FormatFaults.Mode flags) memory disk = refl
 
 -- ---- a device that is open
 
@@ -81,7 +80,7 @@ module _ (disk : DiskIdentity) (key : Option (List ℕ)) (format : ImageFormat) 
               is_told = ap content_now same ∙ now;
               entry_ = refl;
             };
-        blocks = λ start now made now_made. refl;
+        blocks = λ start now made now_made. record { blocks = refl; format = refl };
         ready = record {
           kept = record {
             store = subst (λ (s : Store). IsStore s disk b) (sym made.tags) (fresh_law format.geometry disk b held bound is.geometry).0;

@@ -4,7 +4,7 @@ use Rattle.disk_model.specs.Disk.{Content}
 use Rattle.disk_model.specs.Moments.{HasNow}
 use Rattle.place_model.specs.Format.{DiskFormat}
 use Rattle.image_format.specs.declared.reading.ImageFormat.{ImageFormat}
-use Rattle.image_format.specs.Format.{IsBitmapFormat, IsBitmapNow}
+use Rattle.image_format.specs.Format.{IsBitmapFormat, IsOpenableNow}
 use Rattle.bitmap_mode.specs.Standing.{AreOpened}
 use Rattle.bitmap_mode.specs.States.{States}
 use Rattle.device_opening.specs.declared.bitmap_judging.JudgedBitmap.{JudgedBitmap}
@@ -21,4 +21,4 @@ pub record HasJudgedBitmap (sectors : ℕ) (image : JudgedBitmap) (moments : Lis
   pub format : IsBitmapFormat sectors image.format
   pub maker : image.maker ≡ rule_of image.maker.key image.format
   pub regions_ : AreRegionsOf image.format image.regions moments
-  pub now : HasNow (IsBitmapNow image.maker.key sectors image.format) moments
+  pub now : HasNow (IsOpenableNow image.maker.key sectors image.format) moments

@@ -2,6 +2,8 @@
 -- bitmap of which no bit is set.
 use Rattle.std.specs.Prelude.{◌≡◌, ◌⊎◌, ℕ, true, false, Option, List}
 use Rattle.disk_model.specs.Disk.{Content, EachImage, Image, OnlyAdds, last_image, newest_only}
+use Rattle.buffer_cache.specs.Cached.{HasNoMark}
+use Rattle.disk_model.specs.Identity.{DiskIdentity}
 use Rattle.disk_model.specs.Moments.{EachMoment, EachSince, HasNow}
 use Rattle.image_model.specs.declared.flags.TheConstants.{DIRTY_BITMAP}
 use Rattle.image_model.specs.Cells.{replayed_entries}
@@ -22,7 +24,9 @@ use Rattle.bitmap_mode.specs.States.{States}
 use Rattle.device_parts.specs.declared.condition.Condition.TheVariants.{Working}
 use Rattle.device_parts.specs.Device.{opened_standing}
 use Rattle.device_model.specs.Mode.{Bitmap}
+use Rattle.device_opening.specs.declared.judging.JudgedImage.{JudgedImage}
 use Rattle.device_opening.specs.declared.recovering.RecoveredImage.{RecoveredImage}
+use Rattle.device_opening.specs.Opening.{IsOfImage}
 
 -- ---- what is written
 
@@ -61,6 +65,12 @@ pub record IsEmptiedOn (f : DiskFormat) (image : Image) (recovered : RecoveredIm
 abbrev pub HasEmptiedOn : DiskFormat → RecoveredImage → (before after : List Content) → Type 0
 HasEmptiedOn f recovered before after =
     HasNow (λ start. HasNow (IsEmptiedOn f (last_image start) recovered) after) before
+
+-- What was recovered is of this disk and of the image that was judged, and all its tags are written back.
+pub record IsWrittenBack (image : JudgedImage) (recovered : RecoveredImage) (disk : DiskIdentity)
+    (moments : List Content) : Type 0 where
+  pub of_image : IsOfImage image recovered disk moments
+  pub unmarked : HasNoMark recovered.tags.sectors
 
 -- ---- at each moment
 

@@ -3,9 +3,10 @@
 -- Own: the journal is recovered and then emptied, so that each block is what stands in its place.
 use Rattle.std.specs.Prelude.{◌≡◌, ℕ, false, Option, List}
 use Rattle.disk_model.specs.Disk.{Content, EachImage, HasNothingPending, Image, OnlyAdds, last_image, newest_only}
-use Rattle.disk_model.specs.Moments.{EachSince, HasNow}
+use Rattle.disk_model.specs.Moments.{HasNow}
 use Rattle.image_model.specs.Geometry.{Geometry}
 use Rattle.device_model.specs.Mode.{Direct}
+use Rattle.place_model.specs.Changed.{opened_format}
 use Rattle.place_model.specs.Format.{DiskFormat, format_on}
 use Rattle.place_model.specs.Opened.{device_format, opened_on}
 use Rattle.direct_model.specs.DirectDisk.{DirectDisk}
@@ -17,7 +18,6 @@ use Rattle.device_parts.specs.declared.condition.Condition.TheVariants.{Working}
 use Rattle.direct_device.specs.declared.parts.DirectParts.{DirectParts}
 use Rattle.direct_device.specs.Device.{DirectStanding as Standing, IsOverDisk as IsDevice}
 use Rattle.device_opening.specs.declared.recovering.RecoveredImage.{RecoveredImage}
-use Rattle.device_opening.specs.Opening.{WritesOpening}
 
 -- ---- an image that is recovered and emptied
 
@@ -31,12 +31,6 @@ pub record HasEmptied (f : DiskFormat) (before after : List Content) (image : Re
 abbrev pub KeepsEmpty : Geometry → (start c : Content) → Type 0
 KeepsEmpty g start c = IsEmptyJournal g (last_image start)
     → OnlyAdds (λ sector x. HoldsTag g sector) (newest_only start) c
-
--- What an opening in direct mode writes, by the image that reads gave: entries of its journal in their places, sectors
--- of tags, and empty sections; and where its journal was empty, sectors of tags alone.
-pub record WritesEmptying (key : Option (List ℕ)) (sectors : ℕ) (before after : List Content) : Type 0 where
-  pub recovers : WritesOpening key sectors before after
-  pub keeps : EachSince (λ start. KeepsEmpty (format_on key sectors (last_image start)).geometry start) before after
 
 -- ---- what is open
 
@@ -62,8 +56,9 @@ pub record IsOpenOn (f : DiskFormat) (image : Image) (kept : DirectParts) (momen
 abbrev pub HasOpenOn : DiskFormat → DirectParts → (before after : List Content) → Type 0
 HasOpenOn f kept before after = HasNow (λ start. IsOpenOn f (last_image start) kept after) before
 
--- Each image of the disk has an empty journal, by the format of the image that reads gave, and nothing is pending.
+-- Each image of the disk has an empty journal, by the format that the opening leaves of the image that reads gave, and
+-- nothing is pending.
 pub record LeavesEmpty (key : Option (List ℕ)) (sectors : ℕ) (before after : List Content) : Type 0 where
-  pub emptied : HasNow (λ start. HasNow (EachImage (HasEmptyJournal (format_on key sectors (last_image start)))) after)
-      before
+  pub emptied : HasNow (λ start. HasNow (EachImage (HasEmptyJournal
+      (opened_format Direct (format_on key sectors (last_image start))))) after) before
   pub settled : HasNow HasNothingPending after

@@ -6,7 +6,7 @@ use Rattle.image_model.specs.Cells.{salt_of}
 use Rattle.place_model.specs.Format.{DiskFormat, OpensAs}
 use Rattle.hmac_tag.specs.TagMaker.{TagRule}
 use Rattle.image_format.specs.declared.reading.ImageFormat.{ImageFormat}
-use Rattle.image_format.specs.Format.{IsBitmapFormat, IsDirectFormat, IsReadNow, direct_format_of, disk_format, format_of}
+use Rattle.image_format.specs.Format.{IsBitmapFormat, IsDirectFormat, IsReadNow, disk_format, format_of}
 use Rattle.journal_reading.specs.Journal.{FitsJournal, IsJournalOn}
 use Rattle.device_opening.specs.declared.judging.JudgedImage.{JudgedImage}
 
@@ -14,7 +14,7 @@ use Rattle.device_opening.specs.declared.judging.JudgedImage.{JudgedImage}
 pub record HasJournalFormat (sectors : ℕ) (format : ImageFormat) (moments : List Content) : Type 0 where
   pub format_ : IsDirectFormat sectors format
   pub reads : (key : Option (List ℕ)) → HasNow (IsReadNow key sectors format) moments
-  pub told : HasNow (λ c. Ok format ≡ direct_format_of sectors (last_image c)) moments
+  pub told : HasNow (λ c. Ok format ≡ format_of sectors (last_image c)) moments
 
 -- or with a bitmap.
 pub record HasBitmapFormat (sectors : ℕ) (format : ImageFormat) (moments : List Content) : Type 0 where

@@ -9,4 +9,5 @@ pub mod JournalOpening
 pub mod DirectOpening
 pub mod BitmapOpening
 pub mod Changing
+pub mod JournalMaking
 pub mod RecoveryOpening

@@ -7,7 +7,7 @@ use Rattle.image_model.specs.Cells.{replayed_entries}
 use Rattle.image_model.specs.Geometry.{Geometry, journal_sectors}
 use Rattle.image_model.specs.Superblock.{Superblock}
 use Rattle.device_model.specs.Mode.{Journal, Mode}
-use Rattle.place_model.specs.Format.{DiskFormat, HasCells, OpensAs, cells_on, format_on}
+use Rattle.place_model.specs.Format.{DiskFormat, HasCells, OpensAs, cells_on}
 use Rattle.place_model.specs.Kind.{kind_in}
 use Rattle.place_model.specs.Opened.{next_on}
 use Rattle.image_format.specs.declared.reading.ImageFormat.{ImageFormat}
@@ -94,11 +94,6 @@ IsOfOpening g start c =
 abbrev pub WritesRecovery : Geometry → (before after : List Content) → Type 0
 WritesRecovery g before after = EachSince (IsOfOpening g) before after
 
--- Each is one of these by the format of the image that reads gave.
-abbrev pub WritesOpening : Option (List ℕ) → (sectors : ℕ) → (before after : List Content) → Type 0
-WritesOpening key sectors before after =
-    EachSince (λ start. IsOfOpening (format_on key sectors (last_image start)).geometry start) before after
-
 -- From an image of this format that was judged, its cells are kept, and these are written.
 pub record LeavesImage (f : DiskFormat) (before after : List Content) : Type 0 where
   pub cells : KeepsImage f before after
@@ -107,7 +102,8 @@ pub record LeavesImage (f : DiskFormat) (before after : List Content) : Type 0 w
 -- An image whose journal is at rest, with all its entries in their places already, is synced at most.
 abbrev pub KeepsRecovered : (geometry_of : Image → Geometry) → (before after : List Content) → Type 0
 KeepsRecovered geometry_of before after =
-    HasNow (λ start. IsRecoveredAlready (geometry_of (last_image start)) (last_image start) → OnlySyncs before after) before
+    HasNow (λ start. IsRecoveredAlready (geometry_of (last_image start)) (last_image start)
+    → OnlySyncs before after) before
 
 -- Nothing is written of a journal at rest, and no sector at all where its entries are in their places already.
 pub record KeepsRest (g : Geometry) (before after : List Content) : Type 0 where

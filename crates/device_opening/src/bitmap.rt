@@ -1,10 +1,11 @@
-//! Opening in bitmap mode: the image is judged, all memory is taken, and the disk is synced. A journal becomes a bitmap.
+//! Opening in bitmap mode: the image is judged, all memory is taken, and the disk is synced. A journal becomes a
+//! bitmap.
 ghost use Rattle.std.specs.Prelude.{◌≡◌, IfOk};
 ghost use Rattle.disk_model.specs.Causes.{HasCause};
 ghost use Rattle.disk_model.specs.Identity.{IsBound};
 ghost use Rattle.device_model.specs.Mode as Model;
 ghost use Rattle.hmac_tag.specs.TagMaker.{key_of};
-ghost use Rattle.image_judging.specs.Faults.{HasOpenCause, bitmap_fault_of};
+ghost use Rattle.image_judging.specs.Faults.{HasOpenCause, fault_of};
 ghost use Rattle.device_parts.specs.Device.{HasOpened};
 ghost use Rattle.bitmap_device.specs.Device.{in_bitmap};
 ghost use Rattle.device_opening.specs.BitmapOpening.{HasJudgedBitmap};
@@ -25,17 +26,17 @@ use sector_disk::{Disk, Failed};
 use sector_pool::Region;
 use std::alloc::Global;
 
-/// Opens a device in bitmap mode on a disk. On an image with a bitmap each region whose bit is set awaits the tags of its
-/// blocks, and nothing is written. On one with a journal that becomes a bitmap first, of which no bit is set; the region
-/// of memory gets the journal's sectors, in place of those that it had.
+/// Opens a device in bitmap mode on a disk. On an image with a bitmap each region whose bit is set awaits the tags of
+/// its blocks, and nothing is written. On one with a journal that becomes a bitmap first, of which no bit is set; the
+/// region of memory gets the journal's sectors, in place of those that it had.
 ///
 /// 1. The first sector is read and judged.
-/// 2. The bitmap is read by one call, with memory for the regions; or the journal is read in runs and judged, with memory
-///    for what is kept of it. Consent is judged.
+/// 2. The bitmap is read by one call, with memory for the regions; or the journal is read in runs and judged, with
+///    memory for what is kept of it. Consent is judged.
 /// 3. Memory is taken for tags and for requests, and for a change for the journal's sectors and for the regions.
 /// 4. The disk is synced, so that nothing of an earlier run is pending.
-/// 5. A journal is recovered and emptied, and each region that awaits is recalculated. Zeros are written in the bitmap's
-///    place, and then sector 0 with the flag and with the least regions that fit.
+/// 5. A journal is recovered and emptied, and each region that awaits is recalculated. Zeros are written in the
+///    bitmap's place, and then sector 0 with the flag and with the least regions that fit.
 ///
 /// # Errors
 ///
@@ -60,7 +61,7 @@ pub fn open_bitmap<D: Disk>(
     ensures opened { IfOk result (λ kept. HasOpened in_bitmap Model.Bitmap (key_of hash) (D.identity disk.old)
         kept (D.moments disk.old) (D.moments disk.new)) }
 
-    ensures refused { Refuses (bitmap_fault_of (key_of hash) consent (D.identity disk.old).sectors)
+    ensures refused { Refuses (fault_of (key_of hash) consent (D.identity disk.old).sectors)
         (D.moments disk.old) (D.moments disk.new) result }
     ensures cause { HasOpenCause (D.faults disk.old) (D.faults disk.new) result }
 
@@ -101,7 +102,7 @@ fn open_found<D: Disk>(
     ensures opened { IfOk result (λ kept. HasOpened in_bitmap Model.Bitmap (key_of hash) (D.identity disk.old)
         kept (D.moments disk.old) (D.moments disk.new)) }
 
-    ensures refused { Refuses (bitmap_fault_of (key_of hash) consent (D.identity disk.old).sectors)
+    ensures refused { Refuses (fault_of (key_of hash) consent (D.identity disk.old).sectors)
         (D.moments disk.old) (D.moments disk.new) result }
     ensures cause { HasOpenCause (D.faults disk.old) (D.faults disk.new) result }
 

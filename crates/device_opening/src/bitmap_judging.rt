@@ -3,7 +3,7 @@ ghost use Rattle.std.specs.Prelude.{◌≡◌, ◌⊎◌, Err, IfOk, IsErr};
 ghost use Rattle.disk_model.specs.Identity.{IsBound};
 ghost use Rattle.hmac_tag.specs.TagMaker.{key_of};
 ghost use Rattle.image_format.specs.Format.{IsBitmapFormat};
-ghost use Rattle.image_judging.specs.Faults.{HasOpenCause, bitmap_fault_of};
+ghost use Rattle.image_judging.specs.Faults.{HasOpenCause, fault_of};
 ghost use Rattle.device_opening.specs.BitmapOpening.{AreRegionsOf, HasJudgedBitmap};
 ghost use Rattle.device_opening.specs.Judged.{HasBitmapFormat};
 ghost use Rattle.device_opening.specs.Opening.{TellsFault};
@@ -60,8 +60,9 @@ pub(crate) fn judge_bitmap<D: Disk>(
 
     ensures judged { IfOk result (λ image. HasJudgedBitmap (D.identity disk.old).sectors image (D.moments disk.old)) }
     ensures key { IfOk result (λ image. image.maker.key ≡ key_of hash) }
+    ensures format { IfOk result (λ image. image.format ≡ format) }
 
-    ensures refused { TellsFault (bitmap_fault_of (key_of hash) consent (D.identity disk.old).sectors)
+    ensures refused { TellsFault (fault_of (key_of hash) consent (D.identity disk.old).sectors)
         (D.moments disk.old) result }
     ensures cause { HasOpenCause (D.faults disk.old) (D.faults disk.new) result }
 

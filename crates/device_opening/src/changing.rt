@@ -6,19 +6,20 @@ ghost use Rattle.disk_model.specs.Identity.{IsBound};
 ghost use Rattle.disk_model.specs.Moments.{HasNow};
 ghost use Rattle.image_model.specs.Geometry.{journal_sectors};
 ghost use Rattle.buffer_cache.specs.Cache.{sectors_of};
-ghost use Rattle.buffer_cache.specs.Cached.{HasNoMark};
 ghost use Rattle.buffer_cache.specs.HeldSectors.{no_sectors};
 ghost use Rattle.device_model.specs.Mode as Model;
 ghost use Rattle.hmac_tag.specs.TagMaker.{key_of};
 ghost use Rattle.image_format.specs.Format.{IsDirectFormat};
-ghost use Rattle.image_judging.specs.Faults.{HasOpenCause, bitmap_fault_of};
+ghost use Rattle.image_judging.specs.Faults.{HasOpenCause, fault_of};
 ghost use Rattle.bitmap_device.specs.Device.{IsReady, in_bitmap};
 ghost use Rattle.device_parts.specs.Device.{HasOpened, IsOfSameBlocks};
 ghost use Rattle.mode_change.specs.ToBitmap.{bitmap_format};
 ghost use Rattle.request_slots.specs.Flight.{no_requests};
-ghost use Rattle.device_opening.specs.Changing.{HasEmptiedOn, HasMade, HasNoRegions, LeavesMade, WritesBitmap};
+ghost use Rattle.device_opening.specs.Changing.{HasEmptiedOn, HasMade, HasNoRegions, IsWrittenBack, LeavesMade};
+ghost use Rattle.device_opening.specs.Changing.{WritesBitmap};
 ghost use Rattle.device_opening.specs.Judged.{HasJournalFormat, HasJudged, judged_format};
-ghost use Rattle.device_opening.specs.Opening.{IsOfImage, IsOfOpening, IsRecalculationFor, IsRecoveryRoomFor, LeavesImage, LeavesOpenable, Refuses};
+ghost use Rattle.device_opening.specs.Opening.{IsOfOpening, IsRecalculationFor, IsRecoveryRoomFor};
+ghost use Rattle.device_opening.specs.Opening.{LeavesImage, LeavesOpenable, Refuses};
 
 use crate::emptying::recover_emptied;
 use crate::judging::{JudgedImage, judge_found};
@@ -47,8 +48,8 @@ pub(crate) struct ChangeRoom<'p> {
 }
 
 impl<'p> ChangeRoom<'p> {
-    /// Takes the memory for a change of an image in this format, on a disk of so many sectors. The region of memory gets
-    /// the sectors of the journal, in place of those that it had.
+    /// Takes the memory for a change of an image in this format, on a disk of so many sectors. The region of memory
+    /// gets the sectors of the journal, in place of those that it had.
     ///
     /// # Errors
     ///
@@ -97,7 +98,7 @@ pub(crate) fn open_made<D: Disk>(
     ensures opened { IfOk result (λ kept. HasOpened in_bitmap Model.Bitmap (key_of hash) (D.identity disk.old)
         kept (D.moments disk.old) (D.moments disk.new)) }
 
-    ensures refused { Refuses (bitmap_fault_of (key_of hash) consent (D.identity disk.old).sectors)
+    ensures refused { Refuses (fault_of (key_of hash) consent (D.identity disk.old).sectors)
         (D.moments disk.old) (D.moments disk.new) result }
     ensures cause { HasOpenCause (D.faults disk.old) (D.faults disk.new) result }
 
@@ -172,9 +173,9 @@ fn make_bitmap<D: Disk>(
     Ok(BitmapParts { parts, regions })
 }
 
-/// Syncs a disk whose image was judged, recovers that, empties its journal, and recalculates each region that awaits. The
-/// cache holds nothing, and the run, of the journal's size, is scratch memory. The tags that were made are written back,
-/// and not synced.
+/// Syncs a disk whose image was judged, recovers that, empties its journal, and recalculates each region that awaits.
+/// The cache holds nothing, and the run, of the journal's size, is scratch memory. The tags that were made are written
+/// back, and not synced.
 ///
 /// # Errors
 ///
@@ -194,8 +195,8 @@ fn recover_whole<D: Disk>(
 
     ensures emptied { IfOk result (λ recovered. HasEmptiedOn (judged_format (D.identity disk.old).sectors image)
         recovered (D.moments disk.old) (D.moments disk.new)) }
-    ensures made { IfOk result (λ recovered. IsOfImage image recovered (D.identity disk.new) (D.moments disk.new)) }
-    ensures unmarked { IfOk result (λ recovered. HasNoMark recovered.tags.sectors) }
+    ensures made { IfOk result (λ recovered. IsWrittenBack image recovered (D.identity disk.new)
+        (D.moments disk.new)) }
     ensures written { IfOk result (λ recovered. HasNow (λ start.
         HasNow (IsOfOpening image.format.geometry start) (D.moments disk.new)) (D.moments disk.old)) }
 

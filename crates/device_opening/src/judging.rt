@@ -8,7 +8,7 @@ ghost use Rattle.device_opening.specs.Judged.{HasJournalFormat, HasJudged, rule_
 ghost use Rattle.device_opening.specs.Opening.{TellsFault};
 
 use hmac_tag::{Hash, TagMaker};
-use image_format::{ImageFormat, read_direct_format};
+use image_format::ImageFormat;
 use image_judging::{Consent, OpeningFault, judge_consent};
 use image_model::FIXED_HMAC;
 use journal_reading::{JudgedJournal, judge_journal};
@@ -35,41 +35,6 @@ impl JudgedImage {
     {
         self.format.geometry
     }
-}
-
-/// Judges the image of a disk: its first sector, which asks for consent where tags under a key are to be recalculated,
-/// and then its journal. Nothing is done but reads, and the memory that is taken is for what the journal is judged
-/// with.
-///
-/// # Errors
-///
-/// `Memory` and `Disk` come whenever they hold, and of the others the first that holds:
-///
-/// - `Memory`: there is none for what is kept of the journal.
-/// - `Disk`: the disk failed at a read.
-/// - `Super`, `Geom`, `Mode`: as `read_direct_format` tells them.
-/// - `Consent`: some block is to be recalculated, there is a key, and consent is withheld.
-/// - `Journal`: the journal is refused, by its scan or for the first entry in the order of the replay.
-pub(crate) fn judge_image<D: Disk>(
-    alloc: Global,
-    disk: &mut D,
-    hash: Hash,
-    consent: Consent,
-) -> Result<JudgedImage, OpeningFault>
-    requires { IsBound (D.identity disk.old).name }
-
-    ensures judged { IfOk result (λ image. HasJudged (D.identity disk.old).sectors image (D.moments disk.old)) }
-    ensures key { IfOk result (λ image. image.maker.key ≡ key_of hash) }
-
-    ensures refused { TellsFault (fault_of (key_of hash) consent (D.identity disk.old).sectors)
-        (D.moments disk.old) result }
-    ensures cause { HasOpenCause (D.faults disk.old) (D.faults disk.new) result }
-
-    ensures identity { D.identity disk.new ≡ D.identity disk.old }
-    ensures kept { D.moments disk.new ≡ D.moments disk.old }
-{
-    let format = read_direct_format(disk)?;
-    judge_found(alloc, disk, format, hash, consent)
 }
 
 /// Judges the image of a disk, whose first sector tells this format, which has a journal: consent, and then the

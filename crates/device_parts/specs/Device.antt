@@ -109,8 +109,8 @@ pub record Does {Kept T E : Type 0} (mode : DeviceMode Kept) (event failed : Mod
 
 -- ---- an opening
 
--- The device that has just been opened in a mode on the image at the start, of which the opening made another one. It is
--- judged by that at the start, but where its journal became a bitmap.
+-- The device that has just been opened in a mode on the image at the start, of which the opening made another one. It
+-- is judged by that at the start, but where the mode was changed.
 abbrev pub opened_standing : Mode → (key : Option (List ℕ)) → (sectors : ℕ) → (start made : Image) → Standing
 opened_standing mode key sectors start made = record {
   format = (kind_in mode key sectors).format start;
@@ -123,11 +123,13 @@ opened_standing mode key sectors start made = record {
 abbrev pub CanOpenRead : Mode → Option (List ℕ) → (sectors : ℕ) → List Content → Type 0
 CanOpenRead mode key sectors moments = HasNow (λ c. (kind_in mode key sectors).CanOpen (last_image c)) moments
 
--- The image by which the device is judged has the blocks of the one at the start, with the same tags.
-abbrev pub IsOfSameBlocks : Mode → (key : Option (List ℕ)) → (sectors : ℕ) → (start made : Image) → Type 0
-IsOfSameBlocks mode key sectors start made =
-    blocks_of (format_on key sectors (opened_standing mode key sectors start made).entry)
-    ≡ blocks_of (format_on key sectors start)
+-- The image by which the device is judged has the blocks of the one at the start, with the same tags, and the format that
+-- the opening leaves.
+pub record IsOfSameBlocks (mode : Mode) (key : Option (List ℕ)) (sectors : ℕ) (start made : Image) : Type 0 where
+  pub blocks : blocks_of (format_on key sectors (opened_standing mode key sectors start made).entry)
+      ≡ blocks_of (format_on key sectors start)
+  pub format : format_on key sectors (opened_standing mode key sectors start made).entry
+      ≡ (opened_standing mode key sectors start made).on
 
 -- The device is open on the image that reads gave, which is one that can be opened, and of which they give another one
 -- now. No request is in flight.

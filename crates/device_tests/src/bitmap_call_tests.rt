@@ -1,13 +1,14 @@
-//! A device in bitmap mode on images in memory: which bits its calls leave, when consent is asked for, and what comes of
-//! a journal.
+//! A device on images with a bitmap in memory: which bits its calls leave in bitmap mode, when consent is asked for,
+//! what comes of a journal, and what the other modes make of a bitmap.
 ghost use Rattle.std.specs.Prelude.{◌≡◌};
 ghost use Rattle.disk_model.specs.Identity.{IsBound};
 
+use crate::blank_journal_tests::has_id;
 use crate::call_tests::{
     SMALL, Written, open_device, read_alone, reply_to, write_and_read, write_of,
 };
 use device::{Consent, OpenMode};
-use device_opening::open_bitmap;
+use device_opening::{open_bitmap, open_direct, open_journal};
 use device_parts::{Actor, Moved};
 use hmac_tag::{Hash, Key};
 use image_formatting::{NewImage, format};
@@ -164,7 +165,7 @@ fn a_set_bit_under_a_key_wants_consent(rt: HostRuntime) -> Result<(), Fail> {
 }
 
 #[test]
-fn a_journal_becomes_a_bitmap_and_its_entries_stay(rt: HostRuntime) -> Result<(), Fail> {
+fn a_journal_becomes_a_bitmap_and_back_and_its_entries_stay(rt: HostRuntime) -> Result<(), Fail> {
     let alloc = rt.alloc();
     let journal = OpenMode::Journal(Consent::Withheld);
     let bitmap = OpenMode::Bitmap(Consent::Withheld);
@@ -177,7 +178,77 @@ fn a_journal_becomes_a_bitmap_and_its_entries_stay(rt: HostRuntime) -> Result<()
     assert_eq!(rt; flags_of(&mut disk)?, 0xc);
     let again = read_alone(alloc, &mut disk, Hash::Sha256, bitmap)?;
     assert_eq!(rt; again, Some(0xaa));
-    let refused = read_alone(alloc, &mut disk, Hash::Sha256, journal)?;
-    assert_eq!(rt; refused, None);
+    let back = read_alone(alloc, &mut disk, Hash::Sha256, journal)?;
+    assert_eq!(rt; back, Some(0xaa));
+    assert_eq!(rt; flags_of(&mut disk)?, 0x8);
+    Ok(())
+}
+
+/// A disk with a bitmap of which the bit of block 5 is set, and bytes in this block that no tag vouches for.
+fn marked_disk(alloc: Global, hash: Hash, again: Hash) -> Result<MemDisk, Fail> {
+    let mut disk = new_disk(alloc, hash)?;
+    let mode = OpenMode::Bitmap(Consent::Withheld);
+    if !write_alone(alloc, &mut disk, again, mode)? {
+        return Err(Failed.into());
+    }
+    fill_sector(&mut disk, BLOCK_AT, 0xbb)?;
+    Ok(disk)
+}
+
+#[test]
+fn journal_mode_makes_a_journal_of_a_bitmap_and_writes_in_its_first_section(
+    rt: HostRuntime,
+) -> Result<(), Fail> {
+    let alloc = rt.alloc();
+    let journal = OpenMode::Journal(Consent::Withheld);
+    let mut disk = marked_disk(alloc, Hash::Sha256, Hash::Sha256)?;
+    assert_eq!(rt; byte_at(&mut disk, BITMAP_AT)?, 0x20);
+    let read = read_alone(alloc, &mut disk, Hash::Sha256, journal)?;
+    assert_eq!(rt; read, Some(0xbb));
+    // The flag is that of fixed padding, and by the kernel's constants the number is 0.
+    assert_eq!(rt; flags_of(&mut disk)?, 0x8);
+    assert!(rt; has_id(&mut disk, 8, 0x11, 0x11)?);
+    assert!(rt; has_id(&mut disk, 16, 0x19, 0x11)?);
+    let written = write_and_read(alloc, &mut disk, journal, Actor::Place)?;
+    assert!(rt; written.is_some());
+    assert!(rt; has_id(&mut disk, 8, 0x22, 0x22)?);
+    Ok(())
+}
+
+#[test]
+fn direct_mode_makes_an_empty_journal_of_a_bitmap(rt: HostRuntime) -> Result<(), Fail> {
+    let alloc = rt.alloc();
+    let direct = OpenMode::Direct(Consent::Withheld);
+    let mut disk = marked_disk(alloc, Hash::Sha256, Hash::Sha256)?;
+    let read = read_alone(alloc, &mut disk, Hash::Sha256, direct)?;
+    assert_eq!(rt; read, Some(0xbb));
+    assert_eq!(rt; flags_of(&mut disk)?, 0x8);
+    let written = write_and_read(alloc, &mut disk, direct, Actor::Place)?;
+    assert!(rt; written.is_some());
+    assert!(rt; has_id(&mut disk, 8, 0x11, 0x11)?);
+    assert!(rt; has_id(&mut disk, 16, 0x19, 0x11)?);
+    Ok(())
+}
+
+#[test]
+fn a_set_bit_under_a_key_wants_consent_in_each_mode(rt: HostRuntime) -> Result<(), Fail> {
+    let alloc = rt.alloc();
+    let mut disk = marked_disk(alloc, under_key(alloc)?, under_key(alloc)?)?;
+    let mut region = Region::new();
+    let key = under_key(alloc)?;
+    let fault = open_journal(alloc, &mut disk, key, Consent::Withheld, &mut region).err();
+    assert!(rt; matches!(fault, Some(OpeningFault::Consent { flags: 0xc })));
+    let key = under_key(alloc)?;
+    let fault = open_direct(alloc, &mut disk, key, Consent::Withheld, &mut region).err();
+    assert!(rt; matches!(fault, Some(OpeningFault::Consent { flags: 0xc })));
+    assert_eq!(rt; flags_of(&mut disk)?, 0xc);
+    assert_eq!(rt; byte_at(&mut disk, BITMAP_AT)?, 0x20);
+    let given = OpenMode::Journal(Consent::Given);
+    let read = read_alone(alloc, &mut disk, under_key(alloc)?, given)?;
+    assert_eq!(rt; read, Some(0xbb));
+    // No bit is set any more, and so no consent is asked for.
+    let withheld = OpenMode::Direct(Consent::Withheld);
+    let again = read_alone(alloc, &mut disk, under_key(alloc)?, withheld)?;
+    assert_eq!(rt; again, Some(0xbb));
     Ok(())
 }

@@ -22,7 +22,7 @@ fn zero_sector<D: Disk>(disk: &mut D, at: u64) -> Result<(), Failed>
 }
 
 /// Whether a sector ends in the commit id of this first byte, whose seven others are this one.
-fn has_id<D: Disk>(disk: &mut D, at: u64, first: u8, other: u8) -> Result<bool, Failed>
+pub(crate) fn has_id<D: Disk>(disk: &mut D, at: u64, first: u8, other: u8) -> Result<bool, Failed>
     requires { IsBound (D.identity disk.old).name }
 
     ensures { D.identity disk.new ≡ D.identity disk.old }

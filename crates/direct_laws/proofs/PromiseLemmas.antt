@@ -59,7 +59,7 @@ standing_left_law f s d c is stands rests = placed_is_left_law d s.history c sta
 pub reopens_law : ReopensLaw
 reopens_law d c stands rests image is_image =
     let cut = standing_law d c stands rests image is_image in
-    (cut.opens.openable, ap (λ (x : DiskFormat). has_flag DIRTY_BITMAP x.superblock.flags) (format_on-is d.format image cut.opens) ∙ stands.formed.no_bitmap)
+    cut.opens.openable
 
 pub flushed_left_law : FlushedLeftLaw
 flushed_left_law d c stands rests image is_image =

@@ -9,7 +9,7 @@ struct Advice {
 }
 
 /// A longer beginning stands before one that it begins with.
-static ADVICE: [Advice; 29] = [
+static ADVICE: [Advice; 28] = [
     Advice {
         line: "fault words",
         text: "these words are no command. The commands are format, dump, check, salvage, resize, run and exercise: \
@@ -111,11 +111,6 @@ static ADVICE: [Advice; 29] = [
         line: "fault image bitmap too large ",
         text: "the bitmap wants more sectors (the first number) than the journal's place has (the second); larger \
             regions would do (--log2-blocks-per-bit)",
-    },
-    Advice {
-        line: "fault image mode ",
-        text: "the image has a bitmap: it is opened by --mode B, and read as it stands by --mode R. No command makes a \
-            journal of it yet",
     },
     Advice {
         line: "fault image consent ",

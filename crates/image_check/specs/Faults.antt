@@ -1,6 +1,6 @@
 -- Why an image is not checked.
--- Own: it is refused as an opening in its own mode would refuse it, but for consent, since no tag is made. With a bitmap, and
--- where what is placed is judged, no journal is looked at.
+-- Own: it is refused as an opening in any mode but recovery mode would refuse it, but for consent, since no tag is made.
+-- With a bitmap, and where what is placed is judged, no journal is looked at.
 use Rattle.std.specs.Prelude.{◌≡◌, ◌≢◌, ℕ, if◌then◌else◌, Option, None, option_map, List, Result, Err}
 use Rattle.disk_model.specs.Disk.{Content, Image, last_image}
 use Rattle.disk_model.specs.Moments.{HasNow}

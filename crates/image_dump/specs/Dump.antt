@@ -12,7 +12,7 @@ use Rattle.image_model.specs.declared.scan_fault.ScanFault.{ScanFault}
 use Rattle.image_model.specs.Grid.{walk_of}
 use Rattle.image_model.specs.Superblock.{has_flag}
 use Rattle.image_format.specs.declared.open_fault.OpenFault.{OpenFault}
-use Rattle.image_format.specs.declared.open_fault.OpenFault.TheVariants.{Memory as OpenMemory, Disk as OpenDisk, Super as OpenSuper, Geom as OpenGeom, Mode as OpenMode}
+use Rattle.image_format.specs.declared.open_fault.OpenFault.TheVariants.{Memory as OpenMemory, Disk as OpenDisk, Super as OpenSuper, Geom as OpenGeom}
 use Rattle.image_format.specs.declared.reading.ImageFormat.{ImageFormat}
 use Rattle.image_format.specs.Format.{format_of}
 use Rattle.bitmap_reading.specs.Bitmap.{dirty_count}
@@ -21,13 +21,12 @@ use Rattle.image_dump.specs.declared.dump_fault.DumpFault.TheVariants.{Memory, D
 use Rattle.image_dump.specs.declared.shown.Dump.{Dump}
 use Rattle.image_dump.specs.declared.shown.DumpJournal.TheVariants.{State, Bitmap}
 
--- The fault that the reading of a format told. That takes no memory and asks for no mode, so it tells neither.
+-- The fault that the reading of a format told. That takes no memory, so it tells no want of it.
 abbrev pub fault_of : OpenFault → DumpFault
 fault_of OpenMemory = Memory
 fault_of OpenDisk = Disk
 fault_of (OpenSuper fault) = Super fault
 fault_of (OpenGeom fault) = Geom fault
-fault_of (OpenMode flags) = Memory
 
 -- What is shown of an image in this format whose journal has this plan.
 abbrev pub dump_by_plan : ImageFormat → Result Plan ScanFault → Result Dump DumpFault

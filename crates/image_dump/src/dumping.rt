@@ -60,8 +60,8 @@ fn fault_of(fault: OpenFault) -> DumpFault
         OpenFault::Disk => DumpFault::Disk,
         OpenFault::Super(fault) => DumpFault::Super(fault),
         OpenFault::Geom(fault) => DumpFault::Geom(fault),
-        // The reading takes no memory and asks for no mode, so that neither comes.
-        OpenFault::Memory | OpenFault::Mode { .. } => DumpFault::Memory,
+        // The reading takes no memory, so that this does not come.
+        OpenFault::Memory => DumpFault::Memory,
     }
 }
 

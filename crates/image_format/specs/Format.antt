@@ -1,19 +1,17 @@
 -- What an image tells an opening: the fields of its superblock and its geometry, or the first fault.
--- Own: the superblock is judged before the geometry, and the geometry before the mode.
-use Rattle.std.specs.Prelude.{◌≡◌, ◌≢◌, ℕ, ◌≤◌, true, false, if◌then◌else◌, Option, List, Result, Ok, Err}
+-- Own: the superblock is judged before the geometry.
+use Rattle.std.specs.Prelude.{◌≡◌, ◌≢◌, ℕ, ◌≤◌, true, false, Option, List, Result, Ok, Err}
 use Rattle.disk_model.specs.Causes.{Rose}
 use Rattle.disk_model.specs.Disk.{Content, Image, last_image}
 use Rattle.image_model.specs.declared.flags.TheConstants.{DIRTY_BITMAP}
 use Rattle.image_model.specs.declared.geom_fault.GeomFault.{GeomFault}
 use Rattle.image_model.specs.declared.super_fields.SuperFault.{SuperFault}
 use Rattle.image_model.specs.Geometry.{Geometry, IsGeometry, geometry_of}
-use Rattle.image_model.specs.Openable.{first_sector}
+use Rattle.image_model.specs.Openable.{IsOpenable, first_sector}
 use Rattle.image_model.specs.Superblock.{Superblock, IsAccepted, has_flag, superblock_of}
-use Rattle.device_model.specs.Mode.{Bitmap}
 use Rattle.place_model.specs.Format.{DiskFormat, HasWholeSectors, IsReadAs, format_on}
-use Rattle.place_model.specs.Kind.{CanOpenIn, CanOpenPlaced}
 use Rattle.image_format.specs.declared.open_fault.OpenFault.{OpenFault}
-use Rattle.image_format.specs.declared.open_fault.OpenFault.TheVariants.{Disk, Super, Geom, Mode}
+use Rattle.image_format.specs.declared.open_fault.OpenFault.TheVariants.{Disk, Super, Geom}
 use Rattle.image_format.specs.declared.reading.ImageFormat.{ImageFormat}
 
 -- ---- what an image tells
@@ -41,17 +39,6 @@ fields_of sectors image = told_fields (superblock_of (first_sector sectors image
 abbrev pub format_of : (sectors : ℕ) → Image → Result ImageFormat OpenFault
 format_of sectors image = format_by sectors (fields_of sectors image)
 
--- The same, where direct mode is asked for: without a bitmap.
--- Source: Linux, drivers/md/dm-integrity.c, dm_integrity_ctr and SB_FLAG_DIRTY_BITMAP.
-abbrev pub in_direct_mode : Result ImageFormat OpenFault → Result ImageFormat OpenFault
-in_direct_mode (Ok format) =
-    if has_flag DIRTY_BITMAP format.fields.flags then Err (Mode format.fields.flags) else Ok format
-in_direct_mode (Err fault) = Err fault
-
--- What it tells direct mode.
-abbrev pub direct_format_of : (sectors : ℕ) → Image → Result ImageFormat OpenFault
-direct_format_of sectors image = in_direct_mode (format_of sectors image)
-
 -- ---- what is told
 
 -- Fields that are accepted, with their geometry on a disk of so many sectors.
@@ -60,12 +47,12 @@ pub record IsFormat (sectors : ℕ) (format : ImageFormat) : Type 0 where
   pub told : geometry_of format.fields sectors ≡ Ok format.geometry
   pub geometry : IsGeometry format.geometry sectors
 
--- The same of a disk that direct mode opens.
+-- The same of an image without a bitmap,
 pub record IsDirectFormat (sectors : ℕ) (format : ImageFormat) : Type 0 where
   pub accepted : IsFormat sectors format
   pub no_bitmap : has_flag DIRTY_BITMAP format.fields.flags ≡ false
 
--- The same of a disk that bitmap mode opens.
+-- and of one with a bitmap.
 pub record IsBitmapFormat (sectors : ℕ) (format : ImageFormat) : Type 0 where
   pub accepted : IsFormat sectors format
   pub bitmap : has_flag DIRTY_BITMAP format.fields.flags ≡ true
@@ -85,15 +72,10 @@ pub record IsReadNow (key : Option (List ℕ)) (sectors : ℕ) (format : ImageFo
   pub own : format_on key sectors (last_image c) ≡ disk_format key sectors format
   pub whole : HasWholeSectors (disk_format key sectors format) (last_image c)
 
--- It can be opened so in direct mode.
-pub record IsOpenedNow (key : Option (List ℕ)) (sectors : ℕ) (format : ImageFormat) (c : Content) : Type 0 where
+-- The image can be opened, too.
+pub record IsOpenableNow (key : Option (List ℕ)) (sectors : ℕ) (format : ImageFormat) (c : Content) : Type 0 where
   pub read : IsReadNow key sectors format c
-  pub opens : CanOpenPlaced key sectors (last_image c)
-
--- It can be opened in bitmap mode.
-pub record IsBitmapNow (key : Option (List ℕ)) (sectors : ℕ) (format : ImageFormat) (c : Content) : Type 0 where
-  pub read : IsReadNow key sectors format c
-  pub opens : CanOpenIn Bitmap key sectors (last_image c)
+  pub opens : IsOpenable key sectors (last_image c)
 
 -- ---- why
 

@@ -1,5 +1,4 @@
-//! What the first sector of a disk tells an opening: the fields of its superblock and its geometry, and whether
-//! direct mode opens it.
+//! What the first sector of a disk tells an opening: the fields of its superblock and its geometry.
 //!
 //! A contract sees an `ImageFormat` and an `OpenFault` as they are. What an image tells is a function of it, which
 //! stands in `specs/Format.antt`, the file to read first. Nothing is written, and no memory is taken.
@@ -9,6 +8,6 @@ mod laws;
 mod open_fault;
 mod reading;
 
-pub use laws::images_that_open_are_told;
+pub use laws::images_that_can_be_read_are_told;
 pub use open_fault::OpenFault;
-pub use reading::{ImageFormat, read_direct_format, read_format};
+pub use reading::{ImageFormat, read_format};

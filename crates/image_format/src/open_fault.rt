@@ -1,4 +1,4 @@
-//! Why a disk is not opened.
+//! Why a disk is not read, where neither its journal nor its bitmap is looked at.
 ghost use Rattle.std.specs.Prelude.{◌≡◌};
 ghost use Rattle.image_format.specs.declared.open_fault.OpenFault.TheVariants.{Disk, Geom, Memory, Super};
 
@@ -7,10 +7,10 @@ use sector_disk::Failed;
 use superblock::SuperFault;
 use thiserror::Error;
 
-/// Why a disk is not opened. The first that holds is told.
+/// Why a disk is not read, where neither its journal nor its bitmap is looked at. The first that holds is told.
 #[derive(Clone, Copy, Debug, PartialEq, Eq, Error)]
 pub enum OpenFault {
-    /// There is no memory for what stands on the image.
+    /// There is no memory for what is read.
     #[error("out of memory")]
     Memory,
     /// The disk failed.
@@ -22,9 +22,6 @@ pub enum OpenFault {
     /// The disk has no room for what the superblock tells.
     #[error("the geometry is refused")]
     Geom(GeomFault),
-    /// The superblock has other `flags` than the mode wants.
-    #[error("the mode does not fit the flags")]
-    Mode { flags: u32 },
 }
 
 impl From<sector_disk::Memory> for OpenFault {

@@ -1,12 +1,11 @@
-//! Reads the first sector, and judges what it tells: first the superblock, then the geometry, then the mode.
+//! Reads the first sector, and judges what it tells: first the superblock, then the geometry.
 ghost use Rattle.std.specs.Prelude.{◌≡◌, ◌≢◌, ℕ, Err, IfOk, List, Ok, Option};
 ghost use Rattle.disk_model.specs.Disk.{last_image};
 ghost use Rattle.disk_model.specs.Identity.{IsBound};
 ghost use Rattle.disk_model.specs.Moments.{HasNow};
 ghost use Rattle.image_model.specs.Superblock.{IsAccepted, has_flag};
 ghost use Rattle.image_model.specs.declared.flags.TheConstants.{DIRTY_BITMAP};
-ghost use Rattle.image_format.specs.Format.{HasDiskCause, IsDirectFormat, IsFormat, IsOpenedNow, IsReadNow};
-ghost use Rattle.image_format.specs.Format.{direct_format_of, fields_of, format_of, in_direct_mode};
+ghost use Rattle.image_format.specs.Format.{HasDiskCause, IsFormat, IsReadNow, fields_of, format_of};
 
 use crate::OpenFault;
 use image_model::DIRTY_BITMAP;
@@ -34,7 +33,7 @@ impl ImageFormat {
     }
 }
 
-/// Reads what the first sector tells, whatever the mode. It writes nothing.
+/// Reads what the first sector tells. It writes nothing.
 ///
 /// # Errors
 ///
@@ -60,43 +59,6 @@ pub fn read_format<D: Disk>(disk: &mut D) -> Result<ImageFormat, OpenFault>
     let fields = read_fields(disk)?;
     let geometry = Geometry::new(&fields, disk.sectors())?;
     Ok(ImageFormat { fields, geometry })
-}
-
-/// Reads what the first sector tells direct mode. It writes nothing.
-///
-/// # Errors
-///
-/// The first that holds:
-///
-/// - `Disk`, `Super`, `Geom`: as `read_format` tells them.
-/// - `Mode`: there is a bitmap.
-pub fn read_direct_format<D: Disk>(disk: &mut D) -> Result<ImageFormat, OpenFault>
-    requires { IsBound (D.identity disk.old).name }
-
-    ensures format { IfOk result (IsDirectFormat (D.identity disk.old).sectors) }
-    ensures opens { IfOk result (λ format. (key : Option (List ℕ)) → HasNow
-        (IsOpenedNow key (D.identity disk.old).sectors format) (D.moments disk.old)) }
-
-    ensures told { result ≢ Err OpenFault.Disk → HasNow (λ c. result
-        ≡ direct_format_of (D.identity disk.old).sectors (last_image c)) (D.moments disk.old) }
-    ensures cause { HasDiskCause (D.faults disk.old) (D.faults disk.new) result }
-
-    ensures identity { D.identity disk.new ≡ D.identity disk.old }
-    ensures kept { D.moments disk.new ≡ D.moments disk.old }
-{
-    let format = read_format(disk)?;
-    judge_direct(format)
-}
-
-/// The format, where direct mode opens it.
-fn judge_direct(format: ImageFormat) -> Result<ImageFormat, OpenFault>
-    ensures { result ≡ in_direct_mode (Ok format) }
-{
-    if format.has_bitmap() {
-        let flags = format.fields.flags;
-        return Err(OpenFault::Mode { flags });
-    }
-    Ok(format)
 }
 
 /// Reads the fields of the superblock.

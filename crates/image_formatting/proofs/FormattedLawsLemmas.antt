@@ -1,7 +1,7 @@
 -- A new image can be opened, with nothing to replay, or with no bit set or all; its blocks have zeros with their tags,
 -- or await them.
 use Rattle.std.specs.Prelude.{flat_map, if◌then◌else◌, unwrap_or, slice_index, nat_lt}
-use Rattle.std.proofs.Common.{◌≡◌, ◌≢◌, ◌⊎◌, inl, inr, ⊎_elim, ℕ, zero, suc, ◌+◌, ◌*◌, ◌/◌, ◌%◌, ◌^◌, ◌<◌, ◌≤◌, ◌&&◌, Bool, true, false, List, [], ◌∷◌, map, replicate, filter_map, Option, Some, None, is_some, Ok, is_ok, refl, sym, ◌∙◌, ap, subst, arith}
+use Rattle.std.proofs.Common.{◌≡◌, ◌≢◌, ◌⊎◌, inl, inr, ⊎_elim, ℕ, zero, suc, ◌+◌, ◌*◌, ◌/◌, ◌^◌, ◌<◌, ◌≤◌, Bool, true, false, List, [], ◌∷◌, map, replicate, filter_map, Option, Some, None, is_some, Ok, is_ok, refl, sym, ◌∙◌, ap, subst, arith}
 use Rattle.std.specs.List.{AllByRecursion, range_with_len}
 use Rattle.std.proofs.Math.Nat.{mul-le-mul_right}
 use Rattle.std.proofs.lemmas.Bool.{and_from, lt-ltb, ne_eqb, true≢false}
@@ -185,7 +185,7 @@ module _ (key : Option (List ℕ)) (sectors : ℕ) (new : NewImage) (provided : 
     })
 
     pub opens_in_bitmap : CanOpenIn InBitmap key sectors image
-    opens_in_bitmap = (opens_bitmap.openable, tt)
+    opens_in_bitmap = opens_bitmap.openable
 
   -- In either no entry counts,
   pub opens_any : OpensAs d image

@@ -2,33 +2,45 @@
 use Rattle.std.proofs.Common.{◌≡◌, ℕ, Bool, true, false, if◌then◌else◌, refl, sym, ◌∙◌, ap, Result, Option, Some, Ok, Err, List}
 use Rattle.std.specs.Option.{option_map}
 use Rattle.disk_model.specs.Disk.{Image}
+use Rattle.image_model.specs.declared.flags.TheConstants.{DIRTY_BITMAP}
 use Rattle.image_model.specs.Bitmap.{some_await}
+use Rattle.image_model.specs.Superblock.{has_flag}
 use Rattle.image_format.specs.declared.reading.ImageFormat.{ImageFormat}
-use Rattle.image_format.specs.Format.{direct_format_of}
+use Rattle.image_format.specs.Format.{format_of}
 use Rattle.journal_reading.specs.declared.faults.ReplayFault.{ReplayFault}
 use Rattle.journal_reading.specs.declared.faults.ReplayFault.TheVariants as ReplayFaults
 use Rattle.journal_reading.specs.Faults.{refusal_in}
 use Rattle.image_judging.specs.declared.consent.Consent.{Consent}
 use Rattle.image_judging.specs.declared.opening_fault.OpeningFault.{OpeningFault}
-use Rattle.image_judging.specs.declared.opening_fault.OpeningFault.TheVariants.{Memory, Disk, Super, Geom, Mode, Journal}
+use Rattle.image_judging.specs.declared.opening_fault.OpeningFault.TheVariants.{Memory, Disk, Super, Geom, Journal}
 use Rattle.image_judging.specs.declared.opening_fault.OpeningFault.TheVariants as Refusals
-use Rattle.image_judging.specs.Faults.{ByConsent, ByJournal, direct_fault_by, fault_in, fault_in_format, fault_of, lacks_consent, of_replay}
+use Rattle.image_judging.specs.Faults.{ImageFault, ByConsent, ByJournal, dirty_fault, fault_by_format, fault_in, fault_in_format, fault_of, journal_fault, lacks_consent, of_replay}
 
 -- ---- the fault of an image
 
--- Of an image that direct mode takes it is want of consent, where that is lacking,
-pub fault_of-lacking : (key : Option (List ℕ)) (consent : Consent) (sectors : ℕ) (format : ImageFormat) (image : Image) → Ok format ≡ direct_format_of sectors image
-    → lacks_consent key consent (some_await format.fields) ≡ true → fault_of key consent sectors image ≡ Some (ByConsent format.fields.flags)
-fault_of-lacking key consent sectors format image told lacks =
-    ap (direct_fault_by key consent image) (sym told)
-    ∙ ap (λ (b : Bool). if b then Some (ByConsent format.fields.flags) else option_map ByJournal (fault_in_format key image format)) lacks
+module _ (key : Option (List ℕ)) (consent : Consent) (sectors : ℕ) (format : ImageFormat) (image : Image) (told : Ok format ≡ format_of sectors image) where
+  by_format : fault_of key consent sectors image ≡ fault_by_format key consent image (Ok format)
+  by_format = ap (fault_by_format key consent image) (sym told)
 
--- and else what its journal says.
-pub fault_of-format : (key : Option (List ℕ)) (consent : Consent) (sectors : ℕ) (format : ImageFormat) (image : Image) → Ok format ≡ direct_format_of sectors image
-    → lacks_consent key consent (some_await format.fields) ≡ false → fault_of key consent sectors image ≡ option_map ByJournal (fault_in_format key image format)
-fault_of-format key consent sectors format image told lacks =
-    ap (direct_fault_by key consent image) (sym told)
-    ∙ ap (λ (b : Bool). if b then Some (ByConsent format.fields.flags) else option_map ByJournal (fault_in_format key image format)) lacks
+  -- With a bitmap it is want of consent, if some bit is set.
+  pub fault_of-bitmap : has_flag DIRTY_BITMAP format.fields.flags ≡ true → fault_of key consent sectors image ≡ dirty_fault key consent image format
+  fault_of-bitmap set = by_format ∙ rw set refl
+
+  module _ (clear : has_flag DIRTY_BITMAP format.fields.flags ≡ false) where
+    -- Without one it is that of the fields and the journal:
+    pub fault_of-journal : fault_of key consent sectors image ≡ journal_fault key consent image format
+    fault_of-journal = by_format ∙ rw clear refl
+
+    abbrev by_lack : Bool → Option ImageFault
+    by_lack b = if b then Some (ByConsent format.fields.flags) else option_map ByJournal (fault_in_format key image format)
+
+    -- want of consent, where that is lacking,
+    pub fault_of-lacking : lacks_consent key consent (some_await format.fields) ≡ true → fault_of key consent sectors image ≡ Some (ByConsent format.fields.flags)
+    fault_of-lacking lacks = fault_of-journal ∙ ap by_lack lacks
+
+    -- and else what the journal says.
+    pub fault_of-format : lacks_consent key consent (some_await format.fields) ≡ false → fault_of key consent sectors image ≡ option_map ByJournal (fault_in_format key image format)
+    fault_of-format lacks = fault_of-journal ∙ ap by_lack lacks
 
 -- ---- the fault of an answer
 
@@ -52,6 +64,5 @@ fault_in-err T U Memory = refl
 fault_in-err T U Disk = refl
 fault_in-err T U (Super fault) = refl
 fault_in-err T U (Geom fault) = refl
-fault_in-err T U (Mode flags) = refl
 fault_in-err T U (Journal fault) = refl
 fault_in-err T U (Refusals.Consent flags) = refl

@@ -5,9 +5,8 @@ use Rattle.disk_model.specs.Disk.{Image}
 use Rattle.image_model.specs.Bitmap.{is_bit_set}
 use Rattle.image_model.specs.Geometry.{bitmap_sectors_for, entries_per_sector, entry_size, geometry_of, layout_of, regions_for, section_entries, section_sectors, sector_at, tag_run_of}
 use Rattle.image_model.specs.Superblock.{Superblock, fields_in, superblock_of}
-use Rattle.image_format.specs.declared.open_fault.OpenFault.TheVariants.{Mode}
 use Rattle.image_judging.specs.declared.consent.Consent.TheVariants.{Given, Withheld}
-use Rattle.image_judging.specs.Faults.{ByConsent, ByFormat, bitmap_fault_of, fault_of, has_dirty_region, lacks_consent}
+use Rattle.image_judging.specs.Faults.{ByConsent, fault_of, has_dirty_region, lacks_consent}
 
 -- The first sector of an image of 47 blocks of eight sectors on 1024 sectors, with tags of 32 bytes, with these flags.
 -- Source: the sizes and places of the superblock's fields, each with its lowest byte first.
@@ -48,25 +47,25 @@ unfolding is_bit_set bitmap_sectors_for regions_for
 has_dirty_region-cut = refl
 
 -- which under a key needs consent.
-bitmap_fault_of-withheld : bitmap_fault_of (Some key) Withheld 1024 (image_with 0xc 0x01) ≡ Some (ByConsent 0xc)
+fault_of-bit_withheld : fault_of (Some key) Withheld 1024 (image_with 0xc 0x01) ≡ Some (ByConsent 0xc)
 unfolding superblock_of fields_in geometry_of sector_at tag_run_of bitmap_sectors_for regions_for entry_size entries_per_sector section_entries section_sectors is_bit_set
-bitmap_fault_of-withheld = refl
+fault_of-bit_withheld = refl
 
 -- With consent it has no fault, and without a key none either.
-bitmap_fault_of-given : bitmap_fault_of (Some key) Given 1024 (image_with 0xc 0x01) ≡ None
+fault_of-bit_given : fault_of (Some key) Given 1024 (image_with 0xc 0x01) ≡ None
 unfolding superblock_of fields_in geometry_of sector_at tag_run_of bitmap_sectors_for regions_for entry_size entries_per_sector section_entries section_sectors is_bit_set
-bitmap_fault_of-given = refl
+fault_of-bit_given = refl
 
-bitmap_fault_of-no_key : bitmap_fault_of None Withheld 1024 (image_with 0xc 0x01) ≡ None
+fault_of-bit_no_key : fault_of None Withheld 1024 (image_with 0xc 0x01) ≡ None
 unfolding superblock_of fields_in geometry_of sector_at tag_run_of bitmap_sectors_for regions_for entry_size entries_per_sector section_entries section_sectors is_bit_set
-bitmap_fault_of-no_key = refl
+fault_of-bit_no_key = refl
 
 -- ---- no bit is set
 
 -- Where no bit is set, consent is no question: neither under a key,
-bitmap_fault_of-clear : bitmap_fault_of (Some key) Withheld 1024 (image_with 0xc 0) ≡ None
+fault_of-no_bit : fault_of (Some key) Withheld 1024 (image_with 0xc 0) ≡ None
 unfolding superblock_of fields_in geometry_of sector_at tag_run_of bitmap_sectors_for regions_for entry_size entries_per_sector section_entries section_sectors is_bit_set
-bitmap_fault_of-clear = refl
+fault_of-no_bit = refl
 
 -- nor by a bit of no region: the regions have bits 0 to 46, and byte 5 has bit 47 alone.
 abbrev behind_all : Image
@@ -76,29 +75,18 @@ has_dirty_region-behind_all : has_dirty_region (layout_of fields) behind_all ≡
 unfolding is_bit_set bitmap_sectors_for regions_for
 has_dirty_region-behind_all = refl
 
+-- Nor is flag 0x2 beside a bitmap, whatever recalc_sector is: the bits alone decide.
+fault_of-bitmap_recalculating : fault_of (Some key) Withheld 1024 (image_with 0xe 0) ≡ None
+unfolding superblock_of fields_in geometry_of sector_at tag_run_of bitmap_sectors_for regions_for entry_size entries_per_sector section_entries section_sectors is_bit_set
+fault_of-bitmap_recalculating = refl
+
 -- ---- no bitmap
 
--- Of an image with a journal the fields alone decide: under a key consent is asked for where tags are to be recalculated.
-bitmap_fault_of-journal : bitmap_fault_of (Some key) Withheld 1024 (image_with 0xa 0x01) ≡ Some (ByConsent 0xa)
+-- Without a bitmap the fields alone decide: under a key consent is asked for where tags are to be recalculated, from sector
+-- 0 on here, whatever the journal says: that of this image has no number.
+fault_of-journal_recalculating : fault_of (Some key) Withheld 1024 (image_with 0xa 0) ≡ Some (ByConsent 0xa)
 unfolding superblock_of fields_in geometry_of sector_at tag_run_of bitmap_sectors_for regions_for entry_size entries_per_sector section_entries section_sectors is_bit_set
-bitmap_fault_of-journal = refl
-
--- Nor is flag 0x2 beside a bitmap, whatever recalc_sector is: the bits alone decide.
-bitmap_fault_of-recalculating : bitmap_fault_of (Some key) Withheld 1024 (image_with 0xe 0) ≡ None
-unfolding superblock_of fields_in geometry_of sector_at tag_run_of bitmap_sectors_for regions_for entry_size entries_per_sector section_entries section_sectors is_bit_set
-bitmap_fault_of-recalculating = refl
-
--- ---- tags are to be recalculated without a bitmap
-
--- From sector 0 on, under a key, consent is asked for, whatever the journal says: that of this image has no number.
-fault_of-withheld : fault_of (Some key) Withheld 1024 (image_with 0xa 0) ≡ Some (ByConsent 0xa)
-unfolding superblock_of fields_in geometry_of sector_at tag_run_of bitmap_sectors_for regions_for entry_size entries_per_sector section_entries section_sectors
-fault_of-withheld = refl
-
--- With a bitmap the image is refused for its mode before.
-fault_of-bitmap : fault_of (Some key) Withheld 1024 (image_with 0xe 0) ≡ Some (ByFormat (Mode 0xe))
-unfolding superblock_of fields_in geometry_of sector_at tag_run_of bitmap_sectors_for regions_for entry_size entries_per_sector section_entries section_sectors
-fault_of-bitmap = refl
+fault_of-journal_recalculating = refl
 
 -- ---- consent
 

@@ -1,5 +1,6 @@
--- Why a disk is not opened: the fault that is told, and the one that an image has.
--- Own: the superblock is judged before the geometry, that before the mode, that before consent, and the journal last.
+-- Why a disk is not opened: the fault that is told, and the one that an image has, in journal, bitmap and direct mode
+-- alike.
+-- Own: the superblock is judged before the geometry, that before consent, and the journal last.
 use Rattle.std.specs.Prelude.{◌≡◌, ◌≢◌, ℕ, ◌≤◌, Bool, false, if◌then◌else◌, is_some, Option, Some, None, option_map, List, Result, Ok, Err}
 use Rattle.disk_model.specs.Causes.{Rose}
 use Rattle.disk_model.specs.Disk.{Image}
@@ -14,7 +15,7 @@ use Rattle.device_model.specs.Regions.{least_region}
 use Rattle.image_format.specs.declared.open_fault.OpenFault.{OpenFault}
 use Rattle.image_format.specs.declared.open_fault.OpenFault.TheVariants as FormatFaults
 use Rattle.image_format.specs.declared.reading.ImageFormat.{ImageFormat}
-use Rattle.image_format.specs.Format.{direct_format_of, format_of}
+use Rattle.image_format.specs.Format.{format_of}
 use Rattle.journal_reading.specs.declared.faults.ReplayFault.{ReplayFault}
 use Rattle.journal_reading.specs.declared.faults.ReplayFault.TheVariants as ReplayFaults
 use Rattle.journal_reading.specs.Faults.{as_fault}
@@ -22,7 +23,7 @@ use Rattle.image_judging.specs.declared.consent.Consent.{Consent}
 use Rattle.image_judging.specs.declared.consent.Consent.TheVariants.{Given, Withheld}
 use Rattle.image_judging.specs.declared.opening_fault.OpeningFault.{OpeningFault}
 use Rattle.image_judging.specs.declared.opening_fault.OpeningFault.TheVariants as Refusals
-use Rattle.image_judging.specs.declared.opening_fault.OpeningFault.TheVariants.{Memory, Disk, Super, Geom, Mode, Journal}
+use Rattle.image_judging.specs.declared.opening_fault.OpeningFault.TheVariants.{Memory, Disk, Super, Geom, Journal}
 
 -- ---- what is told
 
@@ -32,7 +33,6 @@ of_format FormatFaults.Memory = Memory
 of_format FormatFaults.Disk = Disk
 of_format (FormatFaults.Super fault) = Super fault
 of_format (FormatFaults.Geom fault) = Geom fault
-of_format (FormatFaults.Mode flags) = Mode flags
 
 -- and that of reading or recovering a journal, as an opening tells them.
 abbrev pub of_replay : ReplayFault → OpeningFault
@@ -65,43 +65,38 @@ lacks_consent None consent some_await = false
 lacks_consent (Some key) Given some_await = false
 lacks_consent (Some key) Withheld some_await = some_await
 
--- The fault of an image where journal mode or direct mode is asked for, by what its first sector tells: of the format,
--- else want of consent, where by the fields some block awaits, and else of the journal.
-abbrev pub direct_fault_by : (key : Option (List ℕ)) → Consent → Image → Result ImageFormat OpenFault
-    → Option ImageFault
-direct_fault_by key consent image (Ok format) =
+-- The fault of an image in this format without a bitmap: want of consent, where by the fields some block awaits; and
+-- else of the journal.
+abbrev pub journal_fault : (key : Option (List ℕ)) → Consent → Image → ImageFormat → Option ImageFault
+journal_fault key consent image format =
     if lacks_consent key consent (some_await format.fields)
     then Some (ByConsent format.fields.flags)
     else option_map ByJournal (fault_in_format key image format)
-direct_fault_by key consent image (Err fault) = Some (ByFormat fault)
-
--- That of an image on a disk of so many sectors.
-abbrev pub fault_of : (key : Option (List ℕ)) → Consent → (sectors : ℕ) → Image → Option ImageFault
-fault_of key consent sectors image = direct_fault_by key consent image (direct_format_of sectors image)
 
 -- The image has a region whose bit is set.
 abbrev pub has_dirty_region : Geometry → Image → Bool
 has_dirty_region g image = is_some (least_region (regions g) (is_dirty g image))
 
--- That of an image in this format that has a bitmap: want of consent, where some bit is set.
+-- The fault of an image in this format with a bitmap: want of consent, where some bit is set.
 abbrev pub dirty_fault : (key : Option (List ℕ)) → Consent → Image → ImageFormat → Option ImageFault
 dirty_fault key consent image format =
     if lacks_consent key consent (has_dirty_region format.geometry image)
     then Some (ByConsent format.fields.flags)
     else None
 
--- The fault of an image where bitmap mode is asked for, by what its first sector tells: of the format; else with a bitmap
--- want of consent; and with a journal, which is recovered first, what journal mode refuses.
-abbrev pub bitmap_fault_by : (key : Option (List ℕ)) → Consent → Image → Result ImageFormat OpenFault
+-- The fault of an image, by what its first sector tells: of the format; else with a bitmap by its bits, and without one
+-- by its fields and its journal.
+abbrev pub fault_by_format : (key : Option (List ℕ)) → Consent → Image → Result ImageFormat OpenFault
     → Option ImageFault
-bitmap_fault_by key consent image (Ok format) =
+fault_by_format key consent image (Ok format) =
     if has_flag DIRTY_BITMAP format.fields.flags
     then dirty_fault key consent image format
-    else direct_fault_by key consent image (Ok format)
-bitmap_fault_by key consent image (Err fault) = Some (ByFormat fault)
+    else journal_fault key consent image format
+fault_by_format key consent image (Err fault) = Some (ByFormat fault)
 
-abbrev pub bitmap_fault_of : (key : Option (List ℕ)) → Consent → (sectors : ℕ) → Image → Option ImageFault
-bitmap_fault_of key consent sectors image = bitmap_fault_by key consent image (format_of sectors image)
+-- The fault of an image on a disk of so many sectors, in each of the three modes.
+abbrev pub fault_of : (key : Option (List ℕ)) → Consent → (sectors : ℕ) → Image → Option ImageFault
+fault_of key consent sectors image = fault_by_format key consent image (format_of sectors image)
 
 -- The fault of an image that an answer tells, if it tells one.
 abbrev pub fault_in : {T : Type 0} → Result T OpeningFault → Option ImageFault
@@ -110,7 +105,6 @@ fault_in (Err Memory) = None
 fault_in (Err Disk) = None
 fault_in (Err (Super fault)) = Some (ByFormat (FormatFaults.Super fault))
 fault_in (Err (Geom fault)) = Some (ByFormat (FormatFaults.Geom fault))
-fault_in (Err (Mode flags)) = Some (ByFormat (FormatFaults.Mode flags))
 fault_in (Err (Refusals.Consent flags)) = Some (ByConsent flags)
 fault_in (Err (Journal fault)) = Some (ByJournal (as_fault fault))
 

@@ -9,7 +9,7 @@ use crate::opening_fault::OpeningFault;
 use hmac_tag::Hash;
 use image_model::{RECALCULATING, Super};
 
-/// Judges whether journal mode or direct mode may make tags anew of an image, by its fields alone.
+/// Judges whether tags of an image without a bitmap may be made anew, by its fields alone.
 ///
 /// # Errors
 ///

@@ -26,9 +26,6 @@ pub enum OpeningFault {
     /// The disk has no room for what the superblock tells.
     #[error("the geometry is refused")]
     Geom(GeomFault),
-    /// The superblock has other `flags` than the mode wants: there is a bitmap, or in bitmap mode none.
-    #[error("the mode does not fit the flags")]
-    Mode { flags: u32 },
     /// A bit of the bitmap is set, or without one some block is to be recalculated, there is a key, and consent is
     /// withheld. The superblock has these `flags`.
     #[error("tags may not be made anew without consent")]
@@ -63,7 +60,6 @@ impl From<OpenFault> for OpeningFault {
             OpenFault::Disk => OpeningFault::Disk,
             OpenFault::Super(fault) => OpeningFault::Super(fault),
             OpenFault::Geom(fault) => OpeningFault::Geom(fault),
-            OpenFault::Mode { flags } => OpeningFault::Mode { flags },
         }
     }
 }

@@ -9,7 +9,8 @@ pub enum State {
     Mixed { newest: u8 },
     /// An erasure was cut: of the numbers that it left, `newest` is the newest.
     Erasing { newest: u8 },
-    /// A bitmap's sectors are zero: all others bear `number`, and no entry in them is used.
+    /// Some sectors in a bitmap's place are zero: all others bear `number`, which is 0 where there are none, and no
+    /// entry in them is used.
     Blank { number: u8 },
 }
 

@@ -23,7 +23,6 @@ of_format FormatFaults.Memory = Memory
 of_format FormatFaults.Disk = Disk
 of_format (FormatFaults.Super fault) = Super fault
 of_format (FormatFaults.Geom fault) = Geom fault
-of_format (FormatFaults.Mode flags) = Memory
 
 -- and that of judging a journal, as a resize tells them.
 abbrev pub of_replay : ReplayFault → ResizeFault

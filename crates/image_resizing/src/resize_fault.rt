@@ -59,13 +59,13 @@ impl From<GeomFault> for ResizeFault {
 impl From<OpenFault> for ResizeFault {
     ghost from_gives = { λ refused fault. fault ≡ of_format refused };
 
-    // A format is read in any mode and takes no memory, so that of these two neither comes.
+    // To read a format takes no memory, so that `Memory` does not come.
     fn from(refused: OpenFault) -> ResizeFault {
         match refused {
             OpenFault::Disk => ResizeFault::Disk,
             OpenFault::Super(fault) => ResizeFault::Super(fault),
             OpenFault::Geom(fault) => ResizeFault::Geom(fault),
-            OpenFault::Memory | OpenFault::Mode { .. } => ResizeFault::Memory,
+            OpenFault::Memory => ResizeFault::Memory,
         }
     }
 }

@@ -1,13 +1,13 @@
 -- Why an image is not salvaged: for its superblock or its geometry alone.
--- Own: no journal and no bitmap is looked at, and every mode's flags are good.
+-- Own: no journal and no bitmap is looked at.
 use Rattle.std.specs.Prelude.{◌≡◌, ◌≢◌, ℕ, ◌≤◌, Option, Some, None, List}
 use Rattle.disk_model.specs.Causes.{Rose}
 use Rattle.disk_model.specs.Disk.{Content, last_image}
 use Rattle.disk_model.specs.Moments.{HasNow}
-use Rattle.device_model.specs.Ending.{ImageFault, ByGeometry, ByMode, BySuperblock}
+use Rattle.device_model.specs.Ending.{ImageFault, ByGeometry, BySuperblock}
 use Rattle.recovery_laws.specs.Refusals.{read_fault_of}
 use Rattle.image_format.specs.declared.open_fault.OpenFault.{OpenFault}
-use Rattle.image_format.specs.declared.open_fault.OpenFault.TheVariants.{Disk, Geom, Memory, Mode, Super}
+use Rattle.image_format.specs.declared.open_fault.OpenFault.TheVariants.{Disk, Geom, Memory, Super}
 
 -- The fault of an image that is told, if one is.
 abbrev pub refusal_of : OpenFault → Option ImageFault
@@ -15,7 +15,6 @@ refusal_of Memory = None
 refusal_of Disk = None
 refusal_of (Super fault) = Some (BySuperblock fault)
 refusal_of (Geom fault) = Some (ByGeometry fault)
-refusal_of (Mode flags) = Some (ByMode flags)
 
 -- The image that reads give, on a disk of so many sectors, has no fault.
 abbrev pub HasNoFault : (sectors : ℕ) → List Content → Type 0

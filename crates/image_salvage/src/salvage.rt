@@ -23,7 +23,7 @@ pub struct Salvage<'d, D: Disk> {
 
 impl<'d, D: Disk> Salvage<'d, D> {
     /// Opens the image of a disk, whose tags are made by this hash. Its first sector alone is read: no journal and no bitmap
-    /// is looked at, and the flags of every mode are good.
+    /// is looked at.
     ///
     /// # Errors
     ///

@@ -1,7 +1,7 @@
 //! What the small image tells, and the same with a bitmap.
 ghost use Rattle.std.specs.Prelude.{◌≤◌};
 
-use image_format::{ImageFormat, OpenFault, read_direct_format, read_format};
+use image_format::read_format;
 use sector_disk::{Disk, MemDisk};
 use std::alloc::Global;
 use std::test::Fail;
@@ -44,19 +44,12 @@ fn small_disk(alloc: Global, sectors: u64, changes: &[(usize, u8)]) -> Result<Me
     Ok(disk)
 }
 
-/// Why it is refused, if it is.
-fn fault_of(told: Result<ImageFormat, OpenFault>) -> Option<OpenFault> {
-    match told {
-        Ok(_) => None,
-        Err(fault) => Some(fault),
-    }
-}
-
 #[test]
 fn the_small_image_is_told(rt: HostRuntime) -> Result<(), Fail> {
     let mut disk = small_disk(rt.alloc(), 256, &[])?;
-    let format = read_direct_format(&mut disk)?;
+    let format = read_format(&mut disk)?;
     assert_eq!(rt; format.fields, SMALL);
+    assert!(rt; !format.has_bitmap());
     // By the formulas of the layout: data from sector 104 on, and the tags of the first area before them.
     assert_eq!(rt; format.geometry.blocks(), 80);
     assert_eq!(rt; format.geometry.tag_run(), 8);
@@ -65,7 +58,7 @@ fn the_small_image_is_told(rt: HostRuntime) -> Result<(), Fail> {
 }
 
 #[test]
-fn an_image_with_a_bitmap_is_read_but_not_in_direct_mode(rt: HostRuntime) -> Result<(), Fail> {
+fn an_image_with_a_bitmap_is_told(rt: HostRuntime) -> Result<(), Fail> {
     let mut disk = small_disk(rt.alloc(), 256, &[(24, 0xc)])?;
     let format = read_format(&mut disk)?;
     assert_eq!(rt;
@@ -75,7 +68,6 @@ fn an_image_with_a_bitmap_is_read_but_not_in_direct_mode(rt: HostRuntime) -> Res
             ..SMALL
         }
     );
-    let refused = fault_of(read_direct_format(&mut disk));
-    assert_eq!(rt; refused, Some(OpenFault::Mode { flags: 0xc }));
+    assert!(rt; format.has_bitmap());
     Ok(())
 }

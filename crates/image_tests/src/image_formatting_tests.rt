@@ -1,6 +1,6 @@
 //! A new image on a disk in memory.
 use hmac_tag::Hash;
-use image_format::{read_direct_format, read_format};
+use image_format::read_format;
 use image_formatting::{ImageMode, NewImage, Padding, Wipe, format};
 use sector_disk::{Disk, Failed, MemDisk};
 use sha2::{Digest, Sha256};
@@ -101,7 +101,7 @@ fn the_small_image_is_made(rt: HostRuntime) -> Result<(), Fail> {
     // What no tag takes of their sectors stays.
     assert!(rt; has(&mut disk, 96, 256, &[0xee; 256])?);
     assert_eq!(rt; sector_of(&mut disk, 97)?, [0xee; 512]);
-    assert_eq!(rt; read_direct_format(&mut disk)?.geometry.blocks(), 80);
+    assert_eq!(rt; read_format(&mut disk)?.geometry.blocks(), 80);
     Ok(())
 }
 
@@ -159,7 +159,7 @@ fn tags_that_are_to_be_recalculated_are_told_by_the_flag_and_the_bits(
     // Neither data nor tags are written.
     assert_eq!(rt; sector_of(&mut disk, 96)?, [0xee; 512]);
     assert_eq!(rt; sector_of(&mut disk, 104)?, [0xee; 512]);
-    assert_eq!(rt; read_direct_format(&mut disk)?.fields.recalc_sector, 0);
+    assert_eq!(rt; read_format(&mut disk)?.fields.recalc_sector, 0);
 
     // With a bitmap each of five regions has its bit.
     let with_bitmap = NewImage {

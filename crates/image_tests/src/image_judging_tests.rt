@@ -4,6 +4,7 @@ use hmac_tag::{Hash, Key};
 use image_format::OpenFault;
 use image_judging::{Consent, OpeningFault, judge_consent};
 use journal_reading::{JournalFault, ReplayFault};
+use layout::GeomFault;
 use sector_disk::{Failed, Memory};
 use std::test::Fail;
 use superblock::{Super, SuperFault};
@@ -15,14 +16,22 @@ const UNNUMBERED: JournalFault = JournalFault::Scan(ScanFault::NoNumber {
     found: 1,
 });
 
+/// A disk of 7 sectors where 8 are wanted.
+const TOO_SMALL: GeomFault = GeomFault::TooSmall { have: 7, need: 8 };
+
 #[test]
 fn a_fault_from_below_keeps_its_cause(rt: HostRuntime) -> Result<(), Fail> {
     assert!(rt; matches!(OpeningFault::from(Memory), OpeningFault::Memory));
     assert!(rt; matches!(OpeningFault::from(Failed), OpeningFault::Disk));
     let told = OpeningFault::from(OpenFault::Super(SuperFault::Magic));
     assert!(rt; matches!(told, OpeningFault::Super(SuperFault::Magic)));
-    let told = OpeningFault::from(OpenFault::Mode { flags: 0xc });
-    assert!(rt; matches!(told, OpeningFault::Mode { flags: 0xc }));
+    let told = OpeningFault::from(OpenFault::Geom(TOO_SMALL));
+    assert!(rt;
+        matches!(
+            told,
+            OpeningFault::Geom(GeomFault::TooSmall { have: 7, need: 8 })
+        )
+    );
     let told = OpeningFault::from(ReplayFault::Journal(UNNUMBERED));
     assert!(rt; matches!(told, OpeningFault::Journal(JournalFault::Scan(_))));
     Ok(())

@@ -208,7 +208,6 @@ module _ (what : What) (key : Option (List ℕ)) (sectors : ℕ) (start : Conten
   not_checked OpeningFaults.Disk held refused = unchecked DiskFailed held (inr refl)
   not_checked (OpeningFaults.Super fault) held refused = refused_as _ held (refused (λ is. absurd (cc)) (λ is. absurd (cc)))
   not_checked (OpeningFaults.Geom fault) held refused = refused_as _ held (refused (λ is. absurd (cc)) (λ is. absurd (cc)))
-  not_checked (OpeningFaults.Mode flags) held refused = refused_as _ held (refused (λ is. absurd (cc)) (λ is. absurd (cc)))
   not_checked (OpeningFaults.Consent flags) held refused = refused_as _ held (refused (λ is. absurd (cc)) (λ is. absurd (cc)))
   not_checked (OpeningFaults.Journal fault) held refused = refused_as _ held (refused (λ is. absurd (cc)) (λ is. absurd (cc)))
 

@@ -84,11 +84,17 @@ module _ (here : Standing) (common : Parts) (a b : List Content) where
       → HasNow (IsClosedIn here.format.mode here.on here.format.blocks.tag here.state) b
   closed_here (Direct recalculation) is rests =
       in_mode Modes.Direct (sym (ap (λ (f : DeviceFormat). f.mode) is.direct.over.device.format))
-      (position_direct here (direct_kept common recalculation) a b is.direct rests)
+      (λ c told. (position_direct here (direct_kept common recalculation) a b is.direct rests.0 c told, rests.1 c told))
   closed_here (Journal state) is rests =
       in_mode Modes.Journal (sym (ap (λ (f : DeviceFormat). f.mode) is.journaled.over.format))
-      (λ c told. (rests.placed c told, position_journal here (kept common state.journal state.recalculation) a b is.journaled rests.fields_ c told))
-  closed_here (Bitmap regions) is rests = in_mode Modes.Bitmap (plain_bitmap.own here Working _ a is) rests
+      (λ c told. (
+        rests.0.placed c told,
+        position_journal here (kept common state.journal state.recalculation) a b is.journaled rests.0.fields_ c told,
+        rests.1 c told,
+      ))
+  closed_here (Bitmap regions) is rests =
+      in_mode Modes.Bitmap (plain_bitmap.own here Working _ a is)
+      (λ c told. record { opens = rests.opens c told; bits = rests.bits c told })
   closed_here Recovery is rests = in_mode Modes.Recovery (plain_recovery.own here Working common a is) (λ c told. tt)
 
 -- So is the device of a run that came to its close, where it was opened on an image.

@@ -35,7 +35,8 @@ use Rattle.device_parts.specs.Device.{Standing}
 use Rattle.device.specs.Run.{IsLeftWithin}
 use Rattle.device.specs.Tags.{Leaves}
 use Rattle.device.proofs.LeavesLemmas.{close_leaves}
-use Rattle.device.proofs.RunLemmas.{EachMoment-both, left-wider}
+use Rattle.device_opening.proofs.MomentsLemmas.{EachMoment-both}
+use Rattle.device.proofs.RunLemmas.{left-wider}
 use Rattle.script_session.specs.LineRun.{held_with}
 use Rattle.command_ending.specs.declared.ended.Ended.{Ended}
 use Rattle.command_ending.specs.declared.ended.Ended.TheVariants as Endings

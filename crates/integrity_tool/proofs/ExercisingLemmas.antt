@@ -1,5 +1,5 @@
 -- An exercise on a device with the close behind it; the same on a new image; and all of it behind the making.
-use Rattle.std.proofs.Common.{◌≡◌, ◌≢◌, ◌⊎◌, ◌↔◌, inl, inr, ℕ, ◌<◌, Bool, List, [], ◌++◌, codes, length, length-append, length-take, take, append-nil, arith, refl, sym, ◌∙◌, ap, subst, Option, Some, None, Result, Ok, Err, IfErr, OnOk}
+use Rattle.std.proofs.Common.{◌≡◌, ◌≢◌, ◌⊎◌, ◌↔◌, inl, inr, ℕ, ◌<◌, Bool, false, List, [], ◌++◌, codes, length, length-append, length-take, take, append-nil, arith, refl, sym, ◌∙◌, ap, subst, Option, Some, None, Result, Ok, Err, IfErr, OnOk}
 use Rattle.std.proofs.lemmas.Bool.{true≢false}
 use Rattle.std.proofs.lemmas.List.{take_all}
 use Rattle.std.proofs.lemmas.List.Sums.{fold-append}
@@ -18,10 +18,14 @@ use Rattle.device_model.specs.Progress.{DeviceState, Event, Close, FailedClose, 
 use Rattle.device_model.specs.Script.{ScriptLine, after_script}
 use Rattle.device_model.specs.ScriptRun.{ScriptRun, ScriptStep, changes_in, only_ends, texts_of}
 use Rattle.device_model.proofs.ScriptLemmas.{history-after}
+use Rattle.image_model.specs.declared.flags.TheConstants.{DIRTY_BITMAP}
 use Rattle.image_model.specs.Geometry.{Geometry}
+use Rattle.image_model.specs.Superblock.{Superblock, has_flag}
 use Rattle.image_model.specs.declared.geom_fault.GeomFault.{GeomFault}
-use Rattle.place_model.specs.Format.{format_on}
-use Rattle.place_model.specs.Kind.{CanOpenIn, kind_in}
+use Rattle.place_model.specs.Changed.{changes_mode, judged_image}
+use Rattle.place_model.specs.Format.{DiskFormat, format_on}
+use Rattle.place_model.specs.Kind.{kind_in}
+use Rattle.place_model.proofs.KindLemmas.{judged_image-same, opened_format-same}
 use Rattle.direct_laws.specs.MomentLaws.{IsLeftNow}
 use Rattle.image_formatting.specs.declared.format_fault.FormatFault.{FormatFault}
 use Rattle.image_formatting.specs.declared.format_fault.FormatFault.TheVariants as FormatFaults
@@ -40,12 +44,13 @@ use Rattle.device.specs.declared.mode.DeviceParts.{DeviceParts}
 use Rattle.device.specs.declared.opening.OpenMode.TheVariants as OpenModes
 use Rattle.device_parts.specs.Device.{HasEnded}
 use Rattle.device.specs.Device.{any_mode, kind_of}
-use Rattle.device_parts.specs.Device.{Standing}
+use Rattle.device_parts.specs.Device.{Standing, opened_standing}
 use Rattle.device.specs.Opening.{IsRefused, LeavesOpening}
 use Rattle.device.specs.Run.{HasRun, IsLeftWithin, standing_behind}
 use Rattle.device.specs.Tags.{Leaves}
 use Rattle.device.specs.Writes.{IsOfRun}
-use Rattle.device.proofs.RunLemmas.{EachMoment-both, left-behind, left-wider}
+use Rattle.device_opening.proofs.MomentsLemmas.{EachMoment-both}
+use Rattle.device.proofs.RunLemmas.{left-behind, left-wider}
 use Rattle.device.proofs.TagsLemmas.{leaves_left, leaves_then}
 use Rattle.device_exercise.specs.Exercising.{exercise_events}
 use Rattle.script_session.specs.declared.stop.Stop.{Stop}
@@ -59,7 +64,7 @@ use Rattle.command_model.specs.CommandRun.{Exercising, Exercises, IsEndedBy, IsE
 use Rattle.command_model.specs.Exercise.{Tally, exercise_lines, exercise_step, exercise_tally, exercise_text, finds_faults}
 use Rattle.command_model.proofs.ExerciseLemmas.{after_events-script, changes_of-script}
 use Rattle.integrity_tool.specs.declared.asked.Task.TheVariants.{Exercise}
-use Rattle.integrity_tool.specs.Exercised.{HasCounted, IsCountTold, IsExercised, IsExercisedOn, IsExercisedTo, IsMomentOfNew, IsTallyTold, ended_count, exercise_changes, new_run, new_standing}
+use Rattle.integrity_tool.specs.Exercised.{HasCounted, HasJournalToOpen, IsCountTold, IsExercised, IsExercisedOn, IsExercisedTo, IsMomentOfNew, IsTallyTold, ended_count, exercise_changes, new_run, new_standing}
 use Rattle.integrity_tool.specs.Closed.{IsClosedIn, IsClosedNew}
 use Rattle.integrity_tool.specs.Exercising.{exercise_image, exercise_outset, exercising_of, outset_by_exercise}
 use Rattle.integrity_tool.specs.Making.{IsLeftByMaking, IsMadeInOrder, ended_by_format}
@@ -254,7 +259,7 @@ module _ (sectors count seed : ℕ) (made : Content) where
 -- ---- behind an opening
 
 module _ (law : OpensLaw) (disk now : DiskIdentity) (count seed : ℕ) (a b : List Content) (made : Content)
-    (told : content_now a ≡ Some made) (can : CanOpenIn Modes.Journal None disk.sectors (last_image made))
+    (told : content_now a ≡ Some made) (can : HasJournalToOpen disk.sectors (last_image made))
     (leaves : LeavesOpening (OpenModes.Journal Withheld) None disk now a b) where
   abbrev image : Image
   image = last_image made
@@ -273,7 +278,7 @@ module _ (law : OpensLaw) (disk now : DiskIdentity) (count seed : ℕ) (a b : Li
 
   opening_each : EachMoment a b (IsMomentOfNew disk.sectors count seed made)
   opening_each =
-      let left = leaves.left (at_told _ a made told can) in
+      let left = leaves.left (at_told _ a made told can.0) in
       EachMoment-weaker
       (λ c both. record {
         done = 0;
@@ -296,7 +301,7 @@ module _ (law : OpensLaw) (disk now : DiskIdentity) (count seed : ℕ) (a b : Li
 
   left_opening : HasNow (IsLeftOfRun kind image made []) b
   left_opening =
-      let left = leaves.left (at_told _ a made told can) in
+      let left = leaves.left (at_told _ a made told can.0) in
       content_at_end
       (EachMoment-weaker (λ c both. inr (record { opens = both.0; left = both.1 }))
       (EachMoment-both (each_from _ made told left.opens) (each_from _ made told left.left)))
@@ -316,7 +321,7 @@ module _ (law : OpensLaw) (disk now : DiskIdentity) (count seed : ℕ) (a b : Li
   no_fault : (fault : OpeningFault) → IsRefused (OpenModes.Journal Withheld) None disk fault a b → fault ≢ OpeningFaults.Disk
       → fault ≢ OpeningFaults.Memory → fault_in {T = DeviceParts} (Err fault) ≡ None
   no_fault fault refused not_disk not_memory =
-      refused.told not_disk not_memory made told ∙ (law None Withheld disk.sectors image).1 (can, refl)
+      refused.told not_disk not_memory made told ∙ (law None Withheld disk.sectors image).1 (can.0, refl)
 
   -- A new image is not refused: the disk failed, or there was no memory.
   pub not_opened : (fault : OpeningFault) → IsRefused (OpenModes.Journal Withheld) None disk fault a b
@@ -327,15 +332,31 @@ module _ (law : OpensLaw) (disk now : DiskIdentity) (count seed : ℕ) (a b : Li
       let none = no_fault (OpeningFaults.Super fault) refused (λ is. absurd (cc)) (λ is. absurd (cc)) in absurd (cc)
   not_opened (OpeningFaults.Geom fault) refused =
       let none = no_fault (OpeningFaults.Geom fault) refused (λ is. absurd (cc)) (λ is. absurd (cc)) in absurd (cc)
-  not_opened (OpeningFaults.Mode flags) refused =
-      let none = no_fault (OpeningFaults.Mode flags) refused (λ is. absurd (cc)) (λ is. absurd (cc)) in absurd (cc)
   not_opened (OpeningFaults.Consent flags) refused =
       let none = no_fault (OpeningFaults.Consent flags) refused (λ is. absurd (cc)) (λ is. absurd (cc)) in absurd (cc)
   not_opened (OpeningFaults.Journal fault) refused =
       let none = no_fault (OpeningFaults.Journal fault) refused (λ is. absurd (cc)) (λ is. absurd (cc)) in absurd (cc)
 
-  module _ (counted : Result Tally Stop) (c : List Content)
-      (exercised : IsExercised (new_standing disk.sectors made) count seed counted b c) where
+  -- It has a journal: the opening leaves its mode.
+  stays : changes_mode Modes.Journal (fields_of image) ≡ false
+  stays = ap (λ (s : Superblock). has_flag DIRTY_BITMAP s.flags) (sym fields) ∙ can.1
+
+  -- The device that is open on it, by a disk's format and the image by which it is judged.
+  abbrev standing_by : DiskFormat → Image → Standing
+  standing_by on entry = record { format = kind.format image; state = kind.opened image; on = on; entry = entry }
+
+  -- These are its own, whichever image the opening made.
+  stands : (opened : Image) → opened_standing Modes.Journal None disk.sectors image opened ≡ standing_by (format_on None disk.sectors image) image
+  stands opened =
+      let d = format_on None disk.sectors image in
+      ap (λ (on : DiskFormat). standing_by on (judged_image Modes.Journal d image opened)) (opened_format-same Modes.Journal d can.1)
+      ∙ ap (standing_by d) (judged_image-same Modes.Journal d can.1 image opened)
+
+  module _ (counted : Result Tally Stop) (c : List Content) (opened_image : Image)
+      (exercised_there : IsExercised (opened_standing Modes.Journal None disk.sectors image opened_image) count seed counted b c) where
+    exercised : IsExercised (standing_by (format_on None disk.sectors image) image) count seed counted b c
+    exercised = subst (λ (w : Standing). IsExercised w count seed counted b c) (stands opened_image) exercised_there
+
     through : EachMoment b c (λ x. IsLeftWithin kind image (new_standing disk.sectors made).state.history
         (exercise_changes (new_standing disk.sectors made) count seed) x × IsWrittenByRun kind image g run made x)
     through = EachMoment-both exercised.since (writes_behind (content_now b) refl)
@@ -356,7 +377,7 @@ module _ (law : OpensLaw) (disk now : DiskIdentity) (count seed : ℕ) (a b : Li
               opening = opened_to opened is;
               behind = subst (λ (l : List Change). OnlyAdds (IsOfRun Modes.Journal g image l) opened x)
                   (sym (changes_run disk.sectors count seed made)) both.0;
-              tags = inr (inr (record { found = λ none. both.1; made = λ makes_one. absurd (true≢false (sym makes_one)) }));
+              tags = inr (inr (record { found = λ none. both.1; made = λ changed. absurd (true≢false (sym changed ∙ stays)) }));
             })
             (EachMoment-both (each_from _ opened is exercised.others.sectors) exercised.others.tags)
 
@@ -650,7 +671,7 @@ is_new_image = record {
 new_can_open : NewOpensLaw → (sectors provided : ℕ) (start made : Content) → provided_of exercise_image sectors ≡ Ok provided
     → IsNewContent exercise_image.wipe (rule_with None exercise_image) (format_with exercise_image provided) start made
     → ((sector : ℕ) → sector < sectors → length (last_image made sector) ≡ 512)
-    → CanOpenIn Modes.Journal None sectors (last_image made)
+    → HasJournalToOpen sectors (last_image made)
 new_can_open law sectors provided start made is_provided new whole =
     let opens = law None sectors exercise_image provided (last_image start) (last_image made)
     (record { ranges = is_new_image; is_provided = is_provided; formatted = new.image_; whole = whole }) refl in
@@ -661,7 +682,7 @@ module _ (law : NewOpensLaw) (sectors count seed : ℕ) (start : Content) (scrip
     (all : HasMade None sectors exercise_image provided a m)
     (whole : (c : Content) → content_now m ≡ Some c → (sector : ℕ) → sector < sectors → length (last_image c sector) ≡ 512)
     (result : Result TagsFound Ended) (b : List Content) (held_before held : Option (List ℕ))
-    (exercised : (c : Content) → content_now m ≡ Some c → CanOpenIn Modes.Journal None sectors (last_image c)
+    (exercised : (c : Content) → content_now m ≡ Some c → HasJournalToOpen sectors (last_image c)
     → IsExercisedTo sectors count seed c result m b held_before held) where
   -- An image that was made is exercised, and this is told and left.
   pub exercise_whole : HasRunOn (exercise_outset sectors count seed) start script (ending_by result) b held_before held

@@ -16,7 +16,7 @@ use Rattle.image_formatting.specs.Formatted.{HasMade, IsLeftByFormat}
 use Rattle.image_formatting.specs.NewImage.{provided_of}
 use Rattle.image_formatting.specs.Written.{IsOfNewImage}
 use Rattle.image_formatting.proofs.WholeLemmas.{left_in_order}
-use Rattle.device.proofs.RunLemmas.{EachMoment-both}
+use Rattle.device_opening.proofs.MomentsLemmas.{EachMoment-both}
 use Rattle.command_ending.specs.Ended.{ending_of}
 use Rattle.command_model.specs.CommandRun.{Outset, Makes, only_prints}
 use Rattle.integrity_tool.specs.Making.{IsLeftByMaking, IsMadeInOrder, ended_by_format, format_outset, formatted_text, making_of, outset_by_format}

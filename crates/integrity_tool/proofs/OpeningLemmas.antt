@@ -21,9 +21,11 @@ use Rattle.place_model.specs.Format.{format_on}
 use Rattle.place_model.specs.Kind.{kind_in}
 use Rattle.image_judging.specs.declared.opening_fault.OpeningFault.{OpeningFault}
 use Rattle.image_judging.specs.declared.opening_fault.OpeningFault.TheVariants as OpeningFaults
-use Rattle.image_judging.specs.FaultLaws.{BitmapOpensLaw, OpensLaw}
+use Rattle.image_judging.specs.FaultLaws.{OpensLaw}
 use Rattle.image_judging.specs.Faults.{ImageFault, fault_in}
-use Rattle.device_opening.proofs.MomentsLemmas.{each_from, now_told}
+use Rattle.device_opening.proofs.MadeDeviceLemmas.{some_disk}
+use Rattle.device_opening.proofs.MomentsLemmas.{EachMoment-both, each_from, now_told}
+use Rattle.place_model.proofs.FormatLemmas.{reads_on, reads_tells}
 use Rattle.device.specs.declared.mode.DeviceParts.{DeviceParts}
 use Rattle.device.specs.declared.opening.OpenMode.{OpenMode}
 use Rattle.device.specs.declared.opening.OpenMode.TheVariants.{Bitmap, Direct, Journal, Recovery}
@@ -36,7 +38,6 @@ use Rattle.device_parts.specs.Device.{IsOfSameBlocks, Standing, opened_standing}
 use Rattle.device.specs.Tags.{AreOfOthers, IsLeftOut, KeepsStill, KeepsTagsOf}
 use Rattle.device.specs.Writes.{IsOfRun}
 use Rattle.device.proofs.TagsLemmas.{still_then, tags_fewer}
-use Rattle.device.proofs.RunLemmas.{EachMoment-both}
 use Rattle.command_ending.specs.Ended.{ending_of}
 use Rattle.command_model.specs.CommandRun.{Outset, RunsOn, IsLeftAfter, IsRunAt, MayBeLeftAt}
 use Rattle.command_ending.specs.declared.ended.Ended.{Ended}
@@ -52,7 +53,7 @@ use Rattle.integrity_tool.specs.Opening.{HasReadIn, HasRunOn, IsMomentOn, IsOfOp
 use Rattle.integrity_tool.specs.Outset.{begun_on, geometry_on, outset_by, outset_on}
 use Rattle.integrity_tool.specs.Refusing.{ended_by_opening, ending_by_refusal}
 use Rattle.integrity_tool.specs.Running.{EndsScript, HasReadTo, IsStopped}
-use Rattle.integrity_tool.proofs.JudgedLemmas.{bitmap_opening, fields_on, kind_opened, opened_writes, tags_found, tags_made, tags_opened, written_behind}
+use Rattle.integrity_tool.proofs.JudgedLemmas.{bitmap_opening, direct_opening, fields_on, journal_opening, kind_opened, opened_writes, tags_found, tags_made, tags_opened, written_behind}
 use Rattle.integrity_tool.proofs.StartLemmas.{IsAsBefore, as_same, before_may_be_left, fine_on, nothing_run, of_run, refused_run, some_run, untouched_now, untouched_through}
 
 -- ---- modes that take writes, and recovery mode
@@ -62,7 +63,7 @@ use Rattle.integrity_tool.proofs.StartLemmas.{IsAsBefore, as_same, before_may_be
 pub record TakesWrites (mode : OpenMode) : Type 1 where
   pub begun : (kind : DeviceKind) (image : Image) → begun_on mode kind image ≡ RunsOn kind image
   pub kind_ : (key : Option (List ℕ)) (sectors : ℕ) → kind_by (asked_mode mode) key sectors ≡ kind_in (asked_mode mode) key sectors
-  pub opens : OpensLaw → BitmapOpensLaw → (key : Option (List ℕ)) (sectors : ℕ) (image : Image)
+  pub opens : OpensLaw → (key : Option (List ℕ)) (sectors : ℕ) (image : Image)
       → fault_in_mode mode key sectors image ≡ None → (kind_in (asked_mode mode) key sectors).CanOpen image
   pub reads : (key : Option (List ℕ)) (sectors : ℕ) (image : Image) → (kind_in (asked_mode mode) key sectors).CanOpen image
       → IsReadable sectors image
@@ -79,23 +80,23 @@ sort_of : (mode : OpenMode) → Sort mode
 sort_of (Direct consent) = Writing (record {
   begun = λ kind image. refl;
   kind_ = λ key sectors. refl;
-  opens = λ law bitmap key sectors image none. ((law key consent sectors image).0 none).0;
-  reads = λ key sectors image can. can.0.readable;
-  judged = λ key sectors start made same h left is. record { blocks = is.blocks ∙ same; left_is = is.left_is };
+  opens = λ law key sectors image none. ((law key consent sectors image).0 none).0;
+  reads = λ key sectors image can. can.readable;
+  judged = λ key sectors start made same h left is. record { blocks = is.blocks ∙ same.blocks; left_is = is.left_is };
 })
 sort_of (Journal consent) = Writing (record {
   begun = λ kind image. refl;
   kind_ = λ key sectors. refl;
-  opens = λ law bitmap key sectors image none. ((law key consent sectors image).0 none).0;
-  reads = λ key sectors image can. can.0.readable;
-  judged = λ key sectors start made same h left is. record { blocks = is.blocks ∙ same; left_is = is.left_is };
+  opens = λ law key sectors image none. ((law key consent sectors image).0 none).0;
+  reads = λ key sectors image can. can.readable;
+  judged = λ key sectors start made same h left is. record { blocks = is.blocks ∙ same.blocks; left_is = is.left_is };
 })
 sort_of (Bitmap consent) = Writing (record {
   begun = λ kind image. refl;
   kind_ = λ key sectors. refl;
-  opens = λ law bitmap key sectors image none. ((bitmap key consent sectors image).0 none).0;
-  reads = λ key sectors image can. can.0.readable;
-  judged = λ key sectors start made same h left is. record { blocks = is.blocks ∙ same; left_is = is.left_is };
+  opens = λ law key sectors image none. ((law key consent sectors image).0 none).0;
+  reads = λ key sectors image can. can.readable;
+  judged = λ key sectors start made same h left is. record { blocks = is.blocks ∙ same.blocks; left_is = is.left_is };
 })
 sort_of Recovery = Reading refl
 
@@ -126,15 +127,16 @@ pub written_in : (mode : OpenMode) (key : Option (List ℕ)) (sectors : ℕ) (st
     → content_now a ≡ Some start → WritesInOpening mode key sectors a b
     → EachMoment a b (IsOfOpeningIn (asked_mode mode) (geometry_on sectors (last_image start)) start)
 written_in (Direct consent) key sectors start is told writes =
-    EachMoment-both (each_from _ start told writes.recovers) (each_from _ start told writes.keeps)
-written_in (Journal consent) key sectors start is told writes = each_from _ start told writes
+    EachMoment-weaker (direct_opening key sectors start is) (each_from _ start told writes)
+written_in (Journal consent) key sectors start is told writes =
+    EachMoment-weaker (journal_opening key sectors start is) (each_from _ start told writes)
 written_in (Bitmap consent) key sectors start is told writes =
     EachMoment-weaker (bitmap_opening key sectors start is) (each_from _ start told writes)
 written_in Recovery key sectors start is told kept = EachMoment-kept _ kept
 
 -- ---- the opening
 
-module _ (law : OpensLaw) (bitmap : BitmapOpensLaw) (mode : OpenMode) (key : Option (List ℕ)) (disk now : DiskIdentity) (a b : List Content)
+module _ (law : OpensLaw) (mode : OpenMode) (key : Option (List ℕ)) (disk now : DiskIdentity) (a b : List Content)
     (start : Content) (told : content_now a ≡ Some start) (script : List ℕ) where
   abbrev image : Image
   image = last_image start
@@ -151,7 +153,7 @@ module _ (law : OpensLaw) (bitmap : BitmapOpensLaw) (mode : OpenMode) (key : Opt
   -- An image that a device takes writes on has the fields of its first sector.
   fields_same : TakesWrites mode → fault_in_mode mode key disk.sectors image ≡ None
       → (format_on key disk.sectors image).superblock ≡ fields_of image
-  fields_same writing none = fields_on key disk.sectors image (writing.reads key disk.sectors image (writing.opens law bitmap key disk.sectors image none))
+  fields_same writing none = fields_on key disk.sectors image (writing.reads key disk.sectors image (writing.opens law key disk.sectors image none))
 
   -- The geometry of the device that is opened on it.
   abbrev on_geometry : Geometry
@@ -165,7 +167,7 @@ module _ (law : OpensLaw) (bitmap : BitmapOpensLaw) (mode : OpenMode) (key : Opt
         → EachMoment a b (IsAsBefore (outset_by mode key disk.sectors image refusal) start)
     left_by None none = elim (sort_of mode) [
       | Writing writing ↦
-          let left = leaves.left (at_told _ a start told (writing.opens law bitmap key disk.sectors image none)) in
+          let left = leaves.left (at_told _ a start told (writing.opens law key disk.sectors image none)) in
           subst (λ (o : Outset). EachMoment a b (IsAsBefore o start)) (sym (writing.begun kind image))
           (EachMoment-weaker (λ c both. inr (record { opens = both.0; left = both.1 }))
           (EachMoment-both (each_from _ start told left.opens) (each_from _ start told left.left)))
@@ -233,8 +235,6 @@ module _ (law : OpensLaw) (bitmap : BitmapOpensLaw) (mode : OpenMode) (key : Opt
           told_by _ (OpeningFaults.Super fault) refused (λ is. absurd (cc)) (λ is. absurd (cc)) refl
       refused_by_opening (OpeningFaults.Geom fault) refused =
           told_by _ (OpeningFaults.Geom fault) refused (λ is. absurd (cc)) (λ is. absurd (cc)) refl
-      refused_by_opening (OpeningFaults.Mode flags) refused =
-          told_by _ (OpeningFaults.Mode flags) refused (λ is. absurd (cc)) (λ is. absurd (cc)) refl
       refused_by_opening (OpeningFaults.Consent flags) refused =
           told_by _ (OpeningFaults.Consent flags) refused (λ is. absurd (cc)) (λ is. absurd (cc)) refl
       refused_by_opening (OpeningFaults.Journal fault) refused =
@@ -285,6 +285,12 @@ module _ (law : OpensLaw) (bitmap : BitmapOpensLaw) (mode : OpenMode) (key : Opt
 
         fields : (format_on key disk.sectors image).superblock ≡ fields_of image
         fields = fields_same writing none
+
+        -- The disk has a sector, since its image can be read.
+        some_sector : 0 < disk.sectors
+        some_sector =
+            let d = format_on key disk.sectors image in
+            some_disk d.geometry disk.sectors (reads_tells d image (reads_on key disk.sectors image (writing.reads key disk.sectors image (writing.opens law key disk.sectors image none)))).is_geometry
 
         is_outset : outset ≡ RunsOn kind image
         is_outset = begins ∙ writing.begun kind image
@@ -358,17 +364,16 @@ module _ (law : OpensLaw) (bitmap : BitmapOpensLaw) (mode : OpenMode) (key : Opt
         tags_by : (c : Content) → KeepsTagsOf (asked_mode mode) (AreOfOthers (changes_in run.steps)) w.on.geometry w.entry c
             → KeepsTagsBehind kind image g run c
         tags_by c keeps = record {
-          found = λ none_made.
-              tags_found key disk.sectors start fields (asked_mode mode) made (changes_in run.steps) (AreOfOthers (changes_in run.steps)) c none_made keeps;
-          made = λ makes_one.
-              tags_made key disk.sectors start fields (asked_mode mode) made parts b told_made reads asked device makes_one
+          found = λ none. tags_found key disk.sectors start fields some_sector (asked_mode mode) made same (AreOfOthers (changes_in run.steps)) c none keeps;
+          made = λ changed.
+              tags_made key disk.sectors start fields some_sector (asked_mode mode) made same parts b told_made reads asked device changed
               (AreOfOthers (changes_in run.steps)) c keeps;
         }
 
         adds_by : (c : Content) → OnlyAdds (IsOfRun (asked_mode mode) w.on.geometry w.entry (changes_in run.steps)) made c
             → OnlyAdds (IsOfRun (asked_mode mode) on_geometry image (changes_in run.steps)) made c
         adds_by c =
-            written_behind key disk.sectors start fields (asked_mode mode) made (changes_in run.steps) (AreOfOthers (changes_in run.steps)) c
+            written_behind key disk.sectors start fields some_sector (asked_mode mode) made same (changes_in run.steps) c
 
         writes_behind : EachMoment b after (WritesOnlyBy (RunsOn kind image) g run start)
         writes_behind =

@@ -1,5 +1,5 @@
 -- An image that a cut has left begins the next run.
-use Rattle.std.proofs.Common.{◌≡◌, ℕ, ◌<◌, List, take, sym, ◌∙◌, ap, subst, Option}
+use Rattle.std.proofs.Common.{◌≡◌, ℕ, ◌<◌, Bool, true, false, if◌then◌else◌, refl, List, take, sym, ◌∙◌, ap, subst, Option}
 use Rattle.disk_model.specs.Disk.{Image}
 use Rattle.device_model.specs.Cut.{all_writes}
 use Rattle.device_model.specs.Device.{DeviceKind}
@@ -8,15 +8,22 @@ use Rattle.device_model.specs.Mode.{Journal}
 use Rattle.device_model.specs.Transcript.{BlockFormat}
 use Rattle.device_model.proofs.HistoryLemmas.{cells_after-append, with_changes-base}
 use Rattle.image_model.specs.Cells.{Cell}
-use Rattle.place_model.specs.Format.{cells_on, format_on}
+use Rattle.place_model.specs.Changed.{changed_device, changes_mode}
+use Rattle.place_model.specs.Format.{DiskFormat, cells_on, format_on}
 use Rattle.place_model.specs.Kind.{MayBeLeftIn, kind_in}
-use Rattle.place_model.specs.Opened.{blocks_of}
+use Rattle.place_model.specs.Opened.{blocks_of, opened_on}
 use Rattle.place_model.proofs.BlocksLemmas.{cells_after-base}
 use Rattle.image_judging.specs.FaultLaws.{OpensLaw}
 use Rattle.device.specs.declared.opening.OpenMode.TheVariants as Modes
 use Rattle.command_model.specs.CommandRun.{Outset, IsRunAt}
 use Rattle.integrity_tool.specs.Reopening.{HoldsFlushed, IsLeftBehind, ReopeningLaw, history_on}
 use Rattle.integrity_tool.specs.Outset.{outset_by}
+
+-- Whether the mode is changed or not, the device begins with the cells of the image.
+by_base : (t : Bool) (d : DiskFormat) (image : Image)
+    → (if t then changed_device d image else opened_on Journal d image).history.base ≡ cells_on d image
+by_base true d image = refl
+by_base false d image = refl
 
 module _ (key : Option (List ℕ)) (sectors : ℕ) where
   abbrev kind : DeviceKind
@@ -27,6 +34,9 @@ module _ (key : Option (List ℕ)) (sectors : ℕ) where
 
   abbrev cells : Image → ℕ → Cell
   cells image = cells_on (format_on key sectors image) image
+
+  opened_base : (image : Image) → (kind.opened image).history.base ≡ cells image
+  opened_base image = let d = format_on key sectors image in by_base (changes_mode Journal d.superblock) d image
 
   -- What a cut leaves, by the blocks of the image at the entry.
   record Keeps (entry : Image) (h : History) (left : Image) : Type 0 where
@@ -64,7 +74,7 @@ module _ (key : Option (List ℕ)) (sectors : ℕ) where
           flushed = record { has_flushed = own.has_flushed; has_no_more = own.has_no_more };
           each = λ b low.
               (subst (λ (x : BlockFormat). (n : ℕ) → n < x.blocks → cells last n ≡ cells_after x.tag k.base added n) same own.each) b low
-              ∙ ap (λ (base : ℕ → Cell). cells_after f.tag base added b) (with_changes-base more (kind.opened left).history)
+              ∙ ap (λ (base : ℕ → Cell). cells_after f.tag base added b) (with_changes-base more (kind.opened left).history ∙ opened_base left)
               ∙ cells_after-base f.tag (cells left) (cells_after f.tag h.base kept) added b (first.each b low)
               ∙ sym (cells_after-append f.tag h.base kept added b);
         }
@@ -84,6 +94,6 @@ reopening_law law key sectors entry changes later left by image =
       blocks = is.blocks;
       kept = own.kept;
       flushed = own.flushed;
-      base = own.each;
+      base = λ b low. ap (λ (base : ℕ → Cell). base b) (opened_base key sectors left) ∙ own.each b low;
       again = behind key sectors entry left h is;
     }

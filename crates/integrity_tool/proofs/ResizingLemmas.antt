@@ -6,7 +6,7 @@ use Rattle.disk_model.specs.Moments.{content_now, EachMoment, HasNow}
 use Rattle.disk_model.proofs.MomentsLemmas.{EachMoment-weaker, content_at_end}
 use Rattle.device_model.specs.Ending.{Ending, Complete, DiskFailed, ImageFault, NoMemory, RefusedImage, SinkFailed}
 use Rattle.device_model.specs.ScriptRun.{only_ends}
-use Rattle.device.proofs.RunLemmas.{EachMoment-both}
+use Rattle.device_opening.proofs.MomentsLemmas.{EachMoment-both}
 use Rattle.stream_io.specs.Stream.{with_bytes, AddsPrefix}
 use Rattle.image_model.specs.Geometry.{Geometry}
 use Rattle.place_model.specs.Format.{DiskFormat, format_on}

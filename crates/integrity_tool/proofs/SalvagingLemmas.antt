@@ -337,7 +337,6 @@ module _ (key : Option (List ℕ)) (sectors : ℕ) (start : Content) (script : L
       nothing_run outset (fine_salvage key sectors (last_image start)) start script DiskFailed tt b (before_kept outset start told kept) held held refl
   not_salvaged (OpenFaults.Super fault) held refused = refused_as _ held (refused (λ is. absurd (cc)) (λ is. absurd (cc)))
   not_salvaged (OpenFaults.Geom fault) held refused = refused_as _ held (refused (λ is. absurd (cc)) (λ is. absurd (cc)))
-  not_salvaged (OpenFaults.Mode flags) held refused = refused_as _ held (refused (λ is. absurd (cc)) (λ is. absurd (cc)))
 
   -- It is opened, and its lines are printed so far.
   pub salvaged : (ending : Ending) (held_before held : Option (List ℕ)) → read_fault_of sectors (last_image start) ≡ None

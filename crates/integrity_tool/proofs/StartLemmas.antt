@@ -101,7 +101,6 @@ fine_format_fault OpenFaults.Memory = no_complete _ (λ (x : ⊥). x)
 fine_format_fault OpenFaults.Disk = no_complete _ (λ (x : ⊥). x)
 fine_format_fault (OpenFaults.Super fault) = no_complete _ (λ (x : ⊥). x)
 fine_format_fault (OpenFaults.Geom fault) = no_complete _ (λ (x : ⊥). x)
-fine_format_fault (OpenFaults.Mode flags) = no_complete _ (λ (x : ⊥). x)
 
 fine_refused : (refusal : ImageFault) → IsFine (RefusedBy (ending_by_refusal refusal))
 fine_refused (faults.ByFormat fault) = fine_format_fault fault

@@ -2,8 +2,8 @@
 -- with a journal and of one with a bitmap.
 use Rattle.std.proofs.Common.{◌≡◌, ◌==◌, true, false, if◌then◌else◌, refl, None, Some, [], ◌∷◌, replicate}
 use Rattle.disk_model.specs.Disk.{Image}
-use Rattle.device_model.specs.Ending.{ByConsent, ByMode, RefusedImage}
-use Rattle.device_model.specs.Mode.{Bitmap, Journal}
+use Rattle.device_model.specs.Ending.{ByConsent, RefusedImage}
+use Rattle.device_model.specs.Mode.{Bitmap, Direct, Journal}
 use Rattle.image_model.specs.Bitmap.{is_bit_set}
 use Rattle.image_model.specs.CommitId.{id_in, number_of}
 use Rattle.image_model.specs.Geometry.{bitmap_sectors_for, entries_per_sector, entry_size, fitting_log2_region, geometry_of, layout_of, regions_for, section_entries, section_sectors, sector_at, tag_run_of}
@@ -18,7 +18,7 @@ use Rattle.place_model.proofs.WorkedDisk.{fresh_bitmap, fresh_journal, journal_f
 use Rattle.image_judging.specs.declared.consent.Consent.TheVariants.{Withheld}
 use Rattle.device.specs.declared.opening.OpenMode.TheVariants as Modes
 use Rattle.command_model.specs.CommandRun.{RefusedBy, RunsOn}
-use Rattle.integrity_tool.specs.Opening.{geometry_of_device, makes_bitmap_of, opened_geometry}
+use Rattle.integrity_tool.specs.Opening.{geometry_of_device, changes_mode_of, opened_geometry}
 use Rattle.integrity_tool.specs.Outset.{outset_on}
 
 -- ---- what a run starts on
@@ -28,14 +28,14 @@ outset_on-journal : outset_on (Modes.Bitmap Withheld) None 112 fresh_journal ≡
 unfolding superblock_of fields_in geometry_of sector_at tag_run_of walk_of_grid plan_of grid_with blank_bound bitmap_sectors_for regions_for fitting_log2_region is_used number_of id_in entry_at entry_size entries_per_sector section_entries section_sectors is_bit_set journal_fault_of
 outset_on-journal = refl
 
--- and of one with a bitmap, too, which journal mode refuses for its flags.
+-- and of one with a bitmap, too, and so does one in journal mode.
 outset_on-bitmap : outset_on (Modes.Bitmap Withheld) None 112 fresh_bitmap ≡ RunsOn (kind_in Bitmap None 112) fresh_bitmap
 unfolding superblock_of fields_in geometry_of sector_at tag_run_of bitmap_sectors_for regions_for fitting_log2_region entry_size entries_per_sector section_entries section_sectors is_bit_set
 outset_on-bitmap = refl
 
-outset_on-refused : outset_on (Modes.Journal Withheld) None 112 fresh_bitmap ≡ RefusedBy (RefusedImage (ByMode 0xc))
-unfolding superblock_of fields_in geometry_of sector_at tag_run_of bitmap_sectors_for regions_for fitting_log2_region entry_size entries_per_sector section_entries section_sectors
-outset_on-refused = refl
+outset_on-bitmap_in_journal : outset_on (Modes.Journal Withheld) None 112 fresh_bitmap ≡ RunsOn (kind_in Journal None 112) fresh_bitmap
+unfolding superblock_of fields_in geometry_of sector_at tag_run_of bitmap_sectors_for regions_for fitting_log2_region entry_size entries_per_sector section_entries section_sectors is_bit_set
+outset_on-bitmap_in_journal = refl
 
 -- Where tags are to be recalculated under a key, that of an image with a journal asks for consent. The image has 47 blocks of
 -- eight sectors on 1024 sectors.
@@ -69,18 +69,27 @@ opened_geometry-journal = refl
 opened_geometry-bitmap : opened_geometry Bitmap (record large { flags = 0xc }) (layout_of large) ≡ layout_of large
 opened_geometry-bitmap = refl
 
--- So of these disks a bitmap is made in bitmap mode of the one with a journal alone, and in journal mode of none. Its
--- regions of 2^15 blocks fit as they are.
-makes_bitmap_of-journal : makes_bitmap_of (kind_in Bitmap None 112) fresh_journal ≡ true
+-- So of these disks a bitmap is made in bitmap mode of the one with a journal alone, and a journal in the two other modes of
+-- the one with a bitmap. Regions of 2^15 blocks fit as they are.
+changes_mode_of-journal : changes_mode_of (kind_in Bitmap None 112) fresh_journal ≡ true
 unfolding fields_in
-makes_bitmap_of-journal = refl
+changes_mode_of-journal = refl
 
-makes_bitmap_of-bitmap : makes_bitmap_of (kind_in Bitmap None 112) fresh_bitmap ≡ false
+changes_mode_of-bitmap : changes_mode_of (kind_in Bitmap None 112) fresh_bitmap ≡ false
 unfolding fields_in
-makes_bitmap_of-bitmap = refl
+changes_mode_of-bitmap = refl
 
-makes_bitmap_of-direct : makes_bitmap_of (kind_in Journal None 112) fresh_journal ≡ false
-makes_bitmap_of-direct = refl
+changes_mode_of-same : changes_mode_of (kind_in Journal None 112) fresh_journal ≡ false
+unfolding fields_in
+changes_mode_of-same = refl
+
+changes_mode_of-back : changes_mode_of (kind_in Journal None 112) fresh_bitmap ≡ true
+unfolding fields_in
+changes_mode_of-back = refl
+
+changes_mode_of-direct : changes_mode_of (kind_in Direct None 112) fresh_bitmap ≡ true
+unfolding fields_in
+changes_mode_of-direct = refl
 
 geometry_of_device-fresh : geometry_of_device (kind_in Bitmap None 112) fresh_journal journal_format.geometry ≡ journal_format.geometry
 unfolding fields_in fitting_log2_region bitmap_sectors_for regions_for entry_size entries_per_sector section_entries section_sectors tag_run_of

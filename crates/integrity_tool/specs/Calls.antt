@@ -105,8 +105,8 @@ ReadsOnlyRun identity moments left held faults outset first script read sink out
     HasReadIn (outset (identity first).sectors (last_image c)) bytes (left read) (held sink) (held out)
     (faults script < faults read)) (moments first)
 
--- The script stays unread where it ended before that, or has none. Where there was no memory and nothing is taken of it, no
--- device was opened on the image.
+-- The script stays unread where it ended before that, or has none. Where there was no memory and nothing is taken of
+-- it, no device was opened on the image.
 pub record LeavesUnread {T D S : Type 0} (moments : D → List Content) (left : S → Option (List ℕ)) (task : Task)
     (result : Result T Ended) (first last : D) (script read : S) : Type 0 where
   pub before : IfErr result (λ ended. IsBeforeScript ended → read ≡ script)

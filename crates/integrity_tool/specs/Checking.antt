@@ -33,7 +33,8 @@ bad_line bad =
 -- The last line: how many blocks there are, how many are bad, and how many await their tags.
 abbrev pub counts_line : (blocks bad awaiting : ℕ) → List ℕ
 counts_line blocks bad awaiting =
-    with_newline (codes "blocks " ++ decimal blocks ++ codes " bad " ++ decimal bad ++ codes " awaiting " ++ decimal awaiting)
+    with_newline (codes "blocks " ++ decimal blocks ++ codes " bad " ++ decimal bad
+    ++ codes " awaiting " ++ decimal awaiting)
 
 -- The last line of an image with so many bad blocks.
 abbrev pub last_line : DiskFormat → Image → (bad : ℕ) → List ℕ

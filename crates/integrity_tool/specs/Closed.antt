@@ -18,9 +18,10 @@ use Rattle.device_model.specs.Script.{after_script, line_outcome}
 use Rattle.device_model.specs.ScriptBytes.{lines_of}
 use Rattle.command_model.specs.Exercise.{exercise_lines}
 use Rattle.place_model.specs.Changed.{opened_format}
-use Rattle.place_model.specs.Format.{DiskFormat, format_on, placed_on}
+use Rattle.place_model.specs.Format.{DiskFormat, OpensAs, format_on, placed_on}
 use Rattle.place_model.specs.Kind.{kind_in}
 use Rattle.device_parts.specs.Device.{Standing}
+use Rattle.device.specs.Answers.{HasNoBitmap}
 use Rattle.device.specs.Awaiting.{fields_of}
 use Rattle.device.specs.Opening.{asked_mode}
 use Rattle.integrity_tool.specs.declared.asked.Asked.{Asked}
@@ -59,6 +60,12 @@ HasBitsOf g s c = let counts = s.progress.regions in
     EachImage (λ image. (region : ℕ) → region < regions g
     → is_dirty g image region ≡ (counts.set_bits region && counts.awaiting region)) c
 
+-- So it is, and each image can be opened in this format: its superblock has the same fields, the flag of a bitmap among
+-- them.
+pub record HasBitmapOf (d : DiskFormat) (s : DeviceState) (c : Content) : Type 0 where
+  pub opens : EachImage (OpensAs d) c
+  pub bits : HasBitsOf d.geometry s c
+
 -- The region is the least one, or one behind it.
 abbrev pub is_from : Option ℕ → (region : ℕ) → Bool
 is_from None region = false
@@ -72,15 +79,16 @@ HasPositionOf g s c = EachImage (λ image. (region : ℕ) → region < regions g
     ≡ is_from (least_region (regions g) s.progress.regions.awaiting) region) c
 
 -- How a close in a mode leaves the images of a device that is in this state. In direct mode it moves the position, and
--- else leaves no more than a flush does; in recovery mode it leaves the disk.
+-- else leaves no more than a flush does; in journal and in direct mode no image has the flag of a bitmap; in recovery
+-- mode it leaves the disk.
 abbrev pub IsClosedIn : Mode → DiskFormat → Tagger → DeviceState → Content → Type 0
-IsClosedIn Journal d tag s c = HasAllPlaced d tag s c × HasPositionOf d.geometry s c
-IsClosedIn Bitmap d tag s c = HasBitsOf d.geometry s c
-IsClosedIn Direct d tag s c = HasPositionOf d.geometry s c
+IsClosedIn Journal d tag s c = HasAllPlaced d tag s c × HasPositionOf d.geometry s c × HasNoBitmap c
+IsClosedIn Bitmap d tag s c = HasBitmapOf d s c
+IsClosedIn Direct d tag s c = HasPositionOf d.geometry s c × HasNoBitmap c
 IsClosedIn Recovery d tag s c = Unit {0}
 
--- So is each image left by the close of the device of this kind that opened an image, and left it in this format, behind
--- the lines of a script.
+-- So is each image left by the close of the device of this kind that opened an image, and left it in this format,
+-- behind the lines of a script.
 pub record IsClosedBehind (kind : DeviceKind) (image : Image) (d : DiskFormat) (script : List ℕ) (c : Content)
     : Type 0 where
   pub lines : List ReadLine

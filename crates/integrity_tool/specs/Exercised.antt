@@ -1,6 +1,6 @@
 -- What came of an exercise on a device: what was counted, what is left, and what is printed.
-use Rattle.std.specs.Prelude.{◌≡◌, ◌⊎◌, ℕ, List, take, Option, None, Result, Ok, Err, IfErr, OnOk}
-use Rattle.disk_model.specs.Disk.{Content, EachImage, last_image}
+use Rattle.std.specs.Prelude.{◌≡◌, ◌⊎◌, ℕ, false, List, take, Option, None, Result, Ok, Err, IfErr, OnOk}
+use Rattle.disk_model.specs.Disk.{Content, EachImage, Image, last_image}
 use Rattle.disk_model.specs.Identity.{DiskIdentity}
 use Rattle.disk_model.specs.Moments.{EachMoment, HasNow}
 use Rattle.device_model.specs.History.{Change, with_changes}
@@ -8,6 +8,9 @@ use Rattle.device_model.specs.Mode.{Journal}
 use Rattle.device_model.specs.Progress.{DeviceState}
 use Rattle.device_model.specs.Script.{after_script}
 use Rattle.device_model.specs.ScriptRun.{ScriptRun}
+use Rattle.image_model.specs.declared.flags.TheConstants.{DIRTY_BITMAP}
+use Rattle.image_model.specs.Superblock.{has_flag}
+use Rattle.place_model.specs.Format.{format_on}
 use Rattle.place_model.specs.Kind.{CanOpenIn, kind_in}
 use Rattle.direct_laws.specs.MomentLaws.{IsLeftNow}
 use Rattle.device_parts.specs.declared.condition.Condition.TheVariants.{Working}
@@ -56,7 +59,8 @@ pub record IsExercised (w : Standing) (count seed : ℕ) (counted : Result Tally
       (IsLeftWithin (kind_of w) w.entry w.state.history (exercise_changes w count seed))
   pub others : Leaves w (exercise_changes w count seed) before after
   pub now : IsLeftNow (kind_of w) w.entry (with_changes changes w.state.history) after
-  pub closed : OnOk counted (HasNow (IsClosedIn w.format.mode w.on w.format.blocks.tag (exercised_state w count seed)) after)
+  pub closed : OnOk counted
+      (HasNow (IsClosedIn w.format.mode w.on w.format.blocks.tag (exercised_state w count seed)) after)
 
 -- What was counted, or what ends a command whose exercise is stopped.
 abbrev pub ended_count : Result Tally Stop → Result Tally Ended
@@ -85,8 +89,8 @@ pub record IsMomentOfNew (sectors count seed : ℕ) (made later : Content) : Typ
       (new_run sectors count seed made) made later
   pub opens : EachImage (CanOpenIn Journal None sectors) later
 
--- The exercise came so far on the image that was made, and so it is left. What ended it, if something did, is the disk or
--- want of memory: a new image is not refused.
+-- The exercise came so far on the image that was made, and so it is left. What ended it, if something did, is the disk
+-- or want of memory: a new image is not refused.
 pub record IsExercisedOn (sectors count seed : ℕ) (made : Content) (counted : Result Tally Ended)
     (before after : List Content) : Type 0 where
   pub changes : List Change
@@ -140,18 +144,23 @@ abbrev pub ExercisesDevice : {D : Type 0} → (D → List Content) → (seed cou
 ExercisesDevice moments seed count result parts first last = (w : Standing) → IsDevice w Working parts (moments first)
     → IsExercised w count seed result (moments first) (moments last)
 
--- A new image that can be opened is exercised so far,
+-- The image can be opened, and has a journal.
+abbrev pub HasJournalToOpen : (sectors : ℕ) → Image → Type 0
+HasJournalToOpen sectors image = CanOpenIn Journal None sectors image
+    × (has_flag DIRTY_BITMAP (format_on None sectors image).superblock.flags ≡ false)
+
+-- Such a new image is exercised so far,
 abbrev pub ExercisesNew : {D : Type 0} → (D → DiskIdentity) → (D → List Content) → (seed count : ℕ)
     → Result Tally Ended → (first last : D) → Type 0
 ExercisesNew identity moments seed count result first last = HasNow (λ c.
-    CanOpenIn Journal None (identity first).sectors (last_image c)
+    HasJournalToOpen (identity first).sectors (last_image c)
     → IsExercisedOn (identity first).sectors count seed c result (moments first) (moments last)) (moments first)
 
 -- and this is told of it.
 abbrev pub TellsExercise : {D O : Type 0} → (D → DiskIdentity) → (D → List Content) → (O → Option (List ℕ))
     → (seed count : ℕ) → Result TagsFound Ended → (first last : D) → (sink out : O) → Type 0
 TellsExercise identity moments held seed count result first last sink out = HasNow (λ c.
-    CanOpenIn Journal None (identity first).sectors (last_image c)
+    HasJournalToOpen (identity first).sectors (last_image c)
     → IsExercisedTo (identity first).sectors count seed c result (moments first) (moments last) (held sink)
     (held out)) (moments first)
 

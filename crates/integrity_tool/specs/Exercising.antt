@@ -1,6 +1,6 @@
 -- What `exercise` makes and runs, or why a disk is refused by it.
--- Own: the image has areas of eight sectors, a journal of four sections, and else what `format` makes without an option; the
--- device is in journal mode, and its tags have no key.
+-- Own: the image has areas of eight sectors, a journal of four sections, and else what `format` makes without an
+-- option; the device is in journal mode, and its tags have no key.
 use Rattle.std.specs.Prelude.{ℕ, List, None, Result, Ok, Err}
 use Rattle.disk_model.specs.Disk.{Content, EachImage}
 use Rattle.disk_model.specs.Moments.{EachMoment}

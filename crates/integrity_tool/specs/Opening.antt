@@ -10,11 +10,11 @@ use Rattle.device_model.specs.Mode.{Mode, Bitmap, Direct, Recovery}
 use Rattle.device_model.specs.ScriptRun.{ScriptRun, changes_in}
 use Rattle.image_model.specs.Cells.{Cell, placed_cells_of}
 use Rattle.image_model.specs.Geometry.{Geometry}
-use Rattle.image_model.specs.Superblock.{Superblock}
-use Rattle.place_model.specs.Changed.{bitmap_fields, makes_bitmap}
+use Rattle.image_model.specs.declared.flags.TheConstants.{RECALCULATING}
+use Rattle.image_model.specs.Superblock.{Superblock, has_flag}
+use Rattle.place_model.specs.Changed.{bitmap_fields, changes_mode}
 use Rattle.device_opening.specs.Changing.{IsOfBitmapOpening}
-use Rattle.device_opening.specs.DirectOpening.{KeepsEmpty}
-use Rattle.device_opening.specs.Opening.{IsOfOpening}
+use Rattle.device_opening.specs.JournalMaking.{IsOfDirectOpening, IsOfJournalOpening}
 use Rattle.device.specs.Awaiting.{fields_of}
 use Rattle.device.specs.declared.opening.OpenMode.{OpenMode}
 use Rattle.device.specs.Tags.{AreOfOthers, KeepsTagsOf}
@@ -37,29 +37,31 @@ pub record HasRunOn (outset : Outset) (start : Content) (script : List ℕ) (end
   pub told : held ≡ held_with text held_before
   pub left : HasNow (IsLeftAfter outset start changes ending) after
 
--- The content comes by an opening in this mode: what was pending is settled, and behind that nothing is written but
--- entries of the image's journal in their places, sectors of tags, and empty sections of the journal; in direct mode
--- sectors of tags alone where the journal was empty. In bitmap mode nothing is where the image has a bitmap; and a
--- journal becomes one behind that: zeros stand in the bitmap's place, and then the first sector has its flag. In
+-- The content comes by an opening in this mode: what was pending is settled, and behind that nothing is written of an
+-- image with a journal but its entries in their places, sectors of tags, and empty sections of the journal; in direct
+-- mode sectors of tags alone where the journal was empty. Nothing is of one with a bitmap in bitmap mode. Where a
+-- bitmap is made of a journal, zeros in the bitmap's place are written too, and the first sector with the new fields.
+-- Where a journal is made of a bitmap, these two are, sectors of tags, and those of the journal, which is empty. In
 -- recovery mode it is as it was.
 abbrev pub IsOfOpeningIn : Mode → Geometry → (start opened : Content) → Type 0
-IsOfOpeningIn Direct g start opened = IsOfOpening g start opened × KeepsEmpty g start opened
+IsOfOpeningIn Direct g start opened = IsOfDirectOpening (fields_of (last_image start)) g start opened
 IsOfOpeningIn Bitmap g start opened = IsOfBitmapOpening (fields_of (last_image start)) g start opened
 IsOfOpeningIn Recovery g start opened = opened ≡ start
-IsOfOpeningIn mode g start opened = IsOfOpening g start opened
+IsOfOpeningIn mode g start opened = IsOfJournalOpening (fields_of (last_image start)) g start opened
 
 -- It does, or all is as it was.
 abbrev pub IsOpenedTo : Mode → Geometry → (start opened : Content) → Type 0
 IsOpenedTo mode g start opened = (opened ≡ start) ⊎ IsOfOpeningIn mode g start opened
 
--- A device of this kind makes a bitmap of the journal of the image, as it opens it.
-abbrev pub makes_bitmap_of : DeviceKind → Image → Bool
-makes_bitmap_of kind image = makes_bitmap (kind.format image).mode (fields_of image)
+-- A device of this kind changes the mode of the image, as it opens it.
+abbrev pub changes_mode_of : DeviceKind → Image → Bool
+changes_mode_of kind image = changes_mode (kind.format image).mode (fields_of image)
 
 -- The geometry of a device in this mode: where the opening makes a bitmap, its regions are those that fit.
 abbrev pub opened_geometry : Mode → Superblock → Geometry → Geometry
-opened_geometry mode s g =
-    if makes_bitmap mode s then record g { log2_region = (bitmap_fields s).log2_region } else g
+opened_geometry Bitmap s g =
+    if changes_mode Bitmap s then record g { log2_region = (bitmap_fields s).log2_region } else g
+opened_geometry mode s g = g
 
 -- The same of a device of this kind on an image with this geometry.
 abbrev pub geometry_of_device : DeviceKind → Image → Geometry → Geometry
@@ -70,27 +72,37 @@ abbrev pub HasTagsBy : (Concerns : ℕ → Type 0) → Geometry → (cells : ℕ
 HasTagsBy Concerns g cells c = EachImage (λ image. (b : ℕ) → b < g.blocks → Concerns b
     → (placed_cells_of g image b).tag ≡ (cells b).tag) c
 
+-- No block of an image awaits its tag, by its fields.
+abbrev pub HasAllTags : Content → Type 0
+HasAllTags c = EachImage (λ image. has_flag RECALCULATING (fields_of image).flags ≡ false) c
+
+-- Where the mode was changed all tags were made: in bitmap mode each of these blocks' tags stands in its place as the
+-- block's cell has it, and in journal and in direct mode no block awaits its tag.
+abbrev pub HasMadeTags : Mode → (Concerns : ℕ → Type 0) → Geometry → (cells : ℕ → Cell) → Content → Type 0
+HasMadeTags Bitmap Concerns g cells c = HasTagsBy Concerns g cells c
+HasMadeTags mode Concerns g cells c = HasAllTags c
+
 -- In bitmap mode the tags stand in their places as in the image that was opened, of each block that the run does not
--- write, where its region's bit was clear in that image; and where a bitmap was made of its journal, of each block
--- that the run does not write, as the block's cell had it at the start. In journal and in direct mode no block awaits
--- its tag, by the fields of an image, that did not by those of the image that was opened.
+-- write, where its region's bit was clear in that image. In journal and in direct mode no block awaits its tag, by the
+-- fields of an image, that did not by those of the image that was opened. Where the mode was changed all tags were
+-- made.
 pub record KeepsTagsBehind (kind : DeviceKind) (image : Image) (g : Geometry) (run : ScriptRun) (later : Content)
     : Type 0 where
-  pub found : makes_bitmap_of kind image ≡ false
+  pub found : changes_mode_of kind image ≡ false
       → KeepsTagsOf (kind.format image).mode (AreOfOthers (changes_in run.steps)) g image later
-  pub made : makes_bitmap_of kind image ≡ true
-      → HasTagsBy (AreOfOthers (changes_in run.steps)) (geometry_of_device kind image g)
+  pub made : changes_mode_of kind image ≡ true
+      → HasMadeTags (kind.format image).mode (AreOfOthers (changes_in run.steps)) (geometry_of_device kind image g)
       (kind.opened image).history.base later
 
--- Where an opening makes a bitmap of a journal, the content is the one that it has come to.
-abbrev pub IsAmidMaking : DeviceKind → Image → (opened later : Content) → Type 0
-IsAmidMaking kind image opened later = (makes_bitmap_of kind image ≡ true) × (later ≡ opened)
+-- Where an opening changes the mode, the content is the one that it has come to.
+abbrev pub IsAmidChange : DeviceKind → Image → (opened later : Content) → Type 0
+IsAmidChange kind image opened later = (changes_mode_of kind image ≡ true) × (later ≡ opened)
 
--- No sector was written, or a bitmap is being made; or the tags are kept so. So no region is recalculated but those
--- whose bit was set, none once a bitmap was made, and no block but those that the position named.
+-- No sector was written, or the mode is being changed; or the tags are kept so. So no region is recalculated but those
+-- whose bit was set, none once the mode was changed, and no block but those that the position named.
 abbrev pub KeepsClearTags : DeviceKind → Image → Geometry → ScriptRun → (start opened later : Content) → Type 0
 KeepsClearTags kind image g run start opened later =
-    IsUntouched start later ⊎ (IsAmidMaking kind image opened later ⊎ KeepsTagsBehind kind image g run later)
+    IsUntouched start later ⊎ (IsAmidChange kind image opened later ⊎ KeepsTagsBehind kind image g run later)
 
 -- What is written up to a moment of a run on a device of this kind, which has opened this image: in its opening what
 -- that may write; and then in direct mode sectors of tags, and of the data of blocks that the run writes, in bitmap

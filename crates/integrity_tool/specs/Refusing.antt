@@ -1,10 +1,10 @@
 -- How a command ends whose image is not opened.
-use Rattle.device_model.specs.Ending.{Ending, RefusedImage, DiskFailed, NoMemory, BySuperblock, ByGeometry, ByMode, ByConsent, ByJournal}
+use Rattle.device_model.specs.Ending.{Ending, RefusedImage, DiskFailed, NoMemory, BySuperblock, ByGeometry, ByConsent, ByJournal}
 use Rattle.image_format.specs.declared.open_fault.OpenFault.{OpenFault}
 use Rattle.image_format.specs.declared.open_fault.OpenFault.TheVariants as FormatFaults
 use Rattle.image_judging.specs.declared.opening_fault.OpeningFault.{OpeningFault}
 use Rattle.image_judging.specs.declared.opening_fault.OpeningFault.TheVariants as Refusals
-use Rattle.image_judging.specs.declared.opening_fault.OpeningFault.TheVariants.{Memory, Disk, Super, Geom, Mode, Journal}
+use Rattle.image_judging.specs.declared.opening_fault.OpeningFault.TheVariants.{Memory, Disk, Super, Geom, Journal}
 use Rattle.image_judging.specs.Faults as faults
 use Rattle.image_judging.specs.Faults.{ImageFault}
 use Rattle.command_ending.specs.declared.ended.Ended.{Ended}
@@ -17,7 +17,6 @@ ended_by_opening Memory = Endings.Memory
 ended_by_opening Disk = Endings.Disk
 ended_by_opening (Super fault) = Endings.Image (Faults.Super fault)
 ended_by_opening (Geom fault) = Endings.Image (Faults.Geom fault)
-ended_by_opening (Mode flags) = Endings.Image (Faults.Mode flags)
 ended_by_opening (Refusals.Consent flags) = Endings.Image (Faults.Consent flags)
 ended_by_opening (Journal fault) = Endings.Image (Faults.Journal fault)
 
@@ -27,7 +26,6 @@ ending_by_format FormatFaults.Memory = NoMemory
 ending_by_format FormatFaults.Disk = DiskFailed
 ending_by_format (FormatFaults.Super fault) = RefusedImage (BySuperblock fault)
 ending_by_format (FormatFaults.Geom fault) = RefusedImage (ByGeometry fault)
-ending_by_format (FormatFaults.Mode flags) = RefusedImage (ByMode flags)
 
 -- or by that, for want of consent, or by its journal.
 abbrev pub ending_by_refusal : ImageFault → Ending

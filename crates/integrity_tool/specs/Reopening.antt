@@ -8,8 +8,8 @@ use Rattle.device_model.specs.Mode.{Journal}
 use Rattle.device_model.specs.ScriptRun.{ScriptRun, IsRunOf}
 use Rattle.device_model.specs.Transcript.{BlockFormat}
 use Rattle.image_judging.specs.declared.consent.Consent.{Consent}
+use Rattle.image_judging.specs.FaultLaws.{some_await_on}
 use Rattle.image_judging.specs.Faults.{lacks_consent}
-use Rattle.image_model.specs.Bitmap.{some_await}
 use Rattle.image_model.specs.Cells.{Cell}
 use Rattle.place_model.specs.Format.{cells_on, format_on}
 use Rattle.place_model.specs.Kind.{kind_in}
@@ -44,7 +44,7 @@ pub record IsLeftBehind (f : BlockFormat) (first : History) (kept : ℕ) (second
 pub record BeginsWithCut (key : Option (List ℕ)) (sectors : ℕ) (entry : Image) (changes : List Change) (left : Image)
     : Type 0 where
   pub starts : (consent : Consent) (script : List ℕ) (run : ScriptRun) → let kind = kind_in Journal key sectors in
-      lacks_consent key consent (some_await (format_on key sectors left).superblock) ≡ false
+      lacks_consent key consent (some_await_on (format_on key sectors left) left) ≡ false
       → IsRunOf (kind.format left) (kind.opened left) script run
       → IsRunAt (outset_on (Modes.Journal consent) key sectors left) script run
   pub blocks : blocks_of (format_on key sectors left) ≡ blocks_of (format_on key sectors entry)

@@ -67,8 +67,8 @@ abbrev pub newlines_in : List ℕ → ℕ
 newlines_in [] = 0
 newlines_in (byte ∷ bytes) = (if byte == 10 then 1 else 0) + newlines_in bytes
 
--- These steps of a run are made: it goes on with the rest. Their text is printed, and what is taken of the script has no more
--- newlines than they are many.
+-- These steps of a run are made: it goes on with the rest. Their text is printed, and what is taken of the script has
+-- no more newlines than they are many.
 pub record IsPassed (run rest : ScriptRun) (script : List ℕ) (held_start : Option (List ℕ)) (reader : Reading)
     (left : List ℕ) (held : Option (List ℕ)) : Type 0 where
   pub steps : List ScriptStep
@@ -122,7 +122,8 @@ HasEndCause disk_rose script_rose sink_rose Endings.Script = script_rose
 HasEndCause disk_rose script_rose sink_rose Endings.Sink = sink_rose
 HasEndCause disk_rose script_rose sink_rose Endings.Memory = Unit {0}
 
--- A count of faults never falls, and it rises only where this is what ended the run: no call that failed is passed over.
+-- A count of faults never falls, and it rises only where this is what ended the run: no call that failed is passed
+-- over.
 pub record IsCounted {T : Type 0} (ended : Ended) (before after : ℕ) (result : Result T Ended) : Type 0 where
   pub later : before ≤ after
   pub passed : result ≢ Err ended → after ≡ before

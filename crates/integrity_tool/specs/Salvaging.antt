@@ -26,8 +26,8 @@ pub record IsToldTo (d : DiskFormat) (image : Image) (told bad : ℕ) (held_befo
   pub printed : held ≡ held_with (flat_map (block_text d image) (range_with_len 0 told)) held_before
 
 -- This ended the printing of these texts, of which some are printed.
-pub record IsPrintedBy (texts : List (List ℕ)) (found_fault : Bool) (ending : Ending) (held_before held : Option (List ℕ))
-    : Type 0 where
+pub record IsPrintedBy (texts : List (List ℕ)) (found_fault : Bool) (ending : Ending)
+    (held_before held : Option (List ℕ)) : Type 0 where
   pub text : List ℕ
   pub ended : IsEndedBy (only_prints texts found_fault) text [] ending
   pub told : held ≡ held_with text held_before
@@ -53,4 +53,5 @@ abbrev pub TellsImage : {D O : Type 0} → (D → DiskIdentity) → (D → List 
     → Ending → D → (sink out : O) → Type 0
 TellsImage identity moments held image ending disk sink out = HasNow (λ c.
     let d = salvaged_format image (identity disk).sectors (last_image c) in
-    IsPrintedBy (salvage_texts d (last_image c)) (has_bad d (last_image c)) ending (held sink) (held out)) (moments disk)
+    IsPrintedBy (salvage_texts d (last_image c)) (has_bad d (last_image c)) ending (held sink) (held out))
+    (moments disk)

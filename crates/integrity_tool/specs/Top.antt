@@ -90,9 +90,9 @@ pub record TellsRun (given : Given) (status : ℕ) (first last : Counts) (before
   pub told : Tells (outset_in given) given.content given.script before after status (rises first last) later
   pub sink_passed : status ≢ 6 → told.line ≡ fault_text told.ending → last.sink ≡ first.sink
 
--- What a command with this status keeps of the world that gave it this: what it tells, where the sink tells what it holds;
--- what stands at each moment, and in which order; what a close leaves, once it came to its end; that for want of memory no
--- device was opened but behind the script's first byte; and how much of the script it takes.
+-- What a command with this status keeps of the world that gave it this: what it tells, where the sink tells what it
+-- holds; what stands at each moment, and in which order; what a close leaves, once it came to its end; that for want of
+-- memory no device was opened but behind the script's first byte; and how much of the script it takes.
 pub record Keeps (command : List (List ℕ)) (given : Given) (status : ℕ) (first last : World) : Type 0 where
   pub tells : (before : List ℕ) → first.held ≡ Some before → IsSomeAnd last.held (λ after.
       IsSomeAnd (content_now (image_in command last).moments)
@@ -124,8 +124,8 @@ RunsGiven world command result first last = (given : Given) → IsGiven command 
 
 -- ---- its status
 
--- The status is one of 0 to 7; 4, 5 and 6 come only where the disk, a source or the sink failed; and no fault of the disk
--- or of a source is passed over by another status, and none of the sink by a run that came to its end.
+-- The status is one of 0 to 7; 4, 5 and 6 come only where the disk, a source or the sink failed; and no fault of the
+-- disk or of a source is passed over by another status, and none of the sink by a run that came to its end.
 pub record HasStatus (before after : Counts) (status : ℕ) : Type 0 where
   pub low : status ≤ 7
   pub of_disk : status ≡ 4 → Rose before.disk after.disk
@@ -167,8 +167,8 @@ pub record HasWrongKey (command : List (List ℕ)) (world : World) : Type 0 wher
   pub refused : key_by (key_file_of_asked (asked_of command)) bytes ≡ Err refusal
 
 -- Words that are no command end it so, and touch neither the disk nor a source. A key that is refused is so before the
--- disk is called and the script is read, and so is one whose source fails. The script is not read where the command ends
--- before that, or has none.
+-- disk is called and the script is read, and so is one whose source fails. The script is not read where the command
+-- ends before that, or has none.
 pub record CallsOnly {D K S O : Type 0} (world : Outside D K S O → World) (command : List (List ℕ)) (ends : Ends)
     (first last : Outside D K S O) : Type 0 where
   pub words : asked_of command ≡ None → ends.by_words × (last.key.now ≡ first.key.now) × AreUncalled first last
@@ -176,8 +176,8 @@ pub record CallsOnly {D K S O : Type 0} (world : Outside D K S O → World) (com
       → AreUncalled first last
   pub unread : ends.before_script ⊎ HasNoScript (asked_of command) → last.script.now ≡ first.script.now
 
--- What it reads: of the key's source nothing but the file that the words name, and at most 4097 bytes of that; and of the
--- script at most one byte beyond its bound.
+-- What it reads: of the key's source nothing but the file that the words name, and at most 4097 bytes of that; and of
+-- the script at most one byte beyond its bound.
 pub record ReadsOnly {D K S O : Type 0} (world : Outside D K S O → World) (command : List (List ℕ)) (ends : Ends)
     (first last : Outside D K S O) : Type 0 where
   pub key : ReadsKeyFile (key_file_of_asked (asked_of command)) world first last ends.key_read

@@ -5,7 +5,8 @@ use Rattle.integrity_tool.specs.declared.asked.Asked.{Asked}
 use Rattle.integrity_tool.specs.declared.asked.Task.{Task}
 use Rattle.integrity_tool.specs.declared.asked.Task.TheVariants as Tasks
 
--- The disk of a run is as it was, not even synced. What is done without a script opens no device, or makes its image first.
+-- The disk of a run is as it was, not even synced. What is done without a script opens no device, or makes its image
+-- first.
 abbrev pub IsUnopenedAt : Task → (before after : List Content) → Type 0
 IsUnopenedAt (Tasks.Run mode) before after = after ≡ before
 IsUnopenedAt Tasks.Dump before after = Unit {0}

@@ -11,8 +11,8 @@ pub record Counts : Type 0 where
   pub script : ℕ
   pub sink : ℕ
 
--- What stands under each name on the disk, and the name that it is bound to; what each key file has, and what is left of
--- the one that is read; what is left of the script; what the sink holds; and how often each of the four has failed.
+-- What stands under each name on the disk, and the name that it is bound to; what each key file has, and what is left
+-- of the one that is read; what is left of the script; what the sink holds; and how often each of the four has failed.
 pub record World : Type 0 where
   pub named : List ℕ → NamedDisk
   pub bound : Binding

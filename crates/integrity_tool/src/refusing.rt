@@ -14,7 +14,6 @@ pub(crate) fn ended_by_opening(fault: OpeningFault) -> Ended
         OpeningFault::Disk => Ended::Disk,
         OpeningFault::Super(fault) => Ended::Image(ImageFault::Super(fault)),
         OpeningFault::Geom(fault) => Ended::Image(ImageFault::Geom(fault)),
-        OpeningFault::Mode { flags } => Ended::Image(ImageFault::Mode { flags }),
         OpeningFault::Consent { flags } => Ended::Image(ImageFault::Consent { flags }),
         OpeningFault::Journal(fault) => Ended::Image(ImageFault::Journal(fault)),
     }

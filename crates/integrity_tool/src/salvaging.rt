@@ -152,8 +152,8 @@ fn print_image<D: Disk, O: Sink>(
     }
 }
 
-/// Prints the line of each block of an image of which no block was told yet, and tells how many are bad. `bytes` is room
-/// for one.
+/// Prints the line of each block of an image of which no block was told yet, and tells how many are bad. `bytes` is
+/// room for one.
 ///
 /// # Errors
 ///

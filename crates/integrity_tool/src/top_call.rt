@@ -68,8 +68,8 @@ impl<D: Disk, K: NamedSource, S: Source, O: Sink> Outside<'_, D, K, S, O> {
     ///
     /// - 0: the command came to its end: the image is made or resized, its lines are printed, or the script or the
     ///   exercise was run to its end and the device closed.
-    /// - 1: it came to its end, and a reply that was taken, or a line of a check or a salvage, names a block whose stored
-    ///   tag differs.
+    /// - 1: it came to its end, and a reply that was taken, or a line of a check or a salvage, names a block whose
+    ///   stored tag differs.
     /// - 2: the words are no command, the bytes of the key file no key, or the script is refused.
     /// - 3: the image is refused.
     /// - 4, 5, 6: the disk, the source of the key or of the script, or the sink failed.
@@ -79,8 +79,8 @@ impl<D: Disk, K: NamedSource, S: Source, O: Sink> Outside<'_, D, K, S, O> {
         // order; what the close of a device leaves; and how much of the script is taken before a line of it is run.
         ensures given { KeepsGiven ⟦<Self as AsWorld>⟧.world (texts words.now) result self.old self.new }
 
-        // What each status but 0 to 3 comes from, and that no fault is passed over, whether the disk and the streams tell
-        // what they hold or not.
+        // What each status but 0 to 3 comes from, and that no fault is passed over, whether the disk and the streams
+        // tell what they hold or not.
         ensures status { HasStatusIn ⟦<Self as AsWorld>⟧.world result self.old self.new }
 
         // What is called: nothing where the words are no command, and the key's source before all else.

@@ -8,7 +8,9 @@ use journal_section::clear;
 use layout::Geometry;
 
 /// Makes the bytes those of a journal's sections, each empty of commit number `number`.
-pub(crate) fn clear_sections(geometry: &Geometry, number: u8, bytes: &mut [u8])
+///
+/// Source: Linux, `drivers/md/dm-integrity.c`, `init_journal`.
+pub fn clear_sections(geometry: &Geometry, number: u8, bytes: &mut [u8])
     requires geometry { (sectors : ℕ) × IsGeometry geometry.now sectors }
     requires number { number < 4 }
     requires bytes { length bytes.old ≡ 512 * journal_sectors geometry.now }

@@ -21,7 +21,7 @@ use sector_disk::{Disk, Failed};
 /// journal that is blank with this number the blank sectors are written, and no other. What stood in `scratch` is
 /// lost: it holds the bytes of the journal's sections, and no memory is taken.
 ///
-/// Own: a change of mode leaves a journal blank, and its recovery writes what the change did not come to.
+/// Own: a change of mode that is cut leaves a journal blank, and a recovery writes what the change did not come to.
 ///
 /// # Errors
 ///

@@ -16,6 +16,7 @@ mod newest;
 mod part;
 mod runs;
 
+pub use clearing::clear_sections;
 pub use erasing::erase;
 pub use erasure::Erasure;
 pub use filling::fill;

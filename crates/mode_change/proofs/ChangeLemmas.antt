@@ -21,7 +21,7 @@ use Rattle.change_model.specs.Opened.{IsEmptiedOf, bitmap_change}
 use Rattle.change_model.specs.Whole.{IsStep, Marking, WritesHead, ZeroesSectors, Zeroing}
 use Rattle.change_model.proofs.FieldsLemmas.{head_bytes_law}
 use Rattle.change_model.proofs.OpenedLemmas.{opens_bitmap_done, opens_bitmap_moments, some_sector}
-use Rattle.mode_change.specs.ToBitmap.{BecomesBitmap, IsAmidBitmap, IsChangeOf, IsOfBitmap, KeepsEmptied, MarksFormat, OpensBitmap, bitmap_count, bitmap_format, with_bitmap, with_zeros}
+use Rattle.mode_change.specs.ToBitmap.{BecomesBitmap, IsAmidBitmap, IsChangeOf, IsOfBitmap, KeepsEmptied, MarksFormat, OpensBitmap, StepsToBitmap, bitmap_count, bitmap_format, with_bitmap, with_zeros}
 use Rattle.mode_change.proofs.StepLemmas.{head_step, zeros_added, zeros_head, zeros_step, zeros_under}
 
 -- ---- each moment
@@ -157,14 +157,12 @@ module _ (sectors : ℕ) (f after : ImageFormat) (after_is : after ≡ bitmap_fo
   each_amid : {b : List Content} (Q : Content → Content → Type 0) → ((start c : Content) → IsImage start (last_image start) → IsAmid f start c → Q start c) → EachSince (IsAmid f) a b → EachSince Q a b
   each_amid Q q moments = EachMoment-weaker (FromStart-weaker a (IsAmid f) Q (λ start c told amid. q start c (reads start told) amid)) moments
 
-  pub writes_of : {b : List Content} → EachSince (IsAmid f) a b → EachSince (λ start. OnlyAdds (IsOfBitmap f start) start) a b
-  writes_of moments = each_amid (λ start. OnlyAdds (IsOfBitmap f start) start) (λ start c image amid. amid_writes sectors f is marks_own start image c amid) moments
-
-  pub through_of : {b : List Content} → EachSince (IsAmid f) a b → EachSince (IsAmidBitmap f) a b
-  through_of moments = each_amid (IsAmidBitmap f) (λ start c image amid. amid_moment sectors f is marks_own start image c amid) moments
-
-  pub moments_of : {b : List Content} (key : Option (List ℕ)) → EachSince (IsAmid f) a b → EachSince (KeepsEmptied (disk_format key sectors f)) a b
-  moments_of key moments = each_amid (KeepsEmptied (disk_format key sectors f)) (λ start c image amid. amid_keeps sectors f is marks_own start image key c amid) moments
+  pub steps_of : {b : List Content} → EachSince (IsAmid f) a b → StepsToBitmap sectors f a b
+  steps_of moments = record {
+    writes = each_amid (λ start. OnlyAdds (IsOfBitmap f start) start) (λ start c image amid. amid_writes sectors f is marks_own start image c amid) moments;
+    through = each_amid (IsAmidBitmap f) (λ start c image amid. amid_moment sectors f is marks_own start image c amid) moments;
+    keeps = λ key. each_amid (KeepsEmptied (disk_format key sectors f)) (λ start c image amid. amid_keeps sectors f is marks_own start image key c amid) moments;
+  }
 
   pub opened_of : (b : List Content) (whole : (c : Content) (sector : ℕ) (x : List ℕ) → content_now a ≡ Some c → sector < sectors → Contains (c sector) x → length x ≡ 512)
       → content_now b ≡ option_map (with_bitmap f) (content_now a) → (key : Option (List ℕ)) → OpensBitmap key sectors f a b

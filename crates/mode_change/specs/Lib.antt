@@ -1,1 +1,2 @@
 pub mod ToBitmap
+pub mod ToJournal

@@ -1,8 +1,8 @@
 -- A change from a journal to a bitmap: the format behind it, what it writes, and what each moment of it keeps.
 -- Own: the disk is synced first, then zeros are written in the bitmap's place, and then sector 0; each is synced.
 use Rattle.std.specs.Prelude.{◌≡◌, ◌⊎◌, ℕ, ◌*◌, ◌≤◌, Ok, List, Option}
-use Rattle.disk_model.specs.Disk.{Content, EachImage, Image, last_image, newest_only, with_run}
-use Rattle.disk_model.specs.Moments.{HasNow}
+use Rattle.disk_model.specs.Disk.{Content, EachImage, Image, OnlyAdds, last_image, newest_only, with_run}
+use Rattle.disk_model.specs.Moments.{EachSince, HasNow}
 use Rattle.image_model.specs.Geometry.{bitmap_sectors, geometry_of, journal_sectors}
 use Rattle.image_model.specs.Sectors.{zero_bytes}
 use Rattle.image_model.specs.Superblock.{Superblock}
@@ -71,6 +71,13 @@ IsAmidBitmap f start c = (m : ModeChange) → IsChangeOf f m
 abbrev pub KeepsEmptied : DiskFormat → (start c : Content) → Type 0
 KeepsEmptied d start c = (entry : Image) (now : JournaledDisk) (number : ℕ) (tags : ℕ → List ℕ) → IsEntry d entry
     → IsEmptiedOf d entry now number tags start → EachImage (KeepsEntry d entry) c × KeepsRest (rest_of start) c
+
+-- Each moment between the two, on a disk of so many sectors. No sector is written but those of the bitmap's place and
+-- sector 0, in this order; and under any key each image keeps the blocks and the cells of the one that was recovered.
+pub record StepsToBitmap (sectors : ℕ) (f : ImageFormat) (before after : List Content) : Type 0 where
+  pub writes : EachSince (λ start. OnlyAdds (IsOfBitmap f start) start) before after
+  pub through : EachSince (IsAmidBitmap f) before after
+  pub keeps : (key : Option (List ℕ)) → EachSince (KeepsEmptied (disk_format key sectors f)) before after
 
 -- ---- the end
 

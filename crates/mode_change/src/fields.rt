@@ -2,8 +2,9 @@
 ghost use Rattle.std.specs.Prelude.{◌≡◌, ◌<◌, ◌^◌};
 ghost use Rattle.image_format.specs.Format.{IsBitmapFormat, IsDirectFormat};
 ghost use Rattle.image_model.specs.SuperblockLaws.{FitsBytes};
-ghost use Rattle.change_model.specs.Fields.{bitmap_fields, recalculated_fields};
+ghost use Rattle.change_model.specs.Fields.{bitmap_fields, journal_fields, recalculated_fields};
 ghost use Rattle.mode_change.specs.ToBitmap.{MarksFormat, bitmap_format};
+ghost use Rattle.mode_change.specs.ToJournal.{journal_format};
 
 use image_format::ImageFormat;
 use image_model::{DIRTY_BITMAP, RECALCULATING, Super};
@@ -28,7 +29,25 @@ pub fn bitmap_format(format: &ImageFormat, disk_sectors: u64) -> ImageFormat
     }
 }
 
-/// The fields behind the change.
+/// The format behind a change from a bitmap to a journal, on a disk of so many sectors: the regions stay, and so does
+/// all that lies on the disk, and nothing is to be recalculated. It is so for each image with a bitmap.
+///
+/// Own: `docs/FORMAT.md` has the steps of the change.
+pub fn journal_format(format: &ImageFormat, disk_sectors: u64) -> ImageFormat
+    requires format { IsBitmapFormat disk_sectors format.now }
+
+    ensures format { result ≡ journal_format format.now }
+    ensures direct { IsDirectFormat disk_sectors result }
+    ensures marks { MarksFormat disk_sectors format.now result }
+    ensures fits { FitsBytes format.now.fields }
+{
+    ImageFormat {
+        fields: unmarked_fields(format, disk_sectors),
+        geometry: format.geometry,
+    }
+}
+
+/// The fields behind a change to a bitmap.
 fn marked_fields(format: &ImageFormat, disk_sectors: u64) -> Super
     requires format { IsDirectFormat disk_sectors format.now }
 
@@ -41,6 +60,25 @@ fn marked_fields(format: &ImageFormat, disk_sectors: u64) -> Super
         version: version_for(flags, fields.version),
         flags,
         log2_region: format.geometry.fitting_log2_region(),
+        ..fields
+    }
+}
+
+/// The fields behind a change to a journal.
+fn unmarked_fields(format: &ImageFormat, disk_sectors: u64) -> Super
+    requires format { IsBitmapFormat disk_sectors format.now }
+
+    ensures fields { result ≡ journal_fields format.now.fields }
+    ensures direct { IsDirectFormat disk_sectors (journal_format format.now) }
+    ensures marks { MarksFormat disk_sectors format.now (journal_format format.now) }
+    ensures fits { FitsBytes format.now.fields }
+{
+    let fields = recalculated_fields(format.fields);
+    let flags = fields.flags & !DIRTY_BITMAP;
+    let version = version_for(flags, fields.version);
+    Super {
+        version,
+        flags,
         ..fields
     }
 }

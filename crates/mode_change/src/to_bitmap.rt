@@ -4,12 +4,10 @@
 //! where the bitmap will be, or a bitmap of which no bit is set.
 ghost use Rattle.std.specs.Prelude.{◌≡◌, ℕ, ◌*◌, ◌≤◌, IfOk, List, OnOk, Option, length};
 ghost use Rattle.disk_model.specs.Causes.{HasCause};
-ghost use Rattle.disk_model.specs.Disk.{OnlyAdds};
 ghost use Rattle.disk_model.specs.Identity.{IsBound};
-ghost use Rattle.disk_model.specs.Moments.{EachSince, IsChangedBy};
-ghost use Rattle.image_format.specs.Format.{IsBitmapFormat, IsDirectFormat, disk_format};
-ghost use Rattle.mode_change.specs.ToBitmap.{IsAmidBitmap, IsOfBitmap, KeepsEmptied, OpensBitmap};
-ghost use Rattle.mode_change.specs.ToBitmap.{bitmap_count, bitmap_format, with_bitmap};
+ghost use Rattle.disk_model.specs.Moments.{IsChangedBy};
+ghost use Rattle.image_format.specs.Format.{IsBitmapFormat, IsDirectFormat};
+ghost use Rattle.mode_change.specs.ToBitmap.{OpensBitmap, StepsToBitmap, bitmap_count, bitmap_format, with_bitmap};
 
 use crate::fields::bitmap_format;
 use crate::head::write_head;
@@ -52,13 +50,8 @@ pub fn change_to_bitmap<D: Disk>(
     ensures scratch { length scratch.new ≡ length scratch.old }
     ensures identity { D.identity disk.new ≡ D.identity disk.old }
 
-    // No sector is written but those of the bitmap's place and sector 0, in this order.
-    ensures writes { EachSince (λ start. OnlyAdds (IsOfBitmap format.now start) start)
-        (D.moments disk.old) (D.moments disk.new) }
-    ensures through { EachSince (IsAmidBitmap format.now) (D.moments disk.old) (D.moments disk.new) }
-    // Each image keeps the blocks and the cells of the one that was recovered.
-    ensures moments { (key : Option (List ℕ)) → EachSince
-        (KeepsEmptied (disk_format key (D.identity disk.old).sectors format.now))
+    // Zeros and sector 0 are written, in this order, and each image keeps what the one that was recovered has.
+    ensures moments { StepsToBitmap (D.identity disk.old).sectors format.now
         (D.moments disk.old) (D.moments disk.new) }
 {
     let after = bitmap_format(format, disk.sectors());

@@ -3,11 +3,11 @@ use Rattle.std.proofs.Common.{◌≡◌, true, false, refl, sym, ◌∙◌, ap, 
 use Rattle.disk_model.specs.Disk.{Image}
 use Rattle.image_model.specs.declared.flags.TheConstants.{DIRTY_BITMAP}
 use Rattle.image_model.specs.Superblock.{has_flag}
-use Rattle.device_model.specs.Mode.{Bitmap}
+use Rattle.device_model.specs.Mode.{Mode, Bitmap}
 use Rattle.place_model.specs.Format.{DiskFormat, OpensAs, format_on}
 use Rattle.place_model.specs.Left.{IsLeftInDirect, IsLeftPlaced, IsLeftInJournal, IsLeftInBitmap}
 use Rattle.place_model.specs.Opened.{blocks_of, opened_on}
-use Rattle.place_model.specs.Changed.{bitmap_format, changed_device, judged_image, opened_format, opened_in}
+use Rattle.place_model.specs.Changed.{changed_device, changed_format, changes_mode, judged_image, opened_format, opened_in}
 use Rattle.place_model.specs.Kind.{JournalKindLaw, BitmapKindLaw, DirectKindLaw, PlacedKindLaw}
 use Rattle.place_model.proofs.FormatLemmas.{format_on-is, format_on-read}
 
@@ -42,24 +42,33 @@ placed_kind_law d entry h left is may =
       left_is = subst (λ (x : DiskFormat). IsLeftPlaced x h left) (sym format) may;
     }
 
--- ---- bitmap mode
+-- ---- an opening that changes the mode, or leaves it
 
--- Where the image has a bitmap an opening leaves its format, and the device is the one on it,
-pub opened_format-bitmap : (d : DiskFormat) → has_flag DIRTY_BITMAP d.superblock.flags ≡ true → opened_format Bitmap d ≡ d
-opened_format-bitmap d set = rw set refl
+-- Where the image is in the mode an opening leaves its format, and the device is the one on it,
+module _ (mode : Mode) (d : DiskFormat) (is : changes_mode mode d.superblock ≡ false) where
+  pub opened_format-same : opened_format mode d ≡ d
+  opened_format-same = rw is refl
 
-pub opened_in-bitmap : (d : DiskFormat) (image : Image) → has_flag DIRTY_BITMAP d.superblock.flags ≡ true → opened_in Bitmap d image ≡ opened_on Bitmap d image
-opened_in-bitmap d image set = rw set refl
+  pub opened_in-same : (image : Image) → opened_in mode d image ≡ opened_on mode d image
+  opened_in-same image = rw is refl
 
-pub judged_image-bitmap : (d : DiskFormat) (entry made : Image) → has_flag DIRTY_BITMAP d.superblock.flags ≡ true → judged_image Bitmap d entry made ≡ entry
-judged_image-bitmap d entry made set = rw set refl
+  pub judged_image-same : (entry made : Image) → judged_image mode d entry made ≡ entry
+  judged_image-same entry made = rw is refl
 
--- and where it has a journal they are those of the change.
-pub opened_format-journal : (d : DiskFormat) → has_flag DIRTY_BITMAP d.superblock.flags ≡ false → opened_format Bitmap d ≡ bitmap_format d
-opened_format-journal d clear = rw clear refl
+-- and where it is not they are those of the change.
+module _ (mode : Mode) (d : DiskFormat) (is : changes_mode mode d.superblock ≡ true) where
+  pub opened_format-changed : opened_format mode d ≡ changed_format mode d
+  opened_format-changed = rw is refl
 
-pub opened_in-journal : (d : DiskFormat) (image : Image) → has_flag DIRTY_BITMAP d.superblock.flags ≡ false → opened_in Bitmap d image ≡ changed_device d image
-opened_in-journal d image clear = rw clear refl
+  pub opened_in-changed : (image : Image) → opened_in mode d image ≡ changed_device d image
+  opened_in-changed image = rw is refl
 
-pub judged_image-journal : (d : DiskFormat) (entry made : Image) → has_flag DIRTY_BITMAP d.superblock.flags ≡ false → judged_image Bitmap d entry made ≡ made
-judged_image-journal d entry made clear = rw clear refl
+  pub judged_image-changed : (entry made : Image) → judged_image mode d entry made ≡ made
+  judged_image-changed entry made = rw is refl
+
+-- An image with a bitmap is in bitmap mode, and one with a journal is not.
+pub in_bitmap_mode : (d : DiskFormat) → has_flag DIRTY_BITMAP d.superblock.flags ≡ true → changes_mode Bitmap d.superblock ≡ false
+in_bitmap_mode d set = rw set refl
+
+pub not_in_bitmap_mode : (d : DiskFormat) → has_flag DIRTY_BITMAP d.superblock.flags ≡ false → changes_mode Bitmap d.superblock ≡ true
+not_in_bitmap_mode d clear = rw clear refl

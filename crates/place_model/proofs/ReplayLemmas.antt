@@ -65,7 +65,7 @@ pub same_opening_law : SameOpeningLaw
 same_opening_law key sectors image rests can =
     let d = format_on key sectors image in
     let opens = placed_opens_law d image can.1 rests (reads_on key sectors image can.0) in (
-      (opens.openable, can.1),
+      opens.openable,
       ap (λ (base : ℕ → Cell). opened_device base (next_on Direct d image) (set_bits_on Direct d image) (awaiting_on Direct d image))
           (fun_ext (λ b. placed_cells_law d image b can.1 rests.none)),
     )

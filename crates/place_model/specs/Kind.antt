@@ -1,22 +1,23 @@
 -- The devices of each mode, as a command sees them: which images they open, in which state, and what a cut may leave.
--- Own: a disk is opened under one key; in journal and in direct mode one without a bitmap, and in bitmap mode any, whose
--- journal becomes a bitmap.
-use Rattle.std.specs.Prelude.{◌≡◌, ℕ, Option, List}
+-- Own: a disk is opened under one key, in any mode: where it has a journal in place of a bitmap, or a bitmap in place of
+-- a journal, that is changed.
+use Rattle.std.specs.Prelude.{◌≡◌, ℕ, false, Option, List}
 use Rattle.disk_model.specs.Disk.{Image}
+use Rattle.image_model.specs.declared.flags.TheConstants.{DIRTY_BITMAP}
 use Rattle.image_model.specs.Openable.{IsReadable, IsOpenable}
+use Rattle.image_model.specs.Superblock.{has_flag}
 use Rattle.device_model.specs.Device.{DeviceKind}
 use Rattle.device_model.specs.History.{History}
 use Rattle.device_model.specs.Mode.{Mode, Journal, Bitmap, Direct, Recovery}
 use Rattle.place_model.specs.Format.{DiskFormat, format_on}
 use Rattle.place_model.specs.Left.{IsLeftInDirect, IsLeftPlaced, IsLeftInJournal, IsLeftInBitmap}
 use Rattle.place_model.specs.Changed.{opened_format, opened_in}
-use Rattle.place_model.specs.Opened.{IsModeOf, blocks_of, device_format, opened_placed}
+use Rattle.place_model.specs.Opened.{blocks_of, device_format, opened_placed}
 
--- The image can be opened in this mode: in recovery mode one that can be read.
+-- The image can be opened in this mode: in recovery mode one that can be read, and in each other mode the same ones.
 abbrev pub CanOpenIn : Mode → Option (List ℕ) → ℕ → Image → Type 0
 CanOpenIn Recovery key sectors image = IsReadable sectors image
-CanOpenIn mode key sectors image =
-    IsOpenable key sectors image × IsModeOf mode (format_on key sectors image).superblock
+CanOpenIn mode key sectors image = IsOpenable key sectors image
 
 -- In this mode the image may be left, by its own superblock. In recovery mode it is the one at entry.
 abbrev pub IsLeftIn : Mode → Option (List ℕ) → ℕ → Image → History → Image → Type 0
@@ -42,10 +43,11 @@ kind_in mode key sectors = record {
 
 -- ---- placed cells
 
--- The image can be opened in direct mode by superblock and geometry alone.
+-- The image can be opened in direct mode by superblock and geometry alone: it has no bitmap.
+-- Source: Linux, drivers/md/dm-integrity.c, dm_integrity_ctr and SB_FLAG_DIRTY_BITMAP.
 abbrev pub CanOpenPlaced : Option (List ℕ) → ℕ → Image → Type 0
 CanOpenPlaced key sectors image =
-    IsReadable sectors image × IsModeOf Direct (format_on key sectors image).superblock
+    IsReadable sectors image × (has_flag DIRTY_BITMAP (format_on key sectors image).superblock.flags ≡ false)
 
 -- What a cut may leave of a device that was opened so: the same blocks with the same tags, and their placed cells as direct
 -- mode says.

@@ -1,18 +1,16 @@
 -- The device of an image that has just been opened: its format, history and counts.
--- Own: the mode is the image's own. `Changed.antt` has the device where an opening changes the mode.
-use Rattle.std.specs.Prelude.{◌≡◌, ℕ, ◌*◌, Bool, false, not, ◌&&◌, Result, Ok, Err}
+-- Own: the opening leaves the mode. `Changed.antt` has the device where an opening changes it.
+use Rattle.std.specs.Prelude.{ℕ, ◌*◌, Bool, not, ◌&&◌, Result, Ok, Err}
 use Rattle.disk_model.specs.Disk.{Image}
-use Rattle.image_model.specs.declared.flags.TheConstants.{DIRTY_BITMAP}
 use Rattle.image_model.specs.Bitmap.{is_dirty, region_awaits}
 use Rattle.image_model.specs.Cells.{Cell, placed_cells_of}
 use Rattle.image_model.specs.Geometry.{section_entries, region_of, regions}
 use Rattle.image_model.specs.Grid.{walk_of}
 use Rattle.image_model.specs.declared.scan_fault.ScanFault.{ScanFault}
-use Rattle.image_model.specs.Superblock.{Superblock, has_flag}
 use Rattle.image_model.specs.declared.journal_plan.State.{State}
 use Rattle.image_model.specs.declared.journal_plan.State.TheVariants.{Rest}
 use Rattle.image_model.specs.declared.journal_plan.Plan.{Plan}
-use Rattle.device_model.specs.Mode.{Mode, Journal, Bitmap, Direct, Recovery, is_bitmap, is_recovery, DeviceFormat}
+use Rattle.device_model.specs.Mode.{Mode, Journal, Direct, Recovery, is_bitmap, is_recovery, DeviceFormat}
 use Rattle.device_model.specs.Progress.{DeviceState, opened_device}
 use Rattle.device_model.specs.Transcript.{BlockFormat}
 use Rattle.place_model.specs.Format.{DiskFormat, tagger_of, placed_on, cells_on}
@@ -43,15 +41,6 @@ device_format mode d = record {
   regions = regions d.geometry;
   region_of = region_of d.geometry;
 }
-
--- An image with these flags is opened in the mode: in journal and in direct mode one without a bitmap, in bitmap and in
--- recovery mode any.
--- Source: Linux, drivers/md/dm-integrity.c, dm_integrity_ctr and SB_FLAG_DIRTY_BITMAP.
-abbrev pub IsModeOf : Mode → Superblock → Type 0
-IsModeOf Journal s = has_flag DIRTY_BITMAP s.flags ≡ false
-IsModeOf Bitmap s = Unit {0}
-IsModeOf Direct s = has_flag DIRTY_BITMAP s.flags ≡ false
-IsModeOf Recovery s = Unit {0}
 
 -- ---- the history
 

@@ -39,11 +39,11 @@ use Rattle.recalculate_laws.proofs.DeviceLemmas.{opened_awaits}
 use Rattle.recalculate_laws.proofs.TakingLemmas.{taken_law, taking_law}
 use Rattle.tag_store.specs.Store.{IsMarkedTags, KeepsStore, Store}
 use Rattle.recalculation.specs.declared.recalculating.Recalculation.{Recalculation}
-use Rattle.recalculation.specs.All.{AwaitFewer, AwaitOn, IsOfTagsOnly, RecoveredCellsLaw, RecoveredChangesLaw, RecoversWith, rule_on}
+use Rattle.recalculation.specs.All.{AwaitFewer, AwaitOn, IsOfTagsOnly, RecoveredCellsLaw, RecoveredChangesLaw, RecoversWith}
 use Rattle.recalculation.specs.Awaiting.{AwaitingRegions, awaiting_blocks, awaiting_of}
 use Rattle.recalculation.specs.Recalculation.{AwaitsBlocksOf, IsRecalculationOf}
 use Rattle.recalculation.specs.Rest.{HasRest, KeepsRest}
-use Rattle.recalculation.specs.Rule.{tagger_by}
+use Rattle.recalculation.specs.Rule.{rule_on, tagger_by}
 use Rattle.recalculation.proofs.KeptLemmas.{recalculation_opened, taken_is, takes_in, takes_region}
 use Rattle.recalculation.proofs.LawsLemmas.{opened_position_law}
 use Rattle.recalculation.proofs.StepLemmas.{adds_taking, has_taken}

@@ -10,6 +10,8 @@ pub mod HeadLemmas
 pub mod StepLemmas
 pub mod KeptLemmas
 pub mod AllLemmas
+pub mod AllWithBitmapLemmas
 pub mod FieldsLemmas
 pub mod Worked
+pub mod WorkedWithBitmap
 mod ScratchServes

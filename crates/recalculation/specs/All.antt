@@ -1,11 +1,11 @@
 -- All regions that await are recalculated, one after the other, on a disk in journal mode, and their tags written back:
--- what comes before a change of mode.
+-- what comes before a change of mode. What a call says is of a disk with a bitmap too.
 -- Own: the position does not move, since the change writes sector 0 itself, once all tags are in place.
 use Rattle.std.specs.Prelude.{◌≡◌, ℕ, ◌<◌, Bool, true, false, Some, None, List, []}
 use Rattle.disk_model.specs.Disk.{Content, EachImage, Image}
+use Rattle.disk_model.specs.Identity.{DiskIdentity}
 use Rattle.disk_model.specs.Moments.{EachMoment, HasNow, content_now}
 use Rattle.image_model.specs.declared.flags.TheConstants.{DIRTY_BITMAP}
-use Rattle.image_model.specs.Cells.{salt_of}
 use Rattle.image_model.specs.Geometry.{Geometry, regions}
 use Rattle.image_model.specs.Superblock.{has_flag}
 use Rattle.place_model.specs.Format.{DiskFormat, HasCells, cells_on}
@@ -19,16 +19,19 @@ use Rattle.hmac_tag.specs.TagMaker.{TagRule}
 use Rattle.change_model.specs.Opened.{IsEmptiedOf}
 use Rattle.change_model.specs.PhaseLaws.{no_region}
 use Rattle.recalculate_laws.specs.Taking.{KeepsAwaitingNow}
-use Rattle.tag_store.specs.Store.{HoldsTag}
+use Rattle.tag_store.specs.Store.{HoldsTag, IsStore, Store}
 use Rattle.recalculation.specs.Awaiting.{AwaitingRegions, IsOpening, awaiting_of}
+use Rattle.recalculation.specs.AllWithBitmap.{RecalculatesWithBitmap, StandsWithBitmap}
 use Rattle.recalculation.specs.Recalculation.{AwaitsBlocksOf}
+use Rattle.recalculation.specs.Rest.{KeepsRest}
+use Rattle.recalculation.specs.Rule.{rule_on}
 
 -- The regions that await in memory are those of a disk in journal mode, whose tags are made by this rule.
 pub record AwaitOn (d : JournaledDisk) (awaiting : ℕ → Bool) (rule : TagRule) (a : AwaitingRegions) : Type 0 where
   pub geometry : a.geometry ≡ d.geometry
   pub regions_ : AreSameBits d.geometry (awaiting_of a) awaiting
   pub blocks_ : AwaitsBlocksOf d.superblock a
-  pub rule_is : rule ≡ record { key = d.key; salt = salt_of d.superblock; size = d.geometry.shape.tag_size }
+  pub rule_is : rule ≡ rule_on d.format
 
 -- No region awaits then that did not before.
 pub record AwaitFewer (g : Geometry) (old new : ℕ → Bool) : Type 0 where
@@ -53,11 +56,33 @@ StandsInAll rule a tags before after = (d : JournaledDisk) (awaiting : ℕ → B
 abbrev pub IsOfTagsOnly : Geometry → (sector : ℕ) → List ℕ → Type 0
 IsOfTagsOnly g sector x = HoldsTag g sector
 
--- ---- on an image that was recovered
+-- ---- what a call says
 
--- The tags of the blocks of a disk of this format are made so.
-abbrev pub rule_on : DiskFormat → TagRule
-rule_on f = record { key = f.key; salt = salt_of f.superblock; size = f.geometry.shape.tag_size }
+-- All were recalculated: none awaits, and every disk is kept of which they did, in journal mode and with a bitmap.
+pub record HasTakenAll (rule : TagRule) (old new : AwaitingRegions) (tags now : Content → ℕ → List ℕ)
+    (before after : List Content) : Type 0 where
+  pub none : AreSameBits old.geometry (awaiting_of new) no_region
+  pub journal : RecalculatesAll rule old tags now before after
+  pub bitmap : RecalculatesWithBitmap rule old tags now before after
+
+-- At each moment of it every such disk stands for the same, in journal mode and with a bitmap.
+pub record StandsThroughAll (rule : TagRule) (a : AwaitingRegions) (tags : Content → ℕ → List ℕ)
+    (before after : List Content) : Type 0 where
+  pub journal : StandsInAll rule a tags before after
+  pub bitmap : StandsWithBitmap rule a tags before after
+
+-- After it the store is one of the same disk, all lies in the same places, and each byte that no tag takes is as it
+-- was.
+pub record StaysInAll (old new : AwaitingRegions) (store last : Store) (disk now : DiskIdentity)
+    (before after : List Content) : Type 0 where
+  pub geometry : new.geometry ≡ old.geometry
+  pub first : new.first ≡ old.first
+  pub store_ : IsStore last now after
+  pub places : last.geometry ≡ store.geometry
+  pub rest : KeepsRest store last before after
+  pub identity : now ≡ disk
+
+-- ---- on an image that was recovered
 
 -- The disk was recovered from the image, and in memory those regions await that do when it is opened, whose tags are
 -- made by its rule.

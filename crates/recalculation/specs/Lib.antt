@@ -7,4 +7,5 @@ pub mod Taking
 pub mod Laws
 pub mod Position
 pub mod Recalculation
+pub mod AllWithBitmap
 pub mod All

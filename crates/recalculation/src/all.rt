@@ -9,9 +9,8 @@ ghost use Rattle.direct_laws.specs.CallLaws.{ReadsTagsNow};
 ghost use Rattle.bitmap_laws.specs.CallLaws.{AreSameBits};
 ghost use Rattle.buffer_cache.specs.Cached.{HasNoMark};
 ghost use Rattle.tag_store.specs.Store.{IsStore, given_tags};
-ghost use Rattle.recalculation.specs.All.{AwaitFewer, IsOfTagsOnly, RecalculatesAll, StandsInAll};
+ghost use Rattle.recalculation.specs.All.{AwaitFewer, HasTakenAll, IsOfTagsOnly, StandsThroughAll, StaysInAll};
 ghost use Rattle.recalculation.specs.Awaiting.{awaiting_of};
-ghost use Rattle.recalculation.specs.Rest.{KeepsRest};
 
 use crate::awaiting::Awaiting;
 use hmac_tag::TagMaker;
@@ -36,9 +35,8 @@ pub fn recalculate_all<D: Disk>(
     requires size { maker.now.size ≡ awaiting.old.geometry.shape.tag_size }
     requires store { IsStore tags.old (D.identity disk.old) (D.moments disk.old) }
 
-    ensures none { OnOk result (AreSameBits awaiting.old.geometry (awaiting_of awaiting.new) no_region) }
-    ensures taken { OnOk result (RecalculatesAll maker.now awaiting.old (given_tags tags.old) (given_tags tags.new)
-        (D.moments disk.old) (D.moments disk.new)) }
+    ensures taken { OnOk result (HasTakenAll maker.now awaiting.old awaiting.new (given_tags tags.old)
+        (given_tags tags.new) (D.moments disk.old) (D.moments disk.new)) }
     ensures back { OnOk result (ReadsTagsNow awaiting.old.geometry (given_tags tags.new) (D.moments disk.new)) }
     ensures unmarked { OnOk result (HasNoMark tags.new.sectors) }
     ensures idle { AreSameBits awaiting.old.geometry (awaiting_of awaiting.old) no_region
@@ -48,14 +46,10 @@ pub fn recalculate_all<D: Disk>(
     ensures err { OnErr result (AwaitFewer awaiting.old.geometry (awaiting_of awaiting.old)
         (awaiting_of awaiting.new)) }
 
-    ensures geometry { awaiting.new.geometry ≡ awaiting.old.geometry }
-    ensures first { awaiting.new.first ≡ awaiting.old.first }
-    ensures store { IsStore tags.new (D.identity disk.new) (D.moments disk.new) }
-    ensures places { tags.new.geometry ≡ tags.old.geometry }
-    ensures rest { KeepsRest tags.old tags.new (D.moments disk.old) (D.moments disk.new) }
-    ensures identity { D.identity disk.new ≡ D.identity disk.old }
+    ensures stays { StaysInAll awaiting.old awaiting.new tags.old tags.new (D.identity disk.old) (D.identity disk.new)
+        (D.moments disk.old) (D.moments disk.new) }
 
-    ensures through { StandsInAll maker.now awaiting.old (given_tags tags.old)
+    ensures through { StandsThroughAll maker.now awaiting.old (given_tags tags.old)
         (D.moments disk.old) (D.moments disk.new) }
     ensures moments { EachSince (OnlyAdds (IsOfTagsOnly awaiting.old.geometry))
         (D.moments disk.old) (D.moments disk.new) }
@@ -79,9 +73,8 @@ fn take_all<D: Disk>(
     requires size { maker.now.size ≡ awaiting.old.geometry.shape.tag_size }
     requires store { IsStore tags.old (D.identity disk.old) (D.moments disk.old) }
 
-    ensures none { OnOk result (AreSameBits awaiting.old.geometry (awaiting_of awaiting.new) no_region) }
-    ensures taken { OnOk result (RecalculatesAll maker.now awaiting.old (given_tags tags.old) (given_tags tags.new)
-        (D.moments disk.old) (D.moments disk.new)) }
+    ensures taken { OnOk result (HasTakenAll maker.now awaiting.old awaiting.new (given_tags tags.old)
+        (given_tags tags.new) (D.moments disk.old) (D.moments disk.new)) }
     ensures idle { AreSameBits awaiting.old.geometry (awaiting_of awaiting.old) no_region
         → (D.moments disk.new ≡ D.moments disk.old) × (tags.new ≡ tags.old) }
 
@@ -89,14 +82,10 @@ fn take_all<D: Disk>(
     ensures err { OnErr result (AwaitFewer awaiting.old.geometry (awaiting_of awaiting.old)
         (awaiting_of awaiting.new)) }
 
-    ensures geometry { awaiting.new.geometry ≡ awaiting.old.geometry }
-    ensures first { awaiting.new.first ≡ awaiting.old.first }
-    ensures store { IsStore tags.new (D.identity disk.new) (D.moments disk.new) }
-    ensures places { tags.new.geometry ≡ tags.old.geometry }
-    ensures rest { KeepsRest tags.old tags.new (D.moments disk.old) (D.moments disk.new) }
-    ensures identity { D.identity disk.new ≡ D.identity disk.old }
+    ensures stays { StaysInAll awaiting.old awaiting.new tags.old tags.new (D.identity disk.old) (D.identity disk.new)
+        (D.moments disk.old) (D.moments disk.new) }
 
-    ensures through { StandsInAll maker.now awaiting.old (given_tags tags.old)
+    ensures through { StandsThroughAll maker.now awaiting.old (given_tags tags.old)
         (D.moments disk.old) (D.moments disk.new) }
     ensures moments { EachSince (OnlyAdds (IsOfTagsOnly awaiting.old.geometry))
         (D.moments disk.old) (D.moments disk.new) }

@@ -2,6 +2,7 @@
 //! nothing.
 
 ghost use Rattle.recalculation.specs.All.{RecoveredCellsLaw, RecoveredChangesLaw};
+ghost use Rattle.recalculation.specs.AllWithBitmap.{BitmapCellsLaw, BitmapRecalculatedLaw, OpenedWithBitmapLaw};
 ghost use Rattle.recalculation.specs.Laws.{BitmapBlocksLaw, OpenedBitsLaw, OpenedPositionLaw, PositionBlocksLaw};
 ghost use Rattle.recalculation.specs.Laws.{SameBlocksLaw, SameMomentsLaw};
 
@@ -25,4 +26,12 @@ pub fn region_is_recalculated()
 pub fn recovered_regions_are_recalculated()
     ensures cells { RecoveredCellsLaw }
     ensures changes { RecoveredChangesLaw }
+{}
+
+/// Of an image with a bitmap those regions await at opening whose bit is set. While all of them are recalculated each
+/// image has its cells at each moment, and no other bit, and then a change of mode begins.
+pub fn bitmap_regions_are_recalculated()
+    ensures awaiting { OpenedWithBitmapLaw }
+    ensures cells { BitmapCellsLaw }
+    ensures recalculated { BitmapRecalculatedLaw }
 {}

@@ -19,6 +19,9 @@ mod taking;
 pub use all::recalculate_all;
 pub use awaiting::Awaiting;
 pub use head::head_with;
-pub use laws::{recovered_regions_are_recalculated, region_is_recalculated, regions_await};
+pub use laws::{
+    bitmap_regions_are_recalculated, recovered_regions_are_recalculated, region_is_recalculated,
+    regions_await,
+};
 pub use position::Position;
 pub use recalculating::Recalculation;

@@ -11,7 +11,8 @@ ghost use Rattle.image_model.specs.Superblock.{IsAccepted, has_flag};
 ghost use Rattle.change_model.specs.Fields.{with_version, without_flag};
 ghost use Rattle.recalculate_laws.specs.Position.{moved_fields};
 ghost use Rattle.recalculation.specs.Awaiting.{awaiting_of};
-ghost use Rattle.recalculation.specs.Position.{CanBeWritten, HasMoved, MayMove, MovesIn, WritesFields, WritesFieldsIn, fields_to_write};
+ghost use Rattle.recalculation.specs.Position.{CanBeWritten, HasMoved, MayMove, MovesIn, fields_to_write};
+ghost use Rattle.recalculation.specs.Position.{WritesFields, WritesFieldsIn};
 ghost use Rattle.tag_store.specs.Store.{IsStore, given_tags};
 
 use crate::awaiting::Awaiting;

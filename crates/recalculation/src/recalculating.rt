@@ -4,8 +4,8 @@ ghost use Rattle.disk_model.specs.Causes.{HasCause};
 ghost use Rattle.disk_model.specs.Disk.{OnlyAdds};
 ghost use Rattle.disk_model.specs.Moments.{EachSince};
 ghost use Rattle.recalculation.specs.Position.{MayMove};
-ghost use Rattle.recalculation.specs.Recalculation.{IsOfTagsOrHead, SettlesPosition, SettlesPositionIn, StaysOnDisk, StepsPosition};
-ghost use Rattle.recalculation.specs.Recalculation.{StepsPositionIn, count_of, next_of};
+ghost use Rattle.recalculation.specs.Recalculation.{IsOfTagsOrHead, SettlesPosition, SettlesPositionIn, StaysOnDisk};
+ghost use Rattle.recalculation.specs.Recalculation.{StepsPosition, StepsPositionIn, count_of, next_of};
 ghost use Rattle.tag_store.specs.Store.{IsStore, given_tags};
 
 use crate::awaiting::Awaiting;

@@ -15,6 +15,7 @@ use Rattle.bitmap_device.specs.Device.{in_bitmap, kept as bitmap_kept}
 use Rattle.device.proofs.AwaitingLemmas.{no_more_left}
 use Rattle.device.proofs.ModeLemmas.{ends_plain, in_bitmap_mode, in_direct_mode, in_journal_mode, on_ok_each, parts_in, plain_bitmap, plain_direct, plain_journal}
 use Rattle.device.proofs.MovingLemmas.{close_adds, direct_stays, direct_tags, head_outside, journal_tags}
+use Rattle.device.proofs.RestLemmas.{direct_rests, journal_rests}
 use Rattle.device.proofs.StepLemmas.{ends_recovery}
 use Rattle.device.proofs.closing.close_in_mode.Goals as goal
 
@@ -37,7 +38,8 @@ returns-in-Direct-clause-rests g c =
     let a = g.D.Disk.moments c.args.disk.now in
     on_ok_each c.close.result (λ left w is.
     subst (λ (m : Mode). IsAtRest m w (g.D.Disk.moments c.close.new.disk)) (sym c.in-Direct.is)
-    (left w (subst (λ (m : Mode). IsDeviceIn m w Working parts.common a) c.in-Direct.is is).direct))
+    (let device = (subst (λ (m : Mode). IsDeviceIn m w Working parts.common a) c.in-Direct.is is).direct in
+    direct_rests w (direct_kept parts.common c.in-Direct.recalculation) a (g.D.Disk.moments c.close.new.disk) device (left w device)))
     c.close.ensures.fields
 
 pub returns-in-Journal-clause-ends : goal.returns-in-Journal-clause-ends
@@ -54,7 +56,8 @@ returns-in-Journal-clause-rests g c =
     let a = g.D.Disk.moments c.args.disk.now in
     on_ok_each c.close-in-Journal.result (λ placed w is.
     subst (λ (m : Mode). IsAtRest m w (g.D.Disk.moments c.close-in-Journal.new.disk)) (sym c.in-Journal.is)
-    (placed w (subst (λ (m : Mode). IsDeviceIn m w Working parts.common a) c.in-Journal.is is).journaled))
+    (let device = (subst (λ (m : Mode). IsDeviceIn m w Working parts.common a) c.in-Journal.is is).journaled in
+    journal_rests w (kept parts.common c.in-Journal.state.journal c.in-Journal.state.recalculation) a (g.D.Disk.moments c.close-in-Journal.new.disk) device (placed w device)))
     c.close-in-Journal.ensures.placed
 
 pub returns-in-Bitmap-clause-ends : goal.returns-in-Bitmap-clause-ends
@@ -71,7 +74,7 @@ returns-in-Bitmap-clause-rests g c =
     on_ok_each c.close-in-Bitmap.result (λ left w is.
     subst (λ (m : Mode). IsAtRest m w (g.D.Disk.moments c.close-in-Bitmap.new.disk)) (sym c.in-Bitmap.is)
     (left w (subst (λ (m : Mode). IsDeviceIn m w Working parts.common a) c.in-Bitmap.is is)))
-    c.close-in-Bitmap.ensures.bits
+    c.close-in-Bitmap.ensures.bitmap
 
 pub returns-in-Bitmap-clause-writes : goal.returns-in-Bitmap-clause-writes
 returns-in-Bitmap-clause-writes g c =

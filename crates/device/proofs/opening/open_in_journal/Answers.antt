@@ -17,7 +17,7 @@ pub returns-clause-opened : goal.returns-clause-opened
 returns-clause-opened g c =
     let old = c.args.disk.now in
     opened_journal (key_of c.args.hash) (g.D.Disk.identity old) (g.D.Disk.moments old) (g.D.Disk.moments c.open_journal.new.disk)
-    c.in_ok-opened.opened (g.met.D.Disk.reads_an_image c.open_journal.new.disk) c.in_ok-opened.ensures.opened c.open_journal.ensures.moments
+    c.in_ok-opened.opened (g.met.D.Disk.reads_an_image c.open_journal.new.disk) c.in_ok-opened.ensures.opened c.open_journal.ensures.writes
 
 pub returns-clause-cause : goal.returns-clause-cause
 returns-clause-cause g c =
@@ -29,7 +29,7 @@ returns-in_err-opened-clause-leaves g c = record {
   identity = c.open_journal.ensures.identity;
   left = c.open_journal.ensures.left;
   refused = c.in_err-opened.ensures.refused.judged;
-  writes = c.open_journal.ensures.moments;
+  writes = c.open_journal.ensures.writes;
 }
 
 pub returns-clause-leaves : goal.returns-clause-leaves
@@ -37,7 +37,7 @@ returns-clause-leaves g c = record {
   identity = c.open_journal.ensures.identity;
   left = c.open_journal.ensures.left;
   refused = c.in_ok-opened.ensures.refused.judged;
-  writes = c.open_journal.ensures.moments;
+  writes = c.open_journal.ensures.writes;
 }
 
 pub returns-clause-accepted : goal.returns-clause-accepted

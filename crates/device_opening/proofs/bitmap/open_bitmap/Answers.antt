@@ -1,14 +1,10 @@
-use Rattle.std.proofs.Common.{◌≡◌, true, false, sym, ◌∙◌, ap, subst}
+use Rattle.std.proofs.Common.{sym, ◌∙◌}
 use Rattle.device_model.specs.Mode as Model
 use Rattle.hmac_tag.specs.TagMaker.{key_of}
 use Rattle.device_opening.specs.Judged.{HasBitmapFormat, HasJournalFormat}
 use Rattle.device_opening.specs.Opening.{LeavesOpenable, OnlySyncs}
-use Rattle.image_format.specs.declared.open_fault.OpenFault.{OpenFault}
-use Rattle.image_format.specs.declared.reading.ImageFormat.{ImageFormat}
-use Rattle.std.proofs.Common.{Result, Ok}
-use Rattle.image_format.specs.Format.{in_direct_mode}
 use Rattle.device_opening.proofs.JudgedLemmas.{shift}
-use Rattle.device_opening.proofs.OpenedMadeLemmas.{found_writes, in_direct_mode-clear}
+use Rattle.device_opening.proofs.OpenedMadeLemmas.{found_writes}
 use Rattle.device_opening.proofs.bitmap.open_bitmap.Goals as goal
 
 pub open_found-requires-clause-found : goal.open_found-requires-clause-found
@@ -25,7 +21,7 @@ open_made-requires-clause-found g c =
     shift (λ i x. HasJournalFormat i.sectors c.in_ok-format.format x) (sym c.read_format.ensures.identity) (sym c.read_format.ensures.kept) (record {
       format_ = record { accepted = c.in_ok-format.ensures.format; no_bitmap = clear };
       reads = c.in_ok-format.ensures.reads;
-      told = λ x told. in_direct_mode-clear c.in_ok-format.format clear ∙ ap in_direct_mode (c.in_ok-format.ensures.told (λ e. cc) x told);
+      told = c.in_ok-format.ensures.told (λ e. cc);
     })
 
 pub returns-then-has_bitmap-clause-left : goal.returns-then-has_bitmap-clause-left

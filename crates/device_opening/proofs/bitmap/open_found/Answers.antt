@@ -2,7 +2,7 @@ use Rattle.std.proofs.Common.{List, Option, subst}
 use Rattle.std.proofs.lemmas.Result.{err_from_is_err_and}
 use Rattle.device_model.specs.Mode as Model
 use Rattle.hmac_tag.specs.TagMaker.{key_of}
-use Rattle.image_judging.specs.Faults.{bitmap_fault_of}
+use Rattle.image_judging.specs.Faults.{fault_of}
 use Rattle.bitmap_device.specs.declared.parts.BitmapParts.{BitmapParts}
 use Rattle.device_opening.specs.Opening.{LeavesOpenable}
 use Rattle.device_opening.proofs.JudgedLemmas.{done_cause, shift}
@@ -11,7 +11,7 @@ use Rattle.device_opening.proofs.bitmap.open_found.Goals as goal
 
 pub returns-clause-refused : goal.returns-clause-refused
 returns-clause-refused g c =
-    open_refuses (bitmap_fault_of (key_of c.args.hash) c.args.consent (g.D.Disk.identity c.args.disk.now).sectors) (g.D.Disk.moments c.args.disk.now) (g.D.Disk.moments c.open_judged.new.disk)
+    open_refuses (fault_of (key_of c.args.hash) c.args.consent (g.D.Disk.identity c.args.disk.now).sectors) (g.D.Disk.moments c.args.disk.now) (g.D.Disk.moments c.open_judged.new.disk)
     BitmapParts c.in_ok-device.device (c.in_ok-image.ensures.refused (λ e. cc) (λ e. cc))
 
 pub returns-clause-cause : goal.returns-clause-cause
@@ -32,4 +32,4 @@ returns-clause-left g c =
 pub returns-in_err-device-clause-refused : goal.returns-in_err-device-clause-refused
 returns-in_err-device-clause-refused g c =
     let p = err_from_is_err_and c.from_residual-in_err-device.result c.from_residual-in_err-device.ensures.1 in
-    rw (p.1, p.2) (disk_refuses (bitmap_fault_of (key_of c.args.hash) c.args.consent (g.D.Disk.identity c.args.disk.now).sectors) (g.D.Disk.moments c.args.disk.now) (g.D.Disk.moments c.open_judged.new.disk) BitmapParts (c.in_ok-image.ensures.refused (λ e. cc) (λ e. cc)))
+    rw (p.1, p.2) (disk_refuses (fault_of (key_of c.args.hash) c.args.consent (g.D.Disk.identity c.args.disk.now).sectors) (g.D.Disk.moments c.args.disk.now) (g.D.Disk.moments c.open_judged.new.disk) BitmapParts (c.in_ok-image.ensures.refused (λ e. cc) (λ e. cc)))

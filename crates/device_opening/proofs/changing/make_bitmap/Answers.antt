@@ -1,11 +1,8 @@
-use Rattle.std.proofs.Common.{◌≡◌, ◌*◌, ◌<◌, ◌≤◌, ℕ, refl, sym, ◌∙◌, ap, subst, arith, Option, List}
-use Rattle.disk_model.specs.Disk.{Content, OnlyAdds, last_image}
+use Rattle.std.proofs.Common.{◌≡◌, ◌*◌, ◌<◌, ◌≤◌, sym, ◌∙◌, ap, subst}
+use Rattle.disk_model.specs.Disk.{last_image}
 use Rattle.disk_model.specs.Identity.{DiskIdentity}
-use Rattle.disk_model.specs.Moments.{EachSince, HasNow, IsChangedBy, content_now}
-use Rattle.image_model.specs.declared.flags.TheConstants.{DIRTY_BITMAP}
-use Rattle.image_model.specs.Geometry.{Geometry, bitmap_sectors, journal_sectors, IsGeometry}
-use Rattle.image_model.specs.Superblock.{has_flag}
-use Rattle.place_model.specs.Format.{DiskFormat, OpensAs}
+use Rattle.disk_model.specs.Moments.{EachSince}
+use Rattle.image_model.specs.Geometry.{Geometry, bitmap_sectors, journal_sectors}
 use Rattle.image_format.specs.declared.reading.ImageFormat.{ImageFormat}
 use Rattle.image_format.specs.Format.{IsBitmapFormat, disk_format}
 use Rattle.change_model.specs.Opened.{IsEntry}
@@ -14,8 +11,7 @@ use Rattle.mode_change.specs.ToBitmap.{KeepsEmptied, OpensBitmap, bitmap_format}
 use Rattle.mode_change.proofs.FormatLemmas.{marks_format}
 use Rattle.hmac_tag.specs.TagMaker.{TagRule}
 use Rattle.tag_store.specs.Store.{IsStore, Store, given_tags}
-use Rattle.request_slots.specs.Flight.{Flight, no_requests}
-use Rattle.device_opening.specs.Judged.{judged_format, rule_of}
+use Rattle.request_slots.specs.Flight.{Flight}
 use Rattle.device_opening.proofs.MadeDeviceLemmas.{bitmap_made, is_store_behind, placed_behind, same_blocks, some_disk, store_behind}
 use Rattle.device_opening.proofs.MadeLemmas.{change_keeps, change_made, recovery_keeps, recovery_made}
 use Rattle.device_opening.proofs.MomentsLemmas.{now_told}
@@ -41,8 +37,8 @@ returns-in_err-after-clause-leaves g c =
     let leaves = c.recover_whole.ensures.leaves in
     record {
       keeps = change_keeps key old.sectors image.format c.in_ok-recovered.recovered c.requires.room.recalculation_.written.fits (λ x told. (judged.now x told).opens) leaves.writes leaves.cells c.in_ok-recovered.ensures.emptied
-          (subst (λ (i : DiskIdentity). EachSince (KeepsEmptied (disk_format key i.sectors image.format)) (g.D.Disk.moments c.recover_whole.new.disk) (g.D.Disk.moments c.change_to_bitmap.new.disk)) c.recover_whole.ensures.identity (c.change_to_bitmap.ensures.moments key));
-      writes = change_made image.format old.sectors judged.format.accepted.geometry leaves.writes c.in_ok-recovered.ensures.written (g.met.D.Disk.reads_an_image c.recover_whole.new.disk) c.change_to_bitmap.ensures.writes;
+          (subst (λ (i : DiskIdentity). EachSince (KeepsEmptied (disk_format key i.sectors image.format)) (g.D.Disk.moments c.recover_whole.new.disk) (g.D.Disk.moments c.change_to_bitmap.new.disk)) c.recover_whole.ensures.identity (c.change_to_bitmap.ensures.moments.keeps key));
+      writes = change_made image.format old.sectors judged.format.accepted.geometry leaves.writes c.in_ok-recovered.ensures.written (g.met.D.Disk.reads_an_image c.recover_whole.new.disk) c.change_to_bitmap.ensures.moments.writes;
     }
 
 pub returns-clause-leaves : goal.returns-clause-leaves
@@ -54,8 +50,8 @@ returns-clause-leaves g c =
     let leaves = c.recover_whole.ensures.leaves in
     record {
       keeps = change_keeps key old.sectors image.format c.in_ok-recovered.recovered c.requires.room.recalculation_.written.fits (λ x told. (judged.now x told).opens) leaves.writes leaves.cells c.in_ok-recovered.ensures.emptied
-          (subst (λ (i : DiskIdentity). EachSince (KeepsEmptied (disk_format key i.sectors image.format)) (g.D.Disk.moments c.recover_whole.new.disk) (g.D.Disk.moments c.change_to_bitmap.new.disk)) c.recover_whole.ensures.identity (c.change_to_bitmap.ensures.moments key));
-      writes = change_made image.format old.sectors judged.format.accepted.geometry leaves.writes c.in_ok-recovered.ensures.written (g.met.D.Disk.reads_an_image c.recover_whole.new.disk) c.change_to_bitmap.ensures.writes;
+          (subst (λ (i : DiskIdentity). EachSince (KeepsEmptied (disk_format key i.sectors image.format)) (g.D.Disk.moments c.recover_whole.new.disk) (g.D.Disk.moments c.change_to_bitmap.new.disk)) c.recover_whole.ensures.identity (c.change_to_bitmap.ensures.moments.keeps key));
+      writes = change_made image.format old.sectors judged.format.accepted.geometry leaves.writes c.in_ok-recovered.ensures.written (g.met.D.Disk.reads_an_image c.recover_whole.new.disk) c.change_to_bitmap.ensures.moments.writes;
     }
 
 pub returns-clause-ready : goal.returns-clause-ready
@@ -75,10 +71,10 @@ returns-clause-ready g c =
     subst (λ (i : DiskIdentity). IsBitmapFormat i.sectors (bitmap_format image.format)) there (subst (IsBitmapFormat (g.D.Disk.identity mid).sectors) c.in_ok-after.ensures.format c.in_ok-after.ensures.bitmap) in
     let whole_mid : ReadsWhole old (g.D.Disk.moments mid) = subst (λ (i : DiskIdentity). ReadsWhole i (g.D.Disk.moments mid)) there (reads_whole (g.D.Disk.identity mid) (g.D.Disk.moments mid) (g.met.D.Disk.reads_an_image mid) (g.met.D.Disk.whole_sectors mid)) in
     let whole_end : ReadsWhole old (g.D.Disk.moments end) = subst (λ (i : DiskIdentity). ReadsWhole i (g.D.Disk.moments end)) then_ (reads_whole (g.D.Disk.identity end) (g.D.Disk.moments end) (g.met.D.Disk.reads_an_image end) (g.met.D.Disk.whole_sectors end)) in
-    let store_mid : IsStore tags old (g.D.Disk.moments mid) = subst (λ (i : DiskIdentity). IsStore tags i (g.D.Disk.moments mid)) there done.made.store in
+    let store_mid : IsStore tags old (g.D.Disk.moments mid) = subst (λ (i : DiskIdentity). IsStore tags i (g.D.Disk.moments mid)) there done.made.of_image.store in
     let some : 0 < old.sectors = some_disk image.format.geometry old.sectors accepted.geometry in
     let fits : bitmap_sectors (bitmap_format image.format).geometry ≤ journal_sectors image.format.geometry = marks.fits in
-    let behind : c.under.result ≡ store_behind image.format old tags (g.D.Disk.moments mid) (g.D.Disk.moments end) store_mid done.made.geometry done.unmarked marks.replaces after_is.accepted.geometry fits some whole_mid whole_end c.in_ok-after.ensures.written =
+    let behind : c.under.result ≡ store_behind image.format old tags (g.D.Disk.moments mid) (g.D.Disk.moments end) store_mid done.made.of_image.geometry done.made.unmarked marks.replaces after_is.accepted.geometry fits some whole_mid whole_end c.in_ok-after.ensures.written =
     c.under.ensures ∙ ap (λ (f : ImageFormat). let s : Store = record { geometry = f.geometry; sectors = tags.sectors } in s) c.in_ok-after.ensures.format in
     let device = c.args.room.recovery.device in
     let has = c.requires.room.device in
@@ -88,11 +84,11 @@ returns-clause-ready g c =
         store =
             subst (λ (i : DiskIdentity). IsStore c.under.result i (g.D.Disk.moments end)) (sym then_)
             (subst (λ (s : Store). IsStore s old (g.D.Disk.moments end)) (sym behind)
-            (is_store_behind image.format old tags (g.D.Disk.moments mid) (g.D.Disk.moments end) store_mid done.made.geometry done.unmarked marks.replaces after_is.accepted.geometry fits some whole_mid whole_end c.in_ok-after.ensures.written));
+            (is_store_behind image.format old tags (g.D.Disk.moments mid) (g.D.Disk.moments end) store_mid done.made.of_image.geometry done.made.unmarked marks.replaces after_is.accepted.geometry fits some whole_mid whole_end c.in_ok-after.ensures.written));
         blocks = ap (λ (x : Flight). x.blocks) has.slots ∙ ap (λ (x : Geometry). x.blocks) (sym places);
         block_size = ap (λ (x : Flight). x.block_size) has.slots ∙ ap (λ (x : Geometry). 512 * x.shape.spb) (sym places);
         spb = ap (λ x. x.spb) c.shape.ensures.shape ∙ ap (λ (x : Geometry). x.shape.spb) (sym places);
-        tag_size = ap (λ (r : TagRule). r.size) (done.made.maker ∙ c.requires.judged.maker) ∙ ap (λ (x : Geometry). x.shape.tag_size) (sym places);
+        tag_size = ap (λ (r : TagRule). r.size) (done.made.of_image.maker ∙ c.requires.judged.maker) ∙ ap (λ (x : Geometry). x.shape.tag_size) (sym places);
         buffer = has.buffer ∙ sym (ap (λ (x : Flight). x.block_size) has.slots);
       };
       geometry = c.requires.regions.geometry ∙ sym places;
@@ -115,10 +111,10 @@ returns-clause-opened g c start told last told_last =
     subst (λ (i : DiskIdentity). IsBitmapFormat i.sectors (bitmap_format image.format)) there (subst (IsBitmapFormat (g.D.Disk.identity mid).sectors) c.in_ok-after.ensures.format c.in_ok-after.ensures.bitmap) in
     let whole_mid : ReadsWhole old (g.D.Disk.moments mid) = subst (λ (i : DiskIdentity). ReadsWhole i (g.D.Disk.moments mid)) there (reads_whole (g.D.Disk.identity mid) (g.D.Disk.moments mid) (g.met.D.Disk.reads_an_image mid) (g.met.D.Disk.whole_sectors mid)) in
     let whole_end : ReadsWhole old (g.D.Disk.moments end) = subst (λ (i : DiskIdentity). ReadsWhole i (g.D.Disk.moments end)) then_ (reads_whole (g.D.Disk.identity end) (g.D.Disk.moments end) (g.met.D.Disk.reads_an_image end) (g.met.D.Disk.whole_sectors end)) in
-    let store_mid : IsStore tags old (g.D.Disk.moments mid) = subst (λ (i : DiskIdentity). IsStore tags i (g.D.Disk.moments mid)) there done.made.store in
+    let store_mid : IsStore tags old (g.D.Disk.moments mid) = subst (λ (i : DiskIdentity). IsStore tags i (g.D.Disk.moments mid)) there done.made.of_image.store in
     let some : 0 < old.sectors = some_disk image.format.geometry old.sectors accepted.geometry in
     let fits : bitmap_sectors (bitmap_format image.format).geometry ≤ journal_sectors image.format.geometry = marks.fits in
-    let behind : c.under.result ≡ store_behind image.format old tags (g.D.Disk.moments mid) (g.D.Disk.moments end) store_mid done.made.geometry done.unmarked marks.replaces after_is.accepted.geometry fits some whole_mid whole_end c.in_ok-after.ensures.written =
+    let behind : c.under.result ≡ store_behind image.format old tags (g.D.Disk.moments mid) (g.D.Disk.moments end) store_mid done.made.of_image.geometry done.made.unmarked marks.replaces after_is.accepted.geometry fits some whole_mid whole_end c.in_ok-after.ensures.written =
     c.under.ensures ∙ ap (λ (f : ImageFormat). let s : Store = record { geometry = f.geometry; sectors = tags.sectors } in s) c.in_ok-after.ensures.format in
     let middle = now_told c.recover_whole.ensures.leaves.writes start told in
     let on = done.emptied start told middle.0 middle.1 in
@@ -126,14 +122,14 @@ returns-clause-opened g c start told last told_last =
     let now = c.requires.judged.now start told in
     let is : IsEntry (disk_format key old.sectors image.format) entry = record { opens = now.opens; fits = c.requires.room.recalculation_.written.fits } in
     let becomes = subst (λ (i : DiskIdentity). OpensBitmap key i.sectors image.format (g.D.Disk.moments mid) (g.D.Disk.moments end)) there (c.in_ok-after.ensures.opened key) in
-    let placed = placed_behind image.format old tags (g.D.Disk.moments mid) (g.D.Disk.moments end) store_mid done.made.geometry done.unmarked marks.replaces after_is.accepted.geometry fits some whole_mid whole_end c.in_ok-after.ensures.written last told_last in
-    let others = given_tags (store_behind image.format old tags (g.D.Disk.moments mid) (g.D.Disk.moments end) store_mid done.made.geometry done.unmarked marks.replaces after_is.accepted.geometry fits some whole_mid whole_end c.in_ok-after.ensures.written) last in
+    let placed = placed_behind image.format old tags (g.D.Disk.moments mid) (g.D.Disk.moments end) store_mid done.made.of_image.geometry done.made.unmarked marks.replaces after_is.accepted.geometry fits some whole_mid whole_end c.in_ok-after.ensures.written last told_last in
+    let others = given_tags (store_behind image.format old tags (g.D.Disk.moments mid) (g.D.Disk.moments end) store_mid done.made.of_image.geometry done.made.unmarked marks.replaces after_is.accepted.geometry fits some whole_mid whole_end c.in_ok-after.ensures.written) last in
     let made = becomes middle.0 middle.1 last told_last entry on.disk on.number (given_tags tags middle.0) others is on.emptied placed in
     let f = bitmap_format image.format in
     bitmap_made key old.sectors image.format entry _ others last now.read.own c.requires.judged.format.no_bitmap after_is.bitmap made
     (record { tags = c.under.result; maker = c.in_ok-recovered.recovered.maker; slots = c.args.room.recovery.device.slots; spb = c.shape.result.spb; buffer = c.args.room.recovery.device.buffer })
     c.args.room.regions (g.D.Disk.moments end) told_last (ap (λ (s : Store). s.geometry) behind) (ap (λ (s : Store). given_tags s last) behind) c.requires.room.device.slots
-    (done.made.maker ∙ c.requires.judged.maker ∙ ap (λ salt. let r : TagRule = record { key = key; salt = salt; size = image.format.geometry.shape.tag_size } in r) (sym marks.replaces.salt)) c.requires.regions
+    (done.made.of_image.maker ∙ c.requires.judged.maker ∙ ap (λ salt. let r : TagRule = record { key = key; salt = salt; size = image.format.geometry.shape.tag_size } in r) (sym marks.replaces.salt)) c.requires.regions
 
 pub returns-clause-blocks : goal.returns-clause-blocks
 returns-clause-blocks g c start told last told_last =
@@ -152,10 +148,10 @@ returns-clause-blocks g c start told last told_last =
     subst (λ (i : DiskIdentity). IsBitmapFormat i.sectors (bitmap_format image.format)) there (subst (IsBitmapFormat (g.D.Disk.identity mid).sectors) c.in_ok-after.ensures.format c.in_ok-after.ensures.bitmap) in
     let whole_mid : ReadsWhole old (g.D.Disk.moments mid) = subst (λ (i : DiskIdentity). ReadsWhole i (g.D.Disk.moments mid)) there (reads_whole (g.D.Disk.identity mid) (g.D.Disk.moments mid) (g.met.D.Disk.reads_an_image mid) (g.met.D.Disk.whole_sectors mid)) in
     let whole_end : ReadsWhole old (g.D.Disk.moments end) = subst (λ (i : DiskIdentity). ReadsWhole i (g.D.Disk.moments end)) then_ (reads_whole (g.D.Disk.identity end) (g.D.Disk.moments end) (g.met.D.Disk.reads_an_image end) (g.met.D.Disk.whole_sectors end)) in
-    let store_mid : IsStore tags old (g.D.Disk.moments mid) = subst (λ (i : DiskIdentity). IsStore tags i (g.D.Disk.moments mid)) there done.made.store in
+    let store_mid : IsStore tags old (g.D.Disk.moments mid) = subst (λ (i : DiskIdentity). IsStore tags i (g.D.Disk.moments mid)) there done.made.of_image.store in
     let some : 0 < old.sectors = some_disk image.format.geometry old.sectors accepted.geometry in
     let fits : bitmap_sectors (bitmap_format image.format).geometry ≤ journal_sectors image.format.geometry = marks.fits in
-    let behind : c.under.result ≡ store_behind image.format old tags (g.D.Disk.moments mid) (g.D.Disk.moments end) store_mid done.made.geometry done.unmarked marks.replaces after_is.accepted.geometry fits some whole_mid whole_end c.in_ok-after.ensures.written =
+    let behind : c.under.result ≡ store_behind image.format old tags (g.D.Disk.moments mid) (g.D.Disk.moments end) store_mid done.made.of_image.geometry done.made.unmarked marks.replaces after_is.accepted.geometry fits some whole_mid whole_end c.in_ok-after.ensures.written =
     c.under.ensures ∙ ap (λ (f : ImageFormat). let s : Store = record { geometry = f.geometry; sectors = tags.sectors } in s) c.in_ok-after.ensures.format in
     let middle = now_told c.recover_whole.ensures.leaves.writes start told in
     let on = done.emptied start told middle.0 middle.1 in
@@ -163,8 +159,8 @@ returns-clause-blocks g c start told last told_last =
     let now = c.requires.judged.now start told in
     let is : IsEntry (disk_format key old.sectors image.format) entry = record { opens = now.opens; fits = c.requires.room.recalculation_.written.fits } in
     let becomes = subst (λ (i : DiskIdentity). OpensBitmap key i.sectors image.format (g.D.Disk.moments mid) (g.D.Disk.moments end)) there (c.in_ok-after.ensures.opened key) in
-    let placed = placed_behind image.format old tags (g.D.Disk.moments mid) (g.D.Disk.moments end) store_mid done.made.geometry done.unmarked marks.replaces after_is.accepted.geometry fits some whole_mid whole_end c.in_ok-after.ensures.written last told_last in
-    let others = given_tags (store_behind image.format old tags (g.D.Disk.moments mid) (g.D.Disk.moments end) store_mid done.made.geometry done.unmarked marks.replaces after_is.accepted.geometry fits some whole_mid whole_end c.in_ok-after.ensures.written) last in
+    let placed = placed_behind image.format old tags (g.D.Disk.moments mid) (g.D.Disk.moments end) store_mid done.made.of_image.geometry done.made.unmarked marks.replaces after_is.accepted.geometry fits some whole_mid whole_end c.in_ok-after.ensures.written last told_last in
+    let others = given_tags (store_behind image.format old tags (g.D.Disk.moments mid) (g.D.Disk.moments end) store_mid done.made.of_image.geometry done.made.unmarked marks.replaces after_is.accepted.geometry fits some whole_mid whole_end c.in_ok-after.ensures.written) last in
     let made = becomes middle.0 middle.1 last told_last entry on.disk on.number (given_tags tags middle.0) others is on.emptied placed in
     let f = bitmap_format image.format in
     same_blocks key old.sectors image.format entry _ others last now.read.own c.requires.judged.format.no_bitmap after_is.bitmap made marks.replaces.salt

@@ -1,12 +1,12 @@
-use Rattle.std.proofs.Common.{◌≡◌, ◌≢◌, Option, None, List, refl, sym, ◌∙◌, subst}
+use Rattle.std.proofs.Common.{Option, List, refl, sym, ◌∙◌, subst}
 use Rattle.std.proofs.lemmas.Result.{err_from_is_err_and}
-use Rattle.disk_model.specs.Disk.{Content, last_image}
+use Rattle.disk_model.specs.Disk.{last_image}
 use Rattle.disk_model.specs.Identity.{DiskIdentity}
 use Rattle.disk_model.specs.Moments.{HasNow}
 use Rattle.hmac_tag.specs.TagMaker.{key_of}
 use Rattle.image_format.specs.declared.reading.ImageFormat.{ImageFormat}
 use Rattle.image_format.specs.Format.{disk_format}
-use Rattle.image_judging.specs.Faults.{bitmap_fault_of}
+use Rattle.image_judging.specs.Faults.{fault_of}
 use Rattle.bitmap_device.specs.declared.parts.BitmapParts.{BitmapParts}
 use Rattle.bitmap_device.specs.Device.{IsReady}
 use Rattle.device_opening.specs.declared.judging.JudgedImage.{JudgedImage}
@@ -15,7 +15,7 @@ use Rattle.device_opening.specs.Judged.{HasJudged, judged_format}
 use Rattle.device_opening.proofs.JudgedLemmas.{done_cause, shift}
 use Rattle.device_model.specs.Mode.{Bitmap}
 use Rattle.device_parts.specs.Device.{IsOfSameBlocks}
-use Rattle.device_opening.proofs.OpenedMadeLemmas.{can_made, made_left, made_writes, same_faults}
+use Rattle.device_opening.proofs.OpenedMadeLemmas.{can_made, made_left, made_writes}
 use Rattle.device_opening.proofs.RefusedLemmas.{judging_refuses, open_refuses}
 use Rattle.device_opening.proofs.changing.open_made.Goals as goal
 
@@ -26,14 +26,14 @@ pub returns-in_err-image-clause-refused : goal.returns-in_err-image-clause-refus
 returns-in_err-image-clause-refused g c =
     let p = err_from_is_err_and c.from_residual.result c.from_residual.ensures.1 in
     let old = g.D.Disk.identity c.args.disk.now in
-    rw (p.1, p.2) (judging_refuses (bitmap_fault_of (key_of c.args.hash) c.args.consent old.sectors) (g.D.Disk.moments c.args.disk.now) (g.D.Disk.moments c.judge_found.new.disk) JudgedImage BitmapParts c.in_err-image.field-0.0
-    (λ not_memory not_disk x now. c.in_err-image.ensures.refused not_memory not_disk x now ∙ same_faults (key_of c.args.hash) c.args.consent old c.args.format (g.D.Disk.moments c.args.disk.now) c.requires.found x now) c.judge_found.ensures.kept)
+    rw (p.1, p.2) (judging_refuses (fault_of (key_of c.args.hash) c.args.consent old.sectors) (g.D.Disk.moments c.args.disk.now) (g.D.Disk.moments c.judge_found.new.disk) JudgedImage BitmapParts c.in_err-image.field-0.0
+    c.in_err-image.ensures.refused c.judge_found.ensures.kept)
 
 pub returns-clause-refused : goal.returns-clause-refused
 returns-clause-refused g c =
     let old = g.D.Disk.identity c.args.disk.now in
-    open_refuses (bitmap_fault_of (key_of c.args.hash) c.args.consent old.sectors) (g.D.Disk.moments c.args.disk.now) (g.D.Disk.moments c.make_bitmap.new.disk) BitmapParts c.in_ok-device.device
-    (λ x now. c.in_ok-image.ensures.refused (λ e. cc) (λ e. cc) x now ∙ same_faults (key_of c.args.hash) c.args.consent old c.args.format (g.D.Disk.moments c.args.disk.now) c.requires.found x now)
+    open_refuses (fault_of (key_of c.args.hash) c.args.consent old.sectors) (g.D.Disk.moments c.args.disk.now) (g.D.Disk.moments c.make_bitmap.new.disk) BitmapParts c.in_ok-device.device
+    (c.in_ok-image.ensures.refused (λ e. cc) (λ e. cc))
 
 pub returns-clause-cause : goal.returns-clause-cause
 returns-clause-cause g c = done_cause _ _ _ _ _ _ c.in_ok-image.ensures.cause c.in_ok-device.ensures.cause

@@ -1,13 +1,12 @@
-use Rattle.std.proofs.Common.{◌≡◌, ℕ, ◌+◌, ◌<◌, Bool, true, false, refl, sym, ◌∙◌, ap, subst, List}
-use Rattle.disk_model.specs.Disk.{Content, OnlyAdds, last_image}
+use Rattle.std.proofs.Common.{◌∙◌, subst}
+use Rattle.disk_model.specs.Disk.{OnlyAdds, last_image}
 use Rattle.disk_model.specs.Moments.{EachSince}
 use Rattle.disk_model.proofs.MomentsLemmas.{EachMoment-then}
 use Rattle.image_model.specs.Geometry.{Geometry}
 use Rattle.image_model.specs.Walk.{later}
 use Rattle.image_model.proofs.NumberLemmas.{later_low}
 use Rattle.direct_laws.specs.CallLaws.{ReadsTagsNow}
-use Rattle.hmac_tag.specs.TagMaker.{TagRule}
-use Rattle.recalculation.specs.All.{IsOfTagsOnly, RecoversWith}
+use Rattle.recalculation.specs.All.{IsOfTagsOnly}
 use Rattle.recalculation.proofs.AllLemmas.{recovered_cells_law, recovered_changes_law}
 use Rattle.tag_store.specs.Store.{given_tags}
 use Rattle.device_opening.specs.Judged.{judged_format}
@@ -39,7 +38,7 @@ returns-clause-emptied g c start told last told_last =
             opening = c.requires.recalculation.awaiting;
             rule_is = done.made.maker ∙ c.requires.judged.maker;
           })
-          (later_low 3 now.number) empty c.in_ok-recalculate_all.ensures.taken
+          (later_low 3 now.number) empty c.in_ok-recalculate_all.ensures.taken.journal
           (subst (λ (x : Geometry). ReadsTagsNow x (given_tags c.recalculate_all.new.tags) (g.D.Disk.moments c.recalculate_all.new.disk)) c.requires.recalculation.awaiting.geometry c.in_ok-recalculate_all.ensures.back)
           last told_last;
     }
@@ -63,7 +62,7 @@ returns-clause-leaves g c =
             no_bitmap = c.requires.judged.format.no_bitmap;
             opening = c.requires.recalculation.awaiting;
             rule_is = done.made.maker ∙ c.requires.judged.maker;
-          }) c.recalculate_all.ensures.through);
+          }) c.recalculate_all.ensures.through.journal);
       writes = tags_behind f.geometry c.recover_emptied.ensures.leaves.writes (λ start middle told told_m. (done.emptied.left start told middle told_m).pending) second;
     }
 
@@ -86,7 +85,7 @@ returns-in_err-recalculate_all-clause-leaves g c =
             no_bitmap = c.requires.judged.format.no_bitmap;
             opening = c.requires.recalculation.awaiting;
             rule_is = done.made.maker ∙ c.requires.judged.maker;
-          }) c.recalculate_all.ensures.through);
+          }) c.recalculate_all.ensures.through.journal);
       writes = tags_behind f.geometry c.recover_emptied.ensures.leaves.writes (λ start middle told told_m. (done.emptied.left start told middle told_m).pending) second;
     }
 

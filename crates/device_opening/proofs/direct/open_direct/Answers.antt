@@ -1,135 +1,60 @@
-use Rattle.std.proofs.Common.{List, sym, ◌∙◌, subst}
-use Rattle.std.proofs.lemmas.Result.{err_from_is_err_and}
-use Rattle.disk_model.specs.Disk.{Content}
-use Rattle.disk_model.specs.Identity.{DiskIdentity}
+use Rattle.std.proofs.Common.{sym, ◌∙◌, subst}
 use Rattle.disk_model.specs.Moments.{EachSince}
-use Rattle.disk_model.proofs.MomentsLemmas.{EachMoment-kept}
+use Rattle.device_model.specs.Mode as Model
 use Rattle.hmac_tag.specs.TagMaker.{key_of}
-use Rattle.image_judging.specs.Faults.{fault_of}
-use Rattle.direct_device.specs.declared.parts.DirectParts.{DirectParts}
-use Rattle.device_opening.specs.declared.judging.JudgedImage.{JudgedImage}
-use Rattle.device_opening.specs.DirectOpening.{HasOpenOn, KeepsEmpty}
-use Rattle.device_opening.specs.Judged.{HasJudged, judged_format}
-use Rattle.device_opening.specs.Opening.{IsUnasked}
-use Rattle.device_opening.proofs.DirectLemmas.{has_opened, leaves_empty, opening_left, writes_emptying}
-use Rattle.device_opening.proofs.JudgedLemmas.{done_cause, own_leaves, shift}
-use Rattle.device_opening.proofs.RefusedLemmas.{disk_refuses, judging_refuses, memory_refuses, open_refuses}
+use Rattle.device_opening.specs.DirectOpening.{KeepsEmpty}
+use Rattle.device_opening.specs.JournalMaking.{IsOfMadeJournal}
+use Rattle.device_opening.specs.Judged.{HasBitmapFormat, HasJournalFormat}
+use Rattle.device_opening.specs.Opening.{IsOfOpening, LeavesOpenable}
+use Rattle.device_opening.proofs.JudgedLemmas.{shift}
+use Rattle.device_opening.proofs.JournalMakingLemmas.{found_writes_direct, made_writes_direct}
 use Rattle.device_opening.proofs.direct.open_direct.Goals as goal
 
-pub open_judged-requires-clause-judged : goal.open_judged-requires-clause-judged
-open_judged-requires-clause-judged g c = shift (λ i x. HasJudged i.sectors c.in_ok-image.image x) (sym c.judge_image.ensures.identity) (sym c.judge_image.ensures.kept) c.in_ok-image.ensures.judged
+pub open_made-requires-clause-found : goal.open_made-requires-clause-found
+open_made-requires-clause-found g c =
+    shift (λ i x. HasBitmapFormat i.sectors c.in_ok-format.format x) (sym c.read_format.ensures.identity) (sym c.read_format.ensures.kept) (record {
+      format_ = record { accepted = c.in_ok-format.ensures.format; bitmap = sym c.has_bitmap.ensures ∙ c.if-has_bitmap.true };
+      reads = c.in_ok-format.ensures.reads;
+      told = c.in_ok-format.ensures.told (λ e. cc);
+    })
 
-pub returns-in_err-image-clause-refused : goal.returns-in_err-image-clause-refused
-returns-in_err-image-clause-refused g c =
-    let p = err_from_is_err_and c.from_residual.result c.from_residual.ensures.1 in
-    rw (p.1, p.2) (judging_refuses (fault_of (key_of c.args.hash) c.args.consent (g.D.Disk.identity c.args.disk.now).sectors) (g.D.Disk.moments c.args.disk.now) (g.D.Disk.moments c.judge_image.new.disk) JudgedImage DirectParts c.in_err-image.field-0.0
-    c.in_err-image.ensures.refused c.judge_image.ensures.kept)
+pub open_found-requires-clause-found : goal.open_found-requires-clause-found
+open_found-requires-clause-found g c =
+    shift (λ i x. HasJournalFormat i.sectors c.in_ok-format.format x) (sym c.read_format.ensures.identity) (sym c.read_format.ensures.kept) (record {
+      format_ = record { accepted = c.in_ok-format.ensures.format; no_bitmap = sym c.has_bitmap.ensures ∙ c.if-has_bitmap.false };
+      reads = c.in_ok-format.ensures.reads;
+      told = c.in_ok-format.ensures.told (λ e. cc);
+    })
 
-pub returns-in_err-room-clause-refused : goal.returns-in_err-room-clause-refused
-returns-in_err-room-clause-refused g c =
-    let p = err_from_is_err_and c.from_residual-in_err-room.result c.from_residual-in_err-room.ensures.1 in
-    rw (p.1, p.2) (memory_refuses (fault_of (key_of c.args.hash) c.args.consent (g.D.Disk.identity c.args.disk.now).sectors) (g.D.Disk.moments c.args.disk.now) (g.D.Disk.moments c.judge_image.new.disk) DirectParts c.judge_image.ensures.kept)
+pub returns-then-has_bitmap-clause-left : goal.returns-then-has_bitmap-clause-left
+returns-then-has_bitmap-clause-left g c =
+    shift (λ i x. LeavesOpenable Model.Direct (key_of c.args.hash) i.sectors x (g.D.Disk.moments c.open_made.new.disk)) c.read_format.ensures.identity c.read_format.ensures.kept c.open_made.ensures.left
 
-pub returns-in_err-device-clause-refused : goal.returns-in_err-device-clause-refused
-returns-in_err-device-clause-refused g c =
-    let p = err_from_is_err_and c.from_residual-in_err-device.result c.from_residual-in_err-device.ensures.1 in
-    rw (p.1, p.2) (disk_refuses (fault_of (key_of c.args.hash) c.args.consent (g.D.Disk.identity c.args.disk.now).sectors) (g.D.Disk.moments c.args.disk.now) (g.D.Disk.moments c.open_judged.new.disk) DirectParts (c.in_ok-image.ensures.refused (λ e. cc) (λ e. cc)))
+pub returns-else-has_bitmap-clause-left : goal.returns-else-has_bitmap-clause-left
+returns-else-has_bitmap-clause-left g c =
+    shift (λ i x. LeavesOpenable Model.Direct (key_of c.args.hash) i.sectors x (g.D.Disk.moments c.open_found.new.disk)) c.read_format.ensures.identity c.read_format.ensures.kept c.open_found.ensures.left
 
-pub returns-clause-refused : goal.returns-clause-refused
-returns-clause-refused g c =
-    open_refuses (fault_of (key_of c.args.hash) c.args.consent (g.D.Disk.identity c.args.disk.now).sectors) (g.D.Disk.moments c.args.disk.now) (g.D.Disk.moments c.open_judged.new.disk) DirectParts c.in_ok-device.device (c.in_ok-image.ensures.refused (λ e. cc) (λ e. cc))
+pub returns-then-has_bitmap-clause-writes : goal.returns-then-has_bitmap-clause-writes
+returns-then-has_bitmap-clause-writes g c =
+    let b = g.D.Disk.moments c.open_made.new.disk in
+    let format = c.in_ok-format.format in
+    made_writes_direct (key_of c.args.hash) (g.D.Disk.identity c.args.disk.now) c.in_ok-format.format (g.D.Disk.moments c.args.disk.now) b
+    (record {
+      format_ = record { accepted = c.in_ok-format.ensures.format; bitmap = sym c.has_bitmap.ensures ∙ c.if-has_bitmap.true };
+      reads = c.in_ok-format.ensures.reads;
+      told = c.in_ok-format.ensures.told (λ e. cc);
+    })
+    (subst (λ x. EachSince (IsOfMadeJournal format.fields format.geometry) x b) c.read_format.ensures.kept c.open_made.ensures.writes)
 
-pub returns-clause-cause : goal.returns-clause-cause
-returns-clause-cause g c = done_cause _ _ _ _ _ _ c.in_ok-image.ensures.cause c.in_ok-device.ensures.cause
-
-pub returns-in_err-image-clause-left : goal.returns-in_err-image-clause-left
-returns-in_err-image-clause-left g c can = record { opens = EachMoment-kept _ c.judge_image.ensures.kept; left = EachMoment-kept _ c.judge_image.ensures.kept }
-
-pub returns-in_err-room-clause-left : goal.returns-in_err-room-clause-left
-returns-in_err-room-clause-left g c can = record { opens = EachMoment-kept _ c.judge_image.ensures.kept; left = EachMoment-kept _ c.judge_image.ensures.kept }
-
-pub returns-in_err-device-clause-left : goal.returns-in_err-device-clause-left
-returns-in_err-device-clause-left g c can =
-    let key = key_of c.args.hash in
-    let old = g.D.Disk.identity c.args.disk.now in
-    let a = g.D.Disk.moments c.args.disk.now in
-    let image = c.in_ok-image.image in
-    let judged = c.in_ok-image.ensures.judged in
-    let same = c.in_ok-image.ensures.key in
-    let identity = c.judge_image.ensures.identity in
-    let kept = c.judge_image.ensures.kept in
-    opening_left key old image a judged same (own_leaves key old image a judged same identity kept c.open_judged.ensures.leaves)
-
-pub returns-clause-left : goal.returns-clause-left
-returns-clause-left g c can =
-    let key = key_of c.args.hash in
-    let old = g.D.Disk.identity c.args.disk.now in
-    let a = g.D.Disk.moments c.args.disk.now in
-    let image = c.in_ok-image.image in
-    let judged = c.in_ok-image.ensures.judged in
-    let same = c.in_ok-image.ensures.key in
-    let identity = c.judge_image.ensures.identity in
-    let kept = c.judge_image.ensures.kept in
-    opening_left key old image a judged same (own_leaves key old image a judged same identity kept c.open_judged.ensures.leaves)
-
-pub returns-in_err-image-clause-moments : goal.returns-in_err-image-clause-moments
-returns-in_err-image-clause-moments g c = record { recovers = EachMoment-kept _ c.judge_image.ensures.kept; keeps = EachMoment-kept _ c.judge_image.ensures.kept }
-
-pub returns-in_err-room-clause-moments : goal.returns-in_err-room-clause-moments
-returns-in_err-room-clause-moments g c = record { recovers = EachMoment-kept _ c.judge_image.ensures.kept; keeps = EachMoment-kept _ c.judge_image.ensures.kept }
-
-pub returns-in_err-device-clause-moments : goal.returns-in_err-device-clause-moments
-returns-in_err-device-clause-moments g c =
-    let key = key_of c.args.hash in
-    let old = g.D.Disk.identity c.args.disk.now in
-    let a = g.D.Disk.moments c.args.disk.now in
-    let image = c.in_ok-image.image in
-    let judged = c.in_ok-image.ensures.judged in
-    let same = c.in_ok-image.ensures.key in
-    let identity = c.judge_image.ensures.identity in
-    let kept = c.judge_image.ensures.kept in
-    writes_emptying key old image a judged same (own_leaves key old image a judged same identity kept c.open_judged.ensures.leaves)
-    (subst (λ (x : List Content). EachSince (KeepsEmpty image.format.geometry) x (g.D.Disk.moments c.open_judged.new.disk)) kept c.open_judged.ensures.keeps)
-
-pub returns-clause-moments : goal.returns-clause-moments
-returns-clause-moments g c =
-    let key = key_of c.args.hash in
-    let old = g.D.Disk.identity c.args.disk.now in
-    let a = g.D.Disk.moments c.args.disk.now in
-    let image = c.in_ok-image.image in
-    let judged = c.in_ok-image.ensures.judged in
-    let same = c.in_ok-image.ensures.key in
-    let identity = c.judge_image.ensures.identity in
-    let kept = c.judge_image.ensures.kept in
-    writes_emptying key old image a judged same (own_leaves key old image a judged same identity kept c.open_judged.ensures.leaves)
-    (subst (λ (x : List Content). EachSince (KeepsEmpty image.format.geometry) x (g.D.Disk.moments c.open_judged.new.disk)) kept c.open_judged.ensures.keeps)
-
-pub returns-clause-opened : goal.returns-clause-opened
-returns-clause-opened g c =
-    let key = key_of c.args.hash in
-    let old = g.D.Disk.identity c.args.disk.now in
-    let a = g.D.Disk.moments c.args.disk.now in
-    let image = c.in_ok-image.image in
-    let judged = c.in_ok-image.ensures.judged in
-    let same = c.in_ok-image.ensures.key in
-    let identity = c.judge_image.ensures.identity in
-    let kept = c.judge_image.ensures.kept in
-    let new = g.D.Disk.moments c.open_judged.new.disk in
-    let device = c.in_ok-device.device in
-    has_opened key old image a judged same device (shift (λ i x. HasOpenOn (judged_format i.sectors image) device x new) identity kept c.in_ok-device.ensures.opened)
-    (subst (λ (i : DiskIdentity). IsUnasked device.parts device.recalculation i new) (c.open_judged.ensures.identity ∙ identity) c.in_ok-device.ensures.unasked)
-
-pub returns-clause-empty : goal.returns-clause-empty
-returns-clause-empty g c =
-    let key = key_of c.args.hash in
-    let old = g.D.Disk.identity c.args.disk.now in
-    let a = g.D.Disk.moments c.args.disk.now in
-    let image = c.in_ok-image.image in
-    let judged = c.in_ok-image.ensures.judged in
-    let same = c.in_ok-image.ensures.key in
-    let identity = c.judge_image.ensures.identity in
-    let kept = c.judge_image.ensures.kept in
-    let new = g.D.Disk.moments c.open_judged.new.disk in
-    let device = c.in_ok-device.device in
-    leaves_empty key old image a judged same device (shift (λ i x. HasOpenOn (judged_format i.sectors image) device x new) identity kept c.in_ok-device.ensures.opened)
-    (own_leaves key old image a judged same identity kept c.open_judged.ensures.leaves)
+pub returns-else-has_bitmap-clause-writes : goal.returns-else-has_bitmap-clause-writes
+returns-else-has_bitmap-clause-writes g c =
+    let b = g.D.Disk.moments c.open_found.new.disk in
+    let format = c.in_ok-format.format in
+    found_writes_direct (key_of c.args.hash) (g.D.Disk.identity c.args.disk.now) c.in_ok-format.format (g.D.Disk.moments c.args.disk.now) b
+    (record {
+      format_ = record { accepted = c.in_ok-format.ensures.format; no_bitmap = sym c.has_bitmap.ensures ∙ c.if-has_bitmap.false };
+      reads = c.in_ok-format.ensures.reads;
+      told = c.in_ok-format.ensures.told (λ e. cc);
+    })
+    (subst (λ x. EachSince (IsOfOpening format.geometry) x b) c.read_format.ensures.kept c.open_found.ensures.writes)
+    (subst (λ x. EachSince (KeepsEmpty format.geometry) x b) c.read_format.ensures.kept c.open_found.ensures.keeps)

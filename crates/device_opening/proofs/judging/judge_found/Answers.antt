@@ -1,6 +1,5 @@
 use Rattle.std.proofs.Common.{◌≡◌, ℕ, Option, List, None, Err, refl, sym, ◌∙◌, ap, subst}
 use Rattle.std.proofs.lemmas.Result.{err_from_is_err_and}
-use Rattle.disk_model.specs.Moments.{content_now}
 use Rattle.hmac_tag.specs.TagMaker.{TagRule, key_of}
 use Rattle.image_format.specs.Format.{IsReadNow, disk_format}
 use Rattle.place_model.specs.Format.{OpensAs}
@@ -18,7 +17,7 @@ returns-in_err-journal-clause-refused g c =
     let p = err_from_is_err_and c.from_residual-in_err-journal.result c.from_residual-in_err-journal.ensures.1 in
     rw (p.1, p.2) (λ not_memory not_disk content told.
     told_journal JudgedJournal JudgedImage c.in_err-journal.field-0.0
-    ∙ fault_now (key_of c.args.hash) c.args.consent (g.D.Disk.identity c.args.disk.now) c.args.format (g.D.Disk.moments c.args.disk.now) c.requires.found.told
+    ∙ fault_now (key_of c.args.hash) c.args.consent (g.D.Disk.identity c.args.disk.now) c.args.format (g.D.Disk.moments c.args.disk.now) c.requires.found.told c.requires.found.format_.no_bitmap
     c.maker_of-maker.result c.maker_of-maker.ensures (c.in_ok-judge_consent.ensures.given.0 refl) (refusal_in {T = JudgedJournal} (Err c.in_err-journal.field-0.0))
     (λ x at. c.in_err-journal.ensures.refused (λ e. not_memory (same_replay e)) (λ e. not_disk (same_replay e)) x at) content told)
 
@@ -46,6 +45,6 @@ returns-clause-judged g c =
 
 pub returns-clause-refused : goal.returns-clause-refused
 returns-clause-refused g c not_memory not_disk =
-    fault_now (key_of c.args.hash) c.args.consent (g.D.Disk.identity c.args.disk.now) c.args.format (g.D.Disk.moments c.args.disk.now) c.requires.found.told
+    fault_now (key_of c.args.hash) c.args.consent (g.D.Disk.identity c.args.disk.now) c.args.format (g.D.Disk.moments c.args.disk.now) c.requires.found.told c.requires.found.format_.no_bitmap
     c.maker_of-maker.result c.maker_of-maker.ensures (c.in_ok-judge_consent.ensures.given.0 refl) None
     (λ x at. sym (c.in_ok-journal.ensures.judged x at).right)

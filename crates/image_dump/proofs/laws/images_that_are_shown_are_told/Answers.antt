@@ -2,4 +2,4 @@ use Rattle.image_dump.proofs.DumpLawsLemmas.{shown_law}
 use Rattle.image_dump.proofs.laws.images_that_are_shown_are_told.Goals as goal
 
 pub returns : goal.returns
-returns c = shown_law c.images_that_open_are_told.ensures.read
+returns c = shown_law c.images_that_can_be_read_are_told.ensures

@@ -1,8 +1,6 @@
 use Rattle.std.proofs.Common.{[], ℕ, ◌≡◌, ◌↔◌, ◌<◌, None, Err, sym, ap, subst}
 use Rattle.disk_model.specs.Disk.{last_image}
 use Rattle.disk_model.specs.Identity.{DiskIdentity}
-use Rattle.place_model.specs.Kind.{CanOpenIn}
-use Rattle.device_model.specs.Mode.{Journal}
 use Rattle.image_model.specs.declared.geom_fault.GeomFault.{GeomFault}
 use Rattle.image_formatting.specs.declared.format_fault.FormatFault.TheVariants as FormatFaults
 use Rattle.image_formatting.specs.declared.new_image.NewImage.{NewImage}
@@ -11,7 +9,7 @@ use Rattle.image_formatting.specs.NewImage.{provided_of}
 use Rattle.direct_mode.proofs.StoreCalls.{reads_whole}
 use Rattle.command_ending.specs.Ended.{ending_of}
 use Rattle.command_ending.specs.declared.ended.Ended.{Ended}
-use Rattle.integrity_tool.specs.Exercised.{IsExercisedTo}
+use Rattle.integrity_tool.specs.Exercised.{HasJournalToOpen, IsExercisedTo}
 use Rattle.integrity_tool.specs.Exercising.{exercise_outset}
 use Rattle.integrity_tool.specs.Making.{IsMadeInOrder}
 use Rattle.integrity_tool.specs.Opening.{HasRunOn}
@@ -55,7 +53,7 @@ returns-in-Ok-clause-runs g c script start told =
     c.exercise_made.result (g.D.Disk.moments c.exercise_made.new.disk) _ _
     (λ x at can. subst (λ (n : ℕ). IsExercisedTo n c.args.count c.args.seed x c.exercise_made.result after (g.D.Disk.moments c.exercise_made.new.disk)
     (g.O.Sink.held c.args.out.now) (g.O.Sink.held c.exercise_made.new.out)) same
-    (c.exercise_made.ensures.exercised x at (subst (λ (n : ℕ). CanOpenIn Journal None n (last_image x)) (sym same) can)))).0
+    (c.exercise_made.ensures.exercised x at (subst (λ (n : ℕ). HasJournalToOpen n (last_image x)) (sym same) can)))).0
 
 pub returns-in-Ok-clause-moments : goal.returns-in-Ok-clause-moments
 returns-in-Ok-clause-moments g c script start told =
@@ -72,7 +70,7 @@ returns-in-Ok-clause-moments g c script start told =
     c.exercise_made.result (g.D.Disk.moments c.exercise_made.new.disk) _ _
     (λ x at can. subst (λ (n : ℕ). IsExercisedTo n c.args.count c.args.seed x c.exercise_made.result after (g.D.Disk.moments c.exercise_made.new.disk)
     (g.O.Sink.held c.args.out.now) (g.O.Sink.held c.exercise_made.new.out)) same
-    (c.exercise_made.ensures.exercised x at (subst (λ (n : ℕ). CanOpenIn Journal None n (last_image x)) (sym same) can)))).1
+    (c.exercise_made.ensures.exercised x at (subst (λ (n : ℕ). HasJournalToOpen n (last_image x)) (sym same) can)))).1
 
 pub returns-in-Err-clause-closed : goal.returns-in-Err-clause-closed
 returns-in-Err-clause-closed g c = tt
@@ -92,4 +90,4 @@ returns-in-Ok-clause-closed g c = ok_each _ _ c.exercise_made.result (λ start t
     c.exercise_made.result (g.D.Disk.moments c.exercise_made.new.disk) _ _
     (λ x at can. subst (λ (n : ℕ). IsExercisedTo n c.args.count c.args.seed x c.exercise_made.result after (g.D.Disk.moments c.exercise_made.new.disk)
     (g.O.Sink.held c.args.out.now) (g.O.Sink.held c.exercise_made.new.out)) same
-    (c.exercise_made.ensures.exercised x at (subst (λ (n : ℕ). CanOpenIn Journal None n (last_image x)) (sym same) can)))).2)
+    (c.exercise_made.ensures.exercised x at (subst (λ (n : ℕ). HasJournalToOpen n (last_image x)) (sym same) can)))).2)

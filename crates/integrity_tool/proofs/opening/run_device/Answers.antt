@@ -33,16 +33,15 @@ returns-in-Err-clause-runs g c left told start told_start =
     let refused = g.D.Disk.moments c.in-Err.refused.disk.now in
     let held = g.O.Sink.held c.args.out.now in
     let leaves = c.in-Err.ensures.err in
-    let law = c.images_that_open_have_no_fault.ensures.journal in
-    let bitmap = c.images_that_open_have_no_fault.ensures.bitmap in
+    let law = c.images_that_open_have_no_fault.ensures in
     let fault_is = c.handed_back-fault.ensures.fault in
     let ending = ending_of c.ended_by_opening.result in
     given_back mode key disk.sectors start left ending before held held (
       subst (λ (e : Ended). HasRunOn (outset_on mode key disk.sectors (last_image start)) start left (ending_of e) refused held held)
           (sym (c.ended_by_opening.ensures ∙ ap ended_by_opening fault_is))
-          (refused_by_opening law bitmap mode key disk _ before refused start told_start left leaves held c.in-Err.refused.fault
+          (refused_by_opening law mode key disk _ before refused start told_start left leaves held c.in-Err.refused.fault
           c.in-Err.ensures.refused),
-      opening_moments law bitmap mode key disk _ before refused start told_start left leaves,
+      opening_moments law mode key disk _ before refused start told_start left leaves,
       still_opened mode key disk.sectors before refused leaves.writes,
     ) (ap g.D.Disk.moments c.handed_back-fault.ensures.disk)
 
@@ -51,13 +50,13 @@ returns-in-Ok-run_lines-clause-runs g c left told start told_start =
     let mode = c.args.mode in
     let key = key_of c.args.hash in
     let disk = g.D.Disk.identity c.args.disk.now in
-    let made = opened_content c.images_that_open_have_no_fault.ensures.journal c.images_that_open_have_no_fault.ensures.bitmap mode key disk _ _ _ start told_start left c.in-Ok.ensures.leaves in
+    let made = opened_content c.images_that_open_have_no_fault.ensures mode key disk _ _ _ start told_start left c.in-Ok.ensures.leaves in
     let w = opened_standing (asked_mode mode) key disk.sectors (last_image start) (last_image made.0) in
     let opened = c.in-Ok.ensures.opened in
     let run = has_run w.format w.state left in
     let at = c.in-Ok-run_lines.ensures.lines w left run.0 (opened.device start told_start made.0 made.1) told run.1 in
     let after = g.D.Disk.moments c.close-closed.result.1.now in
-    let all = ran_on c.images_that_open_have_no_fault.ensures.journal c.images_that_open_have_no_fault.ensures.bitmap mode key disk _ _ _ start told_start left c.in-Ok.ensures.leaves (c.in-Ok.ensures.accepted start told_start)
+    let all = ran_on c.images_that_open_have_no_fault.ensures mode key disk _ _ _ start told_start left c.in-Ok.ensures.leaves (c.in-Ok.ensures.accepted start told_start)
     run.0 (close_ending c.close-closed.result.0) after _ _ run.1 made.0 made.1
     (g.met.D.Disk.reads_an_image c.in-Ok.device.disk.now made.0 made.1) c.in-Ok.device.parts opened.asked_ (opened.device start told_start made.0 made.1)
     (opened.blocks start told_start made.0 made.1)
@@ -74,13 +73,13 @@ returns-in-Err-run_lines-clause-runs g c left told start told_start =
     let mode = c.args.mode in
     let key = key_of c.args.hash in
     let disk = g.D.Disk.identity c.args.disk.now in
-    let made = opened_content c.images_that_open_have_no_fault.ensures.journal c.images_that_open_have_no_fault.ensures.bitmap mode key disk _ _ _ start told_start left c.in-Ok.ensures.leaves in
+    let made = opened_content c.images_that_open_have_no_fault.ensures mode key disk _ _ _ start told_start left c.in-Ok.ensures.leaves in
     let w = opened_standing (asked_mode mode) key disk.sectors (last_image start) (last_image made.0) in
     let opened = c.in-Ok.ensures.opened in
     let run = has_run w.format w.state left in
     let ending = ending_of c.in-Err-run_lines.fault in
     given_back mode key disk.sectors start left ending (g.D.Disk.moments c.args.disk.now) _ _
-    (ran_on c.images_that_open_have_no_fault.ensures.journal c.images_that_open_have_no_fault.ensures.bitmap mode key disk _ _ _ start told_start left c.in-Ok.ensures.leaves (c.in-Ok.ensures.accepted start told_start)
+    (ran_on c.images_that_open_have_no_fault.ensures mode key disk _ _ _ start told_start left c.in-Ok.ensures.leaves (c.in-Ok.ensures.accepted start told_start)
     run.0 ending (g.D.Disk.moments c.run_lines.new.device.disk.now) _ _ run.1 made.0 made.1
     (g.met.D.Disk.reads_an_image c.in-Ok.device.disk.now made.0 made.1) c.in-Ok.device.parts opened.asked_ (opened.device start told_start made.0 made.1)
     (opened.blocks start told_start made.0 made.1)
@@ -97,7 +96,7 @@ returns-in-Ok-run_lines-clause-ahead g c left told start told_start =
     let mode = c.args.mode in
     let key = key_of c.args.hash in
     let disk = g.D.Disk.identity c.args.disk.now in
-    let made = opened_content c.images_that_open_have_no_fault.ensures.journal c.images_that_open_have_no_fault.ensures.bitmap mode key disk _ _ _ start told_start left c.in-Ok.ensures.leaves in
+    let made = opened_content c.images_that_open_have_no_fault.ensures mode key disk _ _ _ start told_start left c.in-Ok.ensures.leaves in
     let w = opened_standing (asked_mode mode) key disk.sectors (last_image start) (last_image made.0) in
     let opened = c.in-Ok.ensures.opened in
     let run = has_run w.format w.state left in
@@ -113,7 +112,7 @@ returns-in-Err-run_lines-clause-ahead g c left told start told_start =
     let mode = c.args.mode in
     let key = key_of c.args.hash in
     let disk = g.D.Disk.identity c.args.disk.now in
-    let made = opened_content c.images_that_open_have_no_fault.ensures.journal c.images_that_open_have_no_fault.ensures.bitmap mode key disk _ _ _ start told_start left c.in-Ok.ensures.leaves in
+    let made = opened_content c.images_that_open_have_no_fault.ensures mode key disk _ _ _ start told_start left c.in-Ok.ensures.leaves in
     let w = opened_standing (asked_mode mode) key disk.sectors (last_image start) (last_image made.0) in
     let opened = c.in-Ok.ensures.opened in
     let run = has_run w.format w.state left in
@@ -157,7 +156,7 @@ returns-in-Ok-run_lines-clause-closed g c =
     let kind = kind_in (asked_mode mode) key disk.sectors in
     let opened = c.in-Ok.ensures.opened in
     closed_as c.close-closed.result.0 c.ended_by_close.result c.ended_by_close.ensures _ (λ rests left told start told_start.
-    let made = opened_content c.images_that_open_have_no_fault.ensures.journal c.images_that_open_have_no_fault.ensures.bitmap mode key disk _ _ _ start told_start left c.in-Ok.ensures.leaves in
+    let made = opened_content c.images_that_open_have_no_fault.ensures mode key disk _ _ _ start told_start left c.in-Ok.ensures.leaves in
     let w = opened_standing (asked_mode mode) key disk.sectors (last_image start) (last_image made.0) in
     let run = has_run w.format w.state left in
     let at = c.in-Ok-run_lines.ensures.lines w left run.0 (opened.device start told_start made.0 made.1) told run.1 in

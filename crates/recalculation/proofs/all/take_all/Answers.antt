@@ -13,6 +13,7 @@ use Rattle.recalculation.specs.All.{IsOfTagsOnly}
 use Rattle.recalculation.specs.Awaiting.{awaiting_blocks, awaiting_of}
 use Rattle.recalculation.specs.Rule.{tagger_by}
 use Rattle.recalculation.proofs.AllLemmas.{fewer_then, next_waits, none_waits, only_tags, turn_keeps, turn_stands, turns_begin, turns_end}
+use Rattle.recalculation.proofs.AllWithBitmapLemmas.{bitmap_turn_keeps, bitmap_turn_stands, bitmap_turns_begin, bitmap_turns_end}
 use Rattle.recalculation.proofs.RestLemmas.{KeepsRest-still, KeepsRest-then}
 use Rattle.recalculation.proofs.StepLemmas.{fewer_await}
 use Rattle.recalculation.proofs.all.take_all.Goals as goal
@@ -21,15 +22,11 @@ pub regions-init : goal.regions-init
 regions-init g c =
     let start = g.D.Disk.moments c.args.disk.now in
     record {
-      geometry = refl;
-      first = refl;
       fewer = record { each = λ r low waits. waits };
       keeps = λ d awaiting on keeps. turns_begin d c.args.maker.now awaiting c.args.awaiting.now (given_tags c.args.tags.now) start on keeps;
+      bits = λ d entry on keeps. bitmap_turns_begin d entry c.args.maker.now c.args.awaiting.now (given_tags c.args.tags.now) start on keeps;
       idle = λ none. (refl, refl);
-      store = c.requires.store;
-      places = refl;
-      rest = KeepsRest-still c.args.tags.now start start refl;
-      identity = refl;
+      stays = record { geometry = refl; first = refl; store_ = c.requires.store; places = refl; rest = KeepsRest-still c.args.tags.now start start refl; identity = refl };
       faults = refl;
       moments = no_moment start _;
     }
@@ -54,23 +51,28 @@ regions-preserved g c =
     let m = g.D.Disk.moments c.regions.disk in
     let b = g.D.Disk.moments c.recalc_region.new.disk in
     let next = next_waits now region c.next.result c.next.ensures c.in-Some.is in
-    let low = subst (λ (x : Geometry). region < regions x) inv.geometry next.0 in
+    let low = subst (λ (x : Geometry). region < regions x) inv.stays.geometry next.0 in
     record {
-      geometry = c.recalc_region.ensures.geometry ∙ inv.geometry;
-      first = c.recalc_region.ensures.first ∙ inv.first;
       fewer = fewer_then old.geometry (awaiting_of old) (awaiting_of now) (awaiting_of c.recalc_region.new.self) region inv.fewer
-          (subst (λ (x : Geometry). AreSameBits x (awaiting_of c.recalc_region.new.self) (with_region region false (awaiting_of now))) inv.geometry c.in_ok-recalc_region.ensures.done);
+          (subst (λ (x : Geometry). AreSameBits x (awaiting_of c.recalc_region.new.self) (with_region region false (awaiting_of now))) inv.stays.geometry c.in_ok-recalc_region.ensures.done);
       keeps = λ d awaiting on keeps.
           turn_keeps d c.args.maker.now now (given_tags c.regions.tags) start m (inv.keeps d awaiting on keeps) region next.0 next.1 b c.recalc_region.ensures.moments
           c.recalc_region.new.self (given_tags c.recalc_region.new.tags) c.in_ok-recalc_region.ensures.taken c.in_ok-recalc_region.ensures.done c.recalc_region.ensures.geometry c.recalc_region.ensures.first;
+      bits = λ d entry on keeps.
+          bitmap_turn_keeps d entry c.args.maker.now now (given_tags c.regions.tags) start m (inv.bits d entry on keeps) region next.0 next.1 b c.recalc_region.ensures.moments
+          c.recalc_region.new.self (given_tags c.recalc_region.new.tags) c.in_ok-recalc_region.ensures.taken c.in_ok-recalc_region.ensures.done c.recalc_region.ensures.geometry c.recalc_region.ensures.first;
       idle = λ none. absurd (true≢false (sym (inv.fewer.each region low next.1) ∙ none region low));
-      store = c.recalc_region.ensures.store;
-      places = c.recalc_region.ensures.places ∙ inv.places;
-      rest = KeepsRest-then c.args.tags.now c.regions.tags c.recalc_region.new.tags start m b inv.rest c.recalc_region.ensures.rest;
-      identity = c.recalc_region.ensures.identity ∙ inv.identity;
+      stays = record {
+        geometry = c.recalc_region.ensures.geometry ∙ inv.stays.geometry;
+        first = c.recalc_region.ensures.first ∙ inv.stays.first;
+        store_ = c.recalc_region.ensures.store;
+        places = c.recalc_region.ensures.places ∙ inv.stays.places;
+        rest = KeepsRest-then c.args.tags.now c.regions.tags c.recalc_region.new.tags start m b inv.stays.rest c.recalc_region.ensures.rest;
+        identity = c.recalc_region.ensures.identity ∙ inv.stays.identity;
+      };
       faults = search rules;
       moments = adds_then (IsOfTagsOnly old.geometry) inv.moments
-          (subst (λ (x : Geometry). EachSince (OnlyAdds (IsOfTagsOnly x)) m b) inv.geometry
+          (subst (λ (x : Geometry). EachSince (OnlyAdds (IsOfTagsOnly x)) m b) inv.stays.geometry
           (only_tags now.geometry (given_tags c.regions.tags) (λ x. region_tags (tagger_by c.args.maker.now now.geometry) now.geometry (awaiting_blocks now) region x (given_tags c.regions.tags x)) c.recalc_region.ensures.moments));
     }
 
@@ -78,20 +80,34 @@ pub returns-in_err-recalc_region-clause-idle : goal.returns-in_err-recalc_region
 returns-in_err-recalc_region-clause-idle g c none =
     let inv = c.regions.invariant in
     let next = next_waits c.regions.awaiting c.in-Some.region c.next.result c.next.ensures c.in-Some.is in
-    let low = subst (λ (x : Geometry). c.in-Some.region < regions x) inv.geometry next.0 in
+    let low = subst (λ (x : Geometry). c.in-Some.region < regions x) inv.stays.geometry next.0 in
     absurd (true≢false (sym (inv.fewer.each c.in-Some.region low next.1) ∙ none c.in-Some.region low))
 
-pub returns-in_err-recalc_region-clause-rest : goal.returns-in_err-recalc_region-clause-rest
-returns-in_err-recalc_region-clause-rest g c =
-    KeepsRest-then c.args.tags.now c.regions.tags c.recalc_region.new.tags (g.D.Disk.moments c.args.disk.now) (g.D.Disk.moments c.regions.disk) (g.D.Disk.moments c.recalc_region.new.disk)
-    c.regions.invariant.rest c.recalc_region.ensures.rest
+pub returns-in_err-recalc_region-clause-stays : goal.returns-in_err-recalc_region-clause-stays
+returns-in_err-recalc_region-clause-stays g c =
+    let stays = c.regions.invariant.stays in
+    record {
+      geometry = c.recalc_region.ensures.geometry ∙ stays.geometry;
+      first = c.recalc_region.ensures.first ∙ stays.first;
+      store_ = c.recalc_region.ensures.store;
+      places = c.recalc_region.ensures.places ∙ stays.places;
+      rest = KeepsRest-then c.args.tags.now c.regions.tags c.recalc_region.new.tags (g.D.Disk.moments c.args.disk.now) (g.D.Disk.moments c.regions.disk) (g.D.Disk.moments c.recalc_region.new.disk) stays.rest c.recalc_region.ensures.rest;
+      identity = c.recalc_region.ensures.identity ∙ stays.identity;
+    }
 
 pub returns-in_err-recalc_region-clause-through : goal.returns-in_err-recalc_region-clause-through
-returns-in_err-recalc_region-clause-through g c d awaiting on keeps =
+returns-in_err-recalc_region-clause-through g c =
     let now = c.regions.awaiting in
+    let start = g.D.Disk.moments c.args.disk.now in
+    let m = g.D.Disk.moments c.regions.disk in
+    let b = g.D.Disk.moments c.recalc_region.new.disk in
     let next = next_waits now c.in-Some.region c.next.result c.next.ensures c.in-Some.is in
-    turn_stands d c.args.maker.now now (given_tags c.regions.tags) (g.D.Disk.moments c.args.disk.now) (g.D.Disk.moments c.regions.disk) (c.regions.invariant.keeps d awaiting on keeps)
-    c.in-Some.region next.0 next.1 (g.D.Disk.moments c.recalc_region.new.disk) c.recalc_region.ensures.moments
+    record {
+      journal = λ d awaiting on keeps.
+          turn_stands d c.args.maker.now now (given_tags c.regions.tags) start m (c.regions.invariant.keeps d awaiting on keeps) c.in-Some.region next.0 next.1 b c.recalc_region.ensures.moments;
+      bitmap = λ d entry on keeps.
+          bitmap_turn_stands d entry c.args.maker.now now (given_tags c.regions.tags) start m (c.regions.invariant.bits d entry on keeps) c.in-Some.region next.0 next.1 b c.recalc_region.ensures.moments;
+    }
 
 pub returns-in_err-recalc_region-clause-moments : goal.returns-in_err-recalc_region-clause-moments
 returns-in_err-recalc_region-clause-moments g c =
@@ -100,18 +116,23 @@ returns-in_err-recalc_region-clause-moments g c =
     let m = g.D.Disk.moments c.regions.disk in
     let b = g.D.Disk.moments c.recalc_region.new.disk in
     adds_then (IsOfTagsOnly c.args.awaiting.now.geometry) inv.moments
-    (subst (λ (x : Geometry). EachSince (OnlyAdds (IsOfTagsOnly x)) m b) inv.geometry
+    (subst (λ (x : Geometry). EachSince (OnlyAdds (IsOfTagsOnly x)) m b) inv.stays.geometry
     (only_tags now.geometry (given_tags c.regions.tags) (λ x. region_tags (tagger_by c.args.maker.now now.geometry) now.geometry (awaiting_blocks now) c.in-Some.region x (given_tags c.regions.tags x)) c.recalc_region.ensures.moments))
 
-pub returns-clause-none : goal.returns-clause-none
-returns-clause-none g c =
-    subst (λ (x : Geometry). AreSameBits x (awaiting_of c.regions.awaiting) no_region) c.regions.invariant.geometry
-    (none_waits c.regions.awaiting c.next.result c.next.ensures c.in_default.is)
-
 pub returns-clause-taken : goal.returns-clause-taken
-returns-clause-taken g c d awaiting on keeps =
-    turns_end d c.args.maker.now c.regions.awaiting (given_tags c.regions.tags) (g.D.Disk.moments c.args.disk.now) (g.D.Disk.moments c.regions.disk) (c.regions.invariant.keeps d awaiting on keeps)
-    (none_waits c.regions.awaiting c.next.result c.next.ensures c.in_default.is)
+returns-clause-taken g c =
+    let now = c.regions.awaiting in
+    let start = g.D.Disk.moments c.args.disk.now in
+    let m = g.D.Disk.moments c.regions.disk in
+    let none = none_waits now c.next.result c.next.ensures c.in_default.is in
+    record {
+      none = subst (λ (x : Geometry). AreSameBits x (awaiting_of now) no_region) c.regions.invariant.stays.geometry none;
+      journal = λ d awaiting on keeps. turns_end d c.args.maker.now now (given_tags c.regions.tags) start m (c.regions.invariant.keeps d awaiting on keeps) none;
+      bitmap = λ d entry on keeps. bitmap_turns_end d entry c.args.maker.now now (given_tags c.regions.tags) start m (c.regions.invariant.bits d entry on keeps) none;
+    }
 
 pub returns-clause-through : goal.returns-clause-through
-returns-clause-through g c d awaiting on keeps = (c.regions.invariant.keeps d awaiting on keeps).stands
+returns-clause-through g c = record {
+  journal = λ d awaiting on keeps. (c.regions.invariant.keeps d awaiting on keeps).stands;
+  bitmap = λ d entry on keeps. (c.regions.invariant.bits d entry on keeps).stands;
+}

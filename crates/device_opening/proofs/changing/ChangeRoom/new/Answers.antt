@@ -1,8 +1,5 @@
-use Rattle.std.proofs.Common.{◌≡◌, sym, ◌∙◌, ap, subst, List}
-use Rattle.disk_model.specs.Disk.{Content}
-use Rattle.disk_model.specs.Moments.{HasNow}
+use Rattle.std.proofs.Common.{subst}
 use Rattle.image_format.specs.declared.reading.ImageFormat.{ImageFormat}
-use Rattle.place_model.specs.Format.{DiskFormat}
 use Rattle.device_opening.specs.Changing.{HasNoRegions}
 use Rattle.device_opening.proofs.JudgedLemmas.{own_layout}
 use Rattle.device_opening.proofs.changing.ChangeRoom.new.Goals as goal
