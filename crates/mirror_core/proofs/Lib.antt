@@ -1,0 +1,13 @@
+pub mod UntoldLemmas
+pub mod SinceLemmas
+pub mod ReadLemmas
+pub mod RestLemmas
+pub mod ReturnedLemmas
+pub mod StandsLemmas
+pub mod WholeLemmas
+pub mod LegLemmas
+pub mod TakenLemmas
+pub mod LegReadLemmas
+pub mod CloseLemmas
+pub mod OpenedLemmas
+pub mod ImageLemmas
