@@ -123,7 +123,7 @@ heads_direct w device a is c told =
     (subst (λ (f : DiskFormat). HasHeads f c) (under_is w.on d.format d.superblock is.format) heads)
 
 -- and in journal mode.
-pub heads_journal : (w : Standing) (device : JournalParts) (a : List Content) → IsJournaled w Working device a → HasNow (HasHeads (under_fields w.on device.recalculation.position)) a
+pub heads_journal : (w : Standing) (device : JournalParts) (a : List Content) → IsJournaled w Working device a → HasNow (HasHeads (under_fields w.on device.state.recalculation.position)) a
 heads_journal w device a is c told =
     let d = is.disk in
     let works = is.over.works refl in

@@ -43,6 +43,7 @@ use Rattle.device_parts.specs.declared.answers.Actor.TheVariants as Actors
 use Rattle.device_parts.specs.declared.condition.Condition.TheVariants as Conditions
 use Rattle.device_parts.specs.declared.parts.Parts.{Parts}
 use Rattle.device_parts.specs.Device.{Standing}
+use Rattle.journal_device.proofs.OverDisk.{state_of}
 use Rattle.journal_device.specs.Answers.{WritesAs, WritesClose, WritesFor, WritesMove, WritesRead, takes_first}
 use Rattle.journal_device.specs.Device.{IsJournaled, awaiting_in, kept, standing_of, standing_on as journal_standing}
 use Rattle.journal_device.proofs.DoneLemmas.{stands_now, works_now}
@@ -137,7 +138,7 @@ module _ (d : JournaledDisk) (journal : PlacedRing) (store : Store)
       (subst (λ (y : Store). EachSince (OnlyAdds (IsOutForTag block y)) a b) same tags)
 
   -- A serve writes sectors of tags, or batches.
-  serve_only : (parts : Parts) → parts.tags ≡ store → (r : Recalculation) (turn : Turn) {a b : List Content} → WritesFor turn parts journal r a b → Only a b
+  serve_only : (parts : Parts) → parts.tags ≡ store → (r : Recalculation) (turn : Turn) {a b : List Content} → WritesFor turn parts (state_of journal r) a b → Only a b
   serve_only parts same r Turns.Finished kept = EachMoment-kept _ kept
   serve_only parts same r (Turns.Held by) kept = EachMoment-kept _ kept
   serve_only parts same r (Turns.Read block) tags = read_only parts same (takes_first journal r block) block tags
@@ -219,7 +220,7 @@ module _ (d : JournaledDisk) (journal : PlacedRing) (store : Store)
     step_only : (parts : Parts) → parts.tags ≡ store → (r : Recalculation) → ((region : ℕ) → next_of r ≡ Some region → has_flag RECALCULATING (fields_of entry).flags ≡ true) → (actor : Actor)
         → ((entry : Entry) → slice_get (entries_of journal.ring.committed) (placed_in journal.placement journal.ring) ≡ Some entry
         → IsBlockEntry d.key (salt_of d.superblock) d.geometry entry)
-        → {a b : List Content} → WritesAs actor parts journal r a b → WritesOnly Model.Journal d.geometry entry changes a b
+        → {a b : List Content} → WritesAs actor parts (state_of journal r) a b → WritesOnly Model.Journal d.geometry entry changes a b
     step_only parts same r flag Actors.Commit whole batch = wide (of_journal (in_batch d.geometry journal.ring ring_is inside batch))
     step_only parts same r flag Actors.Place whole {a} {b} writes =
         let next = slice_get (entries_of journal.ring.committed) (placed_in journal.placement journal.ring) in
@@ -232,14 +233,17 @@ module _ (d : JournaledDisk) (journal : PlacedRing) (store : Store)
         region_only (next_of r) flag (subst (λ (y : Store). WritesRegion (next_of r) y.geometry a b) same writes)
 
     -- A close writes the journal out, and then moves the position.
-    whole_close : AllByRecursion IsWhole (entries_to_place journal) → (t : Bool) → (t ≡ true → has_flag RECALCULATING (fields_of entry).flags ≡ true)
-        → {a b : List Content} → WritesClose journal t store.geometry a b → WritesOnly Model.Journal d.geometry entry changes a b
-    whole_close whole t flag writes =
-        adds_then (IsOfRun Model.Journal d.geometry entry changes) (wide (close_only whole writes.all)) (move_only t flag writes.moves)
+    whole_close : AllByRecursion IsWhole (entries_to_place journal) → (parts : Parts) → parts.tags ≡ store → (r : Recalculation)
+        → (has_flag RECALCULATING r.position.flags ≡ true → has_flag RECALCULATING (fields_of entry).flags ≡ true)
+        → {a b : List Content} → WritesClose (kept parts (state_of journal r)) a b → WritesOnly Model.Journal d.geometry entry changes a b
+    whole_close whole parts same r flag {a} {b} writes =
+        let set = has_flag RECALCULATING r.position.flags in
+        adds_then (IsOfRun Model.Journal d.geometry entry changes) (wide (close_only whole writes.all))
+        (move_only set flag (subst (λ (y : Store). WritesMove set y.geometry writes.middle b) same writes.moves))
 
 -- ---- a device in journal mode
 
-module _ (w : Standing) (common : Parts) (journal : PlacedRing) (r : Recalculation) (a : List Content) (is : IsJournaled w Conditions.Working (kept common journal r) a) where
+module _ (w : Standing) (common : Parts) (journal : PlacedRing) (r : Recalculation) (a : List Content) (is : IsJournaled w Conditions.Working (kept common (state_of journal r)) a) where
   abbrev stands : StandsAs (standing_of (journal_standing w is.disk)) journal common.tags a
   stands = stands_now (journal_standing w is.disk) common journal r a is.over
 
@@ -277,7 +281,7 @@ module _ (w : Standing) (common : Parts) (journal : PlacedRing) (r : Recalculati
       (all_append P (entries_of ring.committed) (entries_of ring.opened) committed_whole (all_flat P ring.opened stands.device.is_ring.each)))
 
   -- A serve does not write sector 0,
-  serve_call : (turn : Turn) {b : List Content} → WritesFor turn common journal r a b → EachSince (OnlyAdds (IsOfCall is.disk.geometry)) a b
+  serve_call : (turn : Turn) {b : List Content} → WritesFor turn common (state_of journal r) a b → EachSince (OnlyAdds (IsOfCall is.disk.geometry)) a b
   serve_call turn writes = serve_only is.disk journal common.tags ring_same stands.placed.cells.geometry next_inside block_some common refl r turn writes
 
   not_first : (x : List ℕ) → IsOfCall is.disk.geometry 0 x → ⊥
@@ -289,8 +293,8 @@ module _ (w : Standing) (common : Parts) (journal : PlacedRing) (r : Recalculati
   ]
 
   -- so each image has the fields that it had.
-  pub serve_fields : (turn : Turn) {b : List Content} → WritesFor turn common journal r a b → HasFieldsThrough w.on r.position r.position a b
-  serve_fields turn writes = heads_stay w r.position (IsOfCall is.disk.geometry) not_first (heads_journal w (kept common journal r) a is) (serve_call turn writes)
+  pub serve_fields : (turn : Turn) {b : List Content} → WritesFor turn common (state_of journal r) a b → HasFieldsThrough w.on r.position r.position a b
+  serve_fields turn writes = heads_stay w r.position (IsOfCall is.disk.geometry) not_first (heads_journal w (kept common (state_of journal r)) a is) (serve_call turn writes)
 
   -- Where a region awaits the flag is set.
   set_flag : (region : ℕ) → next_of r ≡ Some region → has_flag RECALCULATING r.position.flags ≡ true
@@ -303,29 +307,29 @@ module _ (w : Standing) (common : Parts) (journal : PlacedRing) (r : Recalculati
       ∙ work_flag_law d.format awaiting region works.work (least_found (regions d.geometry) awaiting region least).1
 
 -- What its calls write, whatever changes.
-module _ (w : Standing) (common : Parts) (journal : PlacedRing) (r : Recalculation) (a : List Content) (is : IsInJournalMode w Conditions.Working (kept common journal r) a) (changes : List Change) where
+module _ (w : Standing) (common : Parts) (journal : PlacedRing) (r : Recalculation) (a : List Content) (is : IsInJournalMode w Conditions.Working (kept common (state_of journal r)) a) (changes : List Change) where
   abbrev Writes_ : List Content → Type 0
   Writes_ b = WritesOnly Model.Journal w.on.geometry w.entry changes a b
 
   at_on : {b : List Content} → WritesOnly Model.Journal is.journaled.disk.geometry w.entry changes a b → WritesOnly Model.Journal w.on.geometry w.entry changes a b
   at_on {b} writes = subst (λ (g : Geometry). WritesOnly Model.Journal g w.entry changes a b) is.journaled.format.geometry writes
 
-  pub journal_serve_only : (turn : Turn) {b : List Content} → WritesFor turn common journal r a b → WritesOnly Model.Journal w.on.geometry w.entry changes a b
+  pub journal_serve_only : (turn : Turn) {b : List Content} → WritesFor turn common (state_of journal r) a b → WritesOnly Model.Journal w.on.geometry w.entry changes a b
   journal_serve_only turn writes =
       let own = is.journaled in
       at_on (wide own.disk journal common.tags (ring_same w common journal r a own) (stands w common journal r a own).placed.cells.geometry
       (next_inside w common journal r a own) (block_some w common journal r a own) w.entry changes (serve_call w common journal r a own turn writes))
 
-  pub journal_step_only : (actor : Actor) {b : List Content} → WritesAs actor common journal r a b → WritesOnly Model.Journal w.on.geometry w.entry changes a b
+  pub journal_step_only : (actor : Actor) {b : List Content} → WritesAs actor common (state_of journal r) a b → WritesOnly Model.Journal w.on.geometry w.entry changes a b
   journal_step_only actor writes =
       let own = is.journaled in
       at_on (step_only own.disk journal common.tags (ring_same w common journal r a own) (stands w common journal r a own).placed.cells.geometry
       (next_inside w common journal r a own) (block_some w common journal r a own) w.entry changes common refl r
       (λ region next. (is.no_more refl).flag (set_flag w common journal r a own region next)) actor (next_whole w common journal r a own) writes)
 
-  pub journal_close_only : {b : List Content} → WritesClose journal (has_flag RECALCULATING r.position.flags) common.tags.geometry a b → WritesOnly Model.Journal w.on.geometry w.entry changes a b
+  pub journal_close_only : {b : List Content} → WritesClose (kept common (state_of journal r)) a b → WritesOnly Model.Journal w.on.geometry w.entry changes a b
   journal_close_only writes =
       let own = is.journaled in
       at_on (whole_close own.disk journal common.tags (ring_same w common journal r a own) (stands w common journal r a own).placed.cells.geometry
-      (next_inside w common journal r a own) (block_some w common journal r a own) w.entry changes (all_whole w common journal r a own)
-      (has_flag RECALCULATING r.position.flags) (is.no_more refl).flag writes)
+      (next_inside w common journal r a own) (block_some w common journal r a own) w.entry changes (all_whole w common journal r a own) common refl r
+      (is.no_more refl).flag writes)

@@ -32,7 +32,7 @@ use Rattle.bitmap_device.proofs.EventLemmas.{quiet_kept_law as bitmap_quiet_law}
 use Rattle.recovery_device.specs.Device.{in_recovery}
 use Rattle.recovery_device.proofs.EventLemmas.{quiet_law as recovery_quiet_law}
 use Rattle.device.specs.declared.mode.DeviceParts.{DeviceParts}
-use Rattle.device.specs.declared.mode.JournalState.{JournalState}
+use Rattle.journal_device.specs.declared.parts.JournalState.{JournalState}
 use Rattle.device.specs.declared.mode.Mode.{Mode}
 use Rattle.device.specs.declared.mode.Mode.TheVariants.{Bitmap, Direct, Journal, Recovery}
 use Rattle.device.specs.Awaiting.{AwaitsNoMore, fields_of}
@@ -58,10 +58,7 @@ in_direct_mode device = record { common = device.parts; mode = Direct device.rec
 
 -- one in journal mode,
 abbrev pub in_journal_mode : JournalParts → DeviceParts
-in_journal_mode device = record {
-  common = device.parts;
-  mode = Journal (record { journal = device.journal; recalculation = device.recalculation });
-}
+in_journal_mode device = record { common = device.parts; mode = Journal device.state }
 
 -- one in bitmap mode,
 abbrev pub in_bitmap_mode : BitmapParts → DeviceParts
@@ -112,7 +109,7 @@ plain_direct = record {
 -- and in the other modes nothing is asked of a disk.
 abbrev pub plain_journal : IsPlain in_journal Model.Journal in_journal_mode
 plain_journal = record {
-  Keeps = λ w c k a. NoMore w c k.recalculation.position;
+  Keeps = λ w c k a. NoMore w c k.state.recalculation.position;
   Stays = λ w a b. Unit {0};
   common = λ k. refl;
   inside = λ w c k a is keeps. record { journaled = is; no_more = keeps };
@@ -150,8 +147,8 @@ plain_recovery = record {
 pub own_direct : (w : Standing) (condition : Condition) (common : Parts) (r : Recalculation) (moments : List Content) → IsEmptied w condition (direct_kept common r) moments → Model.Direct ≡ w.format.mode
 own_direct w condition common r moments is = plain_direct.own w condition (direct_kept common r) moments is.direct
 
-pub own_journal : (w : Standing) (condition : Condition) (common : Parts) (state : JournalState) (moments : List Content) → IsInJournalMode w condition (kept common state.journal state.recalculation) moments → Model.Journal ≡ w.format.mode
-own_journal w condition common state moments is = plain_journal.own w condition (kept common state.journal state.recalculation) moments is.journaled
+pub own_journal : (w : Standing) (condition : Condition) (common : Parts) (state : JournalState) (moments : List Content) → IsInJournalMode w condition (kept common state) moments → Model.Journal ≡ w.format.mode
+own_journal w condition common state moments is = plain_journal.own w condition (kept common state) moments is.journaled
 
 module _ {Kept : Type 0} (mode : DeviceMode Kept) (named : Model.Mode) (into : Kept → DeviceParts) (plain : IsPlain mode named into) where
   module _ (w : Standing) (condition : Condition) (k : Kept) (moments : List Content) (is : mode.IsDevice w condition k moments) where
@@ -265,7 +262,7 @@ left_now w condition (Direct r) common a is =
     (subst (λ (key : Option (List ℕ)). IsLeftNow (placed_kind key w.on.sectors) w.entry w.state.history a) is.direct.format.key
     (subst (λ (sectors : ℕ). IsLeftNow (placed_kind is.direct.disk.key sectors) w.entry w.state.history a) is.direct.format.sectors is.direct.over.left))
 left_now w condition (Journal state) common a is =
-    now_plain in_journal Model.Journal in_journal_mode plain_journal w condition (kept common state.journal state.recalculation) a is.journaled w.state.history a a tt
+    now_plain in_journal Model.Journal in_journal_mode plain_journal w condition (kept common state) a is.journaled w.state.history a a tt
     (subst (λ (key : Option (List ℕ)). IsLeftNow (kind_in Model.Journal key w.on.sectors) w.entry w.state.history a) is.journaled.format.key
     (subst (λ (sectors : ℕ). IsLeftNow (kind_in Model.Journal is.journaled.disk.key sectors) w.entry w.state.history a) is.journaled.format.sectors is.journaled.over.left))
 left_now w condition (Bitmap regions) common a is =
@@ -312,9 +309,9 @@ quiet_in w condition (Direct r) common flight a event is none counts regions own
     (direct_kept (record common { slots = flight }) r) a a (stays_still w.on refl is.emptied) (is.emptied, is.no_more)
     (direct_quiet_law w condition (direct_kept common r) flight a event is.direct none regions own same)
 quiet_in w condition (Journal state) common flight a event is none counts regions own same =
-    done_plain in_journal Model.Journal in_journal_mode plain_journal w condition (kept common state.journal state.recalculation) a is.journaled event condition
-    (kept (record common { slots = flight }) state.journal state.recalculation) a a tt is.no_more
-    (journal_quiet_law w condition (kept common state.journal state.recalculation) flight a event is.journaled none counts regions own same)
+    done_plain in_journal Model.Journal in_journal_mode plain_journal w condition (kept common state) a is.journaled event condition
+    (kept (record common { slots = flight }) state) a a tt is.no_more
+    (journal_quiet_law w condition (kept common state) flight a event is.journaled none counts regions own same)
 quiet_in w condition (Bitmap states) common flight a event is none counts regions own same =
     done_plain in_bitmap Model.Bitmap in_bitmap_mode plain_bitmap w condition (bitmap_kept common states) a is event condition
     (bitmap_kept (record common { slots = flight }) states) a a tt tt

@@ -101,13 +101,13 @@ module _ (old : DirectParts) (a b : List Content) (reads : ReadsImage a) (new : 
 
 -- ---- journal mode
 
-module _ (old : JournalParts) (a b : List Content) (new : Superblock) (moved : (g : Geometry) → AwaitsNoMore g old.recalculation.position new)
-    (heads : (w : Standing) → IsJournaled w Working old a → HasFieldsThrough w.on old.recalculation.position new a b) where
+module _ (old : JournalParts) (a b : List Content) (new : Superblock) (moved : (g : Geometry) → AwaitsNoMore g old.state.recalculation.position new)
+    (heads : (w : Standing) → IsJournaled w Working old a → HasFieldsThrough w.on old.state.recalculation.position new a b) where
   pub journal_tags : (w : Standing) → IsInJournalMode w Working old a → HasNoMoreIn w.on.geometry w.entry a b
-  journal_tags w is = heads_no_more w old.recalculation.position new (is.no_more refl) (moved w.on.geometry) (heads w is.journaled)
+  journal_tags w is = heads_no_more w old.state.recalculation.position new (is.no_more refl) (moved w.on.geometry) (heads w is.journaled)
 
   pub journal_keeps : (later : JournalParts) → ReadsImage b → KeepsFor in_journal Model.Journal in_journal_mode plain_journal old later a b
   journal_keeps later reads_then w event c is after = λ works.
       let now = subst (λ (x : Condition). IsJournaled (standing_after w event) x later b) works after in
-      no_more_behind w old.recalculation.position later.recalculation.position after.over.told after.over.is_told reads_then (is.no_more refl) (heads_journal w old a is.journaled) (journal_tags w is)
+      no_more_behind w old.state.recalculation.position later.state.recalculation.position after.over.told after.over.is_told reads_then (is.no_more refl) (heads_journal w old a is.journaled) (journal_tags w is)
       (heads_journal (standing_after w event) later b now)

@@ -47,7 +47,7 @@ use Rattle.device.proofs.ModeLemmas.{in_direct_mode, in_journal_mode}
 -- ---- an image that is refused
 
 pub refused : (T : Type 0) (mode : OpenMode) (key : Option (List ℕ)) (disk : DiskIdentity) (a b : List Content) (fault : OpeningFault)
-    → Refuses {T = T} (fault_in_mode mode key disk.sectors) a b (Err fault) → IsRefused mode key disk fault a b
+    → Refuses {T = T} (fault_in_mode mode key disk.sectors) a b (Err fault) → IsRefused mode key disk a b fault
 refused T mode key disk a b fault is = record {
   told = λ not_disk not_memory c now.
       fault_in-err DeviceParts T fault
@@ -118,7 +118,7 @@ module _ (key : Option (List ℕ)) (disk : DiskIdentity) (a b : List Content) wh
         let is = has.device start told made told_made in
         record {
           journaled = is;
-          no_more = λ works. opened_no_more key disk.sectors a b start told (can_geometry (last_image start) (has.can start told)) writes w.on opened.recalculation.position made told_made reads
+          no_more = λ works. opened_no_more key disk.sectors a b start told (can_geometry (last_image start) (has.can start told)) writes w.on opened.state.recalculation.position made told_made reads
               (heads_journal w opened b is) Model.Journal refl;
         };
     blocks = has.blocks;

@@ -65,8 +65,8 @@ direct_rests w device a b is fields =
     (fields, left_clear device.recalculation is.disk.superblock b works.recalculation_.fields formed.no_bitmap fields)
 
 -- and so they are in journal mode.
-pub journal_rests : (w : Standing) (device : JournalParts) (a b : List Content) → IsJournaled w Working device a → InJournal.IsAllPlaced w (fields_left device.recalculation) b
-    → InJournal.IsAllPlaced w (fields_left device.recalculation) b × HasNow HasNoBitmap b
+pub journal_rests : (w : Standing) (device : JournalParts) (a b : List Content) → IsJournaled w Working device a → InJournal.IsAllPlaced w (fields_left device.state.recalculation) b
+    → InJournal.IsAllPlaced w (fields_left device.state.recalculation) b × HasNow HasNoBitmap b
 journal_rests w device a b is placed =
     let works = is.over.works refl in
-    (placed, left_clear device.recalculation is.disk.superblock b works.recalc_.fields is.over.no_bitmap placed.fields_)
+    (placed, left_clear device.state.recalculation is.disk.superblock b works.recalc_.fields is.over.no_bitmap placed.fields_)

@@ -14,6 +14,7 @@ use Rattle.device_parts.specs.Answers.{StepsNext, actor_of, moved_answer}
 use Rattle.device_parts.specs.Device.{Ends, IsDone, Standing}
 use Rattle.direct_device.specs.Answers as InDirect
 use Rattle.journal_device.specs.Answers as InJournal
+use Rattle.journal_device.specs.declared.parts.JournalState.{JournalState}
 use Rattle.journal_device.specs.Answers.{AdvancesAs}
 use Rattle.journal_device.specs.Journal.{PlacedRing}
 use Rattle.bitmap_mode.specs.States.{States}
@@ -65,15 +66,15 @@ direct_goes_on actor common later old new (Ok moved) fewer fields = λ did. reco
 direct_goes_on actor common later old new (Err fault) fewer fields = tt
 
 -- In journal mode it is told of each actor.
-pub journal_goes_on : {E : Type 0} (actor : Actor) (journal later : PlacedRing) (old new : Recalculation) (result : Result Moved E)
-    → IfOk result (λ moved. moved ≡ Moves.Did → InJournal.steps_left actor later new < InJournal.steps_left actor journal old) → IfOk result (λ moved. AdvancesAs actor moved old new)
-    → IfOk result (λ moved. moved ≡ Moves.Did
-    → GoesOn actor (Journal (record { journal = journal; recalculation = old })) (Journal (record { journal = later; recalculation = new })))
-journal_goes_on actor journal later old new (Ok moved) fewer advances = λ did. record {
+pub journal_goes_on : {E : Type 0} (actor : Actor) (old new : JournalState) (result : Result Moved E)
+    → IfOk result (λ moved. moved ≡ Moves.Did → InJournal.steps_left actor new < InJournal.steps_left actor old)
+    → IfOk result (λ moved. AdvancesAs actor moved old.recalculation new.recalculation)
+    → IfOk result (λ moved. moved ≡ Moves.Did → GoesOn actor (Journal old) (Journal new))
+journal_goes_on actor old new (Ok moved) fewer advances = λ did. record {
   fewer = fewer did;
-  advances = subst (λ (m : Moved). AdvancesAs actor m old new) did advances;
+  advances = subst (λ (m : Moved). AdvancesAs actor m old.recalculation new.recalculation) did advances;
 }
-journal_goes_on actor journal later old new (Err fault) fewer advances = tt
+journal_goes_on actor old new (Err fault) fewer advances = tt
 
 pub bitmap_goes_on : {E : Type 0} (actor : Actor) (old new : States) (result : Result Moved E)
     → IfOk result (λ moved. moved ≡ Moves.Did → InBitmap.steps_left actor new < InBitmap.steps_left actor old)

@@ -46,7 +46,7 @@ abbrev pub KeepsClearTags : Mode → Parts → Model.Event → (before after : L
 KeepsClearTags (Direct recalculation) common event before after = (w : Standing)
     → IsEmptied w Working (direct_kept common recalculation) before → HasNoMoreIn w.on.geometry w.entry before after
 KeepsClearTags (Journal state) common event before after = (w : Standing)
-    → IsInJournalMode w Working (kept common state.journal state.recalculation) before
+    → IsInJournalMode w Working (kept common state) before
     → HasNoMoreIn w.on.geometry w.entry before after
 KeepsClearTags (Bitmap regions) common event before after =
     KeepsTagsBy event (bitmap_kept common regions) before after
@@ -66,7 +66,7 @@ refusal_in mode condition flight request = submit_fault condition flight request
 abbrev pub WritesInServe : Mode → (ticket : ℕ) → (old new : Parts) → (before after : List Content) → Type 0
 WritesInServe (Direct recalculation) ticket old new before after = WritesServed ticket old new before after
 WritesInServe (Journal state) ticket old new before after =
-    WritesFor (turn_of old.slots ticket) old state.journal state.recalculation before after
+    WritesFor (turn_of old.slots ticket) old state before after
 WritesInServe (Bitmap regions) ticket old new before after =
     HasPlacesOf regions old × InBitmap.WritesFor (turn_of old.slots ticket) ticket old regions before after
 WritesInServe Recovery ticket old new before after = after ≡ before
@@ -76,7 +76,7 @@ WritesInServe Recovery ticket old new before after = after ≡ before
 -- How many steps of an actor still do something at most: in recovery mode none.
 abbrev pub steps_left : Actor → Mode → ℕ
 steps_left actor (Direct recalculation) = InDirect.steps_left actor recalculation
-steps_left actor (Journal state) = InJournal.steps_left actor state.journal state.recalculation
+steps_left actor (Journal state) = InJournal.steps_left actor state
 steps_left actor (Bitmap regions) = InBitmap.steps_left actor regions
 steps_left actor Recovery = 0
 
@@ -85,7 +85,7 @@ abbrev pub WritesInStep : Mode → Actor → Parts → (before after : List Cont
 WritesInStep (Direct recalculation) actor common before after =
     InDirect.WritesAs actor common recalculation before after
 WritesInStep (Journal state) actor common before after =
-    InJournal.WritesAs actor common state.journal state.recalculation before after
+    InJournal.WritesAs actor common state before after
 WritesInStep (Bitmap regions) actor common before after =
     HasPlacesOf regions common × InBitmap.WritesAs actor common regions before after
 WritesInStep Recovery actor common before after = after ≡ before
@@ -135,8 +135,7 @@ abbrev pub WritesInClose : Mode → Parts → (before after : List Content) → 
 WritesInClose (Direct recalculation) common before after =
     InDirect.WritesClose (has_flag RECALCULATING recalculation.position.flags) common.tags.geometry before after
 WritesInClose (Journal state) common before after =
-    InJournal.WritesClose state.journal (has_flag RECALCULATING state.recalculation.position.flags)
-    common.tags.geometry before after
+    InJournal.WritesClose (kept common state) before after
 WritesInClose (Bitmap regions) common before after =
     HasPlacesOf regions common × EachSince (OnlyAdds (IsOfClose regions common.tags)) before after
 WritesInClose Recovery common before after = after ≡ before

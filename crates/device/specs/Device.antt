@@ -35,7 +35,7 @@ abbrev pub IsReadyIn : Mode → Condition → Parts → DiskIdentity → List Co
 IsReadyIn (Direct recalculation) condition common disk moments =
     InDirect.IsReady common recalculation disk moments
 IsReadyIn (Journal state) condition common disk moments =
-    InJournal.IsReady condition common state.journal state.recalculation disk moments
+    InJournal.IsReady condition common state disk moments
 IsReadyIn (Bitmap regions) condition common disk moments = InBitmap.IsReady common regions disk moments
 IsReadyIn Recovery condition common disk moments = InRecovery.IsReady common disk moments
 
@@ -76,14 +76,14 @@ pub record IsEmptied (w : Standing) (condition : Condition) (device : DirectPart
 pub record IsInJournalMode (w : Standing) (condition : Condition) (device : JournalParts) (moments : List Content)
     : Type 0 where
   pub journaled : IsJournaled w condition device moments
-  pub no_more : condition ≡ Working → AwaitsNoMore w.on.geometry (fields_of w.entry) device.recalculation.position
+  pub no_more : condition ≡ Working → AwaitsNoMore w.on.geometry (fields_of w.entry) device.state.recalculation.position
 
 -- It is one of these, or one in another mode.
 abbrev pub IsDeviceIn : Mode → Standing → Condition → Parts → List Content → Type 0
 IsDeviceIn (Direct recalculation) w condition common moments =
     IsEmptied w condition (direct_kept common recalculation) moments
 IsDeviceIn (Journal state) w condition common moments =
-    IsInJournalMode w condition (kept common state.journal state.recalculation) moments
+    IsInJournalMode w condition (kept common state) moments
 IsDeviceIn (Bitmap regions) w condition common moments = IsBitmapped w condition (bitmap_kept common regions) moments
 IsDeviceIn Recovery w condition common moments = IsRecovering w condition common moments
 

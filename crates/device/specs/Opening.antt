@@ -34,9 +34,9 @@ fault_in_mode Recovery key sectors image = format_fault_of sectors image
 
 -- The device is open in that mode on the image that reads gave, which is one that can be opened. No request is in
 -- flight.
-abbrev pub HasOpenedIn : OpenMode → Option (List ℕ) → DiskIdentity → DeviceParts → (before after : List Content)
+abbrev pub HasOpenedIn : OpenMode → Option (List ℕ) → DiskIdentity → (before after : List Content) → DeviceParts
     → Type 0
-HasOpenedIn mode key disk parts before after = HasOpened any_mode (asked_mode mode) key disk parts before after
+HasOpenedIn mode key disk before after parts = HasOpened any_mode (asked_mode mode) key disk parts before after
 
 -- That image has no fault in the mode.
 abbrev pub HasNoFault : OpenMode → Option (List ℕ) → (sectors : ℕ) → List Content → Type 0
@@ -51,8 +51,8 @@ IsSettledIn Recovery moments = Unit {0}
 
 -- The disk is not opened in this mode. The image tells why, where the disk did not fail and there was memory; and
 -- unless the disk failed it is as it was, not even synced.
-pub record IsRefused (mode : OpenMode) (key : Option (List ℕ)) (disk : DiskIdentity) (fault : OpeningFault)
-    (before after : List Content) : Type 0 where
+pub record IsRefused (mode : OpenMode) (key : Option (List ℕ)) (disk : DiskIdentity) (before after : List Content)
+    (fault : OpeningFault) : Type 0 where
   pub told : fault ≢ Faults.Disk → fault ≢ Faults.Memory
       → HasNow (λ c. fault_in {T = DeviceParts} (Err fault) ≡ fault_in_mode mode key disk.sectors (last_image c)) before
   pub untouched : fault ≢ Faults.Disk → after ≡ before

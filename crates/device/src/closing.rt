@@ -9,7 +9,7 @@ ghost use Rattle.device.specs.Answers.{KeepsClearTags, WritesInClose};
 ghost use Rattle.device.specs.Calls.{Closes, LeavesAtRest, WritesClosing};
 ghost use Rattle.device.specs.Device.{IsReady, any_mode};
 
-use crate::{DeviceParts, JournalState, Mode};
+use crate::{DeviceParts, Mode};
 use device_parts::{Condition, StepFault};
 use sector_disk::{Disk, Failed};
 
@@ -79,13 +79,7 @@ fn close_in_mode<D: Disk>(disk: &mut D, parts: DeviceParts<'_>) -> Result<(), Fa
         Mode::Direct(mut recalculation) => {
             direct_device::close(disk, &mut common, &mut recalculation)
         }
-        Mode::Journal(state) => {
-            let JournalState {
-                mut journal,
-                mut recalculation,
-            } = state;
-            journal_device::close(disk, &mut common, &mut journal, &mut recalculation)
-        }
+        Mode::Journal(mut state) => journal_device::close(disk, &mut common, &mut state),
         Mode::Bitmap(mut regions) => bitmap_device::close(disk, &mut common, &mut regions),
         Mode::Recovery => Ok(()),
     }

@@ -63,8 +63,8 @@ impl<'d, 'p, D: Disk> Device<'d, 'p, D> {
     ) -> Result<Device<'d, 'p, D>, Refused<'d, D>>
         requires { IsBound (D.identity disk.old).name }
 
-        ensures opened { IfOk result (λ d. HasOpenedIn mode (key_of hash) (D.identity disk.old) d.parts
-            (D.moments disk.old) (D.moments d.disk.now)) }
+        ensures opened { IfOk result (λ d. HasOpenedIn mode (key_of hash) (D.identity disk.old)
+            (D.moments disk.old) (D.moments d.disk.now) d.parts) }
         ensures accepted { IfOk result (λ d. HasNoFault mode (key_of hash) (D.identity disk.old).sectors
             (D.moments disk.old)) }
         ensures settled { IfOk result (λ d. IsSettledIn mode (D.moments d.disk.now)) }
@@ -76,8 +76,8 @@ impl<'d, 'p, D: Disk> Device<'d, 'p, D> {
 
         ensures cause { IfErr result (λ r.
             HasRefusalCause (D.faults disk.old) (D.faults r.disk.now) r.fault) }
-        ensures refused { IfErr result (λ r. IsRefused mode (key_of hash) (D.identity disk.old) r.fault
-            (D.moments disk.old) (D.moments r.disk.now)) }
+        ensures refused { IfErr result (λ r. IsRefused mode (key_of hash) (D.identity disk.old)
+            (D.moments disk.old) (D.moments r.disk.now) r.fault) }
         ensures err { IfErr result (λ r. LeavesOpening mode (key_of hash) (D.identity disk.old)
             (D.identity r.disk.now) (D.moments disk.old) (D.moments r.disk.now)) }
         ensures same_disk_back { IfErr result (λ r. r.disk.ghost_name ≡ disk.entry.ghost_name) }

@@ -2,17 +2,8 @@
 
 use bitmap_device::RegionStates;
 use device_parts::Parts;
-use journal_device::Journal;
+use journal_device::JournalState;
 use recalculation::Recalculation;
-
-/// What a device in journal mode keeps for it.
-#[derive(Drop)]
-pub struct JournalState<'p> {
-    /// The journal in use.
-    pub journal: Journal<'p>,
-    /// Which regions await the tags of their blocks, and how far sector 0 says that it is.
-    pub recalculation: Recalculation,
-}
 
 /// What a device keeps for its mode.
 #[derive(Drop)]

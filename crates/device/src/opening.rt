@@ -5,7 +5,7 @@ ghost use Rattle.hmac_tag.specs.TagMaker.{key_of};
 ghost use Rattle.image_judging.specs.Faults.{HasOpenCause};
 ghost use Rattle.device.specs.Opening.{HasNoFault, HasOpenedIn, IsRefused, IsSettledIn, LeavesOpening};
 
-use crate::{DeviceParts, JournalState, Mode};
+use crate::{DeviceParts, Mode};
 use device_opening::{open_bitmap, open_direct, open_journal, open_recovery};
 use hmac_tag::Hash;
 use image_judging::{Consent, OpeningFault};
@@ -57,12 +57,12 @@ pub(crate) fn open<'p, D: Disk>(
 ) -> Result<DeviceParts<'p>, OpeningFault>
     requires { IsBound (D.identity disk.old).name }
 
-    ensures opened { IfOk result (λ parts. HasOpenedIn mode (key_of hash) (D.identity disk.old) parts
+    ensures opened { IfOk result (HasOpenedIn mode (key_of hash) (D.identity disk.old)
         (D.moments disk.old) (D.moments disk.new)) }
     ensures settled { IfOk result (λ parts. IsSettledIn mode (D.moments disk.new)) }
     ensures accepted { IfOk result (λ parts. HasNoFault mode (key_of hash) (D.identity disk.old).sectors
         (D.moments disk.old)) }
-    ensures refused { IfErr result (λ fault. IsRefused mode (key_of hash) (D.identity disk.old) fault
+    ensures refused { IfErr result (IsRefused mode (key_of hash) (D.identity disk.old)
         (D.moments disk.old) (D.moments disk.new)) }
     ensures cause { HasOpenCause (D.faults disk.old) (D.faults disk.new) result }
     ensures leaves { LeavesOpening mode (key_of hash) (D.identity disk.old) (D.identity disk.new)
@@ -90,13 +90,13 @@ fn open_in_direct<'p, D: Disk>(
 ) -> Result<DeviceParts<'p>, OpeningFault>
     requires { IsBound (D.identity disk.old).name }
 
-    ensures opened { IfOk result (λ parts. HasOpenedIn (OpenMode.Direct consent) (key_of hash)
-        (D.identity disk.old) parts (D.moments disk.old) (D.moments disk.new)) }
+    ensures opened { IfOk result (HasOpenedIn (OpenMode.Direct consent) (key_of hash) (D.identity disk.old)
+        (D.moments disk.old) (D.moments disk.new)) }
     ensures settled { IfOk result (λ parts. IsSettledIn (OpenMode.Direct consent) (D.moments disk.new)) }
     ensures accepted { IfOk result (λ parts. HasNoFault (OpenMode.Direct consent) (key_of hash)
         (D.identity disk.old).sectors (D.moments disk.old)) }
-    ensures refused { IfErr result (λ fault. IsRefused (OpenMode.Direct consent) (key_of hash)
-        (D.identity disk.old) fault (D.moments disk.old) (D.moments disk.new)) }
+    ensures refused { IfErr result (IsRefused (OpenMode.Direct consent) (key_of hash) (D.identity disk.old)
+        (D.moments disk.old) (D.moments disk.new)) }
     ensures cause { HasOpenCause (D.faults disk.old) (D.faults disk.new) result }
     ensures leaves { LeavesOpening (OpenMode.Direct consent) (key_of hash) (D.identity disk.old) (D.identity disk.new)
         (D.moments disk.old) (D.moments disk.new) }
@@ -122,12 +122,12 @@ fn open_in_journal<'p, D: Disk>(
 ) -> Result<DeviceParts<'p>, OpeningFault>
     requires { IsBound (D.identity disk.old).name }
 
-    ensures opened { IfOk result (λ parts. HasOpenedIn (OpenMode.Journal consent) (key_of hash)
-        (D.identity disk.old) parts (D.moments disk.old) (D.moments disk.new)) }
+    ensures opened { IfOk result (HasOpenedIn (OpenMode.Journal consent) (key_of hash) (D.identity disk.old)
+        (D.moments disk.old) (D.moments disk.new)) }
     ensures accepted { IfOk result (λ parts. HasNoFault (OpenMode.Journal consent) (key_of hash)
         (D.identity disk.old).sectors (D.moments disk.old)) }
-    ensures refused { IfErr result (λ fault. IsRefused (OpenMode.Journal consent) (key_of hash)
-        (D.identity disk.old) fault (D.moments disk.old) (D.moments disk.new)) }
+    ensures refused { IfErr result (IsRefused (OpenMode.Journal consent) (key_of hash) (D.identity disk.old)
+        (D.moments disk.old) (D.moments disk.new)) }
     ensures cause { HasOpenCause (D.faults disk.old) (D.faults disk.new) result }
     ensures leaves { LeavesOpening (OpenMode.Journal consent) (key_of hash) (D.identity disk.old) (D.identity disk.new)
         (D.moments disk.old) (D.moments disk.new) }
@@ -135,10 +135,7 @@ fn open_in_journal<'p, D: Disk>(
     let opened = open_journal(alloc, disk, hash, consent, pool)?;
     Ok(DeviceParts {
         common: opened.parts,
-        mode: Mode::Journal(JournalState {
-            journal: opened.journal,
-            recalculation: opened.recalculation,
-        }),
+        mode: Mode::Journal(opened.state),
     })
 }
 
@@ -156,12 +153,12 @@ fn open_in_bitmap<'p, D: Disk>(
 ) -> Result<DeviceParts<'p>, OpeningFault>
     requires { IsBound (D.identity disk.old).name }
 
-    ensures opened { IfOk result (λ p. HasOpenedIn (OpenMode.Bitmap consent) (key_of hash) (D.identity disk.old)
-        p (D.moments disk.old) (D.moments disk.new)) }
+    ensures opened { IfOk result (HasOpenedIn (OpenMode.Bitmap consent) (key_of hash) (D.identity disk.old)
+        (D.moments disk.old) (D.moments disk.new)) }
     ensures accepted { IfOk result (λ parts. HasNoFault (OpenMode.Bitmap consent) (key_of hash)
         (D.identity disk.old).sectors (D.moments disk.old)) }
-    ensures refused { IfErr result (λ f. IsRefused (OpenMode.Bitmap consent) (key_of hash) (D.identity disk.old)
-        f (D.moments disk.old) (D.moments disk.new)) }
+    ensures refused { IfErr result (IsRefused (OpenMode.Bitmap consent) (key_of hash) (D.identity disk.old)
+        (D.moments disk.old) (D.moments disk.new)) }
     ensures cause { HasOpenCause (D.faults disk.old) (D.faults disk.new) result }
     ensures leaves { LeavesOpening (OpenMode.Bitmap consent) (key_of hash) (D.identity disk.old) (D.identity disk.new)
         (D.moments disk.old) (D.moments disk.new) }
@@ -185,11 +182,11 @@ fn open_in_recovery<'p, D: Disk>(
 ) -> Result<DeviceParts<'p>, OpeningFault>
     requires { IsBound (D.identity disk.old).name }
 
-    ensures opened { IfOk result (λ parts. HasOpenedIn OpenMode.Recovery (key_of hash) (D.identity disk.old) parts
+    ensures opened { IfOk result (HasOpenedIn OpenMode.Recovery (key_of hash) (D.identity disk.old)
         (D.moments disk.old) (D.moments disk.new)) }
     ensures accepted { IfOk result (λ parts. HasNoFault OpenMode.Recovery (key_of hash) (D.identity disk.old).sectors
         (D.moments disk.old)) }
-    ensures refused { IfErr result (λ fault. IsRefused OpenMode.Recovery (key_of hash) (D.identity disk.old) fault
+    ensures refused { IfErr result (IsRefused OpenMode.Recovery (key_of hash) (D.identity disk.old)
         (D.moments disk.old) (D.moments disk.new)) }
     ensures cause { HasOpenCause (D.faults disk.old) (D.faults disk.new) result }
     ensures leaves { LeavesOpening OpenMode.Recovery (key_of hash) (D.identity disk.old) (D.identity disk.new)

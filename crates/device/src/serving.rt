@@ -87,13 +87,7 @@ fn serve_next<D: Disk>(
         Mode::Direct(recalculation) => {
             direct_device::serve(disk, &mut parts.common, recalculation, ticket)
         }
-        Mode::Journal(state) => journal_device::serve(
-            disk,
-            &mut parts.common,
-            &mut state.journal,
-            &mut state.recalculation,
-            ticket,
-        ),
+        Mode::Journal(state) => journal_device::serve(disk, &mut parts.common, state, ticket),
         Mode::Bitmap(regions) => bitmap_device::serve(disk, &mut parts.common, regions, ticket),
         Mode::Recovery => recovery_device::serve(disk, &mut parts.common, ticket),
     }

@@ -84,13 +84,7 @@ fn step_next<D: Disk>(
         Mode::Direct(recalculation) => {
             direct_device::step(disk, &mut parts.common, recalculation, actor)
         }
-        Mode::Journal(state) => journal_device::step(
-            disk,
-            &mut parts.common,
-            &mut state.journal,
-            &mut state.recalculation,
-            actor,
-        ),
+        Mode::Journal(state) => journal_device::step(disk, &mut parts.common, state, actor),
         Mode::Bitmap(regions) => bitmap_device::step(disk, &mut parts.common, regions, actor),
         Mode::Recovery => Ok(recovery_device::step(actor)),
     }

@@ -5,6 +5,7 @@ use Rattle.std.specs.List.{range_with_len}
 use Rattle.std.proofs.lemmas.List.{map-append}
 use Rattle.disk_model.specs.Disk.{Content}
 use Rattle.disk_model.specs.Identity.{DiskIdentity}
+use Rattle.device_model.specs.History.{Change}
 use Rattle.device_model.specs.Mode.{DeviceFormat, Direct}
 use Rattle.device_model.specs.Progress.{Answer, DeviceState, Event}
 use Rattle.device_model.specs.Script.{Ask, AskLine, Read, ask_fault, line_outcome}
@@ -22,7 +23,7 @@ use Rattle.device_parts.specs.declared.condition.Condition.TheVariants as Condit
 use Rattle.device.specs.declared.mode.DeviceParts.{DeviceParts}
 use Rattle.device.specs.declared.mode.Mode.{Mode}
 use Rattle.device.specs.declared.mode.Mode.TheVariants as Modes
-use Rattle.device.specs.Device.{IsDevice, IsReady, IsReadyIn}
+use Rattle.device.specs.Device.{IsDevice, IsReady, IsReadyIn, kind_of}
 use Rattle.device_parts.specs.Device.{Standing}
 use Rattle.device_parts.specs.declared.parts.Parts.{Parts}
 use Rattle.device.specs.Run.{HasRun, IsCutOff, standing_behind}
@@ -31,8 +32,11 @@ use Rattle.script_session.specs.declared.tickets.Tickets.{Tickets}
 use Rattle.script_session.specs.LineRun.{HasRunAsk, events_of}
 use Rattle.script_session.specs.Meaning.{ask_fault_on}
 use Rattle.script_session.specs.Tickets.{AreInFlight, Stays}
-use Rattle.device_exercise.specs.Exercising.{Counts, HasExercised, HasRunAsks, StaysWithin, answers_of}
+use Rattle.device_exercise.specs.Exercising.{AreAsksCut, Counts, HasExercised, HasRunAsks, IsExerciseCut}
+use Rattle.device_exercise.specs.Exercising.{StaysWithin, answers_of}
 use Rattle.device_exercise.specs.Exercising.{events_of_asks, exercise_events, with_reply_of}
+use Rattle.device_exercise.specs.InOrder.{AreLinesBegun, AreLinesMade, changes_by_ask, changes_by_exercise}
+use Rattle.device_exercise.proofs.InOrderLemmas.{ask_begun, ask_made, asks_begun_then, asks_begun_wider, asks_made_then}
 use Rattle.device_exercise.proofs.CountLemmas.{counts_answer, counts_ask, counts_none, counts_then}
 
 -- ---- some requests, and more
@@ -66,7 +70,7 @@ module _ (w : Standing) where
   -- None is done yet.
   ran_none : (t : Tally) (p : DeviceParts) (a : List Content) → IsDevice w Conditions.Working p a
       → HasRunAsks w [] [] t t p a a
-  ran_none t p a is = record { run = run_none w p a is; tally = counts_none t }
+  ran_none t p a is = record { run = run_none w p a is; in_order = refl; tally = counts_none t }
 
   -- Requests behind others that are done.
   pub ran_then : (xs counted ys more : List Ask) (t u v : Tally) (p q : DeviceParts) (a b c : List Content)
@@ -75,24 +79,27 @@ module _ (w : Standing) where
   ran_then xs counted ys more t u v p q a b c first second = record {
     run = subst (λ (l : List Event). HasRun w l q a c) (sym (events_of_asks-append xs ys))
         (run_then w (events_of_asks w xs) (events_of_asks (behind xs) ys) p q a b c first.run second.run);
+    in_order = asks_made_then w xs ys a b c first.in_order second.in_order;
     tally = subst (λ (l : List (Option Answer)). Counts (counted ++ more) l t v) (sym (answers_of-append xs ys))
         (counts_then counted more (answers_of w xs) (answers_of (behind xs) ys) t u v first.tally second.tally);
   }
 
   -- They are cut off,
-  pub cut_behind : (xs ys : List Ask) (p : DeviceParts) (a b c : List Content)
-      (first : HasRun w (events_of_asks w xs) p a b)
-      → IsCutOff (behind xs) (events_of_asks (behind xs) ys) b c → IsCutOff w (events_of_asks w (xs ++ ys)) a c
-  cut_behind xs ys p a b c first cut =
-      subst (λ (l : List Event). IsCutOff w l a c) (sym (events_of_asks-append xs ys))
-      (cut_then w (events_of_asks w xs) (events_of_asks (behind xs) ys) p a b c first cut)
+  pub cut_behind : (xs counted ys : List Ask) (t u : Tally) (p : DeviceParts) (a b c : List Content)
+      (first : HasRunAsks w xs counted t u p a b) → AreAsksCut (behind xs) ys b c → AreAsksCut w (xs ++ ys) a c
+  cut_behind xs counted ys t u p a b c first cut = record {
+    cut = subst (λ (l : List Event). IsCutOff w l a c) (sym (events_of_asks-append xs ys))
+        (cut_then w (events_of_asks w xs) (events_of_asks (behind xs) ys) p a b c first.run cut.cut);
+    in_order = asks_begun_then w xs ys a b c first.in_order cut.in_order;
+  }
 
   -- or were before.
-  pub cut_before : (xs ys : List Ask) (a b : List Content) → IsCutOff w (events_of_asks w xs) a b
-      → IsCutOff w (events_of_asks w (xs ++ ys)) a b
-  cut_before xs ys a b cut =
-      subst (λ (l : List Event). IsCutOff w l a b) (sym (events_of_asks-append xs ys))
-      (cut_wider w (events_of_asks w xs) (events_of_asks (behind xs) ys) a b cut)
+  pub cut_before : (xs ys : List Ask) (a b : List Content) → AreAsksCut w xs a b → AreAsksCut w (xs ++ ys) a b
+  cut_before xs ys a b cut = record {
+    cut = subst (λ (l : List Event). IsCutOff w l a b) (sym (events_of_asks-append xs ys))
+        (cut_wider w (events_of_asks w xs) (events_of_asks (behind xs) ys) a b cut.cut);
+    in_order = asks_begun_wider w xs ys a b cut.in_order;
+  }
 
   -- ---- one request
 
@@ -100,12 +107,16 @@ module _ (w : Standing) where
       → HasRunAsk w ask reply p a b → new ≡ with_reply_of reply old → HasRunAsks w (ask ∷ []) [] old new p a b
   ran_one ask reply old new p a b ran same = record {
     run = subst (λ (l : List Event). HasRun w l p a b) (sym (events_of_asks-one ask)) ran.run;
+    in_order = ask_made w ask p a b ran.run;
     tally = counts_answer reply (line_outcome w.format w.state (AskLine false ask)).answer old new ran.reply_ same;
   }
 
   pub cut_one : (ask : Ask) (a b : List Content) → IsCutOff w (events_of w (AskLine false ask)) a b
-      → IsCutOff w (events_of_asks w (ask ∷ [])) a b
-  cut_one ask a b cut = subst (λ (l : List Event). IsCutOff w l a b) (sym (events_of_asks-one ask)) cut
+      → AreAsksCut w (ask ∷ []) a b
+  cut_one ask a b cut = record {
+    cut = subst (λ (l : List Event). IsCutOff w l a b) (sym (events_of_asks-one ask)) cut;
+    in_order = ask_begun w ask a b cut;
+  }
 
   -- ---- on the way
 
@@ -147,12 +158,12 @@ module _ (w : Standing) where
 
     -- or is cut off,
     pub among_cut : (ask : Ask) (rest : List Ask) → ahead ≡ ask ∷ rest → (c : List Content)
-        → IsCutOff (behind at.made) (events_of_asks (behind at.made) (ask ∷ [])) b c
-        → IsCutOff w (events_of_asks w all) a c
+        → AreAsksCut (behind at.made) (ask ∷ []) b c → AreAsksCut w all a c
     among_cut ask rest is c cut =
-        subst (λ (l : List Ask). IsCutOff w (events_of_asks w l) a c)
+        subst (λ (l : List Ask). AreAsksCut w l a c)
         (sym (at.is_all ∙ ap (λ (l : List Ask). at.made ++ l) is ∙ sym (append_assoc at.made (ask ∷ []) rest)))
-        (cut_before (at.made ++ ask ∷ []) rest a c (cut_behind at.made (ask ∷ []) p a b c at.ran.run cut))
+        (cut_before (at.made ++ ask ∷ []) rest a c
+        (cut_behind at.made at.counted (ask ∷ []) start now p a b c at.ran cut))
 
     -- or none is left.
     pub among_all : ahead ≡ [] → counted_ahead ≡ [] → HasRunAsks w all all_counted start now p a b
@@ -168,6 +179,7 @@ pub ran_counted : (w : Standing) (ask : Ask) (t u v : Tally) (p : DeviceParts) (
     → HasRunAsks w (ask ∷ []) [] u v p a b → HasRunAsks w (ask ∷ []) (ask ∷ []) t v p a b
 ran_counted w ask t u v p a b same ran = record {
   run = ran.run;
+  in_order = ran.in_order;
   tally = counts_then (ask ∷ []) [] [] (answers_of w (ask ∷ [])) t u v (counts_ask ask t u same) ran.tally;
 }
 
@@ -325,21 +337,29 @@ module _ (w : Standing) (seed count blocks : ℕ) (is : w.format.blocks.blocks �
   abbrev asks : List Ask
   asks = workload_asks count seed blocks
 
+  -- What each of its lines does is what each of these does.
+  exercise_changes : changes_by_exercise w seed count ≡ changes_by_ask w (asks ++ read_all blocks)
+  exercise_changes = ap (λ (n : ℕ). changes_by_ask w (workload_asks count seed n ++ read_all n)) is
+
+  cut_in : (a b : List Content) → AreAsksCut w (asks ++ read_all blocks) a b → IsExerciseCut w seed count a b
+  cut_in a b cut = record {
+    cut = subst (λ (l : List Event). IsCutOff w l a b) (sym exercise_asks) cut.cut;
+    in_order = subst (λ (l : List (List Change)). AreLinesBegun (kind_of w) w.entry w.state.history l a b)
+        (sym exercise_changes) cut.in_order;
+  }
+
   -- It is cut off in the first of these,
-  pub cut_first : (a b : List Content) → IsCutOff w (events_of_asks w asks) a b
-      → IsCutOff w (exercise_events w seed count) a b
-  cut_first a b cut =
-      subst (λ (l : List Event). IsCutOff w l a b) (sym exercise_asks) (cut_before w asks (read_all blocks) a b cut)
+  pub cut_first : (a b : List Content) → AreAsksCut w asks a b → IsExerciseCut w seed count a b
+  cut_first a b cut = cut_in a b (cut_before w asks (read_all blocks) a b cut)
 
   module _ (t : Tally) (p : DeviceParts) (a b : List Content) (first : HasRunAsks w asks asks no_tally t p a b)
       (n : ℕ) (same : n ≡ blocks) where
     -- or in a read,
-    pub cut_second : (c : List Content) → IsCutOff (behind w asks) (events_of_asks (behind w asks) (read_all n)) b c
-        → IsCutOff w (exercise_events w seed count) a c
-    cut_second c cut =
-        subst (λ (l : List Event). IsCutOff w l a c) (sym exercise_asks)
-        (cut_behind w asks (read_all blocks) p a b c first.run
-        (subst (λ (k : ℕ). IsCutOff (behind w asks) (events_of_asks (behind w asks) (read_all k)) b c) same cut))
+    pub cut_second : (c : List Content) → AreAsksCut (behind w asks) (read_all n) b c
+        → IsExerciseCut w seed count a c
+    cut_second c cut = cut_in a c
+        (cut_behind w asks asks (read_all blocks) no_tally t p a b c first
+        (subst (λ (k : ℕ). AreAsksCut (behind w asks) (read_all k) b c) same cut))
 
     -- or all are done, and it counts what it is to count.
     pub has_exercised : (u : Tally) (q : DeviceParts) (c : List Content)
@@ -349,6 +369,8 @@ module _ (w : Standing) (seed count blocks : ℕ) (is : w.format.blocks.blocks �
         let all = ran_then w asks asks (read_all blocks) [] no_tally t u p q a b c first reads in
         record {
           run = subst (λ (l : List Event). HasRun w l q a c) (sym exercise_asks) all.run;
+          in_order = subst (λ (l : List (List Change)). AreLinesMade (kind_of w) w.entry w.state.history l a c)
+              (sym exercise_changes) all.in_order;
           tally_ = all.tally [] [] refl
               ∙ ap (λ (l : List Ask). tally_of l (answers_of w (asks ++ read_all blocks))) (append-nil asks)
               ∙ ap (λ (k : ℕ). tally_of (workload_asks count seed k)

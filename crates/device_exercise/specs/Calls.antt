@@ -11,9 +11,8 @@ use Rattle.device_parts.specs.declared.condition.Condition.TheVariants.{Working}
 use Rattle.device_parts.specs.Device.{Standing}
 use Rattle.device.specs.declared.mode.DeviceParts.{DeviceParts}
 use Rattle.device.specs.Device.{IsDevice, IsReady, mode_of}
-use Rattle.device.specs.Run.{IsCutOff}
 use Rattle.script_session.specs.declared.tickets.Tickets.{Tickets}
-use Rattle.device_exercise.specs.Exercising.{HasExercised, HasRunAsks, StaysWithin, events_of_asks, exercise_events}
+use Rattle.device_exercise.specs.Exercising.{AreAsksCut, HasExercised, HasRunAsks, IsExerciseCut, StaysWithin}
 
 -- ---- an exercise
 
@@ -27,8 +26,7 @@ Exercises moments seed count result old new first last = IfOk result (λ tally. 
 abbrev pub CutsExercise : {D T E : Type 0} → (D → List Content) → (seed count : ℕ) → Result T E → DeviceParts
     → (first last : D) → Type 0
 CutsExercise moments seed count result old first last = IfErr result (λ _. (w : Standing)
-    → IsDevice w Working old (moments first)
-    → IsCutOff w (exercise_events w seed count) (moments first) (moments last))
+    → IsDevice w Working old (moments first) → IsExerciseCut w seed count (moments first) (moments last))
 
 -- It leaves the device ready, in the same mode, with the same blocks on the same disk.
 pub record LeavesReady {D : Type 0} (identity : D → DiskIdentity) (moments : D → List Content) (condition : Condition)
@@ -64,7 +62,7 @@ RunsWorkload moments seed count result old new first last = IfOk result (λ tall
 abbrev pub CutsAsks : {D T E : Type 0} → (D → List Content) → (ℕ → List Ask) → Result T E → DeviceParts
     → (first last : D) → Type 0
 CutsAsks moments asks result old first last = OnErr result ((w : Standing) → IsDevice w Working old (moments first)
-    → IsCutOff w (events_of_asks w (asks old.common.slots.blocks)) (moments first) (moments last))
+    → AreAsksCut w (asks old.common.slots.blocks) (moments first) (moments last))
 
 -- What so many requests leave over a disk,
 abbrev pub StaysIn : {D : Type 0} → ℕ → (D → DiskIdentity) → (D → List Content) → Condition → (old new : DeviceParts)

@@ -13,9 +13,10 @@ use Rattle.device_parts.specs.declared.condition.Condition.{Condition}
 use Rattle.device.specs.declared.mode.DeviceParts.{DeviceParts}
 use Rattle.device.specs.Device.{IsReady, mode_of}
 use Rattle.device_parts.specs.Device.{Standing}
-use Rattle.device.specs.Run.{HasRun}
+use Rattle.device.specs.Run.{HasRun, IsCutOff}
 use Rattle.script_session.specs.declared.tickets.Tickets.{Tickets}
 use Rattle.script_session.specs.Tickets.{AreInFlight}
+use Rattle.device_exercise.specs.InOrder.{AreAsksBegun, AreAsksMade, IsExerciseBegun, IsExerciseMade}
 
 -- ---- the exercise
 
@@ -23,11 +24,17 @@ use Rattle.script_session.specs.Tickets.{AreInFlight}
 abbrev pub exercise_events : Standing → (seed count : ℕ) → List Event
 exercise_events w seed count = script_events w.format w.state (exercise_lines count seed w.format.blocks.blocks)
 
--- All of it is done, and this is what it counts.
+-- All of it is done, line by line, and this is what it counts.
 pub record HasExercised (w : Standing) (seed count : ℕ) (tally : Tally) (parts : DeviceParts)
     (before after : List Content) : Type 0 where
   pub run : HasRun w (exercise_events w seed count) parts before after
+  pub in_order : IsExerciseMade w seed count before after
   pub tally_ : tally ≡ exercise_tally w.format w.state count seed
+
+-- It is cut off, and of its lines the first are done.
+pub record IsExerciseCut (w : Standing) (seed count : ℕ) (before after : List Content) : Type 0 where
+  pub cut : IsCutOff w (exercise_events w seed count) before after
+  pub in_order : IsExerciseBegun w seed count before after
 
 -- ---- some requests
 
@@ -49,11 +56,17 @@ abbrev pub Counts : List Ask → List (Option Answer) → (old new : Tally) → 
 Counts asks answers old new = (asks_before : List Ask) (answers_before : List (Option Answer))
     → old ≡ tally_of asks_before answers_before → new ≡ tally_of (asks_before ++ asks) (answers_before ++ answers)
 
--- Some requests are done. What they are answered is counted, and of the requests these.
+-- Some requests are done, one after the other. What they are answered is counted, and of the requests these.
 pub record HasRunAsks (w : Standing) (asks counted : List Ask) (old new : Tally) (parts : DeviceParts)
     (before after : List Content) : Type 0 where
   pub run : HasRun w (events_of_asks w asks) parts before after
+  pub in_order : AreAsksMade w asks before after
   pub tally : Counts counted (answers_of w asks) old new
+
+-- Some requests are cut off, and the first of them are done.
+pub record AreAsksCut (w : Standing) (asks : List Ask) (before after : List Content) : Type 0 where
+  pub cut : IsCutOff w (events_of_asks w asks) before after
+  pub in_order : AreAsksBegun w asks before after
 
 -- What so many requests leave in any case: the device is ready, in the same mode, with the same blocks on the same
 -- disk, and the tickets are those in flight.

@@ -84,7 +84,7 @@ module _ (f : ImageFormat) (sectors : ℕ) (geometry : IsGeometry f.geometry sec
 
 -- The change keeps the cells, too.
 pub journal_change_keeps : (key : Option (List ℕ)) (sectors : ℕ) (f : ImageFormat) (tags : Store) {a m b : List Content} → FitsBytes f.fields → HasNow (λ c. OpensAs (disk_format key sectors f) (last_image c)) a
-    → EachSince (IsOfRecalculation f.geometry) a m → KeepsEntryThrough (disk_format key sectors f) a m → HasRecalculatedOn (disk_format key sectors f) tags a m
+    → EachSince (IsOfRecalculation f.geometry) a m → KeepsEntryThrough (disk_format key sectors f) a m → HasRecalculatedOn key sectors f a m tags
     → EachSince (KeepsRecalculated (disk_format key sectors f)) m b → KeepsEntryThrough (disk_format key sectors f) a b
 journal_change_keeps key sectors f tags fits opens writes keeps recalculated moments start told =
     let d = disk_format key sectors f in

@@ -51,14 +51,14 @@ use Rattle.device_opening.proofs.StandingLemmas.{same_blocks, standing_at, stand
 -- What a recovery leaves is open, with a journal that goes on where that told, as the image's walk says.
 module _ (f : DiskFormat) (image : Image) (at : Recovered) (device : JournalParts) (after : List Content) (c : Content) (told : content_now after ≡ Some c)
     (clear : has_flag DIRTY_BITMAP f.superblock.flags ≡ false) (geometry : f.geometry ≡ device.parts.tags.geometry) (next : at.next ≡ next_on Journal f image)
-    (left : LeavesRecovered (opened_disk f image) at (given_tags device.parts.tags c) c) (journal : device.journal ≡ empty_journal f.geometry at.next at.number)
-    (maker : device.parts.maker ≡ rule_on f) (begins : IsRecalculationFor f.superblock f.geometry device.recalculation) where
+    (left : LeavesRecovered (opened_disk f image) at (given_tags device.parts.tags c) c) (journal : device.state.journal ≡ empty_journal f.geometry at.next at.number)
+    (maker : device.parts.maker ≡ rule_on f) (begins : IsRecalculationFor f.superblock f.geometry device.state.recalculation) where
   is_recovered : IsRecovered (opened_disk f image) (next_on Journal f image) at.number (given_tags device.parts.tags c) c
   is_recovered = subst (λ (n : ℕ). IsRecovered (opened_disk f image) n at.number (given_tags device.parts.tags c) c) next left.recovered
 
-  stands : StandsAs (opened_standing f image is_recovered.now) device.journal device.parts.tags after
+  stands : StandsAs (opened_standing f image is_recovered.now) device.state.journal device.parts.tags after
   stands =
-      let same : device.journal ≡ empty_journal f.geometry (next_on Journal f image) at.number = journal ∙ ap (λ (n : ℕ). empty_journal f.geometry n at.number) next in
+      let same : device.state.journal ≡ empty_journal f.geometry (next_on Journal f image) at.number = journal ∙ ap (λ (n : ℕ). empty_journal f.geometry n at.number) next in
       subst (λ (j : PlacedRing). StandsAs (opened_standing f image is_recovered.now) j device.parts.tags after) (sym same)
       (recovered_stands_law f image at.number device.parts.tags after c clear geometry told is_recovered)
 
@@ -68,14 +68,14 @@ module _ (f : DiskFormat) (image : Image) (at : Recovered) (device : JournalPart
       subst (λ (x : DiskFormat). KeepsAwaiting is.now (awaiting_on Journal x image) (given_tags device.parts.tags c) c) is.same_format
       (opened_awaits is.now image (given_tags device.parts.tags c) c (subst (λ (x : DiskFormat). has_flag DIRTY_BITMAP x.superblock.flags ≡ false) (sym is.same_format) clear) is.keeps)
 
-  works : IsWorking (opened_standing f image is_recovered.now) (awaiting_on Journal f image) device.journal device.recalculation device.parts.tags after
+  works : IsWorking (opened_standing f image is_recovered.now) (awaiting_on Journal f image) device.state.journal device.state.recalculation device.parts.tags after
   works =
       let same = sym is_recovered.same_format in
       record {
         stands = stands;
         keeps = λ x at_x. subst (λ (y : Content). KeepsAwaiting is_recovered.now (awaiting_on Journal f image) (given_tags device.parts.tags y) y) (same_Some c x (sym told ∙ at_x)) keeps;
         work = subst (λ (x : DiskFormat). AwaitsWork x (awaiting_on Journal f image)) same (work_opened_law f image clear).0;
-        recalc_ = subst (λ (x : DiskFormat). IsRecalculationOf x.superblock x.geometry (awaiting_on Journal f image) device.recalculation) same (journal_regions f image clear device.recalculation begins);
+        recalc_ = subst (λ (x : DiskFormat). IsRecalculationOf x.superblock x.geometry (awaiting_on Journal f image) device.state.recalculation) same (journal_regions f image clear device.state.recalculation begins);
         written = subst (λ (x : DiskFormat). CanBeWritten x.superblock) same begins.written;
       }
 
@@ -89,12 +89,12 @@ module _ (f : DiskFormat) (image : Image) (at : Recovered) (device : JournalPart
   }
 
 module _ (key : Option (List ℕ)) (disk : DiskIdentity) (device : JournalParts) (a b : List Content) (can : CanOpenRead Journal key disk.sectors a)
-    (clear : HasNow (λ c. has_flag DIRTY_BITMAP (format_on key disk.sectors (last_image c)).superblock.flags ≡ false) a) (is : IsUnasked device.parts device.recalculation disk b) where
+    (clear : HasNow (λ c. has_flag DIRTY_BITMAP (format_on key disk.sectors (last_image c)).superblock.flags ≡ false) a) (is : IsUnasked device.parts device.state.recalculation disk b) where
   -- It is the device of the image,
   over_disk : {P : Content → Type 0} → EachMoment a b P → (start : Content) → content_now a ≡ Some start
       → (on : IsOpenOn (format_on key disk.sectors (last_image start)) (last_image start) device b)
       → let f = format_on key disk.sectors (last_image start) in
-      IsOverDisk (standing_on (standing_at Journal f (opened_on Journal f (last_image start)) (last_image start)) on.disk) Working device.parts device.journal device.recalculation b
+      IsOverDisk (standing_on (standing_at Journal f (opened_on Journal f (last_image start)) (last_image start)) on.disk) Working device.parts device.state.journal device.state.recalculation b
   over_disk moments start told on =
       let image = last_image start in
       let f = format_on key disk.sectors image in
@@ -122,7 +122,7 @@ module _ (key : Option (List ℕ)) (disk : DiskIdentity) (device : JournalParts)
         left = subst (λ (x : DiskFormat). IsLeftNow (kind_on x) image (opened_on Journal f image).history b) (sym on.format)
             (left_now f image refl none (opened_on Journal f image).history b
             (subst (λ (x : DiskFormat). HasNow (EachImage (IsLeftInJournal x (opened_on Journal f image).history)) b) on.format
-            (standing_now (opened_standing f image on.disk) device.journal device.parts.tags b on.works.stands)));
+            (standing_now (opened_standing f image on.disk) device.state.journal device.parts.tags b on.works.stands)));
       }
 
   -- and it was opened.
@@ -180,7 +180,7 @@ module _ (key : Option (List ℕ)) (disk : DiskIdentity) (image : JudgedImage) (
   clear_now c told = ap (λ (d : DiskFormat). has_flag DIRTY_BITMAP d.superblock.flags) (reads_now key disk image a judged same c told).own ∙ judged.format.no_bitmap
 
   -- What was judged is open,
-  pub has_opened : {b : List Content} {P : Content → Type 0} (device : JournalParts) → EachMoment a b P → HasOpenOn (judged_format disk.sectors image) device a b → IsUnasked device.parts device.recalculation disk b
+  pub has_opened : {b : List Content} {P : Content → Type 0} (device : JournalParts) → EachMoment a b P → HasOpenOn (judged_format disk.sectors image) device a b → IsUnasked device.parts device.state.recalculation disk b
       → HasEmptyRing device → HasOpened in_journal Journal key disk device a b
   has_opened {b} device moments opened is empty =
       opened_by key disk device a b can_read clear_now is moments empty

@@ -117,7 +117,7 @@ module _ (before : DiskFormat) (entry : Image) (recovered : RecoveredImage) (mom
 
   -- ---- journal mode
 
-  module _ (device : JournalParts) (is_parts : device.parts ≡ parts) (is_waits : device.recalculation ≡ recalculation) (journal : device.journal ≡ empty_journal before.geometry recovered.at.next recovered.at.number) where
+  module _ (device : JournalParts) (is_parts : device.parts ≡ parts) (is_waits : device.state.recalculation ≡ recalculation) (journal : device.state.journal ≡ empty_journal before.geometry recovered.at.next recovered.at.number) where
     abbrev standing : JournalStanding
     standing = record {
       format = device_format Journal after;
@@ -140,7 +140,7 @@ module _ (before : DiskFormat) (entry : Image) (recovered : RecoveredImage) (mom
         subst (λ (x : JournalRing). IsJournalOf standing.format standing.history standing.counts now x) ring
         (subst (λ (n : ℕ). IsJournalOf standing.format standing.history (record { next = n; sections = [] }) now (empty_ring now.geometry now.next now.number)) (r.next_is ∙ start) opened)
 
-    stands : StandsAs standing device.journal parts.tags moments
+    stands : StandsAs standing device.state.journal parts.tags moments
     stands = subst (λ (j : PlacedRing). StandsAs standing j parts.tags moments) (sym journal) (record {
       device = journal_of;
       placed = record {
@@ -154,7 +154,7 @@ module _ (before : DiskFormat) (entry : Image) (recovered : RecoveredImage) (mom
       };
     })
 
-    works : IsWorking standing no_region device.journal recalculation parts.tags moments
+    works : IsWorking standing no_region device.state.journal recalculation parts.tags moments
     works = record {
       stands = stands;
       keeps = λ x there. subst (λ (y : Content). KeepsAwaiting now no_region (given_tags parts.tags y) y) (now_is x there) (awaiting_begins now no_region (given_tags parts.tags last) last keeps_cells none_now);
@@ -168,8 +168,8 @@ module _ (before : DiskFormat) (entry : Image) (recovered : RecoveredImage) (mom
     journaled_made = record {
       disk = now;
       format = subst (IsFormatOf after) (sym same_format) (own_format_law after clear);
-      over = subst (λ (p : Parts). IsOverDisk (record { format = device_format Journal after; state = changed_device before entry; disk = now; entry = made }) Working p device.journal device.recalculation moments) (sym is_parts)
-          (subst (λ (r : Recalculation). IsOverDisk (record { format = device_format Journal after; state = changed_device before entry; disk = now; entry = made }) Working parts device.journal r moments) (sym is_waits) (record {
+      over = subst (λ (p : Parts). IsOverDisk (record { format = device_format Journal after; state = changed_device before entry; disk = now; entry = made }) Working p device.state.journal device.state.recalculation moments) (sym is_parts)
+          (subst (λ (r : Recalculation). IsOverDisk (record { format = device_format Journal after; state = changed_device before entry; disk = now; entry = made }) Working parts device.state.journal r moments) (sym is_waits) (record {
             reached = IsReached-opened (device_format Journal after) _ _ _ _;
             format = ap (device_format Journal) (sym same_format);
             no_bitmap = subst (λ (x : DiskFormat). has_flag DIRTY_BITMAP x.superblock.flags ≡ false) (sym same_format) clear;
@@ -190,7 +190,7 @@ module _ (before : DiskFormat) (entry : Image) (recovered : RecoveredImage) (mom
             left = subst (λ (x : DiskFormat). IsLeftNow (kind_on x) made (changed_device before entry).history moments) (sym same_format)
                 (left_now after made (ap blocks_of (sym own)) clear (changed_device before entry).history moments
                 (subst (λ (x : DiskFormat). HasNow (EachImage (IsLeftInJournal x (changed_device before entry).history)) moments) same_format
-                (standing_now standing device.journal parts.tags moments stands)));
+                (standing_now standing device.state.journal parts.tags moments stands)));
           }));
     }
 

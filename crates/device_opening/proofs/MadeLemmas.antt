@@ -150,7 +150,7 @@ module _ (key : Option (List ℕ)) (sectors : ℕ) (f : ImageFormat) where
 
   -- and so does the change behind it.
   pub change_keeps : {a m b : List Content} (recovered : RecoveredImage) → FitsBytes f.fields → HasNow (λ c. OpensAs d (last_image c)) a → WritesRecovery f.geometry a m → KeepsImage d a m
-      → HasEmptiedOn d recovered a m → EachSince (KeepsEmptied d) m b → KeepsEntryThrough d a b
+      → HasEmptiedOn d a m recovered → EachSince (KeepsEmptied d) m b → KeepsEntryThrough d a b
   change_keeps recovered fits opens writes keeps emptied moments start told =
       let middle = now_told writes start told in
       let on = emptied start told middle.0 middle.1 in

@@ -43,7 +43,7 @@ use Rattle.device_opening.proofs.MomentsLemmas.{settled_by}
 use Rattle.device_opening.proofs.StandingLemmas.{changed_blocks, standing_at, standing_changed}
 
 module _ (disk : DiskIdentity) (image : JudgedBitmap) (a b : List Content) (judged : HasJudgedBitmap disk.sectors image a) (recovered : RecoveredImage)
-    (made : HasMadeJournal (bitmap_judged disk.sectors image) recovered a b) (is : IsMadeOf image recovered disk b)
+    (made : HasMadeJournal (bitmap_judged disk.sectors image) a b recovered) (is : IsMadeOf image recovered disk b)
     (room : RecoveryRoom) (has : IsRecoveryRoomFor (journal_format image.format) room) (spb : ℕ) (spb_is : spb ≡ image.format.geometry.shape.spb) (fits : FitsBytes image.format.fields) where
   abbrev key : Option (List ℕ)
   key = image.maker.key
@@ -115,9 +115,9 @@ module _ (disk : DiskIdentity) (image : JudgedBitmap) (a b : List Content) (judg
 
   module _ (journal : PlacedRing) (journal_is : journal ≡ empty_journal image.format.geometry recovered.at.next recovered.at.number) where
     abbrev device : JournalParts
-    device = record { parts = parts; journal = journal; recalculation = room.recalculation }
+    device = record { parts = parts; state = record { journal = journal; recalculation = room.recalculation } }
 
-    pub journal_opened : HasOpened in_journal Journal image.maker.key disk (record { parts = parts_of recovered room.device spb; journal = journal; recalculation = room.recalculation }) a b
+    pub journal_opened : HasOpened in_journal Journal image.maker.key disk (record { parts = parts_of recovered room.device spb; state = record { journal = journal; recalculation = room.recalculation } }) a b
     journal_opened = record {
       device = λ start told last told_last.
           let entry = last_image start in

@@ -145,7 +145,7 @@ module _ (disk : DiskIdentity) (image : JudgedBitmap) (a m : List Content) (judg
 
       -- Behind it all regions are recalculated.
       pub recalculated_on : (last : Store) → RecalculatesWithBitmap image.maker waits (given_tags tags) (given_tags last) m b → ReadsTagsNow image.format.geometry (given_tags last) b
-          → HasRecalculatedOn (bitmap_judged disk.sectors image) last a b
+          → HasRecalculatedOn image.maker.key disk.sectors image.format a b last
       recalculated_on last taken back start told c now = record {
         disk = recalculated_disk (opened start);
         is = bitmap_recalculated_law f (last_image start) image.maker waits (given_tags tags) (given_tags last) (newest_only start) m b (synced_content start told) (opens_with start told) taken back c now;

@@ -22,7 +22,7 @@ use Rattle.bitmap_device.specs.Device.{IsBitmapped}
 use Rattle.bitmap_mode.specs.Standing.{AreOpened, HasNoBits}
 use Rattle.bitmap_mode.specs.States.{States}
 use Rattle.device_parts.specs.declared.condition.Condition.TheVariants.{Working}
-use Rattle.device_parts.specs.Device.{opened_standing}
+use Rattle.device_parts.specs.Device.{IsOfSameBlocks, opened_standing}
 use Rattle.device_model.specs.Mode.{Bitmap}
 use Rattle.device_opening.specs.declared.judging.JudgedImage.{JudgedImage}
 use Rattle.device_opening.specs.declared.recovering.RecoveredImage.{RecoveredImage}
@@ -62,8 +62,8 @@ pub record IsEmptiedOn (f : DiskFormat) (image : Image) (recovered : RecoveredIm
   pub emptied : IsEmptiedOf f image disk number (given_tags recovered.tags c) c
 
 -- So it is of the image that reads gave.
-abbrev pub HasEmptiedOn : DiskFormat → RecoveredImage → (before after : List Content) → Type 0
-HasEmptiedOn f recovered before after =
+abbrev pub HasEmptiedOn : DiskFormat → (before after : List Content) → RecoveredImage → Type 0
+HasEmptiedOn f before after recovered =
     HasNow (λ start. HasNow (IsEmptiedOn f (last_image start) recovered) after) before
 
 -- What was recovered is of this disk and of the image that was judged, and all its tags are written back.
@@ -96,3 +96,8 @@ pub record HasNoRegions (g : Geometry) (states : States) : Type 0 where
 abbrev pub HasMade : (key : Option (List ℕ)) → (sectors : ℕ) → BitmapParts → (before after : List Content) → Type 0
 HasMade key sectors device before after = HasNow (λ start. HasNow (λ made. IsBitmapped
     (opened_standing Bitmap key sectors (last_image start) (last_image made)) Working device after) after) before
+
+-- The image that reads give at its end, by which the device is judged, has the blocks of the one at its start.
+abbrev pub MakesOfSameBlocks : (key : Option (List ℕ)) → (sectors : ℕ) → (before after : List Content) → Type 0
+MakesOfSameBlocks key sectors before after = HasNow (λ start. HasNow (λ made.
+    IsOfSameBlocks Bitmap key sectors (last_image start) (last_image made)) after) before

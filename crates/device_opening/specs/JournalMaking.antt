@@ -82,9 +82,10 @@ pub record IsRecalculatedOn (f : DiskFormat) (image : Image) (tags : ℕ → Lis
   pub is : IsRecalculatedOf f image disk tags c
 
 -- So it is of the image that reads gave.
-abbrev pub HasRecalculatedOn : DiskFormat → Store → (before after : List Content) → Type 0
-HasRecalculatedOn f tags before after =
-    HasNow (λ start. HasNow (λ c. IsRecalculatedOn f (last_image start) (given_tags tags c) c) after) before
+abbrev pub HasRecalculatedOn : (key : Option (List ℕ)) → (sectors : ℕ) → ImageFormat → (before after : List Content)
+    → Store → Type 0
+HasRecalculatedOn key sectors format before after tags = HasNow (λ start. HasNow (λ c.
+    IsRecalculatedOn (disk_format key sectors format) (last_image start) (given_tags tags c) c) after) before
 
 -- What was judged of an image with a bitmap, by its parts.
 abbrev pub judged_as : ImageFormat → TagRule → States → JudgedBitmap
@@ -103,8 +104,8 @@ pub record IsMadeOn (f : DiskFormat) (image : Image) (recovered : RecoveredImage
       → awaiting_on Journal (journal_format f) (last_image c) region ≡ false
 
 -- It is so by the image that reads gave.
-abbrev pub HasMadeJournal : DiskFormat → RecoveredImage → (before after : List Content) → Type 0
-HasMadeJournal f recovered before after =
+abbrev pub HasMadeJournal : DiskFormat → (before after : List Content) → RecoveredImage → Type 0
+HasMadeJournal f before after recovered =
     HasNow (λ start. HasNow (IsMadeOn f (last_image start) recovered) after) before
 
 -- What was made is of this disk and of the image that was judged: its tags lie where that has them, tags are made by

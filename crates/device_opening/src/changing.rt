@@ -1,7 +1,6 @@
 //! Opening in bitmap mode of an image with a journal: that is recovered and emptied, and becomes a bitmap.
 ghost use Rattle.std.specs.Prelude.{◌≡◌, ◌*◌, ℕ, IfOk, length};
 ghost use Rattle.disk_model.specs.Causes.{HasCause};
-ghost use Rattle.disk_model.specs.Disk.{last_image};
 ghost use Rattle.disk_model.specs.Identity.{IsBound};
 ghost use Rattle.disk_model.specs.Moments.{HasNow};
 ghost use Rattle.image_model.specs.Geometry.{journal_sectors};
@@ -12,11 +11,11 @@ ghost use Rattle.hmac_tag.specs.TagMaker.{key_of};
 ghost use Rattle.image_format.specs.Format.{IsDirectFormat};
 ghost use Rattle.image_judging.specs.Faults.{HasOpenCause, fault_of};
 ghost use Rattle.bitmap_device.specs.Device.{IsReady, in_bitmap};
-ghost use Rattle.device_parts.specs.Device.{HasOpened, IsOfSameBlocks};
+ghost use Rattle.device_parts.specs.Device.{HasOpened};
 ghost use Rattle.mode_change.specs.ToBitmap.{bitmap_format};
 ghost use Rattle.request_slots.specs.Flight.{no_requests};
 ghost use Rattle.device_opening.specs.Changing.{HasEmptiedOn, HasMade, HasNoRegions, IsWrittenBack, LeavesMade};
-ghost use Rattle.device_opening.specs.Changing.{WritesBitmap};
+ghost use Rattle.device_opening.specs.Changing.{MakesOfSameBlocks, WritesBitmap};
 ghost use Rattle.device_opening.specs.Judged.{HasJournalFormat, HasJudged, judged_format};
 ghost use Rattle.device_opening.specs.Opening.{IsOfOpening, IsRecalculationFor, IsRecoveryRoomFor};
 ghost use Rattle.device_opening.specs.Opening.{LeavesImage, LeavesOpenable, Refuses};
@@ -134,9 +133,8 @@ fn make_bitmap<D: Disk>(
 
     ensures opened { IfOk result (λ device. HasMade image.maker.key (D.identity disk.old).sectors
         device (D.moments disk.old) (D.moments disk.new)) }
-    ensures blocks { IfOk result (λ device. HasNow (λ start. HasNow (λ made. IsOfSameBlocks Model.Bitmap
-        image.maker.key (D.identity disk.old).sectors (last_image start) (last_image made)) (D.moments disk.new))
-        (D.moments disk.old)) }
+    ensures blocks { IfOk result (λ device. MakesOfSameBlocks image.maker.key (D.identity disk.old).sectors
+        (D.moments disk.old) (D.moments disk.new)) }
     ensures ready { IfOk result (λ device. IsReady device.parts device.regions
         (D.identity disk.new) (D.moments disk.new)) }
     ensures requests { IfOk result (λ device. device.parts.slots ≡ no_requests device.parts.tags.geometry.blocks
@@ -193,8 +191,8 @@ fn recover_whole<D: Disk>(
     requires pool { length pool.old.bytes ≡ 512 * journal_sectors image.format.geometry }
     requires recalculation { IsRecalculationFor image.format.fields image.format.geometry recalculation }
 
-    ensures emptied { IfOk result (λ recovered. HasEmptiedOn (judged_format (D.identity disk.old).sectors image)
-        recovered (D.moments disk.old) (D.moments disk.new)) }
+    ensures emptied { IfOk result (HasEmptiedOn (judged_format (D.identity disk.old).sectors image)
+        (D.moments disk.old) (D.moments disk.new)) }
     ensures made { IfOk result (λ recovered. IsWrittenBack image recovered (D.identity disk.new)
         (D.moments disk.new)) }
     ensures written { IfOk result (λ recovered. HasNow (λ start.

@@ -28,7 +28,7 @@ use device_parts::Parts;
 use hmac_tag::Hash;
 use image_format::{ImageFormat, read_format};
 use image_judging::{Consent, OpeningFault};
-use journal_device::JournalParts;
+use journal_device::{JournalParts, JournalState};
 use journal_mode::{Journal, JournalRoom};
 use mode_change::journal_format;
 use sector_disk::{Disk, Failed};
@@ -152,7 +152,7 @@ fn open_judged<'p, D: Disk>(
 
     ensures opened { IfOk result (λ device. HasOpenOn (judged_format (D.identity disk.old).sectors image)
         device (D.moments disk.old) (D.moments disk.new)) }
-    ensures unasked { IfOk result (λ device. IsUnasked device.parts device.recalculation
+    ensures unasked { IfOk result (λ device. IsUnasked device.parts device.state.recalculation
         (D.identity disk.new) (D.moments disk.new)) }
     ensures empty { IfOk result HasEmptyRing }
 
@@ -184,11 +184,11 @@ fn open_judged<'p, D: Disk>(
         spb,
         buffer,
     };
-    Ok(JournalParts {
-        parts,
+    let state = JournalState {
         journal: Journal::new(journal, pool, recovered.at),
         recalculation,
-    })
+    };
+    Ok(JournalParts { parts, state })
 }
 
 /// Opens a device in journal mode on a disk, whose first sector tells this format, which has a bitmap.
@@ -284,9 +284,9 @@ fn make_device<'p, D: Disk>(
         spb,
         buffer,
     };
-    Ok(JournalParts {
-        parts,
+    let state = JournalState {
         journal: Journal::new(journal, pool, recovered.at),
         recalculation,
-    })
+    };
+    Ok(JournalParts { parts, state })
 }

@@ -48,8 +48,8 @@ pub(crate) fn make_journal<D: Disk>(
     requires pool { length pool.old.bytes ≡ 512 * journal_sectors image.format.geometry }
     requires fits { FitsBytes image.format.fields }
 
-    ensures made { IfOk result (λ recovered. HasMadeJournal (bitmap_judged (D.identity disk.old).sectors image)
-        recovered (D.moments disk.old) (D.moments disk.new)) }
+    ensures made { IfOk result (HasMadeJournal (bitmap_judged (D.identity disk.old).sectors image)
+        (D.moments disk.old) (D.moments disk.new)) }
     ensures kept { IfOk result (λ recovered. IsMadeOf image recovered (D.identity disk.new) (D.moments disk.new)) }
 
     ensures cause { HasCause (D.faults disk.old) (D.faults disk.new) result }
@@ -96,8 +96,7 @@ fn recalculate_marked<D: Disk>(
         (D.moments disk.old) }
     requires cache { (slots : ℕ) × (sectors_of cache ≡ no_sectors slots) }
 
-    ensures recalculated { IfOk result (λ tags. HasRecalculatedOn
-        (disk_format maker.now.key (D.identity disk.old).sectors format.now) tags
+    ensures recalculated { IfOk result (HasRecalculatedOn maker.now.key (D.identity disk.old).sectors format.now
         (D.moments disk.old) (D.moments disk.new)) }
     ensures store { IfOk result (λ tags. IsStore tags (D.identity disk.new) (D.moments disk.new)) }
     ensures places { IfOk result (λ tags. tags.geometry ≡ format.now.geometry) }

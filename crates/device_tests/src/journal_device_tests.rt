@@ -89,7 +89,7 @@ fn open_device<'p, D: Disk>(
 ) -> Option<JournalParts<'p>>
     requires { IsBound (D.identity disk.old).name }
 
-    ensures { IfSome result (λ device. IsReady Working device.parts device.journal device.recalculation
+    ensures { IfSome result (λ device. IsReady Working device.parts device.state
         (D.identity disk.new) (D.moments disk.new)) }
 {
     open_journal(alloc, disk, Hash::Sha256, Consent::Withheld, region).ok()
@@ -102,10 +102,10 @@ fn submit<D: Disk>(
     condition: Condition,
     request: Request,
 ) -> Option<Ticket>
-    requires { IsReady condition device.old.parts device.old.journal device.old.recalculation
+    requires { IsReady condition device.old.parts device.old.state
         (D.identity disk.now) (D.moments disk.now) }
 
-    ensures { IsReady condition device.new.parts device.new.journal device.new.recalculation
+    ensures { IsReady condition device.new.parts device.new.state
         (D.identity disk.now) (D.moments disk.now) }
 {
     if !device.parts.slots.has_ticket() {
@@ -121,10 +121,10 @@ fn serve_once<D: Disk>(
     condition: &mut Condition,
     ticket: &Ticket,
 ) -> Option<Served>
-    requires { IsReady condition.old device.old.parts device.old.journal device.old.recalculation
+    requires { IsReady condition.old device.old.parts device.old.state
         (D.identity disk.old) (D.moments disk.old) }
 
-    ensures { IsReady condition.new device.new.parts device.new.journal device.new.recalculation
+    ensures { IsReady condition.new device.new.parts device.new.state
         (D.identity disk.new) (D.moments disk.new) }
 {
     if !device.parts.slots.holds(ticket) {
@@ -132,13 +132,7 @@ fn serve_once<D: Disk>(
     }
     match *condition {
         Condition::Broken => None,
-        Condition::Working => match serve(
-            disk,
-            &mut device.parts,
-            &mut device.journal,
-            &mut device.recalculation,
-            ticket,
-        ) {
+        Condition::Working => match serve(disk, &mut device.parts, &mut device.state, ticket) {
             Ok(served) => Some(served),
             Err(_) => {
                 *condition = Condition::Broken;
@@ -155,10 +149,10 @@ fn serve_on<D: Disk>(
     condition: &mut Condition,
     ticket: &Ticket,
 ) -> (Option<Served>, u64)
-    requires { IsReady condition.old device.old.parts device.old.journal device.old.recalculation
+    requires { IsReady condition.old device.old.parts device.old.state
         (D.identity disk.old) (D.moments disk.old) }
 
-    ensures { IsReady condition.new device.new.parts device.new.journal device.new.recalculation
+    ensures { IsReady condition.new device.new.parts device.new.state
         (D.identity disk.new) (D.moments disk.new) }
 {
     for count in 0..2 * ENTRIES {
@@ -177,10 +171,10 @@ fn reply_to<D: Disk>(
     condition: &mut Condition,
     request: Request,
 ) -> Option<Reply>
-    requires { IsReady condition.old device.old.parts device.old.journal device.old.recalculation
+    requires { IsReady condition.old device.old.parts device.old.state
         (D.identity disk.old) (D.moments disk.old) }
 
-    ensures { IsReady condition.new device.new.parts device.new.journal device.new.recalculation
+    ensures { IsReady condition.new device.new.parts device.new.state
         (D.identity disk.new) (D.moments disk.new) }
 {
     let ticket = submit(disk, device, *condition, request)?;
@@ -207,26 +201,20 @@ fn close_journaled<D: Disk>(
     device: &mut JournalParts<'_>,
     condition: Condition,
 ) -> bool
-    requires { IsReady condition device.old.parts device.old.journal device.old.recalculation
+    requires { IsReady condition device.old.parts device.old.state
         (D.identity disk.old) (D.moments disk.old) }
 {
-    device.journal.is_journaled(5) && close_device(disk, device, condition)
+    device.state.journal.is_journaled(5) && close_device(disk, device, condition)
 }
 
 /// Closes a device. Tells whether that went well.
 fn close_device<D: Disk>(disk: &mut D, device: &mut JournalParts<'_>, condition: Condition) -> bool
-    requires { IsReady condition device.old.parts device.old.journal device.old.recalculation
+    requires { IsReady condition device.old.parts device.old.state
         (D.identity disk.old) (D.moments disk.old) }
 {
     match condition {
         Condition::Broken => false,
-        Condition::Working => close(
-            disk,
-            &mut device.parts,
-            &mut device.journal,
-            &mut device.recalculation,
-        )
-        .is_ok(),
+        Condition::Working => close(disk, &mut device.parts, &mut device.state).is_ok(),
     }
 }
 
@@ -257,7 +245,7 @@ fn read_alone<D: Disk>(alloc: Global, disk: &mut D) -> Result<Option<u8>, AllocE
     let Some(mut device) = open_device(alloc, disk, &mut region) else {
         return Ok(None);
     };
-    if device.journal.is_journaled(5) {
+    if device.state.journal.is_journaled(5) {
         return Ok(None);
     }
     let mut condition = Condition::Working;

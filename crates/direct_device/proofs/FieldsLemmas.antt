@@ -1,5 +1,5 @@
 -- Which fields each image has at each moment of a step and of a close, and which sectors are written in them.
-use Rattle.std.proofs.Common.{◌≡◌, inl, inr, ℕ, ◌==◌, Bool, true, false, if◌then◌else◌, not, ◌&&◌, refl, sym, ◌∙◌, ap, subst, Option, Some, None, IfSome, List}
+use Rattle.std.proofs.Common.{◌≡◌, inl, inr, ℕ, Bool, true, false, if◌then◌else◌, not, ◌&&◌, refl, sym, ◌∙◌, ap, subst, Option, Some, None, IfSome, List}
 use Rattle.disk_model.specs.Disk.{Content, OnlyAdds}
 use Rattle.disk_model.specs.Moments.{EachSince}
 use Rattle.disk_model.proofs.MomentsLemmas.{EachMoment-kept, EachMoment-weaker, adds_then, sync_adds}

@@ -1,22 +1,33 @@
 -- What the calls of a device in direct mode write.
-use Rattle.std.specs.Prelude.{◌≡◌, ◌⊎◌, ℕ, Bool, true, false, List}
+use Rattle.std.specs.Prelude.{◌≡◌, ℕ, Bool, true, false, List, Result}
 use Rattle.disk_model.specs.Disk.{Content, OnlyAdds}
 use Rattle.disk_model.specs.Moments.{EachSince}
 use Rattle.image_model.specs.Geometry.{Geometry}
+use Rattle.image_model.specs.Superblock.{Superblock}
 use Rattle.device_model.specs.Progress as Model
 use Rattle.direct_mode.specs.Places.{WritesPlaces}
 use Rattle.request_slots.specs.declared.turn.Turn.TheVariants as Turns
 use Rattle.request_slots.specs.Flight.{Flight, turn_of}
 use Rattle.device_parts.specs.declared.answers.Actor.{Actor}
 use Rattle.device_parts.specs.declared.answers.Actor.TheVariants as Actors
+use Rattle.device_parts.specs.declared.answers.Moved.{Moved}
+use Rattle.device_parts.specs.declared.answers.Served.{Served}
 use Rattle.device_parts.specs.declared.condition.Condition.TheVariants as Conditions
 use Rattle.device_parts.specs.declared.parts.Parts.{Parts}
+use Rattle.device_parts.specs.Answers.{ServesNext, StepsNext}
 use Rattle.device_parts.specs.Device.{Standing}
 use Rattle.recalculation.specs.declared.recalculating.Recalculation.{Recalculation}
-use Rattle.recalculation.specs.Recalculation.{IsOfTagsOrHead, WritesRegion, count_of, next_of}
+use Rattle.recalculation.specs.Recalculation.{HasFields, HasFieldsThrough, IsOfTagsOrHead, WritesRegion, count_of, fields_left, next_of}
 use Rattle.tag_store.specs.Store.{HoldsTag}
 use Rattle.direct_device.specs.declared.parts.DirectParts.{DirectParts}
-use Rattle.direct_device.specs.Device.{IsDirect}
+use Rattle.direct_device.specs.Device.{IsDirect, in_direct}
+
+-- ---- a serve
+
+-- A device in direct mode that works does what is next for a request.
+abbrev pub Serves : {E : Type 0} → (ticket : ℕ) → (old new : DirectParts) → (before after : List Content)
+    → Result Served E → Type 0
+Serves ticket old new before after result = ServesNext in_direct ticket old new before after result
 
 -- A write of this block is done next for the request of this ticket.
 pub record IsWrittenNext (flight : Flight) (ticket block : ℕ) : Type 0 where
@@ -29,6 +40,16 @@ WritesServed ticket old new before after =
     WritesPlaces (IsWrittenNext old.slots ticket) old.tags.geometry new.tags.geometry before after
 
 -- ---- a step
+
+-- One that works lets an actor do its next step.
+abbrev pub Steps : {E : Type 0} → Actor → (old new : DirectParts) → (before after : List Content) → Result Moved E
+    → Type 0
+Steps actor old new before after result = StepsNext in_direct actor old new before after result
+
+-- At each moment of a call each image of one that works has the fields from before it, or these.
+abbrev pub MovesFieldsTo : (new : Superblock) → DirectParts → (before after : List Content) → Type 0
+MovesFieldsTo new device before after = (w : Standing) → IsDirect w Conditions.Working device before
+    → HasFieldsThrough w.on device.recalculation.position new before after
 
 -- How many steps of an actor still do something at most: a recalculation for each region that awaits.
 abbrev pub steps_left : Actor → Recalculation → ℕ
@@ -61,6 +82,11 @@ RestLaw = (w : Standing) (device : DirectParts) (moments : List Content) (actor 
     → Model.event_result w.format w.state (Model.Step actor) ≡ Model.only_answers w.state.progress Model.Idle
 
 -- ---- a close
+
+-- A close leaves each image of one that works with the fields that its regions leave.
+abbrev pub LeavesFields : DirectParts → (before after : List Content) → Type 0
+LeavesFields device before after = (w : Standing) → IsDirect w Conditions.Working device before
+    → HasFields (fields_left device.recalculation) after
 
 -- What is written in a close: sectors of tags, and sector 0 where the flag is set.
 abbrev pub WritesClose : (is_set : Bool) → Geometry → (before after : List Content) → Type 0

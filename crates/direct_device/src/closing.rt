@@ -3,11 +3,10 @@ ghost use Rattle.std.specs.Prelude.{◌≡◌, OnOk};
 ghost use Rattle.disk_model.specs.Causes.{HasCause};
 ghost use Rattle.image_model.specs.declared.flags.TheConstants.{RECALCULATING};
 ghost use Rattle.image_model.specs.Superblock.{has_flag};
-ghost use Rattle.device_parts.specs.Device.{Ends, Standing};
-ghost use Rattle.device_parts.specs.declared.condition.Condition.TheVariants.{Working};
-ghost use Rattle.recalculation.specs.Recalculation.{HasFields, HasFieldsThrough, fields_left};
-ghost use Rattle.direct_device.specs.Answers.{WritesClose};
-ghost use Rattle.direct_device.specs.Device.{IsDirect, IsReady, in_direct, kept};
+ghost use Rattle.device_parts.specs.Device.{Ends};
+ghost use Rattle.recalculation.specs.Recalculation.{fields_left};
+ghost use Rattle.direct_device.specs.Answers.{LeavesFields, MovesFieldsTo, WritesClose};
+ghost use Rattle.direct_device.specs.Device.{IsReady, in_direct, kept};
 
 use device_parts::Parts;
 use recalculation::Recalculation;
@@ -28,15 +27,14 @@ pub fn close<D: Disk>(
 
     ensures ends { Ends in_direct (kept parts.old recalculation.old)
         (D.moments disk.old) (D.moments disk.new) result }
-    ensures fields { OnOk result ((w : Standing) → IsDirect w Working (kept parts.old recalculation.old)
-        (D.moments disk.old) → HasFields (fields_left recalculation.old) (D.moments disk.new)) }
+    ensures fields { OnOk result (LeavesFields (kept parts.old recalculation.old)
+        (D.moments disk.old) (D.moments disk.new)) }
 
     ensures cause { HasCause (D.faults disk.old) (D.faults disk.new) result }
 
     ensures identity { D.identity disk.new ≡ D.identity disk.old }
 
-    ensures heads { (w : Standing) → IsDirect w Working (kept parts.old recalculation.old) (D.moments disk.old)
-        → HasFieldsThrough w.on recalculation.old.position (fields_left recalculation.old)
+    ensures heads { MovesFieldsTo (fields_left recalculation.old) (kept parts.old recalculation.old)
         (D.moments disk.old) (D.moments disk.new) }
     ensures writes { WritesClose (has_flag RECALCULATING recalculation.old.position.flags) parts.old.tags.geometry
         (D.moments disk.old) (D.moments disk.new) }

@@ -3,9 +3,8 @@ ghost use Rattle.std.specs.Prelude.{◌≡◌, ◌<◌, true, OnOk};
 ghost use Rattle.disk_model.specs.Causes.{HasCause};
 ghost use Rattle.request_slots.specs.Flight.{FitsFlight, is_in_flight, turn_of};
 ghost use Rattle.request_slots.specs.declared.turn.Turn.TheVariants as Turns;
-ghost use Rattle.device_parts.specs.Answers.{ServesNext};
-ghost use Rattle.direct_device.specs.Answers.{WritesServed};
-ghost use Rattle.direct_device.specs.Device.{IsReady, in_direct, kept};
+ghost use Rattle.direct_device.specs.Answers.{Serves, WritesServed};
+ghost use Rattle.direct_device.specs.Device.{IsReady, kept};
 
 use crate::taking::take_to_read;
 use device_parts::{Parts, Served};
@@ -29,8 +28,8 @@ pub fn serve<D: Disk>(
     requires ready { IsReady parts.old recalculation.old (D.identity disk.old) (D.moments disk.old) }
     requires there { is_in_flight ticket.now parts.old.slots ≡ true }
 
-    ensures next { ServesNext in_direct ticket.now (kept parts.old recalculation.old)
-        (kept parts.new recalculation.new) (D.moments disk.old) (D.moments disk.new) result }
+    ensures next { Serves ticket.now (kept parts.old recalculation.old) (kept parts.new recalculation.new)
+        (D.moments disk.old) (D.moments disk.new) result }
 
     ensures cause { HasCause (D.faults disk.old) (D.faults disk.new) result }
 
@@ -68,8 +67,8 @@ fn serve_read<D: Disk>(
     requires within { block < parts.old.slots.blocks }
     requires fits { FitsFlight ticket.now parts.old.slots }
 
-    ensures next { ServesNext in_direct ticket.now (kept parts.old recalculation.old)
-        (kept parts.new recalculation.new) (D.moments disk.old) (D.moments disk.new) result }
+    ensures next { Serves ticket.now (kept parts.old recalculation.old) (kept parts.new recalculation.new)
+        (D.moments disk.old) (D.moments disk.new) result }
 
     ensures cause { HasCause (D.faults disk.old) (D.faults disk.new) result }
 
@@ -97,8 +96,8 @@ fn serve_write<D: Disk>(
     requires within { block < parts.old.slots.blocks }
     requires fits { FitsFlight ticket.now parts.old.slots }
 
-    ensures next { ServesNext in_direct ticket.now (kept parts.old recalculation.now)
-        (kept parts.new recalculation.now) (D.moments disk.old) (D.moments disk.new) result }
+    ensures next { Serves ticket.now (kept parts.old recalculation.now) (kept parts.new recalculation.now)
+        (D.moments disk.old) (D.moments disk.new) result }
 
     ensures cause { HasCause (D.faults disk.old) (D.faults disk.new) result }
 
@@ -126,8 +125,8 @@ fn serve_flush<D: Disk>(
     requires there { is_in_flight ticket.now parts.old.slots ≡ true }
     requires turn { turn_of parts.old.slots ticket.now ≡ Turns.Flush }
 
-    ensures next { ServesNext in_direct ticket.now (kept parts.old recalculation.now)
-        (kept parts.new recalculation.now) (D.moments disk.old) (D.moments disk.new) result }
+    ensures next { Serves ticket.now (kept parts.old recalculation.now) (kept parts.new recalculation.now)
+        (D.moments disk.old) (D.moments disk.new) result }
 
     ensures cause { HasCause (D.faults disk.old) (D.faults disk.new) result }
 

@@ -1,13 +1,11 @@
 //! What is done in the background: regions are recalculated.
 ghost use Rattle.std.specs.Prelude.{◌≡◌, ◌<◌, IfOk};
 ghost use Rattle.disk_model.specs.Causes.{HasCause};
-ghost use Rattle.device_parts.specs.Answers.{StepsNext, actor_of};
+ghost use Rattle.device_parts.specs.Answers.{actor_of};
 ghost use Rattle.device_parts.specs.declared.answers.Actor.TheVariants.{Recalc};
-ghost use Rattle.recalculation.specs.Recalculation.{HasFieldsThrough, fields_next, fields_then};
-ghost use Rattle.device_parts.specs.Device.{Standing};
-ghost use Rattle.device_parts.specs.declared.condition.Condition.TheVariants.{Working};
-ghost use Rattle.direct_device.specs.Answers.{HasNoWork, WritesAs, steps_left};
-ghost use Rattle.direct_device.specs.Device.{IsDirect, IsReady, in_direct, kept};
+ghost use Rattle.recalculation.specs.Recalculation.{fields_next, fields_then};
+ghost use Rattle.direct_device.specs.Answers.{HasNoWork, MovesFieldsTo, Steps, WritesAs, steps_left};
+ghost use Rattle.direct_device.specs.Device.{IsReady, kept};
 
 use device_parts::{Actor, Moved, Parts};
 use recalculation::Recalculation;
@@ -27,7 +25,7 @@ pub fn step<D: Disk>(
 ) -> Result<Moved, Failed>
     requires { IsReady parts.old recalculation.old (D.identity disk.old) (D.moments disk.old) }
 
-    ensures next { StepsNext in_direct actor (kept parts.old recalculation.old) (kept parts.new recalculation.new)
+    ensures next { Steps actor (kept parts.old recalculation.old) (kept parts.new recalculation.new)
         (D.moments disk.old) (D.moments disk.new) result }
     ensures fields { IfOk result (λ moved. moved ≡ Moved.Did
         → recalculation.new.position ≡ fields_then recalculation.old recalculation.new) }
@@ -41,8 +39,7 @@ pub fn step<D: Disk>(
     ensures ready { IsReady parts.new recalculation.new (D.identity disk.new) (D.moments disk.new) }
     ensures slots { parts.new.slots ≡ parts.old.slots }
     ensures identity { D.identity disk.new ≡ D.identity disk.old }
-    ensures heads { (w : Standing) → IsDirect w Working (kept parts.old recalculation.old) (D.moments disk.old)
-        → HasFieldsThrough w.on recalculation.old.position (fields_next recalculation.old)
+    ensures heads { MovesFieldsTo (fields_next recalculation.old) (kept parts.old recalculation.old)
         (D.moments disk.old) (D.moments disk.new) }
     ensures writes { WritesAs actor parts.old recalculation.old (D.moments disk.old) (D.moments disk.new) }
     ensures quiet { HasNoWork (actor_of actor) → disk.new ≡ disk.old }
@@ -61,7 +58,7 @@ fn recalculate<D: Disk>(
 ) -> Result<Moved, Failed>
     requires { IsReady parts.old recalculation.old (D.identity disk.old) (D.moments disk.old) }
 
-    ensures next { StepsNext in_direct Recalc (kept parts.old recalculation.old) (kept parts.new recalculation.new)
+    ensures next { Steps Recalc (kept parts.old recalculation.old) (kept parts.new recalculation.new)
         (D.moments disk.old) (D.moments disk.new) result }
     ensures fields { IfOk result (λ moved. moved ≡ Moved.Did
         → recalculation.new.position ≡ fields_then recalculation.old recalculation.new) }
@@ -75,8 +72,7 @@ fn recalculate<D: Disk>(
     ensures ready { IsReady parts.new recalculation.new (D.identity disk.new) (D.moments disk.new) }
     ensures slots { parts.new.slots ≡ parts.old.slots }
     ensures identity { D.identity disk.new ≡ D.identity disk.old }
-    ensures heads { (w : Standing) → IsDirect w Working (kept parts.old recalculation.old) (D.moments disk.old)
-        → HasFieldsThrough w.on recalculation.old.position (fields_next recalculation.old)
+    ensures heads { MovesFieldsTo (fields_next recalculation.old) (kept parts.old recalculation.old)
         (D.moments disk.old) (D.moments disk.new) }
     ensures writes { WritesAs Recalc parts.old recalculation.old (D.moments disk.old) (D.moments disk.new) }
 {

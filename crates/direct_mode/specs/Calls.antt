@@ -2,12 +2,13 @@
 use Rattle.std.specs.Prelude.{◌≡◌, ℕ, Bool, List}
 use Rattle.disk_model.specs.Disk.{Content}
 use Rattle.place_model.specs.Format.{tagger_of}
+use Rattle.place_model.specs.Tags.{with_block_tag}
 use Rattle.direct_model.specs.DirectDisk.{DirectDisk}
 use Rattle.direct_model.specs.Steps.{after_flush, with_write}
-use Rattle.direct_laws.specs.CallLaws.{StandsThrough}
+use Rattle.direct_laws.specs.CallLaws.{GivesTags, StandsThrough}
 use Rattle.direct_mode.specs.Cells.{HasCells, KeepsDisk, block_write}
 use Rattle.direct_mode.specs.Serving.{HasFailed, HasServed, ServedWrite, WritesNext}
-use Rattle.tag_store.specs.Store.{Store}
+use Rattle.tag_store.specs.Store.{Store, given_tags}
 
 -- A read keeps it,
 abbrev pub KeepsEach : (old new : Store) → (before after : List Content) → Type 0
@@ -34,6 +35,11 @@ WritesEach block bytes tag old new before after = (d : DirectDisk) (ticket : ℕ
 abbrev pub StandsWriting : (block : ℕ) → List ℕ → Store → (before after : List Content) → Type 0
 StandsWriting block bytes store before after = (d : DirectDisk) (ticket : ℕ) (awaiting : ℕ → Bool)
     → HasCells d awaiting store before → StandsThrough (with_write d (block_write ticket block bytes)) before after
+
+-- Whatever stands on the disk, the store gives the block this tag then, and all others the tags that it gave.
+abbrev pub GivesBlockTag : (block : ℕ) → (tag : List ℕ) → (old new : Store) → (before after : List Content) → Type 0
+GivesBlockTag block tag old new before after =
+    GivesTags old.geometry (λ c. with_block_tag block tag (given_tags old c)) (given_tags new) before after
 
 -- ---- a block of a request
 

@@ -4,11 +4,9 @@ ghost use Rattle.disk_model.specs.Causes.{HasCause};
 ghost use Rattle.disk_model.specs.Disk.{OnlyAdds, Reads};
 ghost use Rattle.disk_model.specs.Moments.{EachSince, HasNow};
 ghost use Rattle.image_model.specs.Geometry.{data_at};
-ghost use Rattle.place_model.specs.Tags.{with_block_tag};
-ghost use Rattle.direct_laws.specs.CallLaws.{GivesTags};
-ghost use Rattle.direct_mode.specs.Calls.{StandsWriting, WritesEach};
+ghost use Rattle.direct_mode.specs.Calls.{GivesBlockTag, StandsWriting, WritesEach};
 ghost use Rattle.direct_mode.specs.Cells.{IsOfBlock, IsTaggedBlock};
-ghost use Rattle.tag_store.specs.Store.{IsStore, given_tags};
+ghost use Rattle.tag_store.specs.Store.{IsStore};
 
 use hmac_tag::Tag;
 use sector_disk::{Disk, Failed};
@@ -31,8 +29,7 @@ pub fn write_block<D: Disk>(
 
     ensures written { OnOk result (WritesEach block bytes.now tag.now tags.old tags.new
         (D.moments disk.old) (D.moments disk.new)) }
-    ensures gives { OnOk result (GivesTags tags.old.geometry
-        (λ c. with_block_tag block tag.now (given_tags tags.old c)) (given_tags tags.new)
+    ensures gives { OnOk result (GivesBlockTag block tag.now tags.old tags.new
         (D.moments disk.old) (D.moments disk.new)) }
     ensures read { OnOk result (HasNow (Reads (data_at tags.old.geometry block) bytes.now)
         (D.moments disk.new)) }

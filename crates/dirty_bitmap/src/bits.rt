@@ -2,15 +2,16 @@
 ghost use Rattle.std.specs.Prelude.{◌≡◌, ◌<◌, ◌≤◌, ◌-◌, ℕ, true, false, Ok, Err, IfOk, OnErr, OnOk, find};
 ghost use Rattle.std.specs.List.{count_by, range_with_len};
 ghost use Rattle.disk_model.specs.Causes.{HasCause};
-ghost use Rattle.disk_model.specs.Disk.{EachImage, HasNothingPending, last_image};
+ghost use Rattle.disk_model.specs.Disk.{HasNothingPending, last_image};
 ghost use Rattle.disk_model.specs.Identity.{IsBound};
 ghost use Rattle.disk_model.specs.Moments.{HasNow};
 ghost use Rattle.image_model.specs.Bitmap.{is_dirty};
 ghost use Rattle.image_model.specs.Geometry.{IsGeometry, bitmap_sectors, journal_sectors, regions};
 ghost use Rattle.device_model.specs.Regions.{with_region};
 ghost use Rattle.bitmap_model.specs.BitmapDisk.{bit_sector};
-ghost use Rattle.bitmap_laws.specs.CallLaws.{AddsBits, AreSameBits, IsCleared, IsDirtied, IsNowBy, KeepsElsewhere};
-ghost use Rattle.dirty_bitmap.specs.Bits.{AddsToSector, HoldsBitsNow, bits_of};
+ghost use Rattle.bitmap_laws.specs.CallLaws.{AddsBits, AreSameBits, IsCleared, IsDirtied, IsNowBy};
+ghost use Rattle.dirty_bitmap.specs.Bits.{AddsToSector, HoldsBitsNow, KeepsHolding, KeepsHoldingWith, StaysButBit};
+ghost use Rattle.dirty_bitmap.specs.Bits.{bits_of};
 ghost use Rattle.dirty_bitmap.specs.Faults.{HasBitsCause};
 ghost use Rattle.dirty_bitmap.specs.declared.faults.BitsFault.TheVariants.{Memory as NoMemory};
 
@@ -144,15 +145,12 @@ impl Bits {
         ensures cause { HasCause (D.faults disk.old) (D.faults disk.new) result }
         ensures err { OnErr result (AreSameBits self.old.geometry (bits_of self.new) (bits_of self.old)) }
 
-        ensures geometry { self.new.geometry ≡ self.old.geometry }
-        ensures identity { D.identity disk.new ≡ D.identity disk.old }
-        ensures elsewhere { KeepsElsewhere self.old.geometry (D.moments disk.old) (D.moments disk.new) }
+        ensures stays { StaysButBit self.old self.new (D.identity disk.old) (D.identity disk.new)
+            (D.moments disk.old) (D.moments disk.new) }
 
         // Every candidate has the bit, and the other ones that were set.
-        ensures holds { OnOk result (HoldsBitsNow self.old.geometry (bits_of self.old) (D.moments disk.old)
-            → HoldsBitsNow self.old.geometry (bits_of self.new) (D.moments disk.new)) }
-        ensures images { OnOk result (HoldsBitsNow self.old.geometry (bits_of self.old) (D.moments disk.old)
-            → HasNow (EachImage (λ image. is_dirty self.old.geometry image region ≡ true)) (D.moments disk.new)) }
+        ensures holds { OnOk result (KeepsHoldingWith region self.old self.new
+            (D.moments disk.old) (D.moments disk.new)) }
         ensures sector { AddsToSector (bit_sector region) (D.moments disk.old) (D.moments disk.new) }
         ensures moments { AddsBits self.old.geometry (with_region region true (bits_of self.old))
             (D.moments disk.old) (D.moments disk.new) }
@@ -191,13 +189,11 @@ impl Bits {
         ensures cause { HasCause (D.faults disk.old) (D.faults disk.new) result }
         ensures err { OnErr result (AreSameBits self.old.geometry (bits_of self.new) (bits_of self.old)) }
 
-        ensures geometry { self.new.geometry ≡ self.old.geometry }
-        ensures identity { D.identity disk.new ≡ D.identity disk.old }
-        ensures elsewhere { KeepsElsewhere self.old.geometry (D.moments disk.old) (D.moments disk.new) }
+        ensures stays { StaysButBit self.old self.new (D.identity disk.old) (D.identity disk.new)
+            (D.moments disk.old) (D.moments disk.new) }
 
         // Reads give the bit clear, and every candidate has the other ones that were set.
-        ensures holds { OnOk result (HoldsBitsNow self.old.geometry (bits_of self.old) (D.moments disk.old)
-            → HoldsBitsNow self.old.geometry (bits_of self.new) (D.moments disk.new)) }
+        ensures holds { OnOk result (KeepsHolding self.old self.new (D.moments disk.old) (D.moments disk.new)) }
         ensures sector { AddsToSector (bit_sector region) (D.moments disk.old) (D.moments disk.new) }
         ensures moments { AddsBits self.old.geometry (with_region region false (bits_of self.old))
             (D.moments disk.old) (D.moments disk.new) }

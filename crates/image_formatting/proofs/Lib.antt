@@ -5,8 +5,8 @@ mod OrderLemmas
 mod JournalLemmas
 mod PlanningLemmas
 mod RunsLemmas
-mod TaggingLemmas
-mod WipingLemmas
+pub mod TaggingLemmas
+pub mod WipingLemmas
 mod FillingLemmas
 pub mod WholeLemmas
 mod FormattedLawsLemmas

@@ -106,7 +106,7 @@ HasTagRun-both rule spb first done part at image whole some one two = record {
 -- ---- what stands behind the tags
 
 -- The last sector of a run was read over its own.
-pub behind_is : (at size p : ℕ) (run buffer : List ℕ) (c : Content) → length run ≡ 512 * quotient_up size 512 → length buffer ≡ length run - 512 * (size / 512) → Reads (at + size / 512) buffer c → size ≤ p → p < length run
+pub behind_is : (at size p : ℕ) (run buffer : List ℕ) (c : Content) → length run ≡ 512 * quotient_up size 512 → length buffer ≡ length run - 512 * (size / 512) → Reads (at + size / 512) buffer c → 512 * (size / 512) ≤ p → p < length run
     → slice_index (put_mid (512 * (size / 512)) (length run - 512 * (size / 512)) run buffer) p ≡ slice_index (last_image c (at + p / 512)) (p % 512)
 behind_is at size p run buffer c long one read from low =
     let last = size / 512 in
@@ -120,6 +120,15 @@ behind_is at size p run buffer c long one read from low =
     ∙ get_or_append_left buffer (post_of (512 * last) (length run - 512 * last) run) 0 (p % 512) (omega (arith, whole))
     ∙ ap (λ (xs : List ℕ). slice_index xs (p % 512)) (Reads-one (at + last) buffer c whole read)
     ∙ ap (λ (n : ℕ). slice_index (last_image c (at + n)) (p % 512)) (sym sector)
+
+-- The sectors before it stay.
+pub before_is : (size p : ℕ) (run buffer : List ℕ) → length run ≡ 512 * quotient_up size 512 → p < 512 * (size / 512)
+    → slice_index (put_mid (512 * (size / 512)) (length run - 512 * (size / 512)) run buffer) p ≡ slice_index run p
+before_is size p run buffer long low =
+    let begin = 512 * (size / 512) in
+    let held : length (take begin run) ≡ begin = length-take-le begin run (omega (arith, long)) in
+    get_or_append_left (take begin run) (buffer ++ post_of begin (length run - begin) run) 0 p (omega (arith, held, low))
+    ∙ get_or-take begin run p 0 low
 
 -- ---- runs of tags in a row
 

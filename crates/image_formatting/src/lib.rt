@@ -27,3 +27,4 @@ pub use format_fault::FormatFault;
 pub use formatting::format;
 pub use laws::new_image_opens;
 pub use new_image::{ImageMode, NewImage, Padding, Wipe};
+pub use tagging::{put_tags, read_behind};

@@ -1,5 +1,5 @@
 //! The tags of blocks of zeros, in whole sectors.
-ghost use Rattle.std.specs.Prelude.{◌≡◌, ◌+◌, ◌*◌, ◌<◌, ◌≤◌, ◌^◌, ℕ, length, slice_index, OnOk};
+ghost use Rattle.std.specs.Prelude.{◌≡◌, ◌+◌, ◌*◌, ◌/◌, ◌<◌, ◌≤◌, ◌^◌, ℕ, length, slice_index, OnOk};
 ghost use Rattle.commit_id.specs.Shape.{IsShape};
 ghost use Rattle.disk_model.specs.Causes.{HasCause};
 ghost use Rattle.disk_model.specs.Disk.{last_image};
@@ -9,7 +9,7 @@ ghost use Rattle.image_model.specs.Geometry.{quotient_up};
 ghost use Rattle.image_model.specs.Sectors.{zero_bytes};
 ghost use Rattle.journal_section.specs.Entries.{IsWithin};
 ghost use Rattle.image_formatting.specs.Blocks.{HasTagRun, HoldsTags};
-ghost use Rattle.image_formatting.specs.Tagging.{HasReadBehind, MakesTags};
+ghost use Rattle.image_formatting.specs.Tagging.{HasReadBehind, LiesOn, MakesTags};
 ghost use Rattle.image_formatting.specs.Runs.{ChangesOnly};
 ghost use Rattle.image_formatting.specs.Stays.{IsRunByte, ReadsKeep};
 ghost use Rattle.image_formatting.specs.Written.{IsOfTagRun, OnlyWrites};
@@ -37,8 +37,7 @@ pub(crate) fn write_tags<D: Disk>(
 ) -> Result<(), Failed>
     requires bound { IsBound (D.identity disk.old).name }
     requires makes { MakesTags maker.now shape zeros.now tags.old }
-    requires run { at + quotient_up (count * shape.tag) 512 ≤ (D.identity disk.old).sectors }
-    requires device { (D.identity disk.old).sectors ≤ 2 ^ 48 }
+    requires run { LiesOn at (count * shape.tag) (D.identity disk.old).sectors }
     requires blocks { first + count ≤ 2 ^ 48 }
 
     ensures tags { OnOk result (HasNow (λ c. HasTagRun maker.now shape.spb first count at (last_image c))
@@ -82,8 +81,7 @@ fn write_tag_run<D: Disk>(
     requires makes { MakesTags maker.now shape zeros.now tags.old }
     requires some { 1 ≤ count }
     requires fits { count * shape.tag ≤ length tags.old }
-    requires run { at + quotient_up (count * shape.tag) 512 ≤ (D.identity disk.old).sectors }
-    requires device { (D.identity disk.old).sectors ≤ 2 ^ 48 }
+    requires run { LiesOn at (count * shape.tag) (D.identity disk.old).sectors }
     requires blocks { first + count ≤ 2 ^ 48 }
 
     ensures tags { OnOk result (HasNow (λ c. HasTagRun maker.now shape.spb first count at (last_image c))
@@ -113,15 +111,26 @@ fn write_tag_run<D: Disk>(
     disk.write_run(at, run)
 }
 
-/// Reads what stands behind so many bytes in their last sector, if they do not fill it.
-fn read_behind<D: Disk>(disk: &mut D, at: u64, size: usize, run: &mut [u8]) -> Result<(), Failed>
+/// Reads the last sector of so many bytes from sector `at` on, if they do not fill it: for a run of whole sectors that
+/// is to keep what stands behind them.
+///
+/// # Errors
+///
+/// - `Failed`: the disk failed.
+pub fn read_behind<D: Disk>(
+    disk: &mut D,
+    at: u64,
+    size: usize,
+    run: &mut [u8],
+) -> Result<(), Failed>
     requires bound { IsBound (D.identity disk.old).name }
     requires some { 1 ≤ size }
     requires run { length run.old ≡ 512 * quotient_up size 512 }
-    requires inside { at + quotient_up size 512 ≤ (D.identity disk.old).sectors }
-    requires device { (D.identity disk.old).sectors ≤ 2 ^ 48 }
+    requires inside { LiesOn at size (D.identity disk.old).sectors }
 
-    ensures behind { OnOk result (HasReadBehind at size (length run.old) run.new (D.moments disk.old)) }
+    ensures behind { OnOk result (HasReadBehind at (512 * (size / 512)) (length run.old) run.new
+        (D.moments disk.old)) }
+    ensures before { (p : ℕ) → p < 512 * (size / 512) → slice_index run.new p ≡ slice_index run.old p }
 
     ensures cause { HasCause (D.faults disk.old) (D.faults disk.new) result }
 
@@ -136,8 +145,15 @@ fn read_behind<D: Disk>(disk: &mut D, at: u64, size: usize, run: &mut [u8]) -> R
     disk.read_run(at + last as u64, &mut run[SECTOR_SIZE * last..])
 }
 
-/// Puts so many tags of blocks of zeros, one behind the other.
-fn put_tags(maker: &TagMaker, shape: Shape, zeros: &[u8], first: u64, count: u64, bytes: &mut [u8])
+/// Puts the tags of `count` blocks of zeros, of which `first` is the first, one behind the other.
+pub fn put_tags(
+    maker: &TagMaker,
+    shape: Shape,
+    zeros: &[u8],
+    first: u64,
+    count: u64,
+    bytes: &mut [u8],
+)
     requires shape { IsShape shape }
     requires size { maker.now.size ≡ shape.tag }
     requires zeros { zeros.now ≡ zero_bytes (512 * shape.spb) }

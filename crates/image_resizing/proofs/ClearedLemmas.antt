@@ -5,7 +5,6 @@ use Rattle.std.proofs.lemmas.Bool.{le-ltb, lt-ltb}
 use Rattle.std.proofs.lemmas.List.{length-replicate, take_all}
 use Rattle.std.proofs.lemmas.Option.{none-some}
 use Rattle.disk_model.specs.Disk.{AddsSome, Content, Image, IsImage, IsRun, Reads, last_image, sector_in, with_run}
-use Rattle.disk_model.specs.Identity.{DiskIdentity}
 use Rattle.disk_model.specs.Moments.{EachSince, FromStart, IsChangedBy, content_now}
 use Rattle.disk_model.proofs.MomentsLemmas.{EachMoment-weaker}
 use Rattle.image_model.specs.declared.flags.TheConstants.{DIRTY_BITMAP}
@@ -23,10 +22,10 @@ use Rattle.resize_model.specs.Growth.{Growth, IsOfNewBits, StandsFor, geometry_t
 use Rattle.resize_model.proofs.CallLemmas.{bits_done_law, bits_law, still_law, through_law}
 use Rattle.resize_model.proofs.GrowthLemmas.{sector_in-zeros}
 use Rattle.resize_model.proofs.PlacesLemmas.{more_regions_law}
-use Rattle.tag_store.specs.Store.{HoldsTag, Store, given_tags}
+use Rattle.tag_store.specs.Store.{HoldsTag}
 use Rattle.image_resizing.specs.declared.planning.Plan.{Plan}
 use Rattle.image_resizing.specs.Cleared.{ClearsSectors, StandsClearing, bits_begin, bits_end}
-use Rattle.image_resizing.specs.Filled.{HasFilledOn, KeepsEachStore}
+use Rattle.image_resizing.specs.Filled.{HasFilledOn, read_tags}
 use Rattle.image_resizing.specs.Plan.{IsPlan, growth_of}
 use Rattle.image_resizing.proofs.PlanLemmas.{plan_more, plan_places}
 
@@ -69,10 +68,9 @@ module _ (sectors : ℕ) (plan : Plan) (is : IsPlan sectors plan) (set : has_fla
       let last = group_inside (next + count - 1) (omega (arith, some, inside)) in
       record { whole = omega (arith, size); some = omega (arith, size, some); inside = omega (arith, size, some, last.0, last.1) }
 
-  pub group_no_tag : (next count : ℕ) (bytes : List ℕ) (g : Geometry) → length bytes ≡ 512 * count → next + count ≤ bits_end plan → g ≡ plan.grown.geometry
-      → (s : ℕ) → 8 + next ≤ s → s < 8 + next + length bytes / 512 → HoldsTag g s → ⊥
-  group_no_tag next count bytes g size inside places s above low holds =
-      let there = subst (λ (y : Geometry). HoldsTag y s) places holds in
+  pub group_no_tag : (next count : ℕ) (bytes : List ℕ) → length bytes ≡ 512 * count → next + count ≤ bits_end plan
+      → (s : ℕ) → 8 + next ≤ s → s < 8 + next + length bytes / 512 → HoldsTag plan.grown.geometry s → ⊥
+  group_no_tag next count bytes size inside s above low there =
       let behind = tag_byte-behind plan.grown.geometry sectors there.block there.byte is.grown.geometry there.block_low in
       let before = (group_inside (s - 8) (omega (arith, above, low, size, inside))).0 in
       omega (arith, behind, there.is, before, above)
@@ -133,31 +131,27 @@ module _ (sectors : ℕ) (plan : Plan) (is : IsPlan sectors plan) (set : has_fla
         ∙ (stands.each s (last_image c s) (reads s)).bits set region low at
 
     -- A call that writes such sectors.
-    pub bits_stand : (next count done : ℕ) (bytes : List ℕ) (store : Store) (a b : List Content) → AreNewBits (growth_of sectors plan image) next count bytes
-        → HasFilledOn sectors plan image done done next store a → EachSince (AddsSome (8 + next) bytes) a b → StandsThrough (growth_of sectors plan image) a b
-    bits_stand next count done bytes store a b are has m = bits_law (growth_of sectors plan image) done done next count bytes (given_tags store) a b are has m
+    pub bits_stand : (next count done : ℕ) (bytes : List ℕ) (a b : List Content) → AreNewBits (growth_of sectors plan image) next count bytes
+        → HasFilledOn sectors plan image done done next a → EachSince (AddsSome (8 + next) bytes) a b → StandsThrough (growth_of sectors plan image) a b
+    bits_stand next count done bytes a b are has m = bits_law (growth_of sectors plan image) done done next count bytes (read_tags plan) a b are has m
 
-    pub bits_fill : (next count done : ℕ) (bytes : List ℕ) (store : Store) (a b : List Content) → AreNewBits (growth_of sectors plan image) next count bytes → store.geometry ≡ plan.grown.geometry
-        → HasFilledOn sectors plan image done done next store a → IsChangedBy (with_run (8 + next) bytes) a b → GivesTags store.geometry (given_tags store) (given_tags store) a b
-        → HasFilledOn sectors plan image done done (next + count) store b
-    bits_fill next count done bytes store a b are places has written gives =
-        bits_done_law (growth_of sectors plan image) done done next count bytes (given_tags store) (given_tags store) a b are has written
-        (subst (λ (g : Geometry). GivesTags g (given_tags store) (given_tags store) a b) (places ∙ plan_places sectors plan is image) gives)
+    pub bits_fill : (next count done : ℕ) (bytes : List ℕ) (a b : List Content) → AreNewBits (growth_of sectors plan image) next count bytes
+        → HasFilledOn sectors plan image done done next a → IsChangedBy (with_run (8 + next) bytes) a b → GivesTags plan.grown.geometry (read_tags plan) (read_tags plan) a b
+        → HasFilledOn sectors plan image done done (next + count) b
+    bits_fill next count done bytes a b are has written gives =
+        bits_done_law (growth_of sectors plan image) done done next count bytes (read_tags plan) (read_tags plan) a b are has written
+        (subst (λ (g : Geometry). GivesTags g (read_tags plan) (read_tags plan) a b) (plan_places sectors plan is image) gives)
 
 -- ---- calls in a row
 
-module _ (disk : DiskIdentity) (plan : Plan) where
-  pub keeps_then : (a b c : List Content) → KeepsEachStore plan.grown.geometry disk a b → KeepsEachStore plan.grown.geometry disk b c → KeepsEachStore plan.grown.geometry disk a c
-  keeps_then a b c first second store places is = second store places (first store places is)
+module _ (sectors : ℕ) (plan : Plan) where
+  pub clears_then : (a b c : List Content) (n m p : ℕ) → ClearsSectors sectors plan n m a b → ClearsSectors sectors plan m p b c → ClearsSectors sectors plan n p a c
+  clears_then a b c n m p first second image done has = second image done (first image done has)
 
-  pub clears_then : (a b c : List Content) (n m p : ℕ) → KeepsEachStore plan.grown.geometry disk a b → ClearsSectors disk plan n m a b → ClearsSectors disk plan m p b c → ClearsSectors disk plan n p a c
-  clears_then a b c n m p keeps first second store places is image done has = second store places (keeps store places is) image done (first store places is image done has)
+  pub clearing_still : (a : List Content) (n : ℕ) → StandsClearing sectors plan n a a
+  clearing_still a n image done has = still_law (growth_of sectors plan image) a a refl (λ c told. (has c told).stands)
 
-  pub clearing_still : (a : List Content) (n : ℕ) → StandsClearing disk plan n a a
-  clearing_still a n store places is image done has = still_law (growth_of disk.sectors plan image) a a refl (λ c told. (has c told).stands)
-
-  pub clearing_then : (a b c : List Content) (n m : ℕ) → KeepsEachStore plan.grown.geometry disk a b → ClearsSectors disk plan n m a b → StandsClearing disk plan n a b
-      → StandsClearing disk plan m b c → StandsClearing disk plan n a c
-  clearing_then a b c n m keeps clears first second store places is image done has =
-      through_law (growth_of disk.sectors plan image) a b c (first store places is image done has)
-      (second store places (keeps store places is) image done (clears store places is image done has))
+  pub clearing_then : (a b c : List Content) (n m : ℕ) → ClearsSectors sectors plan n m a b → StandsClearing sectors plan n a b
+      → StandsClearing sectors plan m b c → StandsClearing sectors plan n a c
+  clearing_then a b c n m clears first second image done has =
+      through_law (growth_of sectors plan image) a b c (first image done has) (second image done (clears image done has))

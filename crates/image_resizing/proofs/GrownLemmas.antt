@@ -8,63 +8,68 @@ use Rattle.image_model.specs.declared.super_fields.SuperFault.{SuperFault}
 use Rattle.image_model.specs.Cells.{Cell, placed_cells_of}
 use Rattle.image_model.specs.Geometry.{Geometry, regions}
 use Rattle.image_model.specs.Superblock.{Superblock, superblock_of}
-use Rattle.buffer_cache.specs.HeldSectors.{no_sectors}
-use Rattle.direct_laws.specs.CallLaws.{AddsTags, ReadsImage, ReadsTagsNow}
-use Rattle.direct_laws.specs.ServeLaws.{Syncs, WritesBack}
+use Rattle.buffer_cache.proofs.CachedLemmas.{changed_now}
+use Rattle.direct_laws.specs.CallLaws.{ReadsImage, ReadsTagsNow}
+use Rattle.direct_laws.specs.ServeLaws.{Syncs}
 use Rattle.place_model.specs.Format.{cells_on}
+use Rattle.place_model.proofs.PlacedLemmas.{placed_tag-byte}
 use Rattle.resize_model.specs.CallLaws.{IsFounded, IsToBeFounded, StandsThrough}
 use Rattle.resize_model.specs.Growth.{Growth, IsCutOf, geometry_then}
-use Rattle.resize_model.proofs.CallLemmas.{back_done_law, back_law, filling_law, head_done_law, head_law, head_sync_law, left_law, ready_law, sync_done_law, sync_law}
+use Rattle.resize_model.proofs.CallLemmas.{filling_law, head_done_law, head_law, head_sync_law, left_law, ready_law, sync_done_law, sync_law}
 use Rattle.resize_model.proofs.ImageLemmas.{placed_then}
 use Rattle.resize_model.specs.Left.{IsResizedOrNot}
 use Rattle.resize_model.proofs.LeftLemmas.{growth_done_law, growth_left_law, stored_law, ungrown_done_law}
 use Rattle.resize_model.proofs.PlacesLemmas.{quotients_in_order}
-use Rattle.tag_store.specs.Store.{Store, given_tags}
 use Rattle.image_resizing.specs.declared.planning.Plan.{Plan}
 use Rattle.image_resizing.specs.Cleared.{bits_begin, bits_end}
-use Rattle.image_resizing.specs.Filled.{HasFilledOn}
+use Rattle.image_resizing.specs.Filled.{HasFilledOn, read_tags}
 use Rattle.image_resizing.specs.Grown.{IsPrepared, IsResizedFrom, IsSettledFrom, IsToGrow, StandsNow}
 use Rattle.image_resizing.specs.Plan.{IsPlan, added, growth_of, present_format}
+use Rattle.image_resizing.proofs.FilledLemmas.{IsRead, read_whole}
 use Rattle.image_resizing.proofs.PlanLemmas.{plan_more, plan_places}
 
 module _ (sectors : ℕ) (plan : Plan) (is : IsPlan sectors plan) (image : Image) where
   abbrev w : Growth
   w = growth_of sectors plan image
 
-  -- A store over a cache that holds nothing gives what is in place.
-  pub begins : (store : Store) (slots : ℕ) (a : List Content) → store ≡ (let s : Store = record { geometry = plan.grown.geometry; sectors = no_sectors slots } in s)
-      → StandsNow sectors plan image a → HasFilledOn sectors plan image 0 0 (bits_begin plan) store a
-  begins store slots a fresh to_grow =
-      filling_law w (bits_begin plan) (given_tags store) a (λ c told. (to_grow c told).stands)
+  -- At the start reads give what is in place.
+  pub begins : (a : List Content) → StandsNow sectors plan image a → HasFilledOn sectors plan image 0 0 (bits_begin plan) a
+  begins a to_grow =
+      filling_law w (bits_begin plan) (read_tags plan) a (λ c told. (to_grow c told).stands)
       (λ region new. quotients_in_order (regions plan.present.geometry) region 4096 (omega arith) new.new)
       (λ c told b low.
-      ap (λ (s : Store). given_tags s c b) fresh
-      ∙ ap (λ (g : Geometry). (placed_cells_of g (last_image c) b).tag) (plan_places sectors plan is image)
+      ap (λ (g : Geometry). (placed_cells_of g (last_image c) b).tag) (plan_places sectors plan is image)
       ∙ ap (λ (cell : Cell). cell.tag) (placed_then plan.present.geometry (geometry_then w).blocks (last_image c) b)
       ∙ ap (λ (found : Image). (placed_cells_of plan.present.geometry found b).tag) (to_grow c told).reads)
 
-  same_then : (store : Store) → store.geometry ≡ plan.grown.geometry → store.geometry ≡ geometry_then (growth_of sectors plan image)
-  same_then store places = places ∙ plan_places sectors plan is image
+  module _ (written groups : ℕ) (a b : List Content) (has : HasFilledOn sectors plan image written written groups a) (read : IsRead sectors a) where
+    -- All is synced.
+    pub sync_stands : EachSince (λ start c. c ≡ newest_only start) a b → StandsThrough w a b
+    sync_stands m = sync_law w a b (λ c told. (has c told).stands) read.image m
 
-  module _ (written groups : ℕ) (store : Store) (places : store.geometry ≡ plan.grown.geometry) (a b : List Content) (has : HasFilledOn sectors plan image written written groups store a) where
-    -- Tags are written back, whether the call fails or not,
-    pub back_stands : AddsTags store.geometry (given_tags store) (given_tags store) a b → StandsThrough w a b
-    back_stands adds = back_law w written written groups (given_tags store) a b has (subst (λ (g : Geometry). AddsTags g (given_tags store) (given_tags store) a b) (same_then store places) adds)
+    reads_tags : ReadsTagsNow plan.grown.geometry (read_tags plan) a
+    reads_tags c told = record {
+      each = λ n i low i_low.
+          sym (placed_tag-byte plan.grown.geometry sectors is.grown.geometry (last_image c) (read_whole sectors a read c told) n low (placed_cells_of plan.grown.geometry (last_image c) n) i i_low);
+    }
 
-    pub back_fills : (new : Store) → WritesBack store.geometry (given_tags store) (given_tags new) a b → HasFilledOn sectors plan image written written groups new b
-    back_fills new back = back_done_law w written written groups (given_tags store) (given_tags new) a b has (subst (λ (g : Geometry). WritesBack g (given_tags store) (given_tags new) a b) (same_then store places) back)
+    syncs : IsChangedBy newest_only a b → EachSince (λ start c. c ≡ newest_only start) a b → Syncs plan.grown.geometry (read_tags plan) (read_tags plan) a b
+    syncs synced m = record {
+      image = read.image;
+      synced = synced;
+      adds = m;
+      gives = λ start told c told_c n low.
+          let first = changed_now newest_only (content_now a) (content_now b) synced c told_c in
+          ap (λ (x : Content). read_tags plan x n) (first.2 ∙ ap newest_only (same_Some first.0 start (sym first.1 ∙ told)));
+    }
 
-    -- and all is synced.
-    pub sync_stands : ReadsImage a → EachSince (λ start c. c ≡ newest_only start) a b → StandsThrough w a b
-    sync_stands reads m = sync_law w a b (λ c told. (has c told).stands) reads m
-
-    pub sync_prepares : ReadsTagsNow store.geometry (given_tags store) a → Syncs store.geometry (given_tags store) (given_tags store) a b
+    pub sync_prepares : IsChangedBy newest_only a b → EachSince (λ start c. c ≡ newest_only start) a b
         → written ≡ added plan → groups ≡ bits_end plan → HasNow (IsPrepared sectors plan image) b
-    sync_prepares reads syncs all bits =
-        let done = sync_done_law w written written groups (given_tags store) (given_tags store) a b has
-        (subst (λ (g : Geometry). ReadsTagsNow g (given_tags store) a) (same_then store places) reads)
-        (subst (λ (g : Geometry). Syncs g (given_tags store) (given_tags store) a b) (same_then store places) syncs) in
-        let new = ready_law w written groups (given_tags store) b
+    sync_prepares synced m all bits =
+        let done = sync_done_law w written written groups (read_tags plan) (read_tags plan) a b has
+        (subst (λ (g : Geometry). ReadsTagsNow g (read_tags plan) a) (plan_places sectors plan is image) reads_tags)
+        (subst (λ (g : Geometry). Syncs g (read_tags plan) (read_tags plan) a b) (plan_places sectors plan is image) (syncs synced m)) in
+        let new = ready_law w written groups (read_tags plan) b
         (let more = plan_more sectors plan is in let e = ap (λ (g : Geometry). g.blocks) (plan_places sectors plan is image) in omega (arith, more, e, all))
         (λ region of.
         let low : region < regions plan.grown.geometry = subst (λ (g : Geometry). region < regions g) (sym (plan_places sectors plan is image)) of.low in

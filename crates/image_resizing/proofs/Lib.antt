@@ -1,5 +1,9 @@
 mod PlanLemmas
 mod FilledLemmas
+mod RowLemmas
+mod PartLemmas
+mod TagRunLemmas
+mod TaggedLemmas
 mod ClearedLemmas
 mod GrownLemmas
 mod RefusingLemmas

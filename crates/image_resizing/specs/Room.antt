@@ -13,10 +13,14 @@ use Rattle.image_resizing.specs.declared.room.TheConstants.{HELD_SECTORS, RUN_SE
 abbrev pub zeros_at_once : List ℕ
 zeros_at_once = zero_bytes (512 * RUN_SECTORS)
 
--- What is allocated has these, and holds no sector of tags.
+-- The bytes of tags that are written at once, at most.
+abbrev pub tags_at_once : ℕ
+tags_at_once = 512 * RUN_SECTORS
+
+-- What is allocated has the zeros, and room for the tags.
 pub record HasGrowthRoom (room : GrowthRoom) : Type 0 where
-  pub cache : sectors_of room.cache ≡ no_sectors HELD_SECTORS
   pub zeros : room.zeros.items ≡ zeros_at_once
+  pub tags : length room.tags.items ≡ tags_at_once
 
 -- It has as many sectors as the journal, and holds none of tags.
 pub record HasRecoveryRoom (g : Geometry) (room : RecoveryRoom) : Type 0 where

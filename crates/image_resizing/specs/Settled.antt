@@ -5,6 +5,8 @@ use Rattle.disk_model.specs.Moments.{EachMoment, EachSince, FromStart, HasNow}
 use Rattle.device_model.specs.Ending.{ImageFault}
 use Rattle.place_model.specs.Format.{HasCells, OpensAs, cells_on}
 use Rattle.image_format.specs.Format.{IsReadNow}
+use Rattle.journal_reading.specs.declared.reading.JudgedJournal.{JudgedJournal}
+use Rattle.journal_reading.specs.Journal.{FitsJournal, IsJournalOn}
 use Rattle.resize_model.specs.Left.{IsResizedOrNot, IsSyncedAtMost}
 use Rattle.resize_model.specs.Refusals.{fault_by_journal}
 use Rattle.image_resizing.specs.declared.planning.Plan.{Plan}
@@ -24,6 +26,11 @@ IsPlanned sectors plan moments = (key : Option (List ℕ)) → HasNow (IsReadNow
 -- It can be opened.
 abbrev pub OpensPlanned : (sectors : ℕ) → Plan → List Content → Type 0
 OpensPlanned sectors plan moments = HasNow (λ c. OpensAs (present_format sectors plan) (last_image c)) moments
+
+-- The journal that was judged is the image's.
+pub record KnowsJournal (plan : Plan) (journal : JudgedJournal) (moments : List Content) : Type 0 where
+  pub fits : FitsJournal plan.present.geometry journal
+  pub on : HasNow (λ c. IsJournalOn plan.present.geometry (last_image c) journal) moments
 
 -- ---- a call that settles
 

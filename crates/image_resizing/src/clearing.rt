@@ -1,12 +1,11 @@
 //! The bits of new regions, which are cleared where there is a bitmap.
-ghost use Rattle.std.specs.Prelude.{◌≡◌, ◌≤◌, ◌<◌, ◌/◌, ◌+◌, ◌*◌, ◌%◌, true, OnOk};
+ghost use Rattle.std.specs.Prelude.{◌≡◌, ◌<◌, ◌/◌, ◌+◌, ◌*◌, ◌%◌, true, OnOk};
 ghost use Rattle.disk_model.specs.Causes.{HasCause};
 ghost use Rattle.disk_model.specs.Identity.{IsBound};
 ghost use Rattle.image_model.specs.declared.flags.TheConstants.{DIRTY_BITMAP as BITMAP};
 ghost use Rattle.image_model.specs.Geometry.{regions};
 ghost use Rattle.image_model.specs.Superblock.{has_flag};
-ghost use Rattle.image_resizing.specs.Cleared.{ClearsSectors, StandsClearing, bits_begin, bits_end};
-ghost use Rattle.image_resizing.specs.Filled.{KeepsEachStore};
+ghost use Rattle.image_resizing.specs.Cleared.{ClearsSectors, IsNewRun, StandsClearing, bits_begin, bits_end};
 ghost use Rattle.image_resizing.specs.Plan.{IsPlan};
 ghost use Rattle.image_resizing.specs.Room.{zeros_at_once};
 
@@ -35,16 +34,14 @@ pub(crate) fn clear_bits<D: Disk>(disk: &mut D, plan: &Plan, zeros: &[u8]) -> Re
     requires plan { IsPlan (D.identity disk.old).sectors plan.now }
     requires zeros { zeros.now ≡ zeros_at_once }
 
-    ensures cleared { OnOk result (ClearsSectors (D.identity disk.old)
+    ensures cleared { OnOk result (ClearsSectors (D.identity disk.old).sectors
         plan.now (bits_begin plan.now) (bits_end plan.now) (D.moments disk.old) (D.moments disk.new)) }
-    ensures store { OnOk result (KeepsEachStore plan.now.grown.geometry (D.identity disk.old)
-        (D.moments disk.old) (D.moments disk.new)) }
 
     ensures cause { HasCause (D.faults disk.old) (D.faults disk.new) result }
 
     ensures identity { D.identity disk.new ≡ D.identity disk.old }
 
-    ensures stands { StandsClearing (D.identity disk.old) plan.now (bits_begin plan.now)
+    ensures stands { StandsClearing (D.identity disk.old).sectors plan.now (bits_begin plan.now)
         (D.moments disk.old) (D.moments disk.new) }
 {
     let first = plan.present.geometry.regions();
@@ -67,16 +64,14 @@ fn clear_first<D: Disk>(disk: &mut D, plan: &Plan) -> Result<(), Failed>
     requires bitmap { has_flag BITMAP plan.now.present.fields.flags ≡ true }
     requires some { regions plan.now.present.geometry < regions plan.now.grown.geometry }
 
-    ensures cleared { OnOk result (ClearsSectors (D.identity disk.old)
+    ensures cleared { OnOk result (ClearsSectors (D.identity disk.old).sectors
         plan.now (bits_begin plan.now) (bits_begin plan.now + 1) (D.moments disk.old) (D.moments disk.new)) }
-    ensures store { OnOk result (KeepsEachStore plan.now.grown.geometry (D.identity disk.old)
-        (D.moments disk.old) (D.moments disk.new)) }
 
     ensures cause { HasCause (D.faults disk.old) (D.faults disk.new) result }
 
     ensures identity { D.identity disk.new ≡ D.identity disk.old }
 
-    ensures stands { StandsClearing (D.identity disk.old) plan.now (bits_begin plan.now)
+    ensures stands { StandsClearing (D.identity disk.old).sectors plan.now (bits_begin plan.now)
         (D.moments disk.old) (D.moments disk.new) }
 {
     let first = plan.present.geometry.regions();
@@ -99,16 +94,14 @@ fn clear_behind<D: Disk>(disk: &mut D, plan: &Plan, zeros: &[u8]) -> Result<(), 
     requires bitmap { has_flag BITMAP plan.now.present.fields.flags ≡ true }
     requires some { regions plan.now.present.geometry < regions plan.now.grown.geometry }
 
-    ensures cleared { OnOk result (ClearsSectors (D.identity disk.old)
+    ensures cleared { OnOk result (ClearsSectors (D.identity disk.old).sectors
         plan.now (bits_begin plan.now + 1) (bits_end plan.now) (D.moments disk.old) (D.moments disk.new)) }
-    ensures store { OnOk result (KeepsEachStore plan.now.grown.geometry (D.identity disk.old)
-        (D.moments disk.old) (D.moments disk.new)) }
 
     ensures cause { HasCause (D.faults disk.old) (D.faults disk.new) result }
 
     ensures identity { D.identity disk.new ≡ D.identity disk.old }
 
-    ensures stands { StandsClearing (D.identity disk.old) plan.now (bits_begin plan.now + 1)
+    ensures stands { StandsClearing (D.identity disk.old).sectors plan.now (bits_begin plan.now + 1)
         (D.moments disk.old) (D.moments disk.new) }
 {
     let end = plan.grown.geometry.regions().div_ceil(SECTOR_BITS);
@@ -138,21 +131,16 @@ fn clear_run<D: Disk>(
     requires plan { IsPlan (D.identity disk.old).sectors plan.now }
     requires zeros { zeros.now ≡ zeros_at_once }
     requires bitmap { has_flag BITMAP plan.now.present.fields.flags ≡ true }
-    requires behind { bits_begin plan.now < next }
-    requires some { 1 ≤ count }
-    requires most { count ≤ 512 }
-    requires inside { next + count ≤ bits_end plan.now }
+    requires run { IsNewRun plan.now next count }
 
-    ensures cleared { OnOk result (ClearsSectors (D.identity disk.old) plan.now next (next + count)
-        (D.moments disk.old) (D.moments disk.new)) }
-    ensures store { OnOk result (KeepsEachStore plan.now.grown.geometry (D.identity disk.old)
+    ensures cleared { OnOk result (ClearsSectors (D.identity disk.old).sectors plan.now next (next + count)
         (D.moments disk.old) (D.moments disk.new)) }
 
     ensures cause { HasCause (D.faults disk.old) (D.faults disk.new) result }
 
     ensures identity { D.identity disk.new ≡ D.identity disk.old }
 
-    ensures stands { StandsClearing (D.identity disk.old) plan.now next
+    ensures stands { StandsClearing (D.identity disk.old).sectors plan.now next
         (D.moments disk.old) (D.moments disk.new) }
 {
     disk.write_run(BITMAP_AT + next, &zeros[..SECTOR_SIZE * count as usize])

@@ -13,8 +13,8 @@ use crate::filling::fill_blocks;
 use crate::founding::found;
 use crate::planning::Plan;
 use crate::room::GrowthRoom;
+use crate::tagging::tag_blocks;
 use sector_disk::{Disk, Failed};
-use tag_store::Tags;
 
 /// Grows the image of a disk on which nothing is pending, where it is to provide more. Where it is not, no call is
 /// made.
@@ -90,10 +90,11 @@ fn prepare<D: Disk>(disk: &mut D, plan: &Plan, room: GrowthRoom) -> Result<(), F
 
     ensures stands { StandsGrowing (D.identity disk.old).sectors plan.now (D.moments disk.old) (D.moments disk.new) }
 {
-    let mut tags = Tags::new(plan.grown.geometry, room.cache);
+    let mut room = room;
     let zeros = room.zeros.as_slice();
-    fill_blocks(disk, &mut tags, plan, zeros)?;
+    let tags = room.tags.as_mut_slice();
+    fill_blocks(disk, plan, zeros)?;
+    tag_blocks(disk, plan, zeros, tags)?;
     clear_bits(disk, plan, zeros)?;
-    tags.write_back(disk)?;
     disk.sync()
 }

@@ -2,9 +2,9 @@
 //!
 //! What the first sector tells is read and judged, with what it is to tell (`planning.rt`), and all memory is taken
 //! before anything is written. An image without a bitmap is recovered, and one with a bitmap synced
-//! (`recovering.rt`). Then the new blocks get zeros and their tags (`filling.rt`), and new regions clear bits
-//! (`clearing.rt`); all that is synced before the first sector tells of it (`founding.rt`). So what a cut leaves is
-//! the old image, or the new one.
+//! (`recovering.rt`). Then the new blocks get zeros (`filling.rt`) and their tags (`tagging.rt`), both in whole runs,
+//! and new regions clear bits (`clearing.rt`); all that is synced before the first sector tells of it
+//! (`founding.rt`). So what a cut leaves is the old image, or the new one.
 //!
 //! A contract sees a `Plan` as its fields. What is left of an image stands in `resize_model`, whose `specs/Left.antt`
 //! is the file to read first; then `specs/Call.antt` and `specs/Plan.antt` here.
@@ -19,6 +19,7 @@ mod recovering;
 mod resize_fault;
 mod resizing;
 mod room;
+mod tagging;
 
 pub use resize_fault::ResizeFault;
 pub use resizing::resize;

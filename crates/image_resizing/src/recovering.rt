@@ -1,15 +1,12 @@
 //! What stands before the growth of an image without a bitmap: the disk is synced, and the image recovered.
 ghost use Rattle.std.specs.Prelude.{◌≡◌, false, OnOk};
 ghost use Rattle.disk_model.specs.Causes.{HasCause};
-ghost use Rattle.disk_model.specs.Disk.{last_image};
 ghost use Rattle.disk_model.specs.Identity.{IsBound};
-ghost use Rattle.disk_model.specs.Moments.{HasNow};
 ghost use Rattle.image_model.specs.declared.flags.TheConstants.{DIRTY_BITMAP as BITMAP};
 ghost use Rattle.image_model.specs.Superblock.{has_flag};
-ghost use Rattle.journal_reading.specs.Journal.{FitsJournal, IsJournalOn};
 ghost use Rattle.image_resizing.specs.Plan.{IsPlan};
 ghost use Rattle.image_resizing.specs.Room.{HasRecoveryRoom};
-ghost use Rattle.image_resizing.specs.Settled.{OpensPlanned, SettlesImage, SettlesInOrder};
+ghost use Rattle.image_resizing.specs.Settled.{KnowsJournal, OpensPlanned, SettlesImage, SettlesInOrder};
 ghost use Rattle.image_resizing.specs.Writing.{WritesRecovery};
 
 use crate::planning::Plan;
@@ -35,9 +32,7 @@ pub(crate) fn recover_image<D: Disk>(
     requires plan { IsPlan (D.identity disk.old).sectors plan.now }
     requires opens { OpensPlanned (D.identity disk.old).sectors plan.now (D.moments disk.old) }
     requires no_bitmap { has_flag BITMAP plan.now.present.fields.flags ≡ false }
-    requires fits { FitsJournal plan.now.present.geometry journal.now }
-    requires journal { HasNow (λ c. IsJournalOn plan.now.present.geometry (last_image c) journal.now)
-        (D.moments disk.old) }
+    requires journal { KnowsJournal plan.now journal.now (D.moments disk.old) }
     requires room { HasRecoveryRoom plan.now.present.geometry room }
 
     ensures settled { OnOk result (SettlesImage (D.identity disk.old).sectors plan.now

@@ -1,21 +1,17 @@
 //! Resizing, as it is asked for.
 ghost use Rattle.std.specs.Prelude.{◌≡◌, ◌≢◌, false, true, Err, IfOk, IsErr, OnOk};
 ghost use Rattle.disk_model.specs.Causes.{HasCause};
-ghost use Rattle.disk_model.specs.Disk.{last_image};
 ghost use Rattle.disk_model.specs.Identity.{IsBound};
-ghost use Rattle.disk_model.specs.Moments.{HasNow};
 ghost use Rattle.hmac_tag.specs.TagMaker.{key_of};
 ghost use Rattle.image_model.specs.declared.flags.TheConstants.{DIRTY_BITMAP as BITMAP};
 ghost use Rattle.image_model.specs.Superblock.{has_flag};
-ghost use Rattle.journal_reading.specs.Journal.{FitsJournal, IsJournalOn};
 ghost use Rattle.resize_model.specs.Left.{KeepsRefused};
 ghost use Rattle.image_resizing.specs.Call.{LeavesResized, MovesInOrder, TellsProvided, TellsRefusal, WritesInOrder};
 ghost use Rattle.image_resizing.specs.Faults.{HasResizeCause};
 ghost use Rattle.image_resizing.specs.Plan.{IsPlan};
 ghost use Rattle.image_resizing.specs.Room.{HasGrowthRoom, HasRecoveryRoom};
-ghost use Rattle.image_resizing.specs.Settled.{IsPlanned, KeepsJournal, OpensPlanned, ResizesImage, ResizesNow};
-ghost use Rattle.image_resizing.specs.Settled.{ResizesOpenable};
-ghost use Rattle.image_resizing.specs.Settled.{TellsJournal};
+ghost use Rattle.image_resizing.specs.Settled.{IsPlanned, KeepsJournal, KnowsJournal, OpensPlanned, ResizesImage};
+ghost use Rattle.image_resizing.specs.Settled.{ResizesNow, ResizesOpenable, TellsJournal};
 ghost use Rattle.image_resizing.specs.Writing.{WritesOpenable, WritesResize};
 
 use crate::ResizeFault;
@@ -158,9 +154,7 @@ fn recover_and_grow<D: Disk>(
     requires plan { IsPlan (D.identity disk.old).sectors plan.now }
     requires opens { OpensPlanned (D.identity disk.old).sectors plan.now (D.moments disk.old) }
     requires no_bitmap { has_flag BITMAP plan.now.present.fields.flags ≡ false }
-    requires fits { FitsJournal plan.now.present.geometry journal.now }
-    requires journal { HasNow (λ c. IsJournalOn plan.now.present.geometry (last_image c) journal.now)
-        (D.moments disk.old) }
+    requires journal { KnowsJournal plan.now journal.now (D.moments disk.old) }
     requires recovery { HasRecoveryRoom plan.now.present.geometry recovery }
     requires growth { HasGrowthRoom growth }
 

@@ -11,12 +11,12 @@ use sector_disk::Memory;
 use sector_pool::Region;
 use std::alloc::Global;
 
-/// How many sectors of zeros are written at once.
+/// How many sectors of zeros, or of tags, are written at once.
 ///
 /// Own: 256 KiB, behind which a larger write is no faster.
 pub(crate) const RUN_SECTORS: u64 = 512;
 
-/// How many sectors of tags are held in memory.
+/// How many sectors of tags a recovery holds in memory.
 ///
 /// Own: 128 KiB of them.
 const HELD_SECTORS: u64 = 256;
@@ -24,10 +24,10 @@ const HELD_SECTORS: u64 = 256;
 /// What is allocated for the new blocks.
 #[derive(Drop)]
 pub(crate) struct GrowthRoom {
-    /// What holds sectors of their tags, none yet.
-    pub(crate) cache: Cache,
     /// Zeros, as many as are written at once.
     pub(crate) zeros: Vec<u8>,
+    /// Whole sectors for their tags, as many as are written at once.
+    pub(crate) tags: Vec<u8>,
 }
 
 impl GrowthRoom {
@@ -39,9 +39,9 @@ impl GrowthRoom {
     pub(crate) fn new(alloc: Global) -> Result<GrowthRoom, Memory>
         ensures { IfOk result HasGrowthRoom }
     {
-        let cache = Cache::new(alloc, HELD_SECTORS)?;
         let zeros = zeros_of(alloc, RUN_SECTORS)?;
-        Ok(GrowthRoom { cache, zeros })
+        let tags = zeros_of(alloc, RUN_SECTORS)?;
+        Ok(GrowthRoom { zeros, tags })
     }
 }
 

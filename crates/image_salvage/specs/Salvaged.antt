@@ -42,6 +42,18 @@ pub record IsSalvageOf (image : Salvaged) (disk : DiskIdentity) (moments : List 
   pub tags : HasRoom 2 image.tags moments
   pub blocks : HasRoom 8 image.blocks moments
 
+-- The format is one of the disk, which is bound, and the rule is that of its tags.
+pub record FitsFormat (rule : TagRule) (format : ImageFormat) (disk : DiskIdentity) : Type 0 where
+  pub bound : IsBound disk.name
+  pub is : IsFormat disk.sectors format
+  pub salt : rule.salt ≡ salt_of format.fields
+  pub size : rule.size ≡ format.geometry.shape.tag_size
+
+-- There is room for a tag and for a block, and what was read last of tags and of blocks is what reads give.
+pub record HaveRoom (tags blocks : Window) (moments : List Content) : Type 0 where
+  pub tags_ : HasRoom 2 tags moments
+  pub blocks_ : HasRoom 8 blocks moments
+
 -- It is the same image, whatever was read and told of it.
 pub record IsSameSalvage (old new : Salvaged) : Type 0 where
   pub format : new.format ≡ old.format

@@ -2,14 +2,23 @@
 use Rattle.std.specs.Prelude.{◌≡◌, ℕ, ◌+◌, nat_lt, Option, Some, None, option_map, is_some, List}
 use Rattle.disk_model.specs.Disk.{Content, Image, last_image}
 use Rattle.disk_model.specs.Moments.{HasNow}
+use Rattle.place_model.specs.Format.{DiskFormat}
 use Rattle.salvage_model.specs.Verdicts as Model
-use Rattle.salvage_model.specs.Verdicts.{next_verdict, salvaged_bytes}
+use Rattle.salvage_model.specs.Verdicts.{next_verdict, salvaged_bytes, verdict_on}
 use Rattle.image_salvage.specs.declared.verdict.Verdict.{Verdict}
 use Rattle.image_salvage.specs.Salvaged.{Salvaged, blocks_of, salvaged_format}
 
 -- A verdict, as `salvage_model` has it.
 abbrev pub as_verdict : Verdict → Model.Verdict
 as_verdict verdict = record { block = verdict.block; stored = verdict.stored; computed = verdict.computed }
+
+-- The verdict is that of the block, of the image that reads give,
+abbrev pub TellsBlock : DiskFormat → (block : ℕ) → List Content → Verdict → Type 0
+TellsBlock d block moments verdict = HasNow (λ c. as_verdict verdict ≡ verdict_on d (last_image c) block) moments
+
+-- and these are its bytes.
+abbrev pub IsCopyOf : DiskFormat → (block : ℕ) → List Content → (bytes : List ℕ) → Type 0
+IsCopyOf d block moments bytes = HasNow (λ c. bytes ≡ salvaged_bytes d (last_image c) block) moments
 
 -- What is told next of an image on a disk of so many sectors,
 abbrev pub verdict_next : Salvaged → (sectors : ℕ) → Image → Option Model.Verdict

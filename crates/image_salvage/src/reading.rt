@@ -2,16 +2,12 @@
 ghost use Rattle.std.specs.Prelude.{◌≡◌, ◌*◌, ◌<◌, ◌^◌, length, IfOk, OnErr, OnOk};
 ghost use Rattle.std.specs.Int.{IsInRange};
 ghost use Rattle.disk_model.specs.Causes.{HasCause};
-ghost use Rattle.disk_model.specs.Disk.{last_image};
-ghost use Rattle.disk_model.specs.Identity.{IsBound};
-ghost use Rattle.disk_model.specs.Moments.{HasNow};
 ghost use Rattle.hmac_tag.specs.TagMaker.{key_of};
-ghost use Rattle.image_format.specs.Format.{IsFormat, disk_format};
+ghost use Rattle.image_format.specs.Format.{disk_format};
 ghost use Rattle.image_model.specs.Cells.{block_tag, salt_of};
 ghost use Rattle.image_model.specs.Geometry.{IsGeometry};
-ghost use Rattle.salvage_model.specs.Verdicts.{salvaged_bytes, verdict_on};
-ghost use Rattle.sector_window.specs.Window.{HasRoom};
-ghost use Rattle.image_salvage.specs.Telling.{as_verdict};
+ghost use Rattle.image_salvage.specs.Salvaged.{FitsFormat, HaveRoom, LeavesDisk};
+ghost use Rattle.image_salvage.specs.Telling.{IsCopyOf, TellsBlock};
 
 use crate::Verdict;
 use hmac_tag::{Hash, Tag, TagMaker};
@@ -57,27 +53,21 @@ pub(crate) fn read_block<D: Disk>(
     block: u64,
     bytes: &mut [u8],
 ) -> Result<Verdict, Failed>
-    requires bound { IsBound (D.identity disk.old).name }
-    requires format { IsFormat (D.identity disk.old).sectors format.now }
-    requires salt { maker.now.salt ≡ salt_of format.now.fields }
-    requires size { maker.now.size ≡ format.now.geometry.shape.tag_size }
-    requires tags { HasRoom 2 tags.old (D.moments disk.old) }
-    requires blocks { HasRoom 8 blocks.old (D.moments disk.old) }
+    requires fits { FitsFormat maker.now format.now (D.identity disk.old) }
+    requires windows { HaveRoom tags.old blocks.old (D.moments disk.old) }
     requires block { block < format.now.geometry.blocks }
     requires bytes { length bytes.old ≡ 512 * format.now.geometry.shape.spb }
 
     ensures verdict { let d = disk_format maker.now.key (D.identity disk.old).sectors format.now in
-        IfOk result (λ verdict. HasNow (λ c. as_verdict verdict ≡ verdict_on d (last_image c) block) (D.moments disk.old)) }
+        IfOk result (TellsBlock d block (D.moments disk.old)) }
     ensures copied { let d = disk_format maker.now.key (D.identity disk.old).sectors format.now in
-        OnOk result (HasNow (λ c. bytes.new ≡ salvaged_bytes d (last_image c) block) (D.moments disk.old)) }
+        OnOk result (IsCopyOf d block (D.moments disk.old) bytes.new) }
 
     ensures cause { HasCause (D.faults disk.old) (D.faults disk.new) result }
     ensures err { OnErr result (bytes.new ≡ bytes.old) }
 
-    ensures tags { HasRoom 2 tags.new (D.moments disk.new) }
-    ensures blocks { HasRoom 8 blocks.new (D.moments disk.new) }
-    ensures identity { D.identity disk.new ≡ D.identity disk.old }
-    ensures kept { D.moments disk.new ≡ D.moments disk.old }
+    ensures windows { HaveRoom tags.new blocks.new (D.moments disk.new) }
+    ensures disk { LeavesDisk (D.identity disk.old) (D.identity disk.new) (D.moments disk.old) (D.moments disk.new) }
 {
     let geometry = &format.geometry;
     let (tag_at, from) = geometry.tag_at(block);

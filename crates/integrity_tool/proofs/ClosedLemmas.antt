@@ -65,12 +65,12 @@ position_direct here device a b is fields =
 
 -- and so it does in journal mode.
 position_journal : (here : Standing) (device : JournalParts) (a b : List Content) → IsJournaled here Working device a
-    → HasFields (fields_left device.recalculation) b → HasNow (HasPositionOf here.on.geometry here.state) b
+    → HasFields (fields_left device.state.recalculation) b → HasNow (HasPositionOf here.on.geometry here.state) b
 position_journal here device a b is fields =
     let works = is.over.works refl in
     let formed = works.stands.device.sound.formed in
     subst (λ (g : Geometry). HasNow (HasPositionOf g here.state) b) is.format.geometry
-    (position_left device.recalculation is.disk.superblock is.disk.geometry here.state.progress.regions.awaiting works.recalc_ formed.no_bitmap
+    (position_left device.state.recalculation is.disk.superblock is.disk.geometry here.state.progress.regions.awaiting works.recalc_ formed.no_bitmap
     (λ region waits. let has = works.work region waits in (has.block, has.inside, has.is, has.to_recalculate))
     formed.is_geometry.spb.0 formed.is_geometry.blocks b fields)
 
@@ -89,7 +89,7 @@ module _ (here : Standing) (common : Parts) (a b : List Content) where
       in_mode Modes.Journal (sym (ap (λ (f : DeviceFormat). f.mode) is.journaled.over.format))
       (λ c told. (
         rests.0.placed c told,
-        position_journal here (kept common state.journal state.recalculation) a b is.journaled rests.0.fields_ c told,
+        position_journal here (kept common state) a b is.journaled rests.0.fields_ c told,
         rests.1 c told,
       ))
   closed_here (Bitmap regions) is rests =

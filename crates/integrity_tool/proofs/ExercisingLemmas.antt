@@ -1,5 +1,5 @@
 -- An exercise on a device with the close behind it; the same on a new image; and all of it behind the making.
-use Rattle.std.proofs.Common.{◌≡◌, ◌≢◌, ◌⊎◌, ◌↔◌, inl, inr, ℕ, ◌<◌, Bool, false, List, [], ◌++◌, codes, length, length-append, length-take, take, append-nil, arith, refl, sym, ◌∙◌, ap, subst, Option, Some, None, Result, Ok, Err, IfErr, OnOk}
+use Rattle.std.proofs.Common.{◌≡◌, ◌≢◌, ◌⊎◌, ◌↔◌, inl, inr, ℕ, ◌<◌, Bool, false, List, [], ◌∷◌, ◌++◌, codes, length, length-append, length-take, take, append-nil, arith, refl, sym, ◌∙◌, ap, subst, Option, Some, None, Result, Ok, Err, IfErr, OnOk}
 use Rattle.std.proofs.lemmas.Bool.{true≢false}
 use Rattle.std.proofs.lemmas.List.{take_all}
 use Rattle.std.proofs.lemmas.List.Sums.{fold-append}
@@ -53,6 +53,8 @@ use Rattle.device_opening.proofs.MomentsLemmas.{EachMoment-both}
 use Rattle.device.proofs.RunLemmas.{left-behind, left-wider}
 use Rattle.device.proofs.TagsLemmas.{leaves_left, leaves_then}
 use Rattle.device_exercise.specs.Exercising.{exercise_events}
+use Rattle.device_exercise.specs.InOrder.{AreLinesBegun, IsExerciseBegun, IsExerciseMade, changes_by_exercise, history_behind}
+use Rattle.device_exercise.proofs.InOrderLemmas.{history_behind-lines, line_begun, lines_begun_then, lines_begun_wider, lines_made_begun}
 use Rattle.script_session.specs.declared.stop.Stop.{Stop}
 use Rattle.script_session.specs.declared.stop.Stop.TheVariants as Stops
 use Rattle.script_session.specs.declared.tags_found.TagsFound.{TagsFound}
@@ -66,7 +68,7 @@ use Rattle.command_model.proofs.ExerciseLemmas.{after_events-script, changes_of-
 use Rattle.integrity_tool.specs.declared.asked.Task.TheVariants.{Exercise}
 use Rattle.integrity_tool.specs.Exercised.{HasCounted, HasJournalToOpen, IsCountTold, IsExercised, IsExercisedOn, IsExercisedTo, IsMomentOfNew, IsTallyTold, ended_count, exercise_changes, new_run, new_standing}
 use Rattle.integrity_tool.specs.Closed.{IsClosedIn, IsClosedNew}
-use Rattle.integrity_tool.specs.Exercising.{exercise_image, exercise_outset, exercising_of, outset_by_exercise}
+use Rattle.integrity_tool.specs.Exercising.{IsExercisedByLine, IsExercisedInOrder, changes_by_step, exercise_image, exercise_outset, exercising_of, outset_by_exercise}
 use Rattle.integrity_tool.specs.Making.{IsLeftByMaking, IsMadeInOrder, ended_by_format}
 use Rattle.integrity_tool.specs.Opening.{HasRunOn, IsMomentOf, IsOpenedTo, IsWrittenByRun}
 use Rattle.integrity_tool.specs.Order.{HasMomentsAt}
@@ -134,17 +136,44 @@ module _ (w : Standing) (count seed : ℕ) where
   others_first {a} {b} others =
       subst (λ (l : List Change). Leaves w l a b) (sym all_is) (leaves_left w first last others)
 
+  -- Its lines, and the close behind them.
+  abbrev pub Begun : List Content → List Content → Type 0
+  Begun a b = AreLinesBegun (kind_of w) w.entry w.state.history (changes_by_step w.format w.state count seed) a b
+
+  -- It is cut off in a line,
+  pub begun_first : (a b : List Content) → IsExerciseBegun w seed count a b → Begun a b
+  begun_first a b begun =
+      lines_begun_wider (kind_of w) w.entry w.state.history (changes_by_exercise w seed count)
+      ((event_result w.format (after_script w.format w.state lines) Close).changes ∷ []) a b begun
+
+  -- or all lines are made, and the close is begun.
+  begun_last : (a m b : List Content) → IsExerciseMade w seed count a m
+      → EachMoment m b (IsLeftWithin (kind_of w) w.entry there.state.history last) → Begun a b
+  begun_last a m b made since =
+      let h = w.state.history in
+      let done = changes_by_exercise w seed count in
+      let after = after_script w.format w.state lines in
+      let closing = (event_result w.format after Close).changes in
+      let told : EachMoment m b (IsLeftWithin (kind_of w) w.entry after.history closing) =
+      subst (λ (s : DeviceState). EachMoment m b (IsLeftWithin (kind_of w) w.entry s.history (event_result w.format s Close).changes))
+      (after_events-script w.format w.state lines) since in
+      lines_begun_then (kind_of w) w.entry h done (closing ∷ []) a m b made
+      (line_begun (kind_of w) w.entry (history_behind done h) closing m b
+      (subst (λ (x : History). EachMoment m b (IsLeftWithin (kind_of w) w.entry x closing))
+      (sym (history_behind-lines w.format w.state lines)) told))
+
   -- It was stopped somewhere.
-  pub exercise_stopped : (stop : Stop) (a b : List Content) → EachMoment a b (Within all)
+  pub exercise_stopped : (stop : Stop) (a b : List Content) → EachMoment a b (Within all) → Begun a b
       → Leaves w all a b → HasNow (Within all) b
       → IsExercised w count seed (Err stop) a b
-  exercise_stopped stop a b since others cut = by (content_now b) refl
+  exercise_stopped stop a b since begun others cut = by (content_now b) refl
     where
       by : (now : Option Content) → content_now b ≡ now → IsExercised w count seed (Err stop) a b
       by None none = record {
         changes = take 0 all;
         is_counted = (0, refl);
         since = since;
+        in_order = begun;
         others = others;
         now = record {
           opens = λ c told. absurd (none-some c (sym none ∙ told));
@@ -158,13 +187,14 @@ module _ (w : Standing) (count seed : ℕ) where
             changes = take left.made all;
             is_counted = (left.made, refl);
             since = since;
+            in_order = begun;
             others = others;
             now = record { opens = now_of _ b later told left.opens; left = now_of _ b later told left.left };
             closed = tt;
           }
 
   module _ (parts : DeviceParts) (a m b : List Content) (run : HasRun w events parts a m)
-      (others : Leaves there last m b) where
+      (made : IsExerciseMade w seed count a m) (others : Leaves there last m b) where
     others_all : Leaves w all a b
     others_all =
         subst (λ (l : List Change). Leaves w l a b) (sym all_is)
@@ -180,6 +210,7 @@ module _ (w : Standing) (count seed : ℕ) where
       since = EachMoment-then (EachMoment-weaker within_first run.since)
           (EachMoment-weaker within_last
           (since_event (kind_of w) w.entry w.format there.state Close m b ended.through));
+      in_order = begun_last a m b made (since_event (kind_of w) w.entry w.format there.state Close m b ended.through);
       others = others_all;
       now = subst (λ (h : History). IsLeftNow (kind_of w) w.entry h b)
           (ap (with_changes last) history ∙ sym (fold-append with_change w.state.history first last)
@@ -196,6 +227,8 @@ module _ (w : Standing) (count seed : ℕ) where
         exercise_stopped stop a b
         (EachMoment-then (EachMoment-weaker within_first run.since)
         (EachMoment-weaker (λ c left. within_last c (none_made c left))
+        (since_event (kind_of w) w.entry w.format there.state FailedClose m b ended.through)))
+        (begun_last a m b made (EachMoment-weaker none_made
         (since_event (kind_of w) w.entry w.format there.state FailedClose m b ended.through)))
         others_all
         (λ c told. within_last c (record {
@@ -299,13 +332,21 @@ module _ (law : OpensLaw) (disk now : DiskIdentity) (count seed : ℕ) (a b : Li
   pub opened_new : (c : Content) × (content_now b ≡ Some c)
   opened_new = now_told opening_each made told
 
-  left_opening : HasNow (IsLeftOfRun kind image made []) b
-  left_opening =
+  opening_left : EachMoment a b (IsLeftOfRun kind image made [])
+  opening_left =
       let left = leaves.left (at_told _ a made told can.0) in
-      content_at_end
-      (EachMoment-weaker (λ c both. inr (record { opens = both.0; left = both.1 }))
-      (EachMoment-both (each_from _ made told left.opens) (each_from _ made told left.left)))
-      (at_told _ a made told (inl (refl, inl refl)))
+      EachMoment-weaker (λ c both. inr (record { opens = both.0; left = both.1 }))
+      (EachMoment-both (each_from _ made told left.opens) (each_from _ made told left.left))
+
+  left_opening : HasNow (IsLeftOfRun kind image made []) b
+  left_opening = content_at_end opening_left (at_told _ a made told (inl (refl, inl refl)))
+
+  -- No line is begun yet.
+  none_begun : AreLinesBegun kind image (new_standing disk.sectors made).state.history
+      (changes_by_step (new_standing disk.sectors made).format (new_standing disk.sectors made).state count seed) b b
+  none_begun =
+      let w = new_standing disk.sectors made in
+      lines_made_begun kind image w.state.history [] (changes_by_step w.format w.state count seed) b b refl
 
   refused_as : (ended : Ended) → (ended ≡ Endings.Disk) ⊎ (ended ≡ Endings.Memory)
       → IsExercisedOn disk.sectors count seed made (Err ended) a b
@@ -314,17 +355,20 @@ module _ (law : OpensLaw) (disk now : DiskIdentity) (count seed : ℕ) (a b : Li
     is_counted = (0, refl);
     ends = early;
     each = opening_each;
+    opened = b;
+    opening = opening_left;
+    in_order = none_begun;
     now = left_opening;
     closed = tt;
   }
 
-  no_fault : (fault : OpeningFault) → IsRefused (OpenModes.Journal Withheld) None disk fault a b → fault ≢ OpeningFaults.Disk
+  no_fault : (fault : OpeningFault) → IsRefused (OpenModes.Journal Withheld) None disk a b fault → fault ≢ OpeningFaults.Disk
       → fault ≢ OpeningFaults.Memory → fault_in {T = DeviceParts} (Err fault) ≡ None
   no_fault fault refused not_disk not_memory =
       refused.told not_disk not_memory made told ∙ (law None Withheld disk.sectors image).1 (can.0, refl)
 
   -- A new image is not refused: the disk failed, or there was no memory.
-  pub not_opened : (fault : OpeningFault) → IsRefused (OpenModes.Journal Withheld) None disk fault a b
+  pub not_opened : (fault : OpeningFault) → IsRefused (OpenModes.Journal Withheld) None disk a b fault
       → IsExercisedOn disk.sectors count seed made (Err (ended_by_opening fault)) a b
   not_opened OpeningFaults.Memory refused = refused_as Endings.Memory (inr refl)
   not_opened OpeningFaults.Disk refused = refused_as Endings.Disk (inl refl)
@@ -394,6 +438,9 @@ module _ (law : OpensLaw) (disk now : DiskIdentity) (count seed : ℕ) (a b : Li
             written = both.1;
             opens = both.0.opens;
           }) through);
+      opened = b;
+      opening = opening_left;
+      in_order = exercised.in_order;
       now = λ x told_x. inr (record { opens = exercised.now.opens x told_x; left = exercised.now.left x told_x });
       closed = closed_same _ counted exercised.closed;
     }
@@ -462,7 +509,10 @@ module _ (sectors count seed : ℕ) (start : Content) (script : List ℕ) where
     -- The moments of what is not made.
     pub unmade_moments : EachMoment a m (IsMomentOf outset (geometry_on sectors (last_image start)) start script)
         → HasMomentsAt (Exercise seed count) None sectors start script a m
-    unmade_moments each = record { each = each; order = record { made = m; making = order; behind = no_moment m _ } }
+    unmade_moments each = record { each = each; order = unmade_order }
+      where
+        unmade_order : IsExercisedInOrder sectors count seed a m
+        unmade_order = record { made = m; making = order; behind = no_moment m _; by_line = λ from told_from. inl refl }
 
     pub not_made_for : (fault : FormatFault) (held : Option (List ℕ))
         → ((f : GeomFault) → (fault ≡ FormatFaults.Geom f) ↔ (provided_of exercise_image sectors ≡ Err f))
@@ -530,6 +580,17 @@ module _ (sectors count seed : ℕ) (start : Content) (script : List ℕ) where
             made = m;
             making = order;
             behind = EachMoment-weaker (λ c moment. moment.opens) exercised.each;
+            by_line = at_told (λ (from : Content). (b ≡ m) ⊎ IsExercisedByLine sectors count seed from m b) a start told
+                (inr (record {
+                  provided = provided;
+                  is_provided = all.is_provided;
+                  image = made;
+                  is_now = told_made;
+                  is_made = is_made;
+                  opened = exercised.opened;
+                  opening = exercised.opening;
+                  lines = exercised.in_order;
+                }));
           };
         }
           where

@@ -7,6 +7,7 @@ pub mod HeadLemmas
 pub mod JudgedLemmas
 pub mod OpeningLemmas
 pub mod ReopeningLemmas
+pub mod StoredTagsLemmas
 pub mod RunningLemmas
 pub mod StartLemmas
 pub mod TakenLemmas

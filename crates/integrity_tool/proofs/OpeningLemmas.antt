@@ -216,7 +216,7 @@ module _ (law : OpensLaw) (mode : OpenMode) (key : Option (List ℕ)) (disk now 
     -- ---- no device is open
 
     module _ (held : Option (List ℕ)) where
-      told_by : (refusal : ImageFault) (fault : OpeningFault) → IsRefused mode key disk fault a b → fault ≢ OpeningFaults.Disk
+      told_by : (refusal : ImageFault) (fault : OpeningFault) → IsRefused mode key disk a b fault → fault ≢ OpeningFaults.Disk
           → fault ≢ OpeningFaults.Memory → fault_in {T = DeviceParts} (Err fault) ≡ Some refusal
           → HasRunOn outset start script (ending_by_refusal refusal) b held held
       told_by refusal fault refused not_disk not_memory is =
@@ -225,7 +225,7 @@ module _ (law : OpensLaw) (mode : OpenMode) (key : Option (List ℕ)) (disk now 
           (untouched_now start told (EachMoment-kept _ (refused.untouched not_disk))) held held refl
 
       -- What ended the run is that the image is refused, or comes from outside.
-      pub refused_by_opening : (fault : OpeningFault) → IsRefused mode key disk fault a b
+      pub refused_by_opening : (fault : OpeningFault) → IsRefused mode key disk a b fault
           → HasRunOn outset start script (ending_of (ended_by_opening fault)) b held held
       refused_by_opening OpeningFaults.Memory refused =
           nothing_run outset (fine_on mode key disk.sectors image) start script NoMemory tt b left_now held held refl

@@ -575,7 +575,12 @@ kept_at Tasks.Salvage key sectors same = same
 kept_at Tasks.Resize key sectors same = λ start told. unresized key sectors (resize_fault_of key sectors (last_image start)) same
 kept_at (Tasks.Format new) key sectors same = unmade_kept key sectors new same
 kept_at (Tasks.Exercise seed count) key sectors {b = b} same =
-    record { made = b; making = unmade_kept None sectors exercise_image same; behind = no_moment b _ }
+    record {
+      made = b;
+      making = unmade_kept None sectors exercise_image same;
+      behind = no_moment b _;
+      by_line = λ start told. inl refl;
+    }
 
 kept_under : (task : Task) (told : Result (Option (List ℕ)) KeyRefusal) (sectors : ℕ) {a b : List Content} → b ≡ a → IsInOrderUnder task told sectors a b
 kept_under task (Ok key) sectors same = kept_at task key sectors same

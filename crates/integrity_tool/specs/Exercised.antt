@@ -1,5 +1,5 @@
 -- What came of an exercise on a device: what was counted, what is left, and what is printed.
-use Rattle.std.specs.Prelude.{◌≡◌, ◌⊎◌, ℕ, false, List, take, Option, None, Result, Ok, Err, IfErr, OnOk}
+use Rattle.std.specs.Prelude.{◌≡◌, ◌⊎◌, ℕ, false, List, [], take, Option, None, Result, Ok, Err, IfErr, OnOk}
 use Rattle.disk_model.specs.Disk.{Content, EachImage, Image, last_image}
 use Rattle.disk_model.specs.Identity.{DiskIdentity}
 use Rattle.disk_model.specs.Moments.{EachMoment, HasNow}
@@ -29,7 +29,9 @@ use Rattle.command_ending.specs.declared.ended.Ended.{Ended}
 use Rattle.command_ending.specs.declared.ended.Ended.TheVariants as Endings
 use Rattle.command_model.specs.CommandRun.{IsLeftOfRun}
 use Rattle.command_model.specs.Exercise.{Tally, exercise_lines, exercise_run, exercise_step, exercise_tally, exercise_text, finds_faults}
+use Rattle.device_exercise.specs.InOrder.{AreLinesBegun}
 use Rattle.integrity_tool.specs.Closed.{IsClosedIn, IsClosedNew, IsClosedOn}
+use Rattle.integrity_tool.specs.Exercising.{changes_by_step}
 use Rattle.integrity_tool.specs.Opening.{IsWrittenByRun}
 use Rattle.integrity_tool.specs.Outset.{geometry_on}
 
@@ -49,14 +51,16 @@ HasCounted w count seed (Ok tally) changes =
     (tally ≡ exercise_tally w.format w.state count seed) × (changes ≡ exercise_changes w count seed)
 HasCounted w count seed (Err ended) changes = (made : ℕ) × (changes ≡ take made (exercise_changes w count seed))
 
--- An exercise on a device came so far, and so it is left; at each moment some of its first changes are made, and no
--- sector is written but those that it may write. Where it was counted, the device was closed.
+-- An exercise on a device came so far, and so it is left; at each moment some of its first changes are made, line by
+-- line, and no sector is written but those that it may write. Where it was counted, the device was closed.
 pub record IsExercised (w : Standing) (count seed : ℕ) (counted : Result Tally Stop) (before after : List Content)
     : Type 0 where
   pub changes : List Change
   pub is_counted : HasCounted w count seed counted changes
   pub since : EachMoment before after
       (IsLeftWithin (kind_of w) w.entry w.state.history (exercise_changes w count seed))
+  pub in_order : AreLinesBegun (kind_of w) w.entry w.state.history (changes_by_step w.format w.state count seed)
+      before after
   pub others : Leaves w (exercise_changes w count seed) before after
   pub now : IsLeftNow (kind_of w) w.entry (with_changes changes w.state.history) after
   pub closed : OnOk counted
@@ -89,7 +93,7 @@ pub record IsMomentOfNew (sectors count seed : ℕ) (made later : Content) : Typ
       (new_run sectors count seed made) made later
   pub opens : EachImage (CanOpenIn Journal None sectors) later
 
--- The exercise came so far on the image that was made, and so it is left. What ended it, if something did, is the disk
+-- The exercise came so far on the image that was made, line by line behind an opening, and so it is left. What ended it, if something did, is the disk
 -- or want of memory: a new image is not refused.
 pub record IsExercisedOn (sectors count seed : ℕ) (made : Content) (counted : Result Tally Ended)
     (before after : List Content) : Type 0 where
@@ -97,6 +101,11 @@ pub record IsExercisedOn (sectors count seed : ℕ) (made : Content) (counted : 
   pub is_counted : HasCounted (new_standing sectors made) count seed counted changes
   pub ends : IfErr counted (λ ended. (ended ≡ Endings.Disk) ⊎ (ended ≡ Endings.Memory))
   pub each : EachMoment before after (IsMomentOfNew sectors count seed made)
+  pub opened : List Content
+  pub opening : EachMoment before opened (IsLeftOfRun (kind_in Journal None sectors) (last_image made) made [])
+  pub in_order : let w = new_standing sectors made in
+      AreLinesBegun (kind_in Journal None sectors) (last_image made) w.state.history
+      (changes_by_step w.format w.state count seed) opened after
   pub now : HasNow (IsLeftOfRun (kind_in Journal None sectors) (last_image made) made changes) after
   pub closed : OnOk counted (HasNow (IsClosedOn sectors count seed made) after)
 

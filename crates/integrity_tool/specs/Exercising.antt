@@ -1,11 +1,14 @@
 -- What `exercise` makes and runs, or why a disk is refused by it.
 -- Own: the image has areas of eight sectors, a journal of four sections, and else what `format` makes without an
 -- option; the device is in journal mode, and its tags have no key.
-use Rattle.std.specs.Prelude.{ℕ, List, None, Result, Ok, Err}
-use Rattle.disk_model.specs.Disk.{Content, EachImage}
-use Rattle.disk_model.specs.Moments.{EachMoment}
+use Rattle.std.specs.Prelude.{◌≡◌, ◌⊎◌, ℕ, List, [], ◌∷◌, ◌++◌, Some, None, Result, Ok, Err}
+use Rattle.disk_model.specs.Disk.{Content, EachImage, last_image}
+use Rattle.disk_model.specs.Moments.{content_now, EachMoment, HasNow}
 use Rattle.device_model.specs.Ending.{RefusedImage, ByGeometry}
-use Rattle.device_model.specs.Mode.{Journal}
+use Rattle.device_model.specs.History.{Change}
+use Rattle.device_model.specs.Mode.{DeviceFormat, Journal}
+use Rattle.device_model.specs.Progress.{Close, DeviceState, event_result}
+use Rattle.device_model.specs.Script.{after_script}
 use Rattle.image_model.specs.declared.geom_fault.GeomFault.{GeomFault}
 use Rattle.place_model.specs.Format.{format_on}
 use Rattle.place_model.specs.Kind.{CanOpenIn, kind_in}
@@ -15,7 +18,9 @@ use Rattle.image_formatting.specs.declared.new_image.Padding.TheVariants.{Fixed}
 use Rattle.image_formatting.specs.declared.new_image.Wipe.TheVariants.{Wiped}
 use Rattle.image_formatting.specs.Formatted.{IsNewContent, format_with, rule_with}
 use Rattle.image_formatting.specs.NewImage.{provided_of}
-use Rattle.command_model.specs.CommandRun.{Exercising, Outset, RefusedBy, Exercises}
+use Rattle.command_model.specs.CommandRun.{Exercising, Outset, RefusedBy, Exercises, IsLeftOfRun}
+use Rattle.command_model.specs.Exercise.{exercise_lines}
+use Rattle.device_exercise.specs.InOrder.{AreLinesBegun, changes_by_line}
 use Rattle.integrity_tool.specs.Making.{IsLeftByMaking, IsMadeInOrder}
 
 -- The image of an exercise.
@@ -52,9 +57,33 @@ outset_by_exercise sectors count seed (Err fault) = RefusedBy (RefusedImage (ByG
 abbrev pub exercise_outset : (sectors count seed : ℕ) → Outset
 exercise_outset sectors count seed = outset_by_exercise sectors count seed (provided_of exercise_image sectors)
 
+-- ---- in order
+
+-- What each line of an exercise does to the history of a device, and behind the last one its close.
+abbrev pub changes_by_step : DeviceFormat → DeviceState → (count seed : ℕ) → List (List Change)
+changes_by_step f s count seed =
+    let lines = exercise_lines count seed f.blocks.blocks in
+    changes_by_line f s lines ++ (event_result f (after_script f s lines) Close).changes ∷ []
+
+-- The image was made of the content at the start. A device is opened on it, and behind that the lines of the one run
+-- are made, each behind the one before, and then the close, as far as it came: so from the end of a flush on each
+-- moment has all that was written before it.
+pub record IsExercisedByLine (sectors count seed : ℕ) (start : Content) (made after : List Content) : Type 0 where
+  pub provided : ℕ
+  pub is_provided : provided_of exercise_image sectors ≡ Ok provided
+  pub image : Content
+  pub is_now : content_now made ≡ Some image
+  pub is_made : (exercising_of sectors provided count seed).IsMade start image
+  pub opened : List Content
+  pub opening : EachMoment made opened (IsLeftOfRun (kind_in Journal None sectors) (last_image image) image [])
+  pub lines : let kind = kind_in Journal None sectors in
+      AreLinesBegun kind (last_image image) (kind.opened (last_image image)).history
+      (changes_by_step (kind.format (last_image image)) (kind.opened (last_image image)) count seed) opened after
+
 -- The image is made in its order, or as far as that came, and only its sectors are written then; and behind that each
--- image can be opened.
-pub record IsExercisedInOrder (sectors : ℕ) (before after : List Content) : Type 0 where
+-- image can be opened, and the lines of the exercise are run in their order, if anything is done.
+pub record IsExercisedInOrder (sectors count seed : ℕ) (before after : List Content) : Type 0 where
   pub made : List Content
   pub making : IsMadeInOrder None sectors exercise_image before made
   pub behind : EachMoment made after (EachImage (CanOpenIn Journal None sectors))
+  pub by_line : HasNow (λ start. (after ≡ made) ⊎ IsExercisedByLine sectors count seed start made after) before

@@ -14,6 +14,7 @@ pub mod Top
 pub mod Calls
 pub mod Refusing
 pub mod Reopening
+pub mod StoredTags
 pub mod Checking
 pub mod Dumping
 pub mod Salvaging

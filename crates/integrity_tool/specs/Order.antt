@@ -17,7 +17,7 @@ use Rattle.integrity_tool.specs.Outset.{key_by}
 use Rattle.integrity_tool.specs.Words.{key_file_of}
 
 -- A new image is made in its order, one to be exercised too, and until it is made only sectors that it has are written;
--- an image is resized in its order. What only reads an image, whatever that is, as a run in recovery mode does, neither
+-- then the lines of an exercise are run in theirs. An image is resized in its order. What only reads an image, whatever that is, as a run in recovery mode does, neither
 -- writes to its disk nor syncs it.
 abbrev pub IsInOrderAt : Task → (key : Option (List ℕ)) → (sectors : ℕ) → (before after : List Content) → Type 0
 IsInOrderAt (Tasks.Run mode) key sectors before after = KeepsStill (asked_mode mode) before after
@@ -26,7 +26,7 @@ IsInOrderAt (Tasks.Check what) key sectors before after = KeepsMoments before af
 IsInOrderAt Tasks.Salvage key sectors before after = KeepsMoments before after
 IsInOrderAt Tasks.Resize key sectors before after = IsInResizeOrder key sectors before after
 IsInOrderAt (Tasks.Format new) key sectors before after = IsMadeInOrder key sectors new before after
-IsInOrderAt (Tasks.Exercise seed count) key sectors before after = IsExercisedInOrder sectors before after
+IsInOrderAt (Tasks.Exercise seed count) key sectors before after = IsExercisedInOrder sectors count seed before after
 
 -- The same, under the key that is told, where one is.
 abbrev pub IsInOrderUnder : Task → Result (Option (List ℕ)) KeyRefusal → ℕ → (before after : List Content) → Type 0

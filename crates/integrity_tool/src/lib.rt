@@ -19,9 +19,11 @@ mod reopening;
 mod resizing;
 mod running;
 mod salvaging;
+mod stored_tags;
 mod top_call;
 mod verdict_lines;
 
 pub use command_ending::end_without_memory;
 pub use reopening::reopened_images_begin_with_what_a_cut_left;
+pub use stored_tags::stored_tags_of_other_blocks_stay;
 pub use top_call::{AsWorld, Outside};

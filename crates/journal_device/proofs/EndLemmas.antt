@@ -48,7 +48,7 @@ use Rattle.journal_device.proofs.CutLemmas.{position_cut}
 use Rattle.journal_device.proofs.DoneLemmas.{idle_now, stands_now, working_then, working-is, works_now}
 use Rattle.journal_device.proofs.EventLemmas.{close_done, close_failed}
 use Rattle.journal_device.proofs.KindLemmas.{left_then, left_through}
-use Rattle.journal_device.proofs.OverDisk.{ended_on}
+use Rattle.journal_device.proofs.OverDisk.{ended_on, state_of}
 
 -- ---- what is in place
 
@@ -73,7 +73,7 @@ unset_fields r unset =
 
 -- ---- a close
 
-module _ (w : Standing) (parts : Parts) (journal : PlacedRing) (recalculation : Recalculation) (a : List Content) (is : IsJournaled w Working (kept parts journal recalculation) a) where
+module _ (w : Standing) (parts : Parts) (journal : PlacedRing) (recalculation : Recalculation) (a : List Content) (is : IsJournaled w Working (kept parts (state_of journal recalculation)) a) where
   abbrev v : JournaledStanding
   v = standing_on w is.disk
 
@@ -207,17 +207,17 @@ module _ (w : Standing) (parts : Parts) (journal : PlacedRing) (recalculation : 
 module _ (parts : Parts) (journal : PlacedRing) (recalculation : Recalculation) (a : List Content) (put : PlacedRing) (store : Store) (m : List Content)
     (closes : (y : JournalStanding) → StandsAs y journal parts.tags a → y.history.pending ≡ None → HasClosed y put parts.tags store a m)
     (lefts : (y : JournalStanding) → StandsAs y journal parts.tags a → IsLeftThrough y a m) (free : IsAllFree put.ring) where
-  closed_as : (w : Standing) (is : IsJournaled w Working (kept parts journal recalculation) a) → HasClosed (standing_of (standing_on w is.disk)) put parts.tags store a m
+  closed_as : (w : Standing) (is : IsJournaled w Working (kept parts (state_of journal recalculation)) a) → HasClosed (standing_of (standing_on w is.disk)) put parts.tags store a m
   closed_as w is = closes (standing_of (standing_on w is.disk)) (stands_now (standing_on w is.disk) parts journal recalculation a is.over) (idle_now (standing_on w is.disk) parts journal recalculation a is.over)
 
-  left_as : (w : Standing) (is : IsJournaled w Working (kept parts journal recalculation) a) → IsLeftThrough (standing_of (standing_on w is.disk)) a m
+  left_as : (w : Standing) (is : IsJournaled w Working (kept parts (state_of journal recalculation)) a) → IsLeftThrough (standing_of (standing_on w is.disk)) a m
   left_as w is = lefts (standing_of (standing_on w is.disk)) (stands_now (standing_on w is.disk) parts journal recalculation a is.over)
 
   -- It ends with the journal where the flag is not set,
-  pub journal_ends : (w : Standing) → IsJournaled w Working (kept parts journal recalculation) a → HasEnded in_journal w Model.Close Model.IsClosed a m
+  pub journal_ends : (w : Standing) → IsJournaled w Working (kept parts (state_of journal recalculation)) a → HasEnded in_journal w Model.Close Model.IsClosed a m
   journal_ends w is = journal_ended w parts journal recalculation a is put store m (closed_as w is) free (left_as w is)
 
-  pub journal_places : has_flag RECALCULATING recalculation.position.flags ≡ false → (w : Standing) → IsJournaled w Working (kept parts journal recalculation) a → IsAllPlaced w (fields_left recalculation) m
+  pub journal_places : has_flag RECALCULATING recalculation.position.flags ≡ false → (w : Standing) → IsJournaled w Working (kept parts (state_of journal recalculation)) a → IsAllPlaced w (fields_left recalculation) m
   journal_places unset w is = journal_placed w parts journal recalculation a is put store m (closed_as w is) free (left_as w is) unset
 
   -- and with the position where it is.
@@ -226,7 +226,7 @@ module _ (parts : Parts) (journal : PlacedRing) (recalculation : Recalculation) 
     Settles = SettlesPosition recalculation new store.geometry (given_tags store) (given_tags last) m b
 
     pub settle_ends : {T E : Type 0} (result : Result T E) → OnOk result (SettlesPosition recalculation new store.geometry (given_tags store) (given_tags last) m b) → SettlesPositionIn recalculation store.geometry (given_tags store) m b
-        → Ends in_journal (kept parts journal recalculation) a b result
+        → Ends in_journal (kept parts (state_of journal recalculation)) a b result
     settle_ends (Ok done) settled through = record {
       done = λ w is. (position_ended w parts journal recalculation a is put store m (closed_as w is) free (left_as w is) set new last b settled).0;
       err = tt;
@@ -237,6 +237,6 @@ module _ (parts : Parts) (journal : PlacedRing) (recalculation : Recalculation) 
     }
 
     pub settle_places : {T E : Type 0} (result : Result T E) → OnOk result (SettlesPosition recalculation new store.geometry (given_tags store) (given_tags last) m b)
-        → OnOk result ((w : Standing) → IsJournaled w Working (kept parts journal recalculation) a → IsAllPlaced w (fields_left recalculation) b)
+        → OnOk result ((w : Standing) → IsJournaled w Working (kept parts (state_of journal recalculation)) a → IsAllPlaced w (fields_left recalculation) b)
     settle_places (Ok done) settled = λ w is. (position_ended w parts journal recalculation a is put store m (closed_as w is) free (left_as w is) set new last b settled).1
     settle_places (Err fault) settled = tt

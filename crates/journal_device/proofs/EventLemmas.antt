@@ -112,16 +112,6 @@ module _ (w : JournaledStanding) (parts : Parts) (journal : PlacedRing) (recalcu
   settle_step JournalMoves.Idle new p b slots maker has m =
       step_idle Model.Settle new p b (journal_step Model.Settle (settle s.progress.journal) refl None has.none) slots maker has.stands has.gives m
 
-  -- A recalculation, by what it did.
-  pub recalc_step : {A : Type 0} (moved : Moved) (new : Recalculation) (last : Store) (first final : A) (b : List Content) → last.geometry ≡ parts.tags.geometry
-      → HasStepped moved parts.maker recalculation new parts.tags last first final a b → (moved ≡ JournalMoves.Idle → b ≡ a)
-      → IsDoneOver w (Model.Step Model.Recalc) (moved_answer (moved_as moved)) Conditions.Working (record parts { tags = last }) journal new a b
-  recalc_step JournalMoves.Did new last first final b same has still = recalc_did w parts journal recalculation a is has.region has.least new last b same has.steps
-  recalc_step JournalMoves.Idle new last first final b same has still =
-      subst (λ (r : Recalculation). IsDoneOver w (Model.Step Model.Recalc) Model.Idle Conditions.Working (record parts { tags = last }) journal r a b) (sym has.recalc_)
-      (subst (λ (x : Store). IsDoneOver w (Model.Step Model.Recalc) Model.Idle Conditions.Working (record parts { tags = x }) journal recalculation a b) (sym has.store_)
-      (subst (λ (m : List Content). IsDoneOver w (Model.Step Model.Recalc) Model.Idle Conditions.Working parts journal recalculation a m) (sym (still refl)) (recalc_idle w parts journal recalculation a is has.none)))
-
   -- The last actor has nothing to do.
   pub clean_step : IsDoneOver w (Model.Step Model.Clean) Model.Idle Conditions.Working parts journal recalculation a a
   clean_step =
@@ -158,10 +148,23 @@ module _ (w : JournaledStanding) (parts : Parts) (journal : PlacedRing) (recalcu
             (left_now w.disk.format w.entry is.opened is.no_bitmap s.history b (content_at_end m (standing_now y journal parts.tags a (stands_now w parts journal recalculation a is))));
       }
 
+-- A recalculation, by what it did.
+pub recalc_step : {A : Type 0} (w : JournaledStanding) (parts : Parts) (journal : PlacedRing) (recalculation new : Recalculation) (last : Store) (moments : A → List Content) (first final : A) (moved : Moved)
+    → IsOverDisk w Conditions.Working parts journal recalculation (moments first) → last.geometry ≡ parts.tags.geometry
+    → HasStepped moved parts.maker recalculation new parts.tags last moments first final
+    → IsDoneOver w (Model.Step Model.Recalc) (moved_answer (moved_as moved)) Conditions.Working (record parts { tags = last }) journal new (moments first) (moments final)
+recalc_step w parts journal recalculation new last moments first final JournalMoves.Did is same has =
+    recalc_did w parts journal recalculation (moments first) is has.region has.least new last (moments final) same has.steps
+recalc_step w parts journal recalculation new last moments first final JournalMoves.Idle is same has =
+    subst (λ (r : Recalculation). IsDoneOver w (Model.Step Model.Recalc) Model.Idle Conditions.Working (record parts { tags = last }) journal r (moments first) (moments final)) (sym has.recalc_)
+    (subst (λ (x : Store). IsDoneOver w (Model.Step Model.Recalc) Model.Idle Conditions.Working (record parts { tags = x }) journal recalculation (moments first) (moments final)) (sym has.store_)
+    (subst (λ (b : List Content). IsDoneOver w (Model.Step Model.Recalc) Model.Idle Conditions.Working parts journal recalculation (moments first) b) (sym (ap moments has.disk))
+    (recalc_idle w parts journal recalculation (moments first) is has.none)))
+
 -- ---- for callers
 
 pub quiet_kept_law : QuietLaw
 quiet_kept_law w condition device flight moments event is none counts regions own same =
     let new : Parts = record device.parts { slots = flight } in
-    done_on w is.disk is.format event condition new device.journal device.recalculation moments moments
-    (quiet_done (standing_on w is.disk) condition device.parts device.journal device.recalculation moments is.over event new none own refl refl counts regions same)
+    done_on w is.disk is.format event condition new device.state.journal device.state.recalculation moments moments
+    (quiet_done (standing_on w is.disk) condition device.parts device.state.journal device.state.recalculation moments is.over event new none own refl refl counts regions same)

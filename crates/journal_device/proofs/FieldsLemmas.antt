@@ -1,5 +1,5 @@
 -- Which fields each image has at each moment of a step and of a close, and which sectors are written in a step.
-use Rattle.std.proofs.Common.{◌≡◌, inl, inr, ℕ, ◌==◌, Bool, true, false, if◌then◌else◌, refl, sym, ◌∙◌, ap, subst, Option, Some, None, List}
+use Rattle.std.proofs.Common.{◌≡◌, inl, inr, ℕ, Bool, true, false, refl, sym, ◌∙◌, ap, subst, Option, Some, None, List}
 use Rattle.std.proofs.lemmas.Option.{none-some}
 use Rattle.disk_model.specs.Disk.{Content}
 use Rattle.disk_model.proofs.MomentsLemmas.{EachMoment-kept, EachMoment-then, EachMoment-weaker, no_moment}
@@ -20,18 +20,18 @@ use Rattle.recalculation.specs.Position.{HasMoved, MovesIn}
 use Rattle.recalculation.specs.Recalculation.{HasFieldsThrough, Moving, SettlesPosition, SettlesPositionIn, StepsPositionIn, Taken, fields_behind, fields_left, fields_next, fields_or, next_of, to_write}
 use Rattle.tag_store.specs.Store.{Store, given_tags}
 use Rattle.hmac_tag.specs.TagMaker.{TagRule}
-use Rattle.device_parts.specs.declared.condition.Condition.TheVariants.{Working}
 use Rattle.device_parts.specs.declared.parts.Parts.{Parts}
 use Rattle.device_parts.specs.Device.{Standing}
 use Rattle.journal_mode.specs.Closing.{HasClosed, IsAllFree}
 use Rattle.journal_mode.specs.Journal.{PlacedRing}
 use Rattle.journal_mode.specs.Standing.{IsLeftThrough, JournalStanding, StandsAs}
-use Rattle.journal_device.specs.Answers.{WritesMove}
-use Rattle.journal_device.specs.Device.{IsJournaled, awaiting_in, kept, standing_of, standing_on}
+use Rattle.journal_device.specs.Answers.{MovesFieldsTo, WritesMove}
+use Rattle.journal_device.specs.Device.{awaiting_in, kept, standing_of, standing_on}
 use Rattle.journal_device.specs.Recalculating.{HasStepped, StepsRegion, StepsRegionIn}
 use Rattle.journal_device.proofs.CutLemmas.{has_position, position_cut, unmoved_cut}
 use Rattle.journal_device.proofs.DoneLemmas.{idle_now, stands_now, works_now}
 use Rattle.journal_device.proofs.EndLemmas.{working}
+use Rattle.journal_device.proofs.OverDisk.{state_of}
 use Rattle.journal_device.proofs.RecalcLemmas.{step_cut}
 use Rattle.recalculation.proofs.FieldsLemmas.{behind_is, under_is}
 
@@ -83,26 +83,26 @@ stepped_in rule old new store last a b steps = record {
 
 module _ (parts : Parts) (journal : PlacedRing) (r : Recalculation) (a : List Content) where
   abbrev Heads : (new : Superblock) → List Content → Type 0
-  Heads new b = (w : Standing) → IsJournaled w Working (kept parts journal r) a → HasFieldsThrough w.on r.position new a b
+  Heads new b = MovesFieldsTo new (kept parts (state_of journal r)) a b
 
   -- ---- a step
 
   -- Where nothing is written,
-  pub still_heads : (new : Superblock) (b : List Content) → b ≡ a → (w : Standing) → IsJournaled w Working (kept parts journal r) a → HasFieldsThrough w.on r.position new a b
+  pub still_heads : (new : Superblock) (b : List Content) → b ≡ a → MovesFieldsTo new (kept parts (state_of journal r)) a b
   still_heads new b same w is = EachMoment-kept _ same
 
   -- a call of the journal,
   pub journal_heads : (new : Superblock) (b : List Content) → ((y : JournalStanding) → StandsAs y journal parts.tags a → IsLeftThrough y a b)
-      → (w : Standing) → IsJournaled w Working (kept parts journal r) a → HasFieldsThrough w.on r.position new a b
+      → MovesFieldsTo new (kept parts (state_of journal r)) a b
   journal_heads new b lefts w is =
       let v = standing_on w is.disk in
       let works = works_now v parts journal r a is.over in
       subst (λ (s : Superblock). HasFieldsThrough w.on s new a b) (sym works.recalc_.fields)
       (left_fields w is.disk new is.format (standing_of v) refl (lefts (standing_of v) (stands_now v parts journal r a is.over)))
 
-  -- and one of the recalculation, how far it came,
+  -- and one of the recalculation, how far it came.
   pub region_heads : (b : List Content) → StepsRegionIn parts.maker r parts.tags a b
-      → (w : Standing) → IsJournaled w Working (kept parts journal r) a → HasFieldsThrough w.on r.position (fields_next r) a b
+      → MovesFieldsTo (fields_next r) (kept parts (state_of journal r)) a b
   region_heads b in_ w is =
       let d = is.disk in
       let v = standing_on w d in
@@ -115,13 +115,6 @@ module _ (parts : Parts) (journal : PlacedRing) (r : Recalculation) (a : List Co
       (step_cut v parts journal r a is.over in_.region in_.least b
       (subst (λ (g : Geometry). StepsPositionIn parts.maker in_.region r g (given_tags parts.tags) a b) (sym works.stands.placed.cells.geometry) in_.through))))
 
-  -- and once it went through.
-  pub stepped_heads : {A : Type 0} (moved : Moved) (new : Recalculation) (last : Store) (first final : A) (b : List Content) → (moved ≡ Idle → b ≡ a)
-      → HasStepped moved parts.maker r new parts.tags last first final a b
-      → (w : Standing) → IsJournaled w Working (kept parts journal r) a → HasFieldsThrough w.on r.position (fields_next r) a b
-  stepped_heads Did new last first final b still has = region_heads b (stepped_in parts.maker r new parts.tags last a b has)
-  stepped_heads Idle new last first final b still has = still_heads (fields_next r) b (still refl)
-
   -- ---- a close
 
   -- The journal is closed, and then the position moves.
@@ -129,7 +122,7 @@ module _ (parts : Parts) (journal : PlacedRing) (r : Recalculation) (a : List Co
       → ((y : JournalStanding) → StandsAs y journal parts.tags a → y.history.pending ≡ None → HasClosed y put parts.tags store a m)
       → ((y : JournalStanding) → StandsAs y journal parts.tags a → IsLeftThrough y a m) → IsAllFree put.ring
       → SettlesPositionIn r store.geometry (given_tags store) m b
-      → (w : Standing) → IsJournaled w Working (kept parts journal r) a → HasFieldsThrough w.on r.position (fields_left r) a b
+      → MovesFieldsTo (fields_left r) (kept parts (state_of journal r)) a b
   close_heads put store m b closes lefts free through w is =
       let v = standing_on w is.disk in
       let y = standing_of v in
@@ -150,13 +143,24 @@ module _ (parts : Parts) (journal : PlacedRing) (r : Recalculation) (a : List Co
       EachMoment-then (journal_heads (fields_left r) m lefts w is)
       (subst (λ (s : Superblock). HasFieldsThrough w.on s (fields_left r) m b) (sym own.fields) (cut_fields w d (fields_left r) format cut))
 
+-- ---- a step that went through
+
+-- One of the recalculation moves the fields so, once it went through.
+pub stepped_heads : {A : Type 0} (parts : Parts) (journal : PlacedRing) (r new : Recalculation) (last : Store) (moments : A → List Content) (first final : A) (moved : Moved)
+    → HasStepped moved parts.maker r new parts.tags last moments first final
+    → MovesFieldsTo (fields_next r) (kept parts (state_of journal r)) (moments first) (moments final)
+stepped_heads parts journal r new last moments first final Did has =
+    region_heads parts journal r (moments first) (moments final) (stepped_in parts.maker r new parts.tags last (moments first) (moments final) has)
+stepped_heads parts journal r new last moments first final Idle has =
+    still_heads parts journal r (moments first) (fields_next r) (moments final) (ap moments has.disk)
+
 -- ---- which sectors
 
 -- A step that did something, or failed, had a region to take.
-pub stepped_still : {A : Type 0} (moved : Moved) (rule : TagRule) (old new : Recalculation) (store last : Store) (first final : A) (a b : List Content) → (final ≡ first → b ≡ a)
-    → HasStepped moved rule old new store last first final a b → next_of old ≡ None → b ≡ a
-stepped_still Did rule old new store last first final a b same has none = absurd (none-some has.region (sym none ∙ has.least))
-stepped_still Idle rule old new store last first final a b same has none = same has.disk
+pub stepped_still : {A : Type 0} (moved : Moved) (rule : TagRule) (old new : Recalculation) (store last : Store) (moments : A → List Content) (first final : A)
+    → HasStepped moved rule old new store last moments first final → next_of old ≡ None → moments final ≡ moments first
+stepped_still Did rule old new store last moments first final has none = absurd (none-some has.region (sym none ∙ has.least))
+stepped_still Idle rule old new store last moments first final has none = ap moments has.disk
 
 pub failed_still : (rule : TagRule) (old : Recalculation) (store : Store) (a b : List Content) → StepsRegionIn rule old store a b → next_of old ≡ None → b ≡ a
 failed_still rule old store a b in_ none = absurd (none-some in_.region (sym none ∙ in_.least))

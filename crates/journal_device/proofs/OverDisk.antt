@@ -14,7 +14,12 @@ use Rattle.device_parts.specs.Answers.{served_answer}
 use Rattle.device_parts.specs.Device.{HasDone, HasEnded, IsDone, Standing}
 use Rattle.journal_mode.specs.Journal.{PlacedRing}
 use Rattle.journal_device.specs.Device.{IsOverDisk, JournaledStanding, in_journal, kept, kind_on, standing_on, standing_then}
+use Rattle.journal_device.specs.declared.parts.JournalState.{JournalState}
 use Rattle.journal_device.proofs.KindLemmas.{format_again, now_on, through_on}
+
+-- What a device in journal mode keeps for its mode: a journal, and a recalculation.
+abbrev pub state_of : PlacedRing → Recalculation → JournalState
+state_of journal recalculation = record { journal = journal; recalculation = recalculation }
 
 -- The device is the one after an event, over a disk of the same format, but for what is to be recalculated. At each
 -- moment of the call each image can be opened, and may be left within the event.
@@ -56,7 +61,7 @@ pub record EndsOver (w : JournaledStanding) (event : Model.Event) (answer : Mode
 module _ (w : Standing) (disk : JournaledDisk) (same : IsFormatOf w.on disk.format) (event : Model.Event) where
   pub done_on : (condition : Condition) (parts : Parts) (journal : PlacedRing) (recalculation : Recalculation) (a b : List Content)
       → IsAfter (standing_on w disk) event condition parts journal recalculation a b
-      → HasDone in_journal w event condition (kept parts journal recalculation) a b
+      → HasDone in_journal w event condition (kept parts (state_of journal recalculation)) a b
   done_on condition parts journal recalculation a b done = record {
     device = record { disk = done.disk; format = format_again w.on disk.format same done.disk.format done.format; over = done.device };
     through = through_on w.on disk.format same w.entry w.format w.state event a b done.through;
@@ -64,7 +69,7 @@ module _ (w : Standing) (disk : JournaledDisk) (same : IsFormatOf w.on disk.form
 
   pub is_done_on : (answer : Model.Answer) (condition : Condition) (parts : Parts) (journal : PlacedRing) (recalculation : Recalculation) (a b : List Content)
       → IsDoneOver (standing_on w disk) event answer condition parts journal recalculation a b
-      → IsDone in_journal w event answer condition (kept parts journal recalculation) a b
+      → IsDone in_journal w event answer condition (kept parts (state_of journal recalculation)) a b
   is_done_on answer condition parts journal recalculation a b done =
       record { answers = done.answers; done = done_on condition parts journal recalculation a b done.done }
 

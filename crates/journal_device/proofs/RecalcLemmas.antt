@@ -43,7 +43,7 @@ use Rattle.journal_mode.specs.Reads.{newest_in}
 use Rattle.journal_mode.specs.Standing.{JournalStanding, StandsAs}
 use Rattle.journal_device.specs.Answers.{takes_first}
 use Rattle.journal_device.specs.Device.{IsOverDisk, IsWorking, JournaledStanding, awaiting_in, standing_of, standing_then}
-use Rattle.journal_device.specs.Recalculating.{TakesFirst, TakesFirstIn}
+use Rattle.journal_device.specs.Recalculating.{TakesIf, TakesIfIn}
 use Rattle.journal_device.proofs.CutLemmas.{position_cut}
 use Rattle.journal_device.proofs.DoneLemmas.{done, not_working, only_done, own_format, works_now, working-is}
 use Rattle.journal_device.proofs.OverDisk.{IsAfter, IsDoneOver}
@@ -125,7 +125,7 @@ module _ (w : JournaledStanding) (parts : Parts) (journal : PlacedRing) (recalcu
 
     -- It is recalculated, or nothing is done,
     pub first_taken : (t : Bool) → takes_first journal recalculation block ≡ t → (new : Recalculation) (last : Store) (m : List Content) → last.geometry ≡ parts.tags.geometry
-        → TakesFirst t parts.maker (region_of recalculation.awaiting.geometry block) recalculation new parts.tags last a m
+        → TakesIf t parts.maker (region_of recalculation.awaiting.geometry block) recalculation new parts.tags last a m
         → IsWorking (standing_of w) (awaiting_if t (region_of w.disk.geometry block)) journal new last m
     first_taken true takes new last m same taken =
         let at = subst (λ (g : Geometry). TakesAwaiting parts.maker (region_of g block) recalculation new parts.tags.geometry tags (given_tags last) a m) works.recalc_.geometry taken in
@@ -145,7 +145,7 @@ module _ (w : JournaledStanding) (parts : Parts) (journal : PlacedRing) (recalcu
         (subst (IsWorking y (awaiting_in w) journal recalculation parts.tags) (sym taken.2) works))
 
     -- at each moment of which each image may be left,
-    pub first_left : (t : Bool) → takes_first journal recalculation block ≡ t → (m : List Content) → TakesFirstIn t parts.maker (region_of recalculation.awaiting.geometry block) recalculation parts.tags a m
+    pub first_left : (t : Bool) → takes_first journal recalculation block ≡ t → (m : List Content) → TakesIfIn t parts.maker (region_of recalculation.awaiting.geometry block) recalculation parts.tags a m
         → EachMoment a m (EachImage (IsLeftInJournal w.disk.format w.state.history))
     first_left true takes m adds =
         let at = subst (λ (g : Geometry). TakesAwaitingIn parts.maker (region_of g block) recalculation parts.tags.geometry tags a m) works.recalc_.geometry adds in

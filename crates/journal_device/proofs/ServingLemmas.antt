@@ -56,7 +56,7 @@ use Rattle.device_parts.specs.declared.answers.Served.TheVariants as Serves
 use Rattle.journal_device.proofs.OverDisk.{HasFailedIn, IsServedAs}
 use Rattle.journal_device.specs.Answers.{takes_first}
 use Rattle.journal_device.specs.Device.{IsOverDisk, IsWorking, JournaledStanding, awaiting_in, standing_of}
-use Rattle.journal_device.specs.Recalculating.{TakesFirst, TakesFirstIn}
+use Rattle.journal_device.specs.Recalculating.{TakesIf, TakesIfIn}
 use Rattle.journal_device.specs.Writing.{HasFlushedIf}
 use Rattle.journal_device.proofs.DoneLemmas.{broken_done, idle_now, left_done, only_done, stands_now, told_then, working_then, working-is, works_now}
 use Rattle.journal_device.proofs.RecalcLemmas.{awaiting_if, first_left, first_taken, takes_is}
@@ -335,8 +335,8 @@ module _ (w : JournaledStanding) (parts : Parts) (journal : PlacedRing) (recalcu
 
       -- Its region is recalculated first, or not, and then it is read.
       module _ (low : block < w.disk.geometry.blocks) (t : Bool) (takes : takes_first journal recalculation block ≡ t) (first : Recalculation) (store : Store) (m : List Content) (same : store.geometry ≡ parts.tags.geometry)
-          (taken : TakesFirst t parts.maker (region_of recalculation.awaiting.geometry block) recalculation first parts.tags store a m)
-          (adds : TakesFirstIn t parts.maker (region_of recalculation.awaiting.geometry block) recalculation parts.tags a m) where
+          (taken : TakesIf t parts.maker (region_of recalculation.awaiting.geometry block) recalculation first parts.tags store a m)
+          (adds : TakesIfIn t parts.maker (region_of recalculation.awaiting.geometry block) recalculation parts.tags a m) where
         -- The regions that await then.
         abbrev pub then_awaiting : ℕ → Bool
         then_awaiting = awaiting_if w parts journal recalculation a is t (region_of w.disk.geometry block)

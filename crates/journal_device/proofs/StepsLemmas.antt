@@ -23,6 +23,7 @@ use Rattle.journal_mode.specs.Journal.{PlacedRing}
 use Rattle.journal_mode.proofs.MovesLemmas.{unplaced_few}
 use Rattle.journal_device.specs.Answers.{AdvancesAs, moved_as, steps_left}
 use Rattle.journal_device.specs.Recalculating.{HasStepped}
+use Rattle.journal_device.proofs.OverDisk.{state_of}
 
 pub not_did : Moves.Idle ≡ Moves.Did → ⊥
 not_did same = cc
@@ -42,7 +43,7 @@ batch_some ring bounds some = by ring.opened some
 
 pub commit_fewer : {A : Type 0} (moved : Moved) (old new : PlacedRing) (first last : A) (recalculation now : Recalculation) (a b : List Content)
     → HasBounds old.ring → HasCommitted moved old new first last a b → moved_as moved ≡ Moves.Did
-    → steps_left Actors.Commit new now < steps_left Actors.Commit old recalculation
+    → steps_left Actors.Commit (state_of new now) < steps_left Actors.Commit (state_of old recalculation)
 commit_fewer Did old new first last recalculation now a b bounds has did =
     rw has.journal (drop_fewer (next_batch old.ring) old.ring.opened has.some (batch_some old.ring bounds has.some))
 commit_fewer Idle old new first last recalculation now a b bounds has did = absurd (not_did did)
@@ -51,7 +52,7 @@ commit_fewer Idle old new first last recalculation now a b bounds has did = absu
 
 pub place_fewer : {A : Type 0} (moved : Moved) (old new : PlacedRing) (before after : Store) (first last : A) (recalculation now : Recalculation)
     → HasPlaced moved old.placement new.placement old.ring before after first last → new.ring ≡ old.ring
-    → moved_as moved ≡ Moves.Did → steps_left Actors.Place new now < steps_left Actors.Place old recalculation
+    → moved_as moved ≡ Moves.Did → steps_left Actors.Place (state_of new now) < steps_left Actors.Place (state_of old recalculation)
 place_fewer Did old new before after first last recalculation now has same did =
     let next : placed_in new.placement new.ring ≡ placed_in new.placement old.ring = ap (placed_in new.placement) same in
     let all : length (entries_of new.ring.committed) ≡ length (entries_of old.ring.committed) =
@@ -74,7 +75,7 @@ freed_some placed (x ∷ xs) other = by (leb (length x) placed) refl
 
 pub settle_fewer : {A : Type 0} (moved : Moved) (old new : PlacedRing) (before after : Store) (first last : A) (recalculation now : Recalculation)
     → HasSettled moved old.placement new.placement old.ring new.ring before after first last
-    → moved_as moved ≡ Moves.Did → steps_left Actors.Settle new now < steps_left Actors.Settle old recalculation
+    → moved_as moved ≡ Moves.Did → steps_left Actors.Settle (state_of new now) < steps_left Actors.Settle (state_of old recalculation)
 settle_fewer Did old new before after first last recalculation now has did =
     let n = placed_in old.placement old.ring in
     rw has.left_is (freed_some n old.ring.committed
@@ -83,24 +84,24 @@ settle_fewer Idle old new before after first last recalculation now has did = ab
 
 -- ---- a recalculation
 
-pub recalc_fewer : {A : Type 0} (moved : Moved) (rule : TagRule) (old new : Recalculation) (before after : Store) (journal put : PlacedRing) (first last : A) (a b : List Content)
-    → HasStepped moved rule old new before after first last a b → moved_as moved ≡ Moves.Did
-    → steps_left Actors.Recalc put new < steps_left Actors.Recalc journal old
-recalc_fewer Did rule old new before after journal put first last a b has did = has.fewer
-recalc_fewer Idle rule old new before after journal put first last a b has did = absurd (not_did did)
+pub recalc_fewer : {A : Type 0} (moved : Moved) (rule : TagRule) (old new : Recalculation) (before after : Store) (journal put : PlacedRing) (moments : A → List Content) (first last : A)
+    → HasStepped moved rule old new before after moments first last → moved_as moved ≡ Moves.Did
+    → steps_left Actors.Recalc (state_of put new) < steps_left Actors.Recalc (state_of journal old)
+recalc_fewer Did rule old new before after journal put moments first last has did = has.fewer
+recalc_fewer Idle rule old new before after journal put moments first last has did = absurd (not_did did)
 
 moved_fields_or : (o : Option Superblock) (g : Geometry) (tags : Content → ℕ → List ℕ) (old new : Superblock) (a b : List Content) → HasMoved o g tags old new a b → new ≡ fields_or o old
 moved_fields_or None g tags old new a b has = has.0
 moved_fields_or (Some fields) g tags old new a b has = has.0
 
-pub recalc_advances : {A : Type 0} (moved : Moved) (rule : TagRule) (old new : Recalculation) (before after : Store) (first last : A) (a b : List Content) → HasStepped moved rule old new before after first last a b
+pub recalc_advances : {A : Type 0} (moved : Moved) (rule : TagRule) (old new : Recalculation) (before after : Store) (moments : A → List Content) (first last : A) → HasStepped moved rule old new before after moments first last
     → AdvancesAs Actors.Recalc (moved_as moved) old new
-recalc_advances Did rule old new before after first last a b has =
+recalc_advances Did rule old new before after moments first last has =
     let settles = has.steps.settles in
     let takes = has.steps.takes in
     let mid = has.steps.mid in
-    moved_fields_or (to_write mid) before.geometry (given_tags after) mid.position new.position settles.between b settles.moves
+    moved_fields_or (to_write mid) before.geometry (given_tags after) mid.position new.position settles.between (moments last) settles.moves
     ∙ ap (λ (s : Superblock). fields_or (fields_to_write s mid.awaiting.geometry (awaiting_of mid.awaiting)) s) takes.position
     ∙ ap (λ (g : Geometry). fields_or (fields_to_write old.position g (awaiting_of mid.awaiting)) old.position) takes.geometry
     ∙ ap (λ (x : AwaitingRegions). fields_or (fields_to_write old.position old.awaiting.geometry (awaiting_of x)) old.position) (sym settles.awaiting)
-recalc_advances Idle rule old new before after first last a b has = has.recalc_
+recalc_advances Idle rule old new before after moments first last has = has.recalc_

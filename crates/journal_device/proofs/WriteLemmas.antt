@@ -15,7 +15,7 @@ use Rattle.direct_laws.specs.CallLaws.{AddsTags}
 use Rattle.hmac_tag.specs.TagMaker.{TagRule}
 use Rattle.recalculation.specs.declared.recalculating.Recalculation.{Recalculation}
 use Rattle.tag_store.specs.Store.{HoldsTag, IsOutForTag, IsStore, Store}
-use Rattle.journal_device.specs.Recalculating.{TakesFirst, TakesFirstIn}
+use Rattle.journal_device.specs.Recalculating.{TakesIf, TakesIfIn}
 use Rattle.request_slots.specs.declared.turn.Turn.TheVariants as Turns
 use Rattle.device_parts.specs.declared.parts.Parts.{Parts}
 use Rattle.device_parts.specs.Device.{IsReady}
@@ -23,6 +23,7 @@ use Rattle.device_parts.proofs.ReadyLemmas.{ready_read, same_flight}
 use Rattle.journal_mode.specs.Journal.{PlacedRing}
 use Rattle.journal_device.specs.Answers.{HasEntryMore, WritesFor, WritesRead}
 use Rattle.journal_device.specs.Writing.{WritesIf}
+use Rattle.journal_device.specs.declared.parts.JournalState.{JournalState}
 
 -- What a call ensures on Ok holds where its result is not an error.
 pub put_ok : {T E P : Type 0} (r : Result T E) → is_err r ≡ false → OnOk r P → P
@@ -42,14 +43,14 @@ on_refusal (Err e) bad holds = holds
 
 -- ---- what is written
 
-pub writes_if : (flushes : Bool) (block : ℕ) (parts : Parts) (journal : PlacedRing) (recalculation : Recalculation) (mid : PlacedRing) (before after : List Content) → HasEntryMore journal block mid
-    → WritesIf flushes mid before after → WritesFor (Turns.Write block flushes) parts journal recalculation before after
-writes_if true block parts journal recalculation mid before after more writes = inr (record { put = mid; more = more; batches = writes })
-writes_if false block parts journal recalculation mid before after more writes = writes
+pub writes_if : (flushes : Bool) (block : ℕ) (parts : Parts) (state : JournalState) (mid : PlacedRing) (before after : List Content) → HasEntryMore state.journal block mid
+    → WritesIf flushes mid before after → WritesFor (Turns.Write block flushes) parts state before after
+writes_if true block parts state mid before after more writes = inr (record { put = mid; more = more; batches = writes })
+writes_if false block parts state mid before after more writes = writes
 
-pub writes_none : (flushes : Bool) (block : ℕ) (parts : Parts) (journal : PlacedRing) (recalculation : Recalculation) (before : List Content) → WritesFor (Turns.Write block flushes) parts journal recalculation before before
-writes_none true block parts journal recalculation before = inl refl
-writes_none false block parts journal recalculation before = refl
+pub writes_none : (flushes : Bool) (block : ℕ) (parts : Parts) (state : JournalState) (before : List Content) → WritesFor (Turns.Write block flushes) parts state before before
+writes_none true block parts state before = inl refl
+writes_none false block parts state before = refl
 
 -- ---- what is ready
 
@@ -72,13 +73,13 @@ tags_hold g old new {a} m = EachMoment-weaker (FromStart-weaker a (λ start. Onl
     }) start c adds)) m
 
 -- where a region is recalculated first,
-pub writes_first : (t : Bool) (rule : TagRule) (region block : ℕ) (recalculation : Recalculation) (parts : Parts) (a m : List Content) → TakesFirstIn t rule region recalculation parts.tags a m → WritesRead t block parts a m
+pub writes_first : (t : Bool) (rule : TagRule) (region block : ℕ) (recalculation : Recalculation) (parts : Parts) (a m : List Content) → TakesIfIn t rule region recalculation parts.tags a m → WritesRead t block parts a m
 writes_first true rule region block recalculation parts a m adds = tags_hold parts.tags.geometry _ _ adds
 writes_first false rule region block recalculation parts a m same = EachMoment-kept _ same
 
 -- and then the tag of a block is got.
-pub writes_read : (t : Bool) (rule : TagRule) (region block : ℕ) (old new : Recalculation) (parts : Parts) (store : Store) (a m b : List Content) → store.geometry ≡ parts.tags.geometry → TakesFirst t rule region old new parts.tags store a m
-    → TakesFirstIn t rule region old parts.tags a m → EachSince (OnlyAdds (IsOutForTag block store)) m b → WritesRead t block parts a b
+pub writes_read : (t : Bool) (rule : TagRule) (region block : ℕ) (old new : Recalculation) (parts : Parts) (store : Store) (a m b : List Content) → store.geometry ≡ parts.tags.geometry → TakesIf t rule region old new parts.tags store a m
+    → TakesIfIn t rule region old parts.tags a m → EachSince (OnlyAdds (IsOutForTag block store)) m b → WritesRead t block parts a b
 writes_read true rule region block old new parts store a m b same taken adds out =
     adds_then (λ sector x. HoldsTag parts.tags.geometry sector) (tags_hold parts.tags.geometry _ _ adds)
     (adds_wider (IsOutForTag block store) (λ sector x. HoldsTag parts.tags.geometry sector) (λ sector x of. subst (λ (g : Geometry). HoldsTag g sector) same of.marked.tags) out)

@@ -1,9 +1,10 @@
 -- What the calls of a device in journal mode do to its journal, and what they write.
-use Rattle.std.specs.Prelude.{◌≡◌, ◌⊎◌, ℕ, ◌-◌, ◌<◌, Bool, true, false, not, ◌&&◌, is_some, List, length}
+use Rattle.std.specs.Prelude.{◌≡◌, ◌⊎◌, ℕ, ◌-◌, ◌<◌, Bool, true, false, not, ◌&&◌, is_some, List, length, Result}
 use Rattle.disk_model.specs.Disk.{Content, EachImage, Image, OnlyAdds}
 use Rattle.disk_model.specs.Moments.{EachSince, HasNow}
 use Rattle.image_model.specs.Geometry.{Geometry, region_of}
-use Rattle.image_model.specs.Superblock.{Superblock}
+use Rattle.image_model.specs.declared.flags.TheConstants.{RECALCULATING}
+use Rattle.image_model.specs.Superblock.{Superblock, has_flag}
 use Rattle.device_model.specs.History.{cells_now}
 use Rattle.device_model.specs.Progress as Model
 use Rattle.place_model.specs.Format.{format_on, placed_on}
@@ -12,13 +13,16 @@ use Rattle.request_slots.specs.declared.turn.Turn.{Turn}
 use Rattle.request_slots.specs.declared.turn.Turn.TheVariants as Turns
 use Rattle.recalculation.specs.declared.recalculating.Recalculation.{Recalculation}
 use Rattle.recalculation.specs.Awaiting.{awaiting_of}
-use Rattle.recalculation.specs.Recalculation.{HasFields, IsOfTagsOrHead, WritesRegion, count_of, fields_then, next_of}
+use Rattle.recalculation.specs.Recalculation.{HasFields, HasFieldsThrough, IsOfTagsOrHead, WritesRegion, count_of, fields_left, fields_then, next_of}
 use Rattle.tag_store.specs.Store.{HoldsTag, IsOutForTag}
 use Rattle.device_parts.specs.declared.answers.Moved.{Moved}
+use Rattle.device_parts.specs.declared.answers.Served.{Served}
+use Rattle.device_parts.specs.declared.condition.Condition.TheVariants.{Working}
 use Rattle.device_parts.specs.declared.parts.Parts.{Parts}
 use Rattle.device_parts.specs.declared.answers.Actor.{Actor}
 use Rattle.device_parts.specs.declared.answers.Actor.TheVariants as Actors
 use Rattle.device_parts.specs.declared.answers.Moved.TheVariants as Moves
+use Rattle.device_parts.specs.Answers.{ServesNext, StepsNext}
 use Rattle.device_parts.specs.Device.{Standing}
 use Rattle.journal_ring.specs.declared.ring.Moved as JournalMove
 use Rattle.journal_ring.specs.declared.ring.Moved.TheVariants as JournalMoves
@@ -30,8 +34,16 @@ use Rattle.journal_mode.specs.Closing.{WritesAll}
 use Rattle.journal_mode.specs.Commits.{WritesBatches}
 use Rattle.journal_mode.specs.Journal.{PlacedRing, after_put}
 use Rattle.journal_mode.specs.Reads.{newest_in}
+use Rattle.journal_device.specs.Device.{IsJournaled, in_journal}
+use Rattle.journal_device.specs.declared.parts.JournalParts.{JournalParts}
+use Rattle.journal_device.specs.declared.parts.JournalState.{JournalState}
 
 -- ---- a serve
+
+-- A device in journal mode that works does what is next for a request.
+abbrev pub Serves : {E : Type 0} → (ticket : ℕ) → (old new : JournalParts) → (before after : List Content)
+    → Result Served E → Type 0
+Serves ticket old new before after result = ServesNext in_journal ticket old new before after result
 
 -- The journal with one entry more of a block, whose bytes and tag may be any.
 pub record HasEntryMore (old : PlacedRing) (block : ℕ) (new : PlacedRing) : Type 0 where
@@ -58,17 +70,27 @@ WritesRead false block parts before after = EachSince (OnlyAdds (IsOutForTag blo
 
 -- What is written in a serve, by what is done next: for a read sectors of tags; for a flush batches of the journal, and
 -- for a write with one the same with its entry, if it finds room; and else nothing.
-abbrev pub WritesFor : Turn → Parts → PlacedRing → Recalculation → (before after : List Content) → Type 0
-WritesFor Turns.Finished parts journal recalculation before after = after ≡ before
-WritesFor (Turns.Held by) parts journal recalculation before after = after ≡ before
-WritesFor (Turns.Read block) parts journal recalculation before after =
-    WritesRead (takes_first journal recalculation block) block parts before after
-WritesFor (Turns.Write block true) parts journal recalculation before after =
-    (after ≡ before) ⊎ WritesWithBlock journal block before after
-WritesFor (Turns.Write block false) parts journal recalculation before after = after ≡ before
-WritesFor Turns.Flush parts journal recalculation before after = WritesBatches journal before after
+abbrev pub WritesFor : Turn → Parts → JournalState → (before after : List Content) → Type 0
+WritesFor Turns.Finished parts state before after = after ≡ before
+WritesFor (Turns.Held by) parts state before after = after ≡ before
+WritesFor (Turns.Read block) parts state before after =
+    WritesRead (takes_first state.journal state.recalculation block) block parts before after
+WritesFor (Turns.Write block true) parts state before after =
+    (after ≡ before) ⊎ WritesWithBlock state.journal block before after
+WritesFor (Turns.Write block false) parts state before after = after ≡ before
+WritesFor Turns.Flush parts state before after = WritesBatches state.journal before after
 
 -- ---- a step
+
+-- One that works lets an actor do its next step.
+abbrev pub Steps : {E : Type 0} → Actor → (old new : JournalParts) → (before after : List Content) → Result Moved E
+    → Type 0
+Steps actor old new before after result = StepsNext in_journal actor old new before after result
+
+-- At each moment of a call each image of one that works has the fields from before it, or these.
+abbrev pub MovesFieldsTo : (new : Superblock) → JournalParts → (before after : List Content) → Type 0
+MovesFieldsTo new device before after = (w : Standing) → IsJournaled w Working device before
+    → HasFieldsThrough w.on device.state.recalculation.position new before after
 
 -- What a step of the journal did, as one of the device.
 abbrev pub moved_as : JournalMove.Moved → Moved
@@ -77,24 +99,24 @@ moved_as JournalMoves.Idle = Moves.Idle
 
 -- What is written in one: a batch of the journal, an entry in its place, or sectors of tags; and where a region awaits,
 -- what the recalculation of the least one writes.
-abbrev pub WritesAs : Actor → Parts → PlacedRing → Recalculation → (before after : List Content) → Type 0
-WritesAs Actors.Commit parts journal recalculation before after = WritesBatch journal.ring before after
-WritesAs Actors.Place parts journal recalculation before after = WritesNext journal.placement journal.ring before after
-WritesAs Actors.Settle parts journal recalculation before after =
-    WritesTags journal.placement journal.ring parts.tags before after
-WritesAs Actors.Clean parts journal recalculation before after = after ≡ before
-WritesAs Actors.Recalc parts journal recalculation before after =
-    WritesRegion (next_of recalculation) parts.tags.geometry before after
+abbrev pub WritesAs : Actor → Parts → JournalState → (before after : List Content) → Type 0
+WritesAs Actors.Commit parts state before after = WritesBatch state.journal.ring before after
+WritesAs Actors.Place parts state before after = WritesNext state.journal.placement state.journal.ring before after
+WritesAs Actors.Settle parts state before after =
+    WritesTags state.journal.placement state.journal.ring parts.tags before after
+WritesAs Actors.Clean parts state before after = after ≡ before
+WritesAs Actors.Recalc parts state before after =
+    WritesRegion (next_of state.recalculation) parts.tags.geometry before after
 
 -- How many steps of an actor still do something at most: a commit for each opened section, a place for each committed
 -- entry that is not placed, a settle for each committed section, a recalculation for each region that awaits.
-abbrev pub steps_left : Actor → PlacedRing → Recalculation → ℕ
-steps_left Actors.Commit journal recalculation = length journal.ring.opened
-steps_left Actors.Place journal recalculation =
-    length (entries_of journal.ring.committed) - placed_in journal.placement journal.ring
-steps_left Actors.Settle journal recalculation = length journal.ring.committed
-steps_left Actors.Clean journal recalculation = 0
-steps_left Actors.Recalc journal recalculation = count_of recalculation
+abbrev pub steps_left : Actor → JournalState → ℕ
+steps_left Actors.Commit state = length state.journal.ring.opened
+steps_left Actors.Place state =
+    length (entries_of state.journal.ring.committed) - placed_in state.journal.placement state.journal.ring
+steps_left Actors.Settle state = length state.journal.ring.committed
+steps_left Actors.Clean state = 0
+steps_left Actors.Recalc state = count_of state.recalculation
 
 -- A step of the recalculation that did something moves the position as far as the regions that await let it, and a step
 -- of another actor leaves all as it is.
@@ -126,14 +148,19 @@ pub record IsAllPlaced (w : Standing) (fields : Superblock) (moments : List Cont
   pub placed : HasNow (EachImage (HasAllPlaced w)) moments
   pub fields_ : HasFields fields moments
 
+-- A close leaves one that works so, under the fields that its regions leave.
+abbrev pub LeavesPlaced : JournalParts → (before after : List Content) → Type 0
+LeavesPlaced device before after = (w : Standing) → IsJournaled w Working device before
+    → IsAllPlaced w (fields_left device.state.recalculation) after
+
 -- What is written where the position moves: sectors of tags, and sector 0; and nothing where the flag is not set.
 abbrev pub WritesMove : (is_set : Bool) → Geometry → (before after : List Content) → Type 0
 WritesMove true g before after = EachSince (OnlyAdds (IsOfTagsOrHead g)) before after
 WritesMove false g before after = after ≡ before
 
 -- All of the journal is written and placed, and then the position moves.
-pub record WritesClose (journal : PlacedRing) (is_set : Bool) (g : Geometry) (before after : List Content)
-    : Type 0 where
+pub record WritesClose (device : JournalParts) (before after : List Content) : Type 0 where
   pub middle : List Content
-  pub all : WritesAll journal before middle
-  pub moves : WritesMove is_set g middle after
+  pub all : WritesAll device.state.journal before middle
+  pub moves : WritesMove (has_flag RECALCULATING device.state.recalculation.position.flags) device.parts.tags.geometry
+      middle after

@@ -31,20 +31,21 @@ use Rattle.device_parts.specs.Device.{DeviceMode, HasDone, Standing, condition_o
 use Rattle.journal_mode.specs.Journal.{PlacedRing}
 use Rattle.journal_mode.specs.Standing.{JournalStanding, StandsAs}
 use Rattle.journal_device.specs.declared.parts.JournalParts.{JournalParts}
+use Rattle.journal_device.specs.declared.parts.JournalState.{JournalState}
 
 -- ---- what is true of each device
 
 -- What is kept is of this disk, as long as the device works, the journal lies on it, and the regions are those of its
 -- blocks.
-pub record IsReady (condition : Condition) (parts : Parts) (journal : PlacedRing) (recalculation : Recalculation)
-    (disk : DiskIdentity) (moments : List Content) : Type 0 where
+pub record IsReady (condition : Condition) (parts : Parts) (state : JournalState) (disk : DiskIdentity)
+    (moments : List Content) : Type 0 where
   pub parts_ : condition ≡ Working → Devices.IsReady parts disk moments
-  pub geometry : journal.ring.geometry ≡ parts.tags.geometry
-  pub regions_ : recalculation.awaiting.geometry ≡ parts.tags.geometry
+  pub geometry : state.journal.ring.geometry ≡ parts.tags.geometry
+  pub regions_ : state.recalculation.awaiting.geometry ≡ parts.tags.geometry
 
 -- What a device in journal mode keeps.
-abbrev pub kept : Parts → PlacedRing → Recalculation → JournalParts
-kept parts journal recalculation = record { parts = parts; journal = journal; recalculation = recalculation }
+abbrev pub kept : Parts → JournalState → JournalParts
+kept parts state = record { parts = parts; state = state }
 
 -- ---- over its disk
 
@@ -120,13 +121,13 @@ pub record IsJournaled (w : Standing) (condition : Condition) (device : JournalP
     : Type 0 where
   pub disk : JournaledDisk
   pub format : IsFormatOf w.on disk.format
-  pub over : IsOverDisk (standing_on w disk) condition device.parts device.journal device.recalculation moments
+  pub over : IsOverDisk (standing_on w disk) condition device.parts device.state.journal device.state.recalculation moments
 
 -- Journal mode.
 abbrev pub in_journal : DeviceMode JournalParts
 in_journal = record {
   IsDevice = IsJournaled;
-  IsReady = λ condition device disk moments. IsReady condition device.parts device.journal device.recalculation disk moments;
+  IsReady = λ condition device disk moments. IsReady condition device.parts device.state disk moments;
   parts = λ device. device.parts;
   mode_of = λ device. Journal;
   kind = λ w. kind_on w.on;
@@ -142,5 +143,4 @@ QuietLaw = (w : Standing) (condition : Condition) (device : JournalParts) (fligh
     → result.progress.journal ≡ w.state.progress.journal → result.progress.regions ≡ w.state.progress.regions
     → IsFlightOf w.format flight result.progress.requests
     → (Model.after_event w.format w.state event).condition ≡ w.state.condition
-    → HasDone in_journal w event condition (kept (record device.parts { slots = flight }) device.journal device.recalculation)
-    moments moments
+    → HasDone in_journal w event condition (kept (record device.parts { slots = flight }) device.state) moments moments

@@ -3,16 +3,15 @@ ghost use Rattle.std.specs.Prelude.{◌≡◌, ◌<◌, true};
 ghost use Rattle.disk_model.specs.Causes.{HasCause};
 ghost use Rattle.request_slots.specs.Flight.{FitsFlight, is_in_flight, turn_of};
 ghost use Rattle.request_slots.specs.declared.turn.Turn.TheVariants as Turns;
-ghost use Rattle.device_parts.specs.Answers.{ServesNext, condition_by};
+ghost use Rattle.device_parts.specs.Answers.{condition_by};
 ghost use Rattle.device_parts.specs.declared.condition.Condition.TheVariants.{Working};
-ghost use Rattle.journal_device.specs.Answers.{WritesFor};
-ghost use Rattle.journal_device.specs.Device.{IsReady, in_journal, kept};
+ghost use Rattle.journal_device.specs.Answers.{Serves, WritesFor};
+ghost use Rattle.journal_device.specs.Device.{IsReady, kept};
 
+use crate::JournalState;
 use crate::taking::take_first;
 use crate::writing::flush_if;
 use device_parts::{Parts, Served};
-use journal_mode::Journal;
-use recalculation::Recalculation;
 use request_slots::{Ticket, Turn};
 use sector_disk::{Disk, Failed};
 
@@ -31,39 +30,30 @@ use sector_disk::{Disk, Failed};
 pub fn serve<D: Disk>(
     disk: &mut D,
     parts: &mut Parts,
-    journal: &mut Journal<'_>,
-    recalculation: &mut Recalculation,
+    state: &mut JournalState<'_>,
     ticket: &Ticket,
 ) -> Result<Served, Failed>
-    requires ready { IsReady Working parts.old journal.old recalculation.old
-        (D.identity disk.old) (D.moments disk.old) }
+    requires ready { IsReady Working parts.old state.old (D.identity disk.old) (D.moments disk.old) }
     requires there { is_in_flight ticket.now parts.old.slots ≡ true }
 
-    ensures next { ServesNext in_journal ticket.now (kept parts.old journal.old recalculation.old)
-        (kept parts.new journal.new recalculation.new) (D.moments disk.old) (D.moments disk.new) result }
+    ensures next { Serves ticket.now (kept parts.old state.old) (kept parts.new state.new)
+        (D.moments disk.old) (D.moments disk.new) result }
 
     ensures cause { HasCause (D.faults disk.old) (D.faults disk.new) result }
 
-    ensures ready { IsReady (condition_by result) parts.new journal.new recalculation.new
-        (D.identity disk.new) (D.moments disk.new) }
+    ensures ready { IsReady (condition_by result) parts.new state.new (D.identity disk.new) (D.moments disk.new) }
     ensures identity { D.identity disk.new ≡ D.identity disk.old }
-    ensures writes { WritesFor (turn_of parts.old.slots ticket.now) parts.old journal.old recalculation.old
+    ensures writes { WritesFor (turn_of parts.old.slots ticket.now) parts.old state.old
         (D.moments disk.old) (D.moments disk.new) }
 {
     match parts.slots.turn(ticket) {
         Turn::Finished => Ok(Served::Done),
         Turn::Held { by } => Ok(Served::Held { by }),
-        Turn::Read { block } => serve_read(disk, parts, journal, recalculation, ticket, block),
-        Turn::Write { block, is_flushed } => serve_write(
-            disk,
-            parts,
-            journal,
-            recalculation,
-            ticket,
-            block,
-            is_flushed,
-        ),
-        Turn::Flush => serve_flush(disk, parts, journal, recalculation, ticket),
+        Turn::Read { block } => serve_read(disk, parts, state, ticket, block),
+        Turn::Write { block, is_flushed } => {
+            serve_write(disk, parts, state, ticket, block, is_flushed)
+        }
+        Turn::Flush => serve_flush(disk, parts, state, ticket),
     }
 }
 
@@ -72,38 +62,30 @@ pub fn serve<D: Disk>(
 fn serve_read<D: Disk>(
     disk: &mut D,
     parts: &mut Parts,
-    journal: &Journal<'_>,
-    recalculation: &mut Recalculation,
+    state: &mut JournalState<'_>,
     ticket: &Ticket,
     block: u64,
 ) -> Result<Served, Failed>
-    requires ready { IsReady Working parts.old journal.now recalculation.old
-        (D.identity disk.old) (D.moments disk.old) }
+    requires ready { IsReady Working parts.old state.old (D.identity disk.old) (D.moments disk.old) }
     requires there { is_in_flight ticket.now parts.old.slots ≡ true }
     requires turn { turn_of parts.old.slots ticket.now ≡ Turns.Read block }
     requires within { block < parts.old.slots.blocks }
     requires fits { FitsFlight ticket.now parts.old.slots }
 
-    ensures next { ServesNext in_journal ticket.now (kept parts.old journal.now recalculation.old)
-        (kept parts.new journal.now recalculation.new) (D.moments disk.old) (D.moments disk.new) result }
+    ensures next { Serves ticket.now (kept parts.old state.old) (kept parts.new state.new)
+        (D.moments disk.old) (D.moments disk.new) result }
 
     ensures cause { HasCause (D.faults disk.old) (D.faults disk.new) result }
 
-    ensures ready { IsReady (condition_by result) parts.new journal.now recalculation.new
-        (D.identity disk.new) (D.moments disk.new) }
+    ensures ready { IsReady (condition_by result) parts.new state.new (D.identity disk.new) (D.moments disk.new) }
     ensures identity { D.identity disk.new ≡ D.identity disk.old }
-    ensures writes { WritesFor (turn_of parts.old.slots ticket.now) parts.old journal.now recalculation.old
+    ensures writes { WritesFor (turn_of parts.old.slots ticket.now) parts.old state.old
         (D.moments disk.old) (D.moments disk.new) }
 {
-    take_first(
-        disk,
-        &mut parts.tags,
-        &parts.maker,
-        journal,
-        recalculation,
-        block,
-    )?;
-    let stored = journal.read_block(disk, &mut parts.tags, block, &mut parts.buffer)?;
+    take_first(disk, &mut parts.tags, &parts.maker, state, block)?;
+    let stored = state
+        .journal
+        .read_block(disk, &mut parts.tags, block, &mut parts.buffer)?;
     Ok(parts.serve_read(ticket, block, stored))
 }
 
@@ -111,38 +93,33 @@ fn serve_read<D: Disk>(
 fn serve_write<D: Disk>(
     disk: &mut D,
     parts: &mut Parts,
-    journal: &mut Journal<'_>,
-    recalculation: &Recalculation,
+    state: &mut JournalState<'_>,
     ticket: &Ticket,
     block: u64,
     is_flushed: bool,
 ) -> Result<Served, Failed>
-    requires ready { IsReady Working parts.old journal.old recalculation.now
-        (D.identity disk.old) (D.moments disk.old) }
+    requires ready { IsReady Working parts.old state.old (D.identity disk.old) (D.moments disk.old) }
     requires there { is_in_flight ticket.now parts.old.slots ≡ true }
     requires turn { turn_of parts.old.slots ticket.now ≡ Turns.Write block is_flushed }
     requires within { block < parts.old.slots.blocks }
     requires fits { FitsFlight ticket.now parts.old.slots }
 
-    ensures next { ServesNext in_journal ticket.now (kept parts.old journal.old recalculation.now)
-        (kept parts.new journal.new recalculation.now) (D.moments disk.old) (D.moments disk.new) result }
+    ensures next { Serves ticket.now (kept parts.old state.old) (kept parts.new state.new)
+        (D.moments disk.old) (D.moments disk.new) result }
 
     ensures cause { HasCause (D.faults disk.old) (D.faults disk.new) result }
 
-    ensures ready { IsReady (condition_by result) parts.new journal.new recalculation.now
-        (D.identity disk.new) (D.moments disk.new) }
+    ensures ready { IsReady (condition_by result) parts.new state.new (D.identity disk.new) (D.moments disk.new) }
     ensures identity { D.identity disk.new ≡ D.identity disk.old }
-    ensures writes { WritesFor (turn_of parts.old.slots ticket.now) parts.old journal.old recalculation.now
+    ensures writes { WritesFor (turn_of parts.old.slots ticket.now) parts.old state.old
         (D.moments disk.old) (D.moments disk.new) }
 {
-    // The regions are named in the contract alone: no tag is made.
-    let _ = recalculation;
     let bytes = parts.slots.next_bytes(ticket);
     let tag = parts.maker.tag(block * parts.spb, bytes);
-    if journal.put(block, bytes, &tag).is_err() {
+    if state.journal.put(block, bytes, &tag).is_err() {
         return Ok(Served::NoRoom);
     }
-    flush_if(disk, &parts.tags, journal, is_flushed)?;
+    flush_if(disk, &parts.tags, &mut state.journal, is_flushed)?;
     parts.slots.count_block(ticket);
     Ok(parts.served(ticket))
 }
@@ -151,29 +128,24 @@ fn serve_write<D: Disk>(
 fn serve_flush<D: Disk>(
     disk: &mut D,
     parts: &mut Parts,
-    journal: &mut Journal<'_>,
-    recalculation: &Recalculation,
+    state: &mut JournalState<'_>,
     ticket: &Ticket,
 ) -> Result<Served, Failed>
-    requires ready { IsReady Working parts.old journal.old recalculation.now
-        (D.identity disk.old) (D.moments disk.old) }
+    requires ready { IsReady Working parts.old state.old (D.identity disk.old) (D.moments disk.old) }
     requires there { is_in_flight ticket.now parts.old.slots ≡ true }
     requires turn { turn_of parts.old.slots ticket.now ≡ Turns.Flush }
 
-    ensures next { ServesNext in_journal ticket.now (kept parts.old journal.old recalculation.now)
-        (kept parts.new journal.new recalculation.now) (D.moments disk.old) (D.moments disk.new) result }
+    ensures next { Serves ticket.now (kept parts.old state.old) (kept parts.new state.new)
+        (D.moments disk.old) (D.moments disk.new) result }
 
     ensures cause { HasCause (D.faults disk.old) (D.faults disk.new) result }
 
-    ensures ready { IsReady (condition_by result) parts.new journal.new recalculation.now
-        (D.identity disk.new) (D.moments disk.new) }
+    ensures ready { IsReady (condition_by result) parts.new state.new (D.identity disk.new) (D.moments disk.new) }
     ensures identity { D.identity disk.new ≡ D.identity disk.old }
-    ensures writes { WritesFor (turn_of parts.old.slots ticket.now) parts.old journal.old recalculation.now
+    ensures writes { WritesFor (turn_of parts.old.slots ticket.now) parts.old state.old
         (D.moments disk.old) (D.moments disk.new) }
 {
-    // The regions are named in the contract alone: no tag is made.
-    let _ = recalculation;
-    journal.flush(disk, &parts.tags)?;
+    state.journal.flush(disk, &parts.tags)?;
     parts.slots.finish(ticket);
     Ok(Served::Done)
 }

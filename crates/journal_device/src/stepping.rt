@@ -3,19 +3,18 @@ ghost use Rattle.std.specs.Prelude.{◌≡◌, ◌<◌, IfOk, OnErr};
 ghost use Rattle.disk_model.specs.Causes.{HasCause};
 ghost use Rattle.disk_model.specs.Disk.{OnlyAdds};
 ghost use Rattle.disk_model.specs.Moments.{EachSince};
-ghost use Rattle.recalculation.specs.Recalculation.{HasFieldsThrough, IsOfTagsOrHead, StaysOnDisk, fields_next};
+ghost use Rattle.recalculation.specs.Recalculation.{IsOfTagsOrHead, StaysOnDisk, fields_next};
 ghost use Rattle.tag_store.specs.Store.{IsStore};
-ghost use Rattle.device_parts.specs.Answers.{StepsNext, actor_of, condition_by};
-ghost use Rattle.device_parts.specs.Device.{Standing};
+ghost use Rattle.device_parts.specs.Answers.{actor_of, condition_by};
 ghost use Rattle.device_parts.specs.declared.condition.Condition.TheVariants.{Working};
-ghost use Rattle.journal_device.specs.Answers.{AdvancesAs, HasNoWork, WritesAs, moved_as};
-ghost use Rattle.journal_device.specs.Answers.{steps_left};
-ghost use Rattle.journal_device.specs.Device.{IsJournaled, IsReady, in_journal, kept};
+ghost use Rattle.journal_device.specs.Answers.{AdvancesAs, HasNoWork, MovesFieldsTo, Steps, WritesAs};
+ghost use Rattle.journal_device.specs.Answers.{moved_as, steps_left};
+ghost use Rattle.journal_device.specs.Device.{IsReady, kept};
 ghost use Rattle.journal_device.specs.Recalculating.{HasStepped, StepsRegionIn};
 
+use crate::JournalState;
 use device_parts::{Actor, Moved, Parts};
 use hmac_tag::TagMaker;
-use journal_mode::Journal;
 use journal_ring::Moved as JournalMoved;
 use recalculation::Recalculation;
 use sector_disk::{Disk, Failed};
@@ -33,39 +32,40 @@ use tag_store::Tags;
 pub fn step<D: Disk>(
     disk: &mut D,
     parts: &mut Parts,
-    journal: &mut Journal<'_>,
-    recalculation: &mut Recalculation,
+    state: &mut JournalState<'_>,
     actor: Actor,
 ) -> Result<Moved, Failed>
-    requires { IsReady Working parts.old journal.old recalculation.old (D.identity disk.old) (D.moments disk.old) }
+    requires { IsReady Working parts.old state.old (D.identity disk.old) (D.moments disk.old) }
 
-    ensures next { StepsNext in_journal actor (kept parts.old journal.old recalculation.old)
-        (kept parts.new journal.new recalculation.new) (D.moments disk.old) (D.moments disk.new) result }
+    ensures next { Steps actor (kept parts.old state.old) (kept parts.new state.new)
+        (D.moments disk.old) (D.moments disk.new) result }
     ensures goes_on { IfOk result (λ moved. moved ≡ Moved.Did
-        → steps_left actor journal.new recalculation.new < steps_left actor journal.old recalculation.old) }
+        → steps_left actor state.new < steps_left actor state.old) }
     ensures idle { IfOk result (λ moved. moved ≡ Moved.Idle
-        → (kept parts.new journal.new recalculation.new ≡ kept parts.old journal.old recalculation.old)
-        × (disk.new ≡ disk.old)) }
-    ensures advances { IfOk result (λ moved. AdvancesAs actor moved recalculation.old recalculation.new) }
+        → (kept parts.new state.new ≡ kept parts.old state.old) × (disk.new ≡ disk.old)) }
+    ensures advances { IfOk result (λ moved. AdvancesAs actor moved state.old.recalculation state.new.recalculation) }
 
     ensures cause { HasCause (D.faults disk.old) (D.faults disk.new) result }
 
-    ensures ready { IsReady (condition_by result) parts.new journal.new recalculation.new
-        (D.identity disk.new) (D.moments disk.new) }
+    ensures ready { IsReady (condition_by result) parts.new state.new (D.identity disk.new) (D.moments disk.new) }
     ensures slots { parts.new.slots ≡ parts.old.slots }
     ensures identity { D.identity disk.new ≡ D.identity disk.old }
-    ensures heads { (w : Standing) → IsJournaled w Working (kept parts.old journal.old recalculation.old)
-        (D.moments disk.old) → HasFieldsThrough w.on recalculation.old.position (fields_next recalculation.old)
+    ensures heads { MovesFieldsTo (fields_next state.old.recalculation) (kept parts.old state.old)
         (D.moments disk.old) (D.moments disk.new) }
-    ensures writes { WritesAs actor parts.old journal.old recalculation.old (D.moments disk.old) (D.moments disk.new) }
+    ensures writes { WritesAs actor parts.old state.old (D.moments disk.old) (D.moments disk.new) }
     ensures quiet { HasNoWork (actor_of actor) → disk.new ≡ disk.old }
 {
     let moved = match actor {
-        Actor::Commit => journal.commit(disk, &parts.tags)?,
-        Actor::Place => journal.place(disk, &mut parts.tags)?,
-        Actor::Settle => journal.settle(disk, &mut parts.tags)?,
+        Actor::Commit => state.journal.commit(disk, &parts.tags)?,
+        Actor::Place => state.journal.place(disk, &mut parts.tags)?,
+        Actor::Settle => state.journal.settle(disk, &mut parts.tags)?,
         Actor::Clean => JournalMoved::Idle,
-        Actor::Recalc => recalculate(disk, &mut parts.tags, &parts.maker, recalculation)?,
+        Actor::Recalc => recalculate(
+            disk,
+            &mut parts.tags,
+            &parts.maker,
+            &mut state.recalculation,
+        )?,
     };
     Ok(moved_as(moved))
 }
@@ -86,7 +86,7 @@ fn recalculate<D: Disk>(
     requires store { IsStore tags.old (D.identity disk.old) (D.moments disk.old) }
 
     ensures stepped { IfOk result (λ moved. HasStepped moved maker.now recalculation.old recalculation.new
-        tags.old tags.new disk.old disk.new (D.moments disk.old) (D.moments disk.new)) }
+        tags.old tags.new D.moments disk.old disk.new) }
 
     ensures cause { HasCause (D.faults disk.old) (D.faults disk.new) result }
     ensures err { OnErr result (StepsRegionIn maker.now recalculation.old tags.old

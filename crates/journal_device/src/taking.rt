@@ -1,15 +1,12 @@
 //! A region that is recalculated before a block of it is read.
 ghost use Rattle.std.specs.Prelude.{◌≡◌, ◌<◌, OnErr, OnOk};
 ghost use Rattle.disk_model.specs.Causes.{HasCause};
-ghost use Rattle.image_model.specs.Geometry.{region_of};
 ghost use Rattle.recalculation.specs.Recalculation.{StaysOnDisk};
 ghost use Rattle.tag_store.specs.Store.{IsStore};
-ghost use Rattle.journal_device.specs.Answers.{takes_first};
 ghost use Rattle.journal_device.specs.Recalculating.{TakesFirst, TakesFirstIn};
 
+use crate::JournalState;
 use hmac_tag::TagMaker;
-use journal_mode::Journal;
-use recalculation::Recalculation;
 use sector_disk::{Disk, Failed};
 use tag_store::Tags;
 
@@ -22,37 +19,35 @@ pub(crate) fn take_first<D: Disk>(
     disk: &mut D,
     tags: &mut Tags,
     maker: &TagMaker,
-    journal: &Journal<'_>,
-    recalculation: &mut Recalculation,
+    state: &mut JournalState<'_>,
     block: u64,
 ) -> Result<(), Failed>
-    requires block { block < recalculation.old.awaiting.geometry.blocks }
-    requires same { tags.old.geometry ≡ recalculation.old.awaiting.geometry }
-    requires size { maker.now.size ≡ recalculation.old.awaiting.geometry.shape.tag_size }
+    requires block { block < state.old.recalculation.awaiting.geometry.blocks }
+    requires same { tags.old.geometry ≡ state.old.recalculation.awaiting.geometry }
+    requires size { maker.now.size ≡ state.old.recalculation.awaiting.geometry.shape.tag_size }
     requires store { IsStore tags.old (D.identity disk.old) (D.moments disk.old) }
 
-    ensures taken { OnOk result (TakesFirst (takes_first journal.now recalculation.old block) maker.now
-        (region_of recalculation.old.awaiting.geometry block) recalculation.old recalculation.new tags.old tags.new
+    ensures taken { OnOk result (TakesFirst maker.now block state.old state.new tags.old tags.new
         (D.moments disk.old) (D.moments disk.new)) }
 
     ensures cause { HasCause (D.faults disk.old) (D.faults disk.new) result }
-    ensures err { OnErr result (recalculation.new ≡ recalculation.old) }
+    ensures err { OnErr result (state.new ≡ state.old) }
 
-    ensures stays { StaysOnDisk recalculation.old recalculation.new tags.old tags.new (D.identity disk.old)
-        (D.identity disk.new) (D.moments disk.new) }
+    ensures journal { state.new.journal ≡ state.old.journal }
+    ensures stays { StaysOnDisk state.old.recalculation state.new.recalculation tags.old tags.new
+        (D.identity disk.old) (D.identity disk.new) (D.moments disk.new) }
 
-    ensures through { TakesFirstIn (takes_first journal.now recalculation.old block) maker.now
-        (region_of recalculation.old.awaiting.geometry block) recalculation.old tags.old
-        (D.moments disk.old) (D.moments disk.new) }
+    ensures through { TakesFirstIn maker.now block state.old tags.old (D.moments disk.old) (D.moments disk.new) }
 {
-    let region = recalculation.awaiting.region_of(block);
-    if !recalculation.awaiting.awaits(region) {
+    let region = state.recalculation.awaiting.region_of(block);
+    if !state.recalculation.awaiting.awaits(region) {
         return Ok(());
     }
-    if journal.is_journaled(block) {
+    if state.journal.is_journaled(block) {
         return Ok(());
     }
-    recalculation
+    state
+        .recalculation
         .awaiting
         .recalc_region(disk, tags, maker, region)
 }

@@ -7,6 +7,7 @@ ghost use Rattle.image_model.specs.Geometry.{journal_sectors};
 ghost use Rattle.image_model.specs.Section.{Entry};
 ghost use Rattle.journal_laws.specs.Device.{IsJournalOf};
 ghost use Rattle.device_model.specs.Progress.{is_journaled};
+ghost use Rattle.replay.specs.Cells.{StaysOnDisk};
 ghost use Rattle.replay.specs.DirectModeCells.{IsBlock, IsTaggedBlock};
 ghost use Rattle.journal_model.specs.Ring.{entries_of, has_room};
 ghost use Rattle.journal_ring.specs.Batch.{WritesBatch};
@@ -114,9 +115,8 @@ impl<'p> Journal<'p> {
 
         ensures kept { KeepsEach self.now tags.old tags.new (D.moments disk.old) (D.moments disk.new) }
 
-        ensures store { IsStore tags.new (D.identity disk.new) (D.moments disk.new) }
-        ensures geometry { tags.new.geometry ≡ tags.old.geometry }
-        ensures identity { D.identity disk.new ≡ D.identity disk.old }
+        ensures stays { StaysOnDisk tags.old tags.new (D.identity disk.old) (D.identity disk.new)
+            (D.moments disk.new) }
 
         ensures moments { EachSince (OnlyAdds (IsOutForTag block tags.old))
             (D.moments disk.old) (D.moments disk.new) }
@@ -231,9 +231,8 @@ impl<'p> Journal<'p> {
         ensures err { OnErr result (self.new ≡ self.old) }
 
         ensures ring { self.new.ring ≡ self.old.ring }
-        ensures store { IsStore tags.new (D.identity disk.new) (D.moments disk.new) }
-        ensures geometry { tags.new.geometry ≡ tags.old.geometry }
-        ensures identity { D.identity disk.new ≡ D.identity disk.old }
+        ensures stays { StaysOnDisk tags.old tags.new (D.identity disk.old) (D.identity disk.new)
+            (D.moments disk.new) }
 
         ensures left { (w : JournalStanding) → StandsAs w self.old tags.old (D.moments disk.old)
             → IsLeftThrough w (D.moments disk.old) (D.moments disk.new) }
@@ -294,9 +293,8 @@ impl<'p> Journal<'p> {
         ensures cause { HasCause (D.faults disk.old) (D.faults disk.new) result }
 
         ensures ring { self.new.ring ≡ self.old.ring }
-        ensures store { IsStore tags.new (D.identity disk.new) (D.moments disk.new) }
-        ensures geometry { tags.new.geometry ≡ tags.old.geometry }
-        ensures identity { D.identity disk.new ≡ D.identity disk.old }
+        ensures stays { StaysOnDisk tags.old tags.new (D.identity disk.old) (D.identity disk.new)
+            (D.moments disk.new) }
 
         ensures left { (w : JournalStanding) → StandsAs w self.old tags.old (D.moments disk.old)
             → IsLeftThrough w (D.moments disk.old) (D.moments disk.new) }

@@ -9,7 +9,7 @@ ghost use Rattle.direct_laws.specs.CallLaws.{GivesTags};
 ghost use Rattle.journal_model.specs.JournaledDisk.{JournaledDisk, StandsFor};
 ghost use Rattle.journal_mode.specs.Reads.{ReadsPlaced};
 ghost use Rattle.journal_ring.specs.Places.{entries_at};
-ghost use Rattle.replay.specs.Cells.{HasCells};
+ghost use Rattle.replay.specs.Cells.{HasCells, StaysOnDisk};
 ghost use Rattle.tag_store.specs.Store.{IsOutForTag, IsStore, given_tags};
 
 use hmac_tag::Tag;
@@ -55,9 +55,7 @@ pub(crate) fn read_placed<D: Disk>(
         → HasCells d tags.new (D.moments disk.new) }
     ensures tags { GivesTags tags.old.geometry (given_tags tags.old) (given_tags tags.new)
         (D.moments disk.old) (D.moments disk.new) }
-    ensures store { IsStore tags.new (D.identity disk.new) (D.moments disk.new) }
-    ensures geometry { tags.new.geometry ≡ tags.old.geometry }
-    ensures identity { D.identity disk.new ≡ D.identity disk.old }
+    ensures stays { StaysOnDisk tags.old tags.new (D.identity disk.old) (D.identity disk.new) (D.moments disk.new) }
 
     ensures stands { (d : JournaledDisk) → HasCells d tags.old (D.moments disk.old)
         → EachMoment (D.moments disk.old) (D.moments disk.new) (StandsFor d) }

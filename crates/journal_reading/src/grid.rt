@@ -1,14 +1,14 @@
 //! The grid of commit numbers of a journal, as the scan sees it. Its sectors are read once, in runs.
-ghost use Rattle.std.specs.Prelude.{◌≡◌, ◌+◌, ◌^◌, ◌<◌, vec_capacity, vec_len, IfOk, OnOk};
+ghost use Rattle.std.specs.Prelude.{◌≡◌, ◌+◌, ◌^◌, vec_capacity, vec_len, IfOk, OnOk};
 ghost use Rattle.disk_model.specs.Causes.{HasCause};
 ghost use Rattle.disk_model.specs.Disk.{last_image};
 ghost use Rattle.disk_model.specs.Identity.{IsBound};
 ghost use Rattle.disk_model.specs.Moments.{HasNow};
-ghost use Rattle.image_model.specs.Geometry.{IsGeometry, journal_sectors};
+ghost use Rattle.image_model.specs.Geometry.{IsGeometry};
 ghost use Rattle.commit_id.specs.Grid.{as_grid};
 ghost use Rattle.sector_window.specs.Window.{HasRoom};
 ghost use Rattle.journal_reading.specs.Cells.{AreFirstCells};
-ghost use Rattle.journal_reading.specs.Grids.{HasGridRoom, IsGridFor, IsGridOn};
+ghost use Rattle.journal_reading.specs.Grids.{HasGridRoom, HasRoomForNext, IsGridFor, IsGridOn};
 ghost use Rattle.journal_reading.specs.Leaving.{LeavesDisk};
 ghost use Rattle.journal_reading.specs.Used.{is_used_outside_at};
 
@@ -115,8 +115,7 @@ fn read_cell<D: Disk>(
     requires bound { IsBound (D.identity disk.old).name }
     requires geometry { IsGeometry geometry.now (D.identity disk.old).sectors }
     requires window { HasRoom 1 window.old (D.moments disk.old) }
-    requires next { vec_len cells.old < journal_sectors geometry.now }
-    requires room { vec_len cells.old < vec_capacity cells.old }
+    requires next { HasRoomForNext geometry.now (vec_len cells.old) (vec_capacity cells.old) }
     requires cells { AreFirstCells geometry.now (D.moments disk.old) cells.old.items }
 
     ensures used { IfOk result (λ used. HasNow (λ c. used

@@ -28,7 +28,7 @@ use Rattle.device_parts.specs.Device.{Standing}
 use Rattle.journal_device.specs.Device.{IsJournaled, IsOverDisk, kept, standing_of, standing_on}
 use Rattle.journal_device.proofs.DoneLemmas.{idle_now, stands_now}
 use Rattle.device.specs.declared.mode.DeviceParts.{DeviceParts}
-use Rattle.device.specs.declared.mode.JournalState.{JournalState}
+use Rattle.journal_device.specs.declared.parts.JournalState.{JournalState}
 use Rattle.device.specs.declared.mode.Mode.{Mode}
 use Rattle.device.specs.declared.mode.Mode.TheVariants.{Bitmap, Direct, Journal, Recovery}
 use Rattle.device.specs.Device.{IsDeviceIn}
@@ -77,7 +77,7 @@ module _ (w : JournalStanding) (journal : PlacedRing) (store : Store) (moments :
 pub record IsKept (w : Standing) (mode : Mode) (common : Parts) (moments : List Content) : Type 0 where
   pub state : JournalState
   pub is : mode ≡ Journal state
-  pub journaled : IsJournaled w Working (kept common state.journal state.recalculation) moments
+  pub journaled : IsJournaled w Working (kept common state) moments
 
 in_mode : (w : Standing) (mode : Mode) (common : Parts) (a : List Content) → IsDeviceIn mode w Working common a → w.format.mode ≡ Modes.Journal
     → IsKept w mode common a

@@ -28,7 +28,7 @@ abbrev pub OpenedLegLaw : {D : Type 0} → (D → DiskIdentity) → (D → List 
 OpenedLegLaw {D} identity moments = (consent : Consent) (key : Option (List ℕ)) (condition : Condition)
     (parts : DeviceParts) (first last : D) (start made : Content) → content_now (moments first) ≡ Some start
     → content_now (moments last) ≡ Some made → identity last ≡ identity first → condition ≡ Working
-    → HasOpenedIn (Journal consent) key (identity first) parts (moments first) (moments last)
+    → HasOpenedIn (Journal consent) key (identity first) (moments first) (moments last) parts
     → IsLeg identity moments condition parts last
 
 -- The blocks of a leg are those of the image that it was opened on, and each image may be left by what the mirror was

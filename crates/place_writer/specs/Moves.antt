@@ -12,6 +12,8 @@ use Rattle.direct_mode.specs.Cells.{IsOfBlockOrTags}
 use Rattle.journal_model.specs.JournaledDisk.{JournaledDisk, IsCutOf, StandsFor, cell_at}
 use Rattle.journal_model.specs.Ring.{JournalRing, entries_of, with_settle}
 use Rattle.journal_model.specs.Steps.{after_place, after_settle}
+use Rattle.journal_overlay.specs.declared.place.Place.{Place}
+use Rattle.journal_ring.specs.Places.{entries_at}
 use Rattle.journal_ring.specs.declared.ring.Moved.{Moved}
 use Rattle.journal_ring.specs.declared.ring.Moved.TheVariants.{Did, Idle}
 use Rattle.tag_store.specs.Store.{IsMarkedTags, Store, given_tags}
@@ -58,6 +60,17 @@ abbrev pub HasPlaced : {A : Type 0} → Moved → (old new : Placement) → Jour
 HasPlaced Did old new ring before after first last = PlacesOne old new ring
 HasPlaced Idle old new ring before after first last = FindsAllPlaced old new ring before after first last
 
+-- Every disk of which so much was placed stands for that then, and so much of it is placed.
+abbrev pub PlacesOnEach : Moved → (old new : Placement) → JournalRing → (store last : Store)
+    → (before after : List Content) → Type 0
+PlacesOnEach moved old new ring store last before after = (d : JournaledDisk) → IsPlacedOn d old ring store before
+    → IsPlacedOn (after_placing moved d) new ring last after
+
+-- At each moment of it such a disk stands for the one with the entry, and each image is a cut of the one without.
+abbrev pub StandsInPlacing : Placement → JournalRing → Store → (before after : List Content) → Type 0
+StandsInPlacing p ring store before after = (d : JournaledDisk) → IsPlacedOn d p ring store before
+    → StandsThrough (after_place d) d before after
+
 -- No sector is written but those of tags, and those of the entry's block, with its bytes. Where there is no entry the
 -- disk is left alone.
 abbrev pub WritesEntry : Geometry → Option Entry → (before after : List Content) → Type 0
@@ -82,6 +95,34 @@ abbrev pub GivesNext : Placement → JournalRing → (old new : Store) → (befo
 GivesNext p ring old new before after =
     GivesEntry ring.geometry (slice_get (entries_of ring.committed) (placed_in p ring)) old new before after
 
+-- ---- an entry that stands here in a ring
+
+-- The entry, if there is one.
+abbrev pub entry_in : JournalRing → Place → Option Entry
+entry_in ring place = slice_get (entries_at ring place.section) place.entry
+
+-- Every disk of which it is the next one, and that has its cells, has those of the disk with it then.
+abbrev pub PlacesThere : JournalRing → Place → (store last : Store) → (before after : List Content) → Type 0
+PlacesThere ring place store last before after = (d : JournaledDisk) (entry : Entry)
+    → entry_in ring place ≡ Some entry → slice_get d.entries d.placed ≡ Some entry → HasCells d store before
+    → HasCells (after_place d) last after
+
+-- At each moment of it such a disk stands for the one with the entry.
+abbrev pub StandsThere : JournalRing → Place → Store → (before after : List Content) → Type 0
+StandsThere ring place store before after = (d : JournaledDisk) (entry : Entry)
+    → entry_in ring place ≡ Some entry → slice_get d.entries d.placed ≡ Some entry → HasCells d store before
+    → EachMoment before after (StandsFor (after_place d))
+
+-- The store gives for its block its tag then, and for each other block the tag that it gave.
+abbrev pub GivesThere : JournalRing → Place → (store last : Store) → (before after : List Content) → Type 0
+GivesThere ring place store last before after = (entry : Entry) → entry_in ring place ≡ Some entry
+    → GivesEntry store.geometry (Some entry) store last before after
+
+-- No sector is written but those of tags, and those of its block, with its bytes.
+abbrev pub WritesThere : JournalRing → Place → Geometry → (before after : List Content) → Type 0
+WritesThere ring place g before after = (entry : Entry) → entry_in ring place ≡ Some entry
+    → EachSince (OnlyAdds (IsOfBlockOrTags g (block_of g entry) entry.bytes)) before after
+
 -- ---- what is placed is settled
 
 -- In an image each block has in its place the cell after all placed entries, whatever its journal: that of the
@@ -100,6 +141,17 @@ pub record IsSettledOn (d : JournaledDisk) (p : Placement) (ring : JournalRing) 
 abbrev pub IsLeftOn : Moved → JournaledDisk → Placement → JournalRing → Store → List Content → Type 0
 IsLeftOn Did d p ring store moments = IsSettledOn d p ring store moments
 IsLeftOn Idle d p ring store moments = IsPlacedOn d p ring store moments
+
+-- Every disk of which so much was placed is left so,
+abbrev pub SettlesOnEach : Moved → (old new : Placement) → (ring left : JournalRing) → (store last : Store)
+    → (before after : List Content) → Type 0
+SettlesOnEach moved old new ring left store last before after = (d : JournaledDisk)
+    → IsPlacedOn d old ring store before → IsLeftOn moved d new left last after
+
+-- and stands for the same at each moment of it.
+abbrev pub StandsInSettling : Placement → JournalRing → Store → (before after : List Content) → Type 0
+StandsInSettling p ring store before after = (d : JournaledDisk) → IsPlacedOn d p ring store before
+    → StandsThrough d d before after
 
 -- Sections were freed, all those of which each entry is placed.
 pub record FreesPlaced (old new : Placement) (ring left : JournalRing) : Type 0 where

@@ -1,10 +1,10 @@
 //! Which entries are placed, and which sections are free then.
 ghost use Rattle.std.specs.Prelude.{◌≡◌, IfOk, OnErr, OnOk};
 ghost use Rattle.disk_model.specs.Causes.{HasCause};
-ghost use Rattle.journal_model.specs.JournaledDisk.{JournaledDisk};
-ghost use Rattle.journal_model.specs.Steps.{after_place};
 ghost use Rattle.direct_mode.specs.CallLaws.{GivesTags};
-ghost use Rattle.place_writer.specs.Moves.{GivesNext, HasPlaced, HasSettled, IsLeftOn, IsPlacedOn, StandsThrough, WritesNext, WritesTags, after_placing};
+ghost use Rattle.place_writer.specs.Cells.{StaysOnDisk};
+ghost use Rattle.place_writer.specs.Moves.{GivesNext, HasPlaced, HasSettled, PlacesOnEach, SettlesOnEach};
+ghost use Rattle.place_writer.specs.Moves.{StandsInPlacing, StandsInSettling, WritesNext, WritesTags};
 ghost use Rattle.place_writer.specs.Placement.{IsPlacementOf};
 ghost use Rattle.tag_store.specs.Store.{IsStore, given_tags};
 
@@ -67,9 +67,8 @@ impl Placer {
 
         ensures moved { IfOk result (λ moved. HasPlaced moved self.old self.new ring.now
             tags.old tags.new disk.old disk.new) }
-        ensures placed { IfOk result (λ moved. (d : JournaledDisk)
-            → IsPlacedOn d self.old ring.now tags.old (D.moments disk.old)
-            → IsPlacedOn (after_placing moved d) self.new ring.now tags.new (D.moments disk.new)) }
+        ensures placed { IfOk result (λ moved. PlacesOnEach moved self.old self.new ring.now tags.old tags.new
+            (D.moments disk.old) (D.moments disk.new)) }
         ensures tags { OnOk result (GivesNext self.old ring.now tags.old tags.new
             (D.moments disk.old) (D.moments disk.new)) }
 
@@ -77,12 +76,10 @@ impl Placer {
         ensures err { OnErr result (self.new ≡ self.old) }
 
         ensures placement { IsPlacementOf self.new ring.now }
-        ensures store { IsStore tags.new (D.identity disk.new) (D.moments disk.new) }
-        ensures geometry { tags.new.geometry ≡ tags.old.geometry }
-        ensures identity { D.identity disk.new ≡ D.identity disk.old }
+        ensures stays { StaysOnDisk tags.old tags.new (D.identity disk.old) (D.identity disk.new)
+            (D.moments disk.new) }
 
-        ensures cuts { (d : JournaledDisk) → IsPlacedOn d self.old ring.now tags.old (D.moments disk.old)
-            → StandsThrough (after_place d) d (D.moments disk.old) (D.moments disk.new) }
+        ensures cuts { StandsInPlacing self.old ring.now tags.old (D.moments disk.old) (D.moments disk.new) }
         ensures moments { WritesNext self.old ring.now (D.moments disk.old) (D.moments disk.new) }
     {
         let Some(place) = next(self.placement, ring) else {
@@ -112,9 +109,8 @@ impl Placer {
 
         ensures moved { IfOk result (λ moved. HasSettled moved self.old self.new ring.old ring.new
             tags.old tags.new disk.old disk.new) }
-        ensures settled { IfOk result (λ moved. (d : JournaledDisk)
-            → IsPlacedOn d self.old ring.old tags.old (D.moments disk.old)
-            → IsLeftOn moved d self.new ring.new tags.new (D.moments disk.new)) }
+        ensures settled { IfOk result (λ moved. SettlesOnEach moved self.old self.new ring.old ring.new
+            tags.old tags.new (D.moments disk.old) (D.moments disk.new)) }
         ensures tags { OnOk result (GivesTags tags.old.geometry (given_tags tags.old) (given_tags tags.new)
             (D.moments disk.old) (D.moments disk.new)) }
 
@@ -122,12 +118,11 @@ impl Placer {
         ensures err { OnErr result ((self.new ≡ self.old) × (ring.new ≡ ring.old)) }
 
         ensures placement { IsPlacementOf self.new ring.new }
-        ensures store { IsStore tags.new (D.identity disk.new) (D.moments disk.new) }
-        ensures geometry { (tags.new.geometry ≡ tags.old.geometry) × (ring.new.geometry ≡ ring.old.geometry) }
-        ensures identity { D.identity disk.new ≡ D.identity disk.old }
+        ensures geometry { ring.new.geometry ≡ ring.old.geometry }
+        ensures stays { StaysOnDisk tags.old tags.new (D.identity disk.old) (D.identity disk.new)
+            (D.moments disk.new) }
 
-        ensures cuts { (d : JournaledDisk) → IsPlacedOn d self.old ring.old tags.old (D.moments disk.old)
-            → StandsThrough d d (D.moments disk.old) (D.moments disk.new) }
+        ensures cuts { StandsInSettling self.old ring.old tags.old (D.moments disk.old) (D.moments disk.new) }
         ensures moments { WritesTags self.old ring.old tags.old (D.moments disk.old) (D.moments disk.new) }
     {
         if self.placement.sections == 0 {

@@ -16,7 +16,7 @@ use Rattle.tag_store.proofs.PutLemmas.{put_bytes_law}
 use Rattle.tag_store.proofs.StoreLawsLemmas.{rest_law}
 use Rattle.bitmap_laws.proofs.CallLemmas.{start_told}
 use Rattle.direct_mode.proofs.StoreCalls.{ReadsWhole}
-use Rattle.recalculation.specs.Rest.{HasRest, IsUntagged, KeepsRest}
+use Rattle.recalculation.specs.Rest.{HasRest, IsUntagged, KeepsRest, StaysButTags}
 
 -- ---- calls in a row
 
@@ -46,6 +46,15 @@ KeepsRest-then old mid new a m b first second = record {
       OnlyAdds-join (HasRest old start) start middle later
       (⊎_elim (λ e. subst (OnlyAdds (HasRest old start) start) (sym e) (OnlyAdds-none (HasRest old start) start)) (λ p. p) so_far)
       (OnlyAdds-wider (HasRest mid middle) (HasRest old start) (HasRest-earlier old mid start middle first.geometry (first.gives start told middle told_m)) middle later adds));
+}
+
+-- What stays in a call and in the next stays in both.
+pub stays_then : (old mid new : Store) (disk between now : DiskIdentity) (a m b : List Content) → StaysButTags old mid disk between a m → StaysButTags mid new between now m b → StaysButTags old new disk now a b
+stays_then old mid new disk between now a m b first second = record {
+  store_ = second.store_;
+  places = second.places ∙ first.places;
+  rest = KeepsRest-then old mid new a m b first.rest second.rest;
+  identity = second.identity ∙ first.identity;
 }
 
 -- ---- a put

@@ -3,7 +3,6 @@
 -- Own: the position does not move, since the change writes sector 0 itself, once all tags are in place.
 use Rattle.std.specs.Prelude.{◌≡◌, ℕ, ◌<◌, Bool, true, false, Some, None, List, []}
 use Rattle.disk_model.specs.Disk.{Content, EachImage, Image}
-use Rattle.disk_model.specs.Identity.{DiskIdentity}
 use Rattle.disk_model.specs.Moments.{EachMoment, HasNow, content_now}
 use Rattle.image_model.specs.declared.flags.TheConstants.{DIRTY_BITMAP}
 use Rattle.image_model.specs.Geometry.{Geometry, regions}
@@ -19,11 +18,10 @@ use Rattle.hmac_tag.specs.TagMaker.{TagRule}
 use Rattle.change_model.specs.Opened.{IsEmptiedOf}
 use Rattle.change_model.specs.PhaseLaws.{no_region}
 use Rattle.recalculate_laws.specs.Taking.{KeepsAwaitingNow}
-use Rattle.tag_store.specs.Store.{HoldsTag, IsStore, Store}
+use Rattle.tag_store.specs.Store.{HoldsTag}
 use Rattle.recalculation.specs.Awaiting.{AwaitingRegions, IsOpening, awaiting_of}
 use Rattle.recalculation.specs.AllWithBitmap.{RecalculatesWithBitmap, StandsWithBitmap}
 use Rattle.recalculation.specs.Recalculation.{AwaitsBlocksOf}
-use Rattle.recalculation.specs.Rest.{KeepsRest}
 use Rattle.recalculation.specs.Rule.{rule_on}
 
 -- The regions that await in memory are those of a disk in journal mode, whose tags are made by this rule.
@@ -70,17 +68,6 @@ pub record StandsThroughAll (rule : TagRule) (a : AwaitingRegions) (tags : Conte
     (before after : List Content) : Type 0 where
   pub journal : StandsInAll rule a tags before after
   pub bitmap : StandsWithBitmap rule a tags before after
-
--- After it the store is one of the same disk, all lies in the same places, and each byte that no tag takes is as it
--- was.
-pub record StaysInAll (old new : AwaitingRegions) (store last : Store) (disk now : DiskIdentity)
-    (before after : List Content) : Type 0 where
-  pub geometry : new.geometry ≡ old.geometry
-  pub first : new.first ≡ old.first
-  pub store_ : IsStore last now after
-  pub places : last.geometry ≡ store.geometry
-  pub rest : KeepsRest store last before after
-  pub identity : now ≡ disk
 
 -- ---- on an image that was recovered
 

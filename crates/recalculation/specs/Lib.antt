@@ -4,6 +4,7 @@ pub mod Awaiting
 pub mod Rule
 pub mod Rest
 pub mod Taking
+pub mod RegionCalls
 pub mod Laws
 pub mod Position
 pub mod Recalculation

@@ -1,6 +1,7 @@
--- One block of a region that is recalculated.
+-- One block of a region that is recalculated, and what that is given.
 use Rattle.std.specs.Prelude.{◌≡◌, ◌⊎◌, ℕ, ◌<◌, List, slice_index}
 use Rattle.disk_model.specs.Disk.{Content, last_image}
+use Rattle.disk_model.specs.Identity.{DiskIdentity}
 use Rattle.disk_model.specs.Moments.{HasNow}
 use Rattle.image_model.specs.Cells.{placed_cells_of}
 use Rattle.image_model.specs.Geometry.{Geometry}
@@ -8,6 +9,18 @@ use Rattle.device_model.specs.History.{Tagger}
 use Rattle.place_model.specs.Tags.{with_block_tag}
 use Rattle.direct_laws.specs.CallLaws.{AddsTags}
 use Rattle.direct_laws.specs.ServeLaws.{PutsTag}
+use Rattle.hmac_tag.specs.TagMaker.{TagRule}
+use Rattle.tag_store.specs.Store.{IsStore, Store}
+use Rattle.recalculation.specs.declared.places.Places.{Places}
+use Rattle.recalculation.specs.Places.{IsPlaces}
+
+-- The store is of the disk, it has the places of the blocks, and the rule makes tags of their size.
+pub record FitsPlaces (rule : TagRule) (places : Places) (store : Store) (disk : DiskIdentity) (moments : List Content)
+    : Type 0 where
+  pub numbers : IsPlaces places
+  pub same : store.geometry ≡ places.geometry
+  pub size : rule.size ≡ places.geometry.shape.tag_size
+  pub store_ : IsStore store disk moments
 
 -- The tag is that of the bytes that are placed in the block.
 abbrev pub IsPlacedTag : Tagger → Geometry → ℕ → List ℕ → List Content → Type 0

@@ -9,8 +9,9 @@ ghost use Rattle.direct_laws.specs.CallLaws.{ReadsTagsNow};
 ghost use Rattle.bitmap_laws.specs.CallLaws.{AreSameBits};
 ghost use Rattle.buffer_cache.specs.Cached.{HasNoMark};
 ghost use Rattle.tag_store.specs.Store.{IsStore, given_tags};
-ghost use Rattle.recalculation.specs.All.{AwaitFewer, HasTakenAll, IsOfTagsOnly, StandsThroughAll, StaysInAll};
+ghost use Rattle.recalculation.specs.All.{AwaitFewer, HasTakenAll, IsOfTagsOnly, StandsThroughAll};
 ghost use Rattle.recalculation.specs.Awaiting.{awaiting_of};
+ghost use Rattle.recalculation.specs.Rest.{StaysInPlace};
 
 use crate::awaiting::Awaiting;
 use hmac_tag::TagMaker;
@@ -46,7 +47,7 @@ pub fn recalculate_all<D: Disk>(
     ensures err { OnErr result (AwaitFewer awaiting.old.geometry (awaiting_of awaiting.old)
         (awaiting_of awaiting.new)) }
 
-    ensures stays { StaysInAll awaiting.old awaiting.new tags.old tags.new (D.identity disk.old) (D.identity disk.new)
+    ensures stays { StaysInPlace awaiting.old awaiting.new tags.old tags.new (D.identity disk.old) (D.identity disk.new)
         (D.moments disk.old) (D.moments disk.new) }
 
     ensures through { StandsThroughAll maker.now awaiting.old (given_tags tags.old)
@@ -82,7 +83,7 @@ fn take_all<D: Disk>(
     ensures err { OnErr result (AwaitFewer awaiting.old.geometry (awaiting_of awaiting.old)
         (awaiting_of awaiting.new)) }
 
-    ensures stays { StaysInAll awaiting.old awaiting.new tags.old tags.new (D.identity disk.old) (D.identity disk.new)
+    ensures stays { StaysInPlace awaiting.old awaiting.new tags.old tags.new (D.identity disk.old) (D.identity disk.new)
         (D.moments disk.old) (D.moments disk.new) }
 
     ensures through { StandsThroughAll maker.now awaiting.old (given_tags tags.old)

@@ -4,17 +4,14 @@ ghost use Rattle.std.specs.Prelude.{◌&&◌, nat_lt, IsOk, OnErr, OnOk};
 ghost use Rattle.disk_model.specs.Causes.{HasCause};
 ghost use Rattle.image_model.specs.Geometry.{layout_of, region_of, regions};
 ghost use Rattle.device_model.specs.Regions.{least_region, with_region};
-ghost use Rattle.direct_laws.specs.CallLaws.{AddsTags};
-ghost use Rattle.bitmap_laws.specs.CallLaws.{AreSameBits, region_tags};
-ghost use Rattle.bitmap_laws.specs.ServeLaws.{Recalculates};
+ghost use Rattle.bitmap_laws.specs.CallLaws.{AreSameBits};
 ghost use Rattle.recalculate_laws.specs.Position.{region_end, region_start};
 ghost use Rattle.dirty_bitmap.specs.Bits.{RegionBits};
-ghost use Rattle.tag_store.specs.Store.{IsStore, given_tags};
-ghost use Rattle.recalculation.specs.Awaiting.{IsOpening, NoneAwaits, awaiting_blocks, awaiting_of};
+ghost use Rattle.tag_store.specs.Store.{IsStore};
+ghost use Rattle.recalculation.specs.Awaiting.{IsOpening, NoneAwaits, awaiting_of};
 ghost use Rattle.recalculation.specs.Places.{TellsAreas};
-ghost use Rattle.recalculation.specs.Rest.{KeepsRest};
-ghost use Rattle.recalculation.specs.Rule.{tagger_by};
-ghost use Rattle.recalculation.specs.Taking.{GivesBetween};
+ghost use Rattle.recalculation.specs.RegionCalls.{AddsIn, GivesIn, TakesIn};
+ghost use Rattle.recalculation.specs.Rest.{StaysInPlace};
 
 use crate::left::Left;
 use crate::places::Places;
@@ -134,26 +131,18 @@ impl Awaiting {
 
         ensures done { OnOk result (AreSameBits self.old.geometry (awaiting_of self.new)
             (with_region region false (awaiting_of self.old))) }
-        ensures taken { let g = self.old.geometry in OnOk result (Recalculates (tagger_by maker.now g) g
-            (awaiting_blocks self.old) region (given_tags tags.old) (given_tags tags.new)
+        ensures taken { OnOk result (TakesIn maker.now self.old region tags.old tags.new
             (D.moments disk.old) (D.moments disk.new)) }
 
         ensures cause { HasCause (D.faults disk.old) (D.faults disk.new) result }
         ensures err { OnErr result (self.new ≡ self.old) }
-        ensures between { let g = self.old.geometry in OnErr result (GivesBetween g (given_tags tags.old)
-            (λ c. region_tags (tagger_by maker.now g) g (awaiting_blocks self.old) region c (given_tags tags.old c))
-            (given_tags tags.new) (D.moments disk.old) (D.moments disk.new)) }
+        ensures between { OnErr result (GivesIn maker.now self.old region tags.old tags.new
+            (D.moments disk.old) (D.moments disk.new)) }
 
-        ensures geometry { self.new.geometry ≡ self.old.geometry }
-        ensures first { self.new.first ≡ self.old.first }
-        ensures store { IsStore tags.new (D.identity disk.new) (D.moments disk.new) }
-        ensures places { tags.new.geometry ≡ tags.old.geometry }
-        ensures rest { KeepsRest tags.old tags.new (D.moments disk.old) (D.moments disk.new) }
-        ensures identity { D.identity disk.new ≡ D.identity disk.old }
-
-        ensures moments { let g = self.old.geometry in AddsTags g (given_tags tags.old)
-            (λ c. region_tags (tagger_by maker.now g) g (awaiting_blocks self.old) region c (given_tags tags.old c))
+        ensures stays { StaysInPlace self.old self.new tags.old tags.new (D.identity disk.old) (D.identity disk.new)
             (D.moments disk.old) (D.moments disk.new) }
+
+        ensures moments { AddsIn maker.now self.old region tags.old (D.moments disk.old) (D.moments disk.new) }
     {
         match &mut self.left {
             Some(left) => left.take(disk, tags, maker, &self.places, region),

@@ -1,19 +1,14 @@
 //! The regions that are left to be recalculated.
 ghost use Rattle.std.specs.Prelude.{◌≡◌, ◌<◌, ◌*◌, ℕ, false, IfOk, OnErr, OnOk};
 ghost use Rattle.disk_model.specs.Causes.{HasCause};
-ghost use Rattle.image_model.specs.Geometry.{region_of, regions};
+ghost use Rattle.image_model.specs.Geometry.{regions};
 ghost use Rattle.device_model.specs.Regions.{with_region};
-ghost use Rattle.direct_laws.specs.CallLaws.{AddsTags};
-ghost use Rattle.bitmap_laws.specs.CallLaws.{region_tags};
-ghost use Rattle.bitmap_laws.specs.ServeLaws.{Recalculates};
 ghost use Rattle.dirty_bitmap.specs.Regions.{has_region};
-ghost use Rattle.tag_store.specs.Store.{IsStore, given_tags};
-ghost use Rattle.recalculation.specs.Awaiting.{IsLeft, left_blocks};
-ghost use Rattle.recalculation.specs.Places.{IsPlaces};
-ghost use Rattle.recalculation.specs.Rest.{KeepsRest};
-ghost use Rattle.recalculation.specs.Rule.{tagger_by};
+ghost use Rattle.recalculation.specs.Awaiting.{IsLeft};
+ghost use Rattle.recalculation.specs.RegionCalls.{AddsIn, GivesIn, TakesIn, left_in};
+ghost use Rattle.recalculation.specs.Rest.{StaysButTags};
 ghost use Rattle.recalculation.specs.Run.{HasBuffer};
-ghost use Rattle.recalculation.specs.Taking.{GivesBetween};
+ghost use Rattle.recalculation.specs.Taking.{FitsPlaces};
 
 use crate::block_run::BlockRun;
 use crate::places::Places;
@@ -59,33 +54,25 @@ impl Left {
         region: u64,
     ) -> Result<(), Failed>
         requires left { IsLeft places.now.geometry self.old }
-        requires places { IsPlaces places.now }
+        requires fits { FitsPlaces maker.now places.now tags.old (D.identity disk.old) (D.moments disk.old) }
         requires region { region < regions places.now.geometry }
-        requires same { tags.old.geometry ≡ places.now.geometry }
-        requires size { maker.now.size ≡ places.now.geometry.shape.tag_size }
-        requires store { IsStore tags.old (D.identity disk.old) (D.moments disk.old) }
 
         ensures done { OnOk result ((r : ℕ) → has_region self.new.set r
             ≡ with_region region false (has_region self.old.set) r) }
-        ensures taken { let g = places.now.geometry in OnOk result (Recalculates (tagger_by maker.now g) g
-            (left_blocks g places.now.first (has_region self.old.set)) region (given_tags tags.old)
-            (given_tags tags.new) (D.moments disk.old) (D.moments disk.new)) }
+        ensures taken { OnOk result (TakesIn maker.now (left_in places.now self.old) region tags.old tags.new
+            (D.moments disk.old) (D.moments disk.new)) }
 
         ensures cause { HasCause (D.faults disk.old) (D.faults disk.new) result }
         ensures err { OnErr result (self.new.set ≡ self.old.set) }
-        ensures between { let g = places.now.geometry in OnErr result (GivesBetween g (given_tags tags.old)
-            (λ c. region_tags (tagger_by maker.now g) g (left_blocks g places.now.first (has_region self.old.set))
-            region c (given_tags tags.old c)) (given_tags tags.new) (D.moments disk.old) (D.moments disk.new)) }
+        ensures between { OnErr result (GivesIn maker.now (left_in places.now self.old) region tags.old tags.new
+            (D.moments disk.old) (D.moments disk.new)) }
 
         ensures left { IsLeft places.now.geometry self.new }
-        ensures store { IsStore tags.new (D.identity disk.new) (D.moments disk.new) }
-        ensures places { tags.new.geometry ≡ tags.old.geometry }
-        ensures rest { KeepsRest tags.old tags.new (D.moments disk.old) (D.moments disk.new) }
-        ensures identity { D.identity disk.new ≡ D.identity disk.old }
+        ensures stays { StaysButTags tags.old tags.new (D.identity disk.old) (D.identity disk.new)
+            (D.moments disk.old) (D.moments disk.new) }
 
-        ensures moments { let g = places.now.geometry in AddsTags g (given_tags tags.old)
-            (λ c. region_tags (tagger_by maker.now g) g (left_blocks g places.now.first (has_region self.old.set))
-            region c (given_tags tags.old c)) (D.moments disk.old) (D.moments disk.new) }
+        ensures moments { AddsIn maker.now (left_in places.now self.old) region tags.old
+            (D.moments disk.old) (D.moments disk.new) }
     {
         if !self.set.has(region) {
             return Ok(());

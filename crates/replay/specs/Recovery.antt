@@ -6,8 +6,10 @@ use Rattle.disk_model.specs.Moments.{HasNow}
 use Rattle.image_model.specs.declared.flags.TheConstants.{DIRTY_BITMAP}
 use Rattle.image_model.specs.Cells.{replayed_entries}
 use Rattle.image_model.specs.Geometry.{Geometry}
+use Rattle.image_model.specs.Grid.{walk_of}
 use Rattle.image_model.specs.Superblock.{has_flag}
 use Rattle.place_model.specs.Format.{DiskFormat, OpensAs}
+use Rattle.place_model.specs.Opened.{next_after_walk}
 use Rattle.journal_model.specs.JournaledDisk.{JournaledDisk, Rests}
 use Rattle.journal_model.specs.Recovery.{IsRecovered}
 use Rattle.journal_reading.specs.declared.reading.JudgedJournal.{JudgedJournal}
@@ -38,6 +40,11 @@ pub record LeavesRecovered (d : JournaledDisk) (at : Recovered) (tags : ℕ → 
 pub record GoesOnIn (g : Geometry) (at : Recovered) : Type 0 where
   pub next : at.next < g.sections
   pub number : at.number < 4
+
+-- It goes on so, in the section that the walk of the image at the start says.
+pub record GoesOnFrom (g : Geometry) (before : List Content) (at : Recovered) : Type 0 where
+  pub inside : GoesOnIn g at
+  pub next : HasNow (λ start. at.next ≡ next_after_walk (walk_of g (last_image start))) before
 
 -- The entries of the disk's journal, of which this is kept, are all in their places and synced. The journal is one of an
 -- image of whole sectors.

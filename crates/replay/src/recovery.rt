@@ -1,15 +1,13 @@
 //! Recovery, as it is asked for.
-ghost use Rattle.std.specs.Prelude.{◌≡◌, IfOk, OnOk};
+ghost use Rattle.std.specs.Prelude.{IfOk, OnOk};
 ghost use Rattle.disk_model.specs.Causes.{HasCause};
 ghost use Rattle.disk_model.specs.Disk.{last_image};
 ghost use Rattle.disk_model.specs.Moments.{HasNow};
-ghost use Rattle.image_model.specs.Grid.{walk_of};
 ghost use Rattle.journal_reading.specs.Journal.{IsJournalOn};
-ghost use Rattle.place_model.specs.Opened.{next_after_walk};
 ghost use Rattle.tag_store.specs.Store.{IsStore};
 ghost use Rattle.replay.specs.Calls.{KeepsImageCells, KeepsRoom, RecoversImage};
 ghost use Rattle.replay.specs.Emptied.{IsRecoveredAlready, StaysResting};
-ghost use Rattle.replay.specs.Recovery.{GoesOnIn};
+ghost use Rattle.replay.specs.Recovery.{GoesOnFrom};
 ghost use Rattle.replay.specs.Replaying.{IsReplaying};
 ghost use Rattle.replay.specs.Writes.{AddsRecovery, FillsBlanks, OnlySyncsWhere};
 
@@ -50,9 +48,7 @@ pub fn recover<D: Disk>(
 
     ensures left { IfOk result (RecoversImage (D.identity disk.old).sectors tags.old tags.new
         (D.moments disk.old) (D.moments disk.new)) }
-    ensures next { IfOk result (λ at. HasNow (λ start. at.next
-        ≡ next_after_walk (walk_of geometry.now (last_image start))) (D.moments disk.old)) }
-    ensures place { IfOk result (GoesOnIn geometry.now) }
+    ensures place { IfOk result (GoesOnFrom geometry.now (D.moments disk.old)) }
 
     ensures cause { HasCause (D.faults disk.old) (D.faults disk.new) result }
 

@@ -18,9 +18,9 @@ returns-clause-store g c =
     let last = c.clear.new.disk in
     let bits = with_region c.args.region false (bits_of c.args.bits.now) in
     let here = sym c.requires.same in
-    rw c.clear.ensures.identity
+    rw c.clear.ensures.stays.identity
     (is_store store (g.D.Disk.identity disk) (g.D.Disk.moments disk) (g.D.Disk.moments last) c.requires.store (subst (λ (y : Geometry). bitmap_sectors y ≤ journal_sectors y) here c.requires.fits)
-    (subst (λ (y : Geometry). KeepsElsewhere y (g.D.Disk.moments disk) (g.D.Disk.moments last)) here c.clear.ensures.elsewhere)
+    (subst (λ (y : Geometry). KeepsElsewhere y (g.D.Disk.moments disk) (g.D.Disk.moments last)) here c.clear.ensures.stays.elsewhere)
     bits (subst (λ (y : Geometry). AddsBits y bits (g.D.Disk.moments disk) (g.D.Disk.moments last)) here c.clear.ensures.moments))
 
 pub returns-clause-made : goal.returns-clause-made
@@ -30,10 +30,10 @@ returns-clause-made g c = on_ok_weaker c.clear.result (λ written.
     let last = c.clear.new.disk in
     let here = sym c.requires.same in
     let whole = reads_whole (g.D.Disk.identity disk) (g.D.Disk.moments disk) (g.met.D.Disk.reads_an_image disk) (g.met.D.Disk.whole_sectors disk) in
-    let whole_last = subst (λ (x : DiskIdentity). ReadsWhole x (g.D.Disk.moments last)) c.clear.ensures.identity
+    let whole_last = subst (λ (x : DiskIdentity). ReadsWhole x (g.D.Disk.moments last)) c.clear.ensures.stays.identity
     (reads_whole (g.D.Disk.identity last) (g.D.Disk.moments last) (g.met.D.Disk.reads_an_image last) (g.met.D.Disk.whole_sectors last)) in
     let gives = gives_same store (g.D.Disk.identity disk) (g.D.Disk.moments disk) (g.D.Disk.moments last) c.requires.store (subst (λ (y : Geometry). bitmap_sectors y ≤ journal_sectors y) here c.requires.fits)
-    (subst (λ (y : Geometry). KeepsElsewhere y (g.D.Disk.moments disk) (g.D.Disk.moments last)) here c.clear.ensures.elsewhere) whole whole_last in
+    (subst (λ (y : Geometry). KeepsElsewhere y (g.D.Disk.moments disk) (g.D.Disk.moments last)) here c.clear.ensures.stays.elsewhere) whole whole_last in
     record {
       adds = c.clear.ensures.moments;
       made = written;

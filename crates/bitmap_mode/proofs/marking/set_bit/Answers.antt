@@ -23,9 +23,9 @@ returns-clause-store g c =
     let last = c.make_dirty.new.disk in
     let bits = with_region c.args.region true (bits_of c.args.bits.now) in
     let here = sym c.requires.same in
-    rw c.make_dirty.ensures.identity
+    rw c.make_dirty.ensures.stays.identity
     (is_store store (g.D.Disk.identity disk) (g.D.Disk.moments disk) (g.D.Disk.moments last) c.requires.store (subst (λ (y : Geometry). bitmap_sectors y ≤ journal_sectors y) here c.requires.fits)
-    (subst (λ (y : Geometry). KeepsElsewhere y (g.D.Disk.moments disk) (g.D.Disk.moments last)) here c.make_dirty.ensures.elsewhere)
+    (subst (λ (y : Geometry). KeepsElsewhere y (g.D.Disk.moments disk) (g.D.Disk.moments last)) here c.make_dirty.ensures.stays.elsewhere)
     bits (subst (λ (y : Geometry). AddsBits y bits (g.D.Disk.moments disk) (g.D.Disk.moments last)) here c.make_dirty.ensures.moments))
 
 pub returns-clause-made : goal.returns-clause-made
@@ -35,10 +35,10 @@ returns-clause-made g c = on_ok_weaker c.make_dirty.result (λ written.
     let last = c.make_dirty.new.disk in
     let here = sym c.requires.same in
     let whole = reads_whole (g.D.Disk.identity disk) (g.D.Disk.moments disk) (g.met.D.Disk.reads_an_image disk) (g.met.D.Disk.whole_sectors disk) in
-    let whole_last = subst (λ (x : DiskIdentity). ReadsWhole x (g.D.Disk.moments last)) c.make_dirty.ensures.identity
+    let whole_last = subst (λ (x : DiskIdentity). ReadsWhole x (g.D.Disk.moments last)) c.make_dirty.ensures.stays.identity
     (reads_whole (g.D.Disk.identity last) (g.D.Disk.moments last) (g.met.D.Disk.reads_an_image last) (g.met.D.Disk.whole_sectors last)) in
     let gives = gives_same store (g.D.Disk.identity disk) (g.D.Disk.moments disk) (g.D.Disk.moments last) c.requires.store (subst (λ (y : Geometry). bitmap_sectors y ≤ journal_sectors y) here c.requires.fits)
-    (subst (λ (y : Geometry). KeepsElsewhere y (g.D.Disk.moments disk) (g.D.Disk.moments last)) here c.make_dirty.ensures.elsewhere) whole whole_last in
+    (subst (λ (y : Geometry). KeepsElsewhere y (g.D.Disk.moments disk) (g.D.Disk.moments last)) here c.make_dirty.ensures.stays.elsewhere) whole whole_last in
     record {
       image = g.met.D.Disk.reads_an_image disk;
       adds = c.make_dirty.ensures.moments;

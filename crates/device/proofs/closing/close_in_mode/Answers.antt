@@ -46,7 +46,7 @@ pub returns-in-Journal-clause-ends : goal.returns-in-Journal-clause-ends
 returns-in-Journal-clause-ends g c =
     let parts = c.args.parts in
     let state = c.in-Journal.state in
-    ends_plain in_journal Model.Journal in_journal_mode plain_journal (kept parts.common state.journal state.recalculation)
+    ends_plain in_journal Model.Journal in_journal_mode plain_journal (kept parts.common state)
     (g.D.Disk.moments c.args.disk.now) (g.D.Disk.moments c.close-in-Journal.new.disk) (λ w is. tt)
     parts (parts_in parts c.in-Journal.is) c.close-in-Journal.result c.close-in-Journal.ensures.ends
 
@@ -57,7 +57,7 @@ returns-in-Journal-clause-rests g c =
     on_ok_each c.close-in-Journal.result (λ placed w is.
     subst (λ (m : Mode). IsAtRest m w (g.D.Disk.moments c.close-in-Journal.new.disk)) (sym c.in-Journal.is)
     (let device = (subst (λ (m : Mode). IsDeviceIn m w Working parts.common a) c.in-Journal.is is).journaled in
-    journal_rests w (kept parts.common c.in-Journal.state.journal c.in-Journal.state.recalculation) a (g.D.Disk.moments c.close-in-Journal.new.disk) device (placed w device)))
+    journal_rests w (kept parts.common c.in-Journal.state) a (g.D.Disk.moments c.close-in-Journal.new.disk) device (placed w device)))
     c.close-in-Journal.ensures.placed
 
 pub returns-in-Bitmap-clause-ends : goal.returns-in-Bitmap-clause-ends
@@ -101,7 +101,7 @@ returns-in-Journal-clause-tags g c =
     let a = g.D.Disk.moments c.args.disk.now in
     let b = g.D.Disk.moments c.close-in-Journal.new.disk in
     subst (λ (m : Mode). KeepsClearTags m common Close a b) (sym c.in-Journal.is)
-    (journal_tags (kept common state.journal r) a b (fields_left r) (λ y. no_more_left y r) c.close-in-Journal.ensures.heads)
+    (journal_tags (kept common state) a b (fields_left r) (λ y. no_more_left y r) c.close-in-Journal.ensures.heads)
 
 pub returns-in-Bitmap-clause-tags : goal.returns-in-Bitmap-clause-tags
 returns-in-Bitmap-clause-tags g c =

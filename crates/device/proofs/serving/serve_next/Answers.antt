@@ -44,8 +44,8 @@ returns-in-Journal-clause-next g c =
     let parts = c.args.parts.now in
     let state = c.in-Journal.state in
     let r = state.recalculation in
-    let old = kept parts.common state.journal r in
-    let new = kept c.serve-in-Journal.new.parts c.serve-in-Journal.new.journal c.serve-in-Journal.new.recalculation in
+    let old = kept parts.common state in
+    let new = kept c.serve-in-Journal.new.parts c.serve-in-Journal.new.state in
     let a = g.D.Disk.moments c.args.disk.now in
     let b = g.D.Disk.moments c.serve-in-Journal.new.disk in
     serves_plain in_journal Model.Journal in_journal_mode plain_journal old new a b (λ w is. tt)
@@ -103,7 +103,7 @@ returns-in-Journal-clause-tags g c =
     let a = g.D.Disk.moments c.args.disk.now in
     let b = g.D.Disk.moments c.serve-in-Journal.new.disk in
     subst (λ (m : Mode). KeepsClearTags m common (FailedServe c.args.ticket.now) a b) (sym c.in-Journal.is)
-    (journal_tags (kept common state.journal r) a b r.position (λ y. no_more_same y r.position)
+    (journal_tags (kept common state) a b r.position (λ y. no_more_same y r.position)
     (λ w is. serve_fields w common state.journal r a is (turn_of common.slots c.args.ticket.now) c.serve-in-Journal.ensures.writes))
 
 pub returns-in-Bitmap-clause-tags : goal.returns-in-Bitmap-clause-tags

@@ -72,8 +72,8 @@ returns-in-Journal-clause-next g c =
     let actor = actor_of c.args.actor in
     let state = c.in-Journal.state in
     let r = state.recalculation in
-    let old = kept parts.common state.journal r in
-    let new = kept c.step-in-Journal.new.parts c.step-in-Journal.new.journal c.step-in-Journal.new.recalculation in
+    let old = kept parts.common state in
+    let new = kept c.step-in-Journal.new.parts c.step-in-Journal.new.state in
     let a = g.D.Disk.moments c.args.disk.now in
     let b = g.D.Disk.moments c.step-in-Journal.new.disk in
     does_plain in_journal Model.Journal in_journal_mode plain_journal old new a b (λ w is. tt)
@@ -84,15 +84,15 @@ pub returns-in-Journal-clause-idle : goal.returns-in-Journal-clause-idle
 returns-in-Journal-clause-idle g c =
     let parts = c.args.parts.now in
     let state = c.in-Journal.state in
-    idle_plain in_journal Model.Journal in_journal_mode plain_journal (kept parts.common state.journal state.recalculation)
-    (kept c.step-in-Journal.new.parts c.step-in-Journal.new.journal c.step-in-Journal.new.recalculation)
+    idle_plain in_journal Model.Journal in_journal_mode plain_journal (kept parts.common state)
+    (kept c.step-in-Journal.new.parts c.step-in-Journal.new.state)
     (λ (m : Moved). m ≡ Idle) parts c.args.disk.now c.step-in-Journal.new.disk (parts_in parts c.in-Journal.is)
     c.step-in-Journal.result c.step-in-Journal.ensures.idle
 
 pub returns-in-Journal-clause-goes_on : goal.returns-in-Journal-clause-goes_on
 returns-in-Journal-clause-goes_on g c =
     let state = c.in-Journal.state in
-    rw c.in-Journal.is (journal_goes_on c.args.actor state.journal c.step-in-Journal.new.journal state.recalculation c.step-in-Journal.new.recalculation c.step-in-Journal.result
+    rw c.in-Journal.is (journal_goes_on c.args.actor state c.step-in-Journal.new.state c.step-in-Journal.result
     c.step-in-Journal.ensures.goes_on c.step-in-Journal.ensures.advances)
 
 pub returns-in-Bitmap-clause-goes_on : goal.returns-in-Bitmap-clause-goes_on
@@ -149,7 +149,7 @@ returns-in-Journal-clause-tags g c =
     let a = g.D.Disk.moments c.args.disk.now in
     let b = g.D.Disk.moments c.step-in-Journal.new.disk in
     subst (λ (m : Mode). KeepsClearTags m common (Step (actor_of c.args.actor)) a b) (sym c.in-Journal.is)
-    (journal_tags (kept common state.journal r) a b (fields_next r) (λ y. no_more_next y r) c.step-in-Journal.ensures.heads)
+    (journal_tags (kept common state) a b (fields_next r) (λ y. no_more_next y r) c.step-in-Journal.ensures.heads)
 
 pub returns-in-Bitmap-clause-tags : goal.returns-in-Bitmap-clause-tags
 returns-in-Bitmap-clause-tags g c =

@@ -144,4 +144,4 @@ returns-clause-opened g c =
     let device = c.in_ok-device.device in
     has_opened key old image a judged same device (own_leaves key old image a judged same identity kept c.open_judged.ensures.leaves).writes
     (shift (λ i x. HasOpenOn (judged_format i.sectors image) device x new) identity kept c.in_ok-device.ensures.opened)
-    (subst (λ (i : DiskIdentity). IsUnasked device.parts device.recalculation i new) (c.open_judged.ensures.identity ∙ identity) c.in_ok-device.ensures.unasked) c.in_ok-device.ensures.empty
+    (subst (λ (i : DiskIdentity). IsUnasked device.parts device.state.recalculation i new) (c.open_judged.ensures.identity ∙ identity) c.in_ok-device.ensures.unasked) c.in_ok-device.ensures.empty

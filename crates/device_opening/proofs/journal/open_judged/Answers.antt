@@ -16,7 +16,7 @@ returns-clause-opened g c start told =
     let f = judged_format (g.D.Disk.identity old).sectors c.args.image in
     let image = c.in_ok-recovered.recovered in
     let done = c.in_ok-recovered.ensures in
-    let device : JournalParts = record { parts = parts_of image c.args.room.device c.shape-spb.result.spb; journal = c.new.result; recalculation = c.args.room.recalculation } in
+    let device : JournalParts = record { parts = parts_of image c.args.room.device c.shape-spb.result.spb; state = record { journal = c.new.result; recalculation = c.args.room.recalculation } } in
     let now = now_told c.recover_image.ensures.leaves.writes start told in
     open_on f (last_image start) image.at device (g.D.Disk.moments new) now.0 now.1 c.requires.judged.format.no_bitmap (sym done.made.geometry) (done.recovered.next start told)
     (done.recovered.left start told now.0 now.1)

@@ -29,7 +29,7 @@ returns-clause-recovered g c =
           (enters image (g.D.Disk.identity old) (g.D.Disk.identity mid) c.first_sync.ensures.identity c.in_ok-tags.tags c.requires.cache.0
           (c.in_ok-tags.ensures.made ∙ ap (λ (held : HeldSectors). let s : Store = record { geometry = image.format.geometry; sectors = held } in s) c.requires.cache.1)
           c.requires.judged.format.no_bitmap start (c.requires.judged.now start told).opens);
-      next = λ start told. c.in_ok-at.ensures.next (newest_only start) (told_mid start synced told);
+      next = λ start told. c.in_ok-at.ensures.place.next (newest_only start) (told_mid start synced told);
     }
 
 pub returns-clause-leaves : goal.returns-clause-leaves

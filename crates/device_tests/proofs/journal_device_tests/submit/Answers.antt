@@ -9,7 +9,7 @@ returns g c =
     let device = c.args.device.now in
     let identity = g.D.Disk.identity c.args.disk.now in
     let moments = g.D.Disk.moments c.args.disk.now in
-    subst (λ (x : Flight). IsReady c.args.condition (record device.parts { slots = x }) device.journal device.recalculation identity moments) (sym c.submit.ensures.submitted)
+    subst (λ (x : Flight). IsReady c.args.condition (record device.parts { slots = x }) device.state identity moments) (sym c.submit.ensures.submitted)
     (record {
       parts_ = λ works. ready-same device.parts _ identity moments (submit-same _ c.args.request device.parts.slots) (c.requires.parts_ works);
       geometry = c.requires.geometry;

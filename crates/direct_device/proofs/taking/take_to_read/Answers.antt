@@ -40,9 +40,9 @@ returns-then-awaits-clause-taken g c = on_ok_weaker c.recalc_region.result (λ b
     let b = g.D.Disk.moments c.recalc_region.new.disk in
     let new : Recalculation = record { awaiting = c.recalc_region.new.self; position = old.position } in
     let waits = sym c.awaits.ensures ∙ c.if-awaits.true in
-    read_taken d awaiting c.args.maker.now old store c.args.block a c.requires.block is c.region_of-region.result c.region_of-region.ensures waits new c.recalc_region.new.tags b c.recalc_region.ensures.places
+    read_taken d awaiting c.args.maker.now old store c.args.block a c.requires.block is c.region_of-region.result c.region_of-region.ensures waits new c.recalc_region.new.tags b c.recalc_region.ensures.stays.places
     (has_taken c.args.maker.now c.region_of-region.result old store.geometry (sym c.requires.same) (given_tags store) a b c.recalc_region.new.self (given_tags c.recalc_region.new.tags)
-    both.1 both.0 c.recalc_region.ensures.geometry c.recalc_region.ensures.first)
+    both.1 both.0 c.recalc_region.ensures.stays.geometry c.recalc_region.ensures.stays.first)
     (read_taking d awaiting c.args.maker.now old store c.args.block a c.requires.block is c.region_of-region.result c.region_of-region.ensures waits b
     (adds_taking c.args.maker.now c.region_of-region.result old store.geometry (sym c.requires.same) (given_tags store) a b c.recalc_region.ensures.moments)))
     (both_ok _ _ c.recalc_region.result c.recalc_region.ensures.done c.recalc_region.ensures.taken)

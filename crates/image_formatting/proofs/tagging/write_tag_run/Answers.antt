@@ -48,7 +48,7 @@ returns-clause-stays g c =
     c.put_tags.ensures.len ∙ c.read_behind.ensures.len ∙ length-take-le c.next_multiple_of.result c.args.tags.now (omega (arith, whole.1, c.requires.makes.room)) ∙ whole.0 in
     let size = c.args.count * c.args.shape.tag in
     on_ok_weaker c.write_run.result (λ written. behind_keeps _ _ c.args.at size c.put_tags.new.bytes
-    (λ p high low start told. c.put_tags.ensures.behind p high ∙ c.in_ok-read_behind.ensures.behind p high (omega (arith, low, c.put_tags.ensures.len, c.read_behind.ensures.len)) start told)
+    (λ p high low start told. c.put_tags.ensures.behind p high ∙ c.in_ok-read_behind.ensures.behind p (omega (arith, high)) (omega (arith, low, c.put_tags.ensures.len, c.read_behind.ensures.len)) start told)
     (omega (arith, long)) (rw c.read_behind.ensures.kept at written)) c.write_run.ensures.written
 
 pub returns-clause-writes : goal.returns-clause-writes
@@ -60,5 +60,5 @@ returns-clause-writes g c =
     let size = c.args.count * c.args.shape.tag in
     adds_told (IsOfTagRun c.args.at size) (IsOfRun c.args.at c.put_tags.new.bytes)
     (run_written _ c.args.at size c.put_tags.new.bytes
-    (λ p high low start told. c.put_tags.ensures.behind p high ∙ c.in_ok-read_behind.ensures.behind p high (omega (arith, low, c.put_tags.ensures.len, c.read_behind.ensures.len)) start told) long)
+    (λ p high low start told. c.put_tags.ensures.behind p high ∙ c.in_ok-read_behind.ensures.behind p (omega (arith, high)) (omega (arith, low, c.put_tags.ensures.len, c.read_behind.ensures.len)) start told) long)
     (rw c.read_behind.ensures.kept at (write_adds (IsOfRun c.args.at c.put_tags.new.bytes) c.args.at c.put_tags.new.bytes c.write_run.ensures.moments (λ s x of. of)))

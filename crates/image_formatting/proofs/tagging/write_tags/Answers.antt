@@ -17,7 +17,7 @@ use Rattle.image_formatting.proofs.tagging.write_tags.Goals as goal
 pub overflow_add-next : goal.overflow_add-next
 overflow_add-next g c =
     let le = order c.args.shape.tag c.loop-done.done c.args.count c.loop-done.invariant.low in
-    omega (arith, le, c.requires.run, c.requires.device)
+    omega (arith, le, c.requires.run.inside, c.requires.run.few)
 
 pub write_tag_run-requires-clause-fits : goal.write_tag_run-requires-clause-fits
 write_tag_run-requires-clause-fits g c =
@@ -30,7 +30,7 @@ write_tag_run-requires-clause-run g c =
     let whole = whole_tags c.loop-done.done c.args.shape.tag begins in
     let inside = next_run_inside c.args.at c.loop-done.done c.min-part.result c.args.count c.args.shape.tag whole (omega (arith, c.min-part.ensures, c.loop-done-test.true)) in
     let same = ap (λ (d : DiskIdentity). d.sectors) c.loop-done.invariant.identity in
-    omega (arith, inside, same, c.requires.run)
+    record { inside = omega (arith, inside, same, c.requires.run.inside); few = omega (arith, same, c.requires.run.few) }
 
 pub returns-in_err-write_tag_run-clause-moments : goal.returns-in_err-write_tag_run-clause-moments
 returns-in_err-write_tag_run-clause-moments g c =

@@ -20,7 +20,7 @@ write_tags-requires-clause-run g c =
     let inside = data_inside geometry _ c.args.first c.args.count c.requires.geometry c.requires.run in
     let at = ap (λ (x : ℕ × ℕ). x.0) c.tag_at-tags_at.ensures in
     let size : c.args.count * c.shape-shape.result.tag ≡ c.args.count * geometry.shape.tag_size = ap (λ (x : Shape). c.args.count * x.tag_size) c.shape-shape.ensures.shape in
-    omega (arith, before, inside, at, size)
+    record { inside = omega (arith, before, inside, at, size); few = c.requires.geometry.device }
 
 pub write_tags-requires-clause-blocks : goal.write_tags-requires-clause-blocks
 write_tags-requires-clause-blocks g c =

@@ -2,8 +2,7 @@ use Rattle.std.proofs.Common.{◌+◌, subst, arith}
 use Rattle.std.proofs.lemmas.Result.{on_ok_weaker}
 use Rattle.disk_model.specs.Identity.{DiskIdentity}
 use Rattle.image_resizing.specs.Cleared.{ClearsSectors, StandsClearing, bits_begin, bits_end}
-use Rattle.image_resizing.specs.Filled.{KeepsEachStore}
-use Rattle.image_resizing.proofs.ClearedLemmas.{clearing_then, clears_then, keeps_then, more_regions}
+use Rattle.image_resizing.proofs.ClearedLemmas.{clearing_then, clears_then, more_regions}
 use Rattle.image_resizing.proofs.clearing.clear_bits.Goals as goal
 
 pub clear_first-requires-clause-some : goal.clear_first-requires-clause-some
@@ -22,18 +21,11 @@ returns-in_err-clear_first-clause-stands g c = c.clear_first.ensures.stands
 pub returns-clause-cleared : goal.returns-clause-cleared
 returns-clause-cleared g c =
     on_ok_weaker c.clear_behind.result
-    (λ cleared. clears_then (g.D.Disk.identity c.args.disk.now) c.args.plan.now (g.D.Disk.moments c.args.disk.now) (g.D.Disk.moments c.clear_first.new.disk) (g.D.Disk.moments c.clear_behind.new.disk) (bits_begin c.args.plan.now) (bits_begin c.args.plan.now + 1) (bits_end c.args.plan.now) c.in_ok-clear_first.ensures.store c.in_ok-clear_first.ensures.cleared
-    (subst (λ (i : DiskIdentity). ClearsSectors i c.args.plan.now (bits_begin c.args.plan.now + 1) (bits_end c.args.plan.now) (g.D.Disk.moments c.clear_first.new.disk) (g.D.Disk.moments c.clear_behind.new.disk)) c.clear_first.ensures.identity cleared))
+    (λ cleared. clears_then (g.D.Disk.identity c.args.disk.now).sectors c.args.plan.now (g.D.Disk.moments c.args.disk.now) (g.D.Disk.moments c.clear_first.new.disk) (g.D.Disk.moments c.clear_behind.new.disk) (bits_begin c.args.plan.now) (bits_begin c.args.plan.now + 1) (bits_end c.args.plan.now) c.in_ok-clear_first.ensures.cleared
+    (subst (λ (i : DiskIdentity). ClearsSectors i.sectors c.args.plan.now (bits_begin c.args.plan.now + 1) (bits_end c.args.plan.now) (g.D.Disk.moments c.clear_first.new.disk) (g.D.Disk.moments c.clear_behind.new.disk)) c.clear_first.ensures.identity cleared))
     c.clear_behind.ensures.cleared
-
-pub returns-clause-store : goal.returns-clause-store
-returns-clause-store g c =
-    on_ok_weaker c.clear_behind.result
-    (λ keeps. keeps_then (g.D.Disk.identity c.args.disk.now) c.args.plan.now (g.D.Disk.moments c.args.disk.now) (g.D.Disk.moments c.clear_first.new.disk) (g.D.Disk.moments c.clear_behind.new.disk) c.in_ok-clear_first.ensures.store
-    (subst (λ (i : DiskIdentity). KeepsEachStore c.args.plan.now.grown.geometry i (g.D.Disk.moments c.clear_first.new.disk) (g.D.Disk.moments c.clear_behind.new.disk)) c.clear_first.ensures.identity keeps))
-    c.clear_behind.ensures.store
 
 pub returns-clause-stands : goal.returns-clause-stands
 returns-clause-stands g c =
-    clearing_then (g.D.Disk.identity c.args.disk.now) c.args.plan.now (g.D.Disk.moments c.args.disk.now) (g.D.Disk.moments c.clear_first.new.disk) (g.D.Disk.moments c.clear_behind.new.disk) (bits_begin c.args.plan.now) (bits_begin c.args.plan.now + 1) c.in_ok-clear_first.ensures.store c.in_ok-clear_first.ensures.cleared c.clear_first.ensures.stands
-    (subst (λ (i : DiskIdentity). StandsClearing i c.args.plan.now (bits_begin c.args.plan.now + 1) (g.D.Disk.moments c.clear_first.new.disk) (g.D.Disk.moments c.clear_behind.new.disk)) c.clear_first.ensures.identity c.clear_behind.ensures.stands)
+    clearing_then (g.D.Disk.identity c.args.disk.now).sectors c.args.plan.now (g.D.Disk.moments c.args.disk.now) (g.D.Disk.moments c.clear_first.new.disk) (g.D.Disk.moments c.clear_behind.new.disk) (bits_begin c.args.plan.now) (bits_begin c.args.plan.now + 1) c.in_ok-clear_first.ensures.cleared c.clear_first.ensures.stands
+    (subst (λ (i : DiskIdentity). StandsClearing i.sectors c.args.plan.now (bits_begin c.args.plan.now + 1) (g.D.Disk.moments c.clear_first.new.disk) (g.D.Disk.moments c.clear_behind.new.disk)) c.clear_first.ensures.identity c.clear_behind.ensures.stands)

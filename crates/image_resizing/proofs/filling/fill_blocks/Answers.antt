@@ -12,9 +12,7 @@ pub loop-done-init : goal.loop-done-init
 loop-done-init g c = record {
   low = omega arith;
   filled = λ image groups has. has;
-  stands = stands_still (g.D.Disk.identity c.args.disk.now).sectors c.args.plan.now (g.D.Disk.moments c.args.disk.now) 0 0 c.args.tags.now;
-  store = search rules;
-  geometry = search rules;
+  stands = stands_still (g.D.Disk.identity c.args.disk.now).sectors c.args.plan.now (g.D.Disk.moments c.args.disk.now) 0 0;
   identity = search rules;
   faults = search rules;
 }
@@ -22,8 +20,8 @@ loop-done-init g c = record {
 pub returns-in_err-done-clause-stands : goal.returns-in_err-done-clause-stands
 returns-in_err-done-clause-stands g c =
     let same = ap (λ (d : DiskIdentity). d.sectors) c.loop-done.invariant.identity in
-    stands_then (g.D.Disk.identity c.args.disk.now).sectors c.args.plan.now (g.D.Disk.moments c.args.disk.now) (g.D.Disk.moments c.loop-done.disk) (g.D.Disk.moments c.fill_run.new.disk) 0 0 c.loop-done.done c.loop-done.done c.args.tags.now c.loop-done.tags c.loop-done.invariant.filled c.loop-done.invariant.stands
-    (subst (λ (n : ℕ). StandsFilling n c.args.plan.now c.loop-done.done c.loop-done.done c.loop-done.tags (g.D.Disk.moments c.loop-done.disk) (g.D.Disk.moments c.fill_run.new.disk)) same c.fill_run.ensures.stands)
+    stands_then (g.D.Disk.identity c.args.disk.now).sectors c.args.plan.now (g.D.Disk.moments c.args.disk.now) (g.D.Disk.moments c.loop-done.disk) (g.D.Disk.moments c.fill_run.new.disk) 0 0 c.loop-done.done 0 c.loop-done.invariant.filled c.loop-done.invariant.stands
+    (subst (λ (n : ℕ). StandsFilling n c.args.plan.now c.loop-done.done 0 (g.D.Disk.moments c.loop-done.disk) (g.D.Disk.moments c.fill_run.new.disk)) same c.fill_run.ensures.stands)
 
 pub loop-done-preserved : goal.loop-done-preserved
 loop-done-preserved g c =
@@ -33,12 +31,10 @@ loop-done-preserved g c =
     let next = c.loop-done.done + c.in_ok-done.field-0 in
     record {
       low = omega (arith, c.in_ok-done.ensures.count, c.added-count.ensures);
-      filled = fills_then sectors plan (g.D.Disk.moments c.args.disk.now) (g.D.Disk.moments c.loop-done.disk) (g.D.Disk.moments c.fill_run.new.disk) 0 0 c.loop-done.done c.loop-done.done next next c.args.tags.now c.loop-done.tags c.fill_run.new.tags c.loop-done.invariant.filled
-          (subst (λ (n : ℕ). FillsBlocks n plan c.loop-done.done c.loop-done.done next next c.loop-done.tags c.fill_run.new.tags (g.D.Disk.moments c.loop-done.disk) (g.D.Disk.moments c.fill_run.new.disk)) same c.in_ok-done.ensures.filled);
-      stands = stands_then sectors plan (g.D.Disk.moments c.args.disk.now) (g.D.Disk.moments c.loop-done.disk) (g.D.Disk.moments c.fill_run.new.disk) 0 0 c.loop-done.done c.loop-done.done c.args.tags.now c.loop-done.tags c.loop-done.invariant.filled c.loop-done.invariant.stands
-          (subst (λ (n : ℕ). StandsFilling n plan c.loop-done.done c.loop-done.done c.loop-done.tags (g.D.Disk.moments c.loop-done.disk) (g.D.Disk.moments c.fill_run.new.disk)) same c.fill_run.ensures.stands);
-      store = c.in_ok-done.ensures.store;
-      geometry = search rules;
+      filled = fills_then sectors plan (g.D.Disk.moments c.args.disk.now) (g.D.Disk.moments c.loop-done.disk) (g.D.Disk.moments c.fill_run.new.disk) 0 0 c.loop-done.done 0 next 0 c.loop-done.invariant.filled
+          (subst (λ (n : ℕ). FillsBlocks n plan c.loop-done.done 0 next 0 (g.D.Disk.moments c.loop-done.disk) (g.D.Disk.moments c.fill_run.new.disk)) same c.in_ok-done.ensures.filled);
+      stands = stands_then sectors plan (g.D.Disk.moments c.args.disk.now) (g.D.Disk.moments c.loop-done.disk) (g.D.Disk.moments c.fill_run.new.disk) 0 0 c.loop-done.done 0 c.loop-done.invariant.filled c.loop-done.invariant.stands
+          (subst (λ (n : ℕ). StandsFilling n plan c.loop-done.done 0 (g.D.Disk.moments c.loop-done.disk) (g.D.Disk.moments c.fill_run.new.disk)) same c.fill_run.ensures.stands);
       identity = search rules;
       faults = search rules;
     }
@@ -46,4 +42,4 @@ loop-done-preserved g c =
 pub returns-clause-filled : goal.returns-clause-filled
 returns-clause-filled g c =
     let all : c.loop-done.done ≡ c.added-count.result = omega (arith, c.loop-done-test.false, c.loop-done.invariant.low) in
-    subst (λ (n : ℕ). FillsBlocks (g.D.Disk.identity c.args.disk.now).sectors c.args.plan.now 0 0 n n c.args.tags.now c.loop-done.tags (g.D.Disk.moments c.args.disk.now) (g.D.Disk.moments c.loop-done.disk)) (all ∙ c.added-count.ensures) c.loop-done.invariant.filled
+    subst (λ (n : ℕ). FillsBlocks (g.D.Disk.identity c.args.disk.now).sectors c.args.plan.now 0 0 n 0 (g.D.Disk.moments c.args.disk.now) (g.D.Disk.moments c.loop-done.disk)) (all ∙ c.added-count.ensures) c.loop-done.invariant.filled

@@ -1,5 +1,4 @@
 use Rattle.std.proofs.Common.{◌-◌, ◌≡◌, ◌≤◌}
-use Rattle.tag_store.specs.Store.{IsStore}
 use Rattle.image_resizing.specs.Filled.{FillsBlocks, StandsFilling}
 use Rattle.image_resizing.proofs.filling.fill_blocks.Given as goal
 
@@ -9,10 +8,8 @@ invariant-loop-done g l =
     let sectors = (g.D.Disk.identity l.fn.disk).sectors in
     record {
       low : l.done ≤ l.count;
-      filled : FillsBlocks sectors l.plan 0 0 l.done l.done l.fn.tags l.tags (moments_of l.fn.disk) (moments_of l.disk);
-      stands : StandsFilling sectors l.plan 0 0 l.fn.tags (moments_of l.fn.disk) (moments_of l.disk);
-      store : IsStore l.tags (g.D.Disk.identity l.disk) (moments_of l.disk);
-      geometry : l.tags.geometry ≡ l.fn.tags.geometry;
+      filled : FillsBlocks sectors l.plan 0 0 l.done 0 (moments_of l.fn.disk) (moments_of l.disk);
+      stands : StandsFilling sectors l.plan 0 0 (moments_of l.fn.disk) (moments_of l.disk);
       identity : g.D.Disk.identity l.disk ≡ g.D.Disk.identity l.fn.disk;
       faults : g.D.Counted.faults l.disk ≡ g.D.Counted.faults l.fn.disk;
     }

@@ -28,7 +28,7 @@ use Rattle.image_resizing.proofs.recovering.recover_image.Goals as goal
 pub recover-requires-clause-journal : goal.recover-requires-clause-journal
 recover-requires-clause-journal g c x told =
     let first = changed_now newest_only (content_now (g.D.Disk.moments c.args.disk.now)) (content_now (g.D.Disk.moments c.sync.new.self)) c.in_ok-sync.ensures.synced x told in
-    subst (λ (y : Content). IsJournalOn c.args.plan.now.present.geometry (last_image y) c.args.journal.now) (sym first.2) (c.requires.journal first.0 first.1)
+    subst (λ (y : Content). IsJournalOn c.args.plan.now.present.geometry (last_image y) c.args.journal.now) (sym first.2) (c.requires.journal.on first.0 first.1)
 
 pub recover-requires-clause-replaying : goal.recover-requires-clause-replaying
 recover-requires-clause-replaying g c =
@@ -42,7 +42,7 @@ recover-requires-clause-replaying g c =
         store_is = subst (λ (i : DiskIdentity). IsStore c.new-tags.result i (g.D.Disk.moments c.sync.new.self)) (sym c.sync.ensures.identity)
             (subst (λ (s : Store). IsStore s (g.D.Disk.identity c.args.disk.now) (g.D.Disk.moments c.sync.new.self)) (sym fresh) (fresh_law plan.present.geometry (g.D.Disk.identity c.args.disk.now) (g.D.Disk.moments c.sync.new.self) HELD_SECTORS c.requires.bound c.requires.plan.present.geometry).0);
       };
-      fits = c.requires.fits;
+      fits = c.requires.journal.fits;
     }
 
 pub returns-in_err-sync-clause-moments : goal.returns-in_err-sync-clause-moments

@@ -86,7 +86,10 @@ recover_and_grow-requires-clause-opens g c =
     judged_opens (g.D.Disk.identity c.args.disk.now).sectors plan c.requires.plan x (c.requires.reads plan.maker.key x told_before) c.requires.no_bitmap (c.in_ok-journal.ensures.judged x told_before).right)
 
 pub recover_and_grow-requires-clause-journal : goal.recover_and_grow-requires-clause-journal
-recover_and_grow-requires-clause-journal g c x told = (c.in_ok-journal.ensures.judged x (sym (ap content_now c.judge_journal.ensures.kept) ∙ told)).on
+recover_and_grow-requires-clause-journal g c = record {
+  fits = c.in_ok-journal.ensures.fits;
+  on = λ x told. (c.in_ok-journal.ensures.judged x (sym (ap content_now c.judge_journal.ensures.kept) ∙ told)).on;
+}
 
 pub returns-clause-resized : goal.returns-clause-resized
 returns-clause-resized g c =

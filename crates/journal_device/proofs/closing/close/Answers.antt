@@ -20,8 +20,8 @@ returns-in_err-close-clause-ends g c = record {
   done = search rules;
   err = on_err_always c.from_residual.result (λ w is.
       let parts = c.args.parts.now in
-      let journal = c.args.journal.now in
-      let recalculation = c.args.recalculation.now in
+      let journal = c.args.state.now.journal in
+      let recalculation = c.args.state.now.recalculation in
       let a = g.D.Disk.moments c.args.disk.now in
       let v = standing_on w is.disk in
       journal_failed w parts journal recalculation a is (g.D.Disk.moments c.close.new.disk) (c.close.ensures.left (standing_of v) (stands_now v parts journal recalculation a is.over)));
@@ -30,15 +30,15 @@ returns-in_err-close-clause-ends g c = record {
 pub returns-in_err-close-clause-writes : goal.returns-in_err-close-clause-writes
 returns-in_err-close-clause-writes g c =
     let m = g.D.Disk.moments c.close.new.disk in
-    record { middle = m; all = c.close.ensures.moments; moves = unmoved (has_flag RECALCULATING c.args.recalculation.now.position.flags) c.args.parts.now.tags.geometry m }
+    record { middle = m; all = c.close.ensures.moments; moves = unmoved (has_flag RECALCULATING c.args.state.now.recalculation.position.flags) c.args.parts.now.tags.geometry m }
 
 pub returns-in_err-close-clause-heads : goal.returns-in_err-close-clause-heads
 returns-in_err-close-clause-heads g c =
-    journal_heads c.args.parts.now c.args.journal.now c.args.recalculation.now (g.D.Disk.moments c.args.disk.now) (fields_left c.args.recalculation.now) (g.D.Disk.moments c.close.new.disk) c.close.ensures.left
+    journal_heads c.args.parts.now c.args.state.now.journal c.args.state.now.recalculation (g.D.Disk.moments c.args.disk.now) (fields_left c.args.state.now.recalculation) (g.D.Disk.moments c.close.new.disk) c.close.ensures.left
 
 pub returns-then-not-is_set-clause-ends : goal.returns-then-not-is_set-clause-ends
 returns-then-not-is_set-clause-ends g c = record {
-  done = journal_ends c.args.parts.now c.args.journal.now c.args.recalculation.now (g.D.Disk.moments c.args.disk.now) c.close.new.self c.close.new.tags (g.D.Disk.moments c.close.new.disk)
+  done = journal_ends c.args.parts.now c.args.state.now.journal c.args.state.now.recalculation (g.D.Disk.moments c.args.disk.now) c.close.new.self c.close.new.tags (g.D.Disk.moments c.close.new.disk)
       c.in_ok-close.ensures.closed c.close.ensures.left c.in_ok-close.ensures.free;
   err = tt;
 }
@@ -46,32 +46,32 @@ returns-then-not-is_set-clause-ends g c = record {
 pub returns-then-not-is_set-clause-placed : goal.returns-then-not-is_set-clause-placed
 returns-then-not-is_set-clause-placed g c =
     let off : c.is_set.result ≡ false = search rules in
-    let unset : has_flag RECALCULATING c.args.recalculation.now.position.flags ≡ false = sym c.is_set.ensures.set ∙ off in
-    journal_places c.args.parts.now c.args.journal.now c.args.recalculation.now (g.D.Disk.moments c.args.disk.now) c.close.new.self c.close.new.tags (g.D.Disk.moments c.close.new.disk)
+    let unset : has_flag RECALCULATING c.args.state.now.recalculation.position.flags ≡ false = sym c.is_set.ensures.set ∙ off in
+    journal_places c.args.parts.now c.args.state.now.journal c.args.state.now.recalculation (g.D.Disk.moments c.args.disk.now) c.close.new.self c.close.new.tags (g.D.Disk.moments c.close.new.disk)
     c.in_ok-close.ensures.closed c.close.ensures.left c.in_ok-close.ensures.free unset
 
 pub returns-then-not-is_set-clause-writes : goal.returns-then-not-is_set-clause-writes
 returns-then-not-is_set-clause-writes g c =
     let m = g.D.Disk.moments c.close.new.disk in
-    record { middle = m; all = c.close.ensures.moments; moves = unmoved (has_flag RECALCULATING c.args.recalculation.now.position.flags) c.args.parts.now.tags.geometry m }
+    record { middle = m; all = c.close.ensures.moments; moves = unmoved (has_flag RECALCULATING c.args.state.now.recalculation.position.flags) c.args.parts.now.tags.geometry m }
 
 pub returns-then-not-is_set-clause-heads : goal.returns-then-not-is_set-clause-heads
 returns-then-not-is_set-clause-heads g c =
-    journal_heads c.args.parts.now c.args.journal.now c.args.recalculation.now (g.D.Disk.moments c.args.disk.now) (fields_left c.args.recalculation.now) (g.D.Disk.moments c.close.new.disk) c.close.ensures.left
+    journal_heads c.args.parts.now c.args.state.now.journal c.args.state.now.recalculation (g.D.Disk.moments c.args.disk.now) (fields_left c.args.state.now.recalculation) (g.D.Disk.moments c.close.new.disk) c.close.ensures.left
 
 -- ---- the position
 
 pub returns-clause-ends : goal.returns-clause-ends
 returns-clause-ends g c =
     let on : c.is_set.result ≡ true = search rules in
-    settle_ends c.args.parts.now c.args.journal.now c.args.recalculation.now (g.D.Disk.moments c.args.disk.now) c.close.new.self c.close.new.tags (g.D.Disk.moments c.close.new.disk)
+    settle_ends c.args.parts.now c.args.state.now.journal c.args.state.now.recalculation (g.D.Disk.moments c.args.disk.now) c.close.new.self c.close.new.tags (g.D.Disk.moments c.close.new.disk)
     c.in_ok-close.ensures.closed c.close.ensures.left c.in_ok-close.ensures.free (c.is_set.ensures.position (sym c.is_set.ensures.set ∙ on))
     c.settle.new.self c.settle.new.tags (g.D.Disk.moments c.settle.new.disk) c.settle.result c.settle.ensures.settled c.settle.ensures.through
 
 pub returns-clause-placed : goal.returns-clause-placed
 returns-clause-placed g c =
     let on : c.is_set.result ≡ true = search rules in
-    settle_places c.args.parts.now c.args.journal.now c.args.recalculation.now (g.D.Disk.moments c.args.disk.now) c.close.new.self c.close.new.tags (g.D.Disk.moments c.close.new.disk)
+    settle_places c.args.parts.now c.args.state.now.journal c.args.state.now.recalculation (g.D.Disk.moments c.args.disk.now) c.close.new.self c.close.new.tags (g.D.Disk.moments c.close.new.disk)
     c.in_ok-close.ensures.closed c.close.ensures.left c.in_ok-close.ensures.free (c.is_set.ensures.position (sym c.is_set.ensures.set ∙ on))
     c.settle.new.self c.settle.new.tags (g.D.Disk.moments c.settle.new.disk) c.settle.result c.settle.ensures.settled
 
@@ -89,5 +89,5 @@ returns-clause-writes g c =
 
 pub returns-clause-heads : goal.returns-clause-heads
 returns-clause-heads g c =
-    close_heads c.args.parts.now c.args.journal.now c.args.recalculation.now (g.D.Disk.moments c.args.disk.now) c.close.new.self c.close.new.tags (g.D.Disk.moments c.close.new.disk) (g.D.Disk.moments c.settle.new.disk)
+    close_heads c.args.parts.now c.args.state.now.journal c.args.state.now.recalculation (g.D.Disk.moments c.args.disk.now) c.close.new.self c.close.new.tags (g.D.Disk.moments c.close.new.disk) (g.D.Disk.moments c.settle.new.disk)
     c.in_ok-close.ensures.closed c.close.ensures.left c.in_ok-close.ensures.free c.settle.ensures.through

@@ -12,8 +12,8 @@ use Rattle.journal_device.proofs.serving.serve.Goals as goal
 pub returns-in-Finished-clause-next : goal.returns-in-Finished-clause-next
 returns-in-Finished-clause-next g c =
     let parts = c.args.parts.now in
-    let journal = c.args.journal.now in
-    let recalculation = c.args.recalculation.now in
+    let journal = c.args.state.now.journal in
+    let recalculation = c.args.state.now.recalculation in
     let ticket = c.args.ticket.now in
     let a = g.D.Disk.moments c.args.disk.now in
     record {
@@ -32,8 +32,8 @@ returns-in-Finished-clause-next g c =
 pub returns-in-Held-clause-next : goal.returns-in-Held-clause-next
 returns-in-Held-clause-next g c =
     let parts = c.args.parts.now in
-    let journal = c.args.journal.now in
-    let recalculation = c.args.recalculation.now in
+    let journal = c.args.state.now.journal in
+    let recalculation = c.args.state.now.recalculation in
     let ticket = c.args.ticket.now in
     let a = g.D.Disk.moments c.args.disk.now in
     record {

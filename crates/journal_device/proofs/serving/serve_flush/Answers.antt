@@ -16,8 +16,8 @@ use Rattle.journal_device.proofs.serving.serve_flush.Goals as goal
 pub returns-in_err-flush-clause-next : goal.returns-in_err-flush-clause-next
 returns-in_err-flush-clause-next g c =
     let parts = c.args.parts.now in
-    let journal = c.args.journal.now in
-    let recalculation = c.args.recalculation.now in
+    let journal = c.args.state.now.journal in
+    let recalculation = c.args.state.now.recalculation in
     let ticket = c.args.ticket.now in
     let a = g.D.Disk.moments c.args.disk.now in
     let b = g.D.Disk.moments c.flush.new.disk in
@@ -38,8 +38,8 @@ returns-in_err-flush-clause-next g c =
 pub returns-clause-next : goal.returns-clause-next
 returns-clause-next g c =
     let parts = c.args.parts.now in
-    let journal = c.args.journal.now in
-    let recalculation = c.args.recalculation.now in
+    let journal = c.args.state.now.journal in
+    let recalculation = c.args.state.now.recalculation in
     let ticket = c.args.ticket.now in
     let a = g.D.Disk.moments c.args.disk.now in
     let b = g.D.Disk.moments c.flush.new.disk in

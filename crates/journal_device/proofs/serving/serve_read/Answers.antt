@@ -17,12 +17,14 @@ use Rattle.device_parts.specs.Answers.{after_read, served_answer, waits}
 use Rattle.device_parts.specs.Device.{KeepsFlight}
 use Rattle.device_parts.proofs.ReadyLemmas.{block-low, keeps_read, ready_read, same_flight, sector-low}
 use Rattle.device_parts.proofs.TurnLemmas.{served-goes_on}
+use Rattle.journal_mode.specs.Journal.{PlacedRing}
+use Rattle.journal_mode.specs.Calls.{GivesEach, KeepsEach}
 use Rattle.journal_mode.specs.Reads.{IsCellNow}
 use Rattle.journal_device.specs.Answers.{WritesFor, takes_first}
 use Rattle.journal_device.specs.Device.{IsReady, standing_of, standing_on}
 use Rattle.journal_device.proofs.ConditionLemmas.{works_no_more}
 use Rattle.journal_device.proofs.DoneLemmas.{idle_now}
-use Rattle.journal_device.proofs.OverDisk.{IsServedAs, done_on, is_done_on}
+use Rattle.journal_device.proofs.OverDisk.{HasFailedIn, IsServedAs, done_on, is_done_on}
 use Rattle.journal_device.proofs.RecalcLemmas.{block_there, first_left, first_taken}
 use Rattle.journal_device.proofs.ServingLemmas.{rests, serve_read_done, serve_read_failed, taken_working, then_awaiting}
 use Rattle.journal_device.proofs.WriteLemmas.{writes_first, writes_read}
@@ -38,7 +40,8 @@ read_block-requires-clause-block g c =
     })
 
 pub read_block-requires-clause-geometry : goal.read_block-requires-clause-geometry
-read_block-requires-clause-geometry g c = c.requires.ready.geometry ∙ sym c.take_first.ensures.stays.places
+read_block-requires-clause-geometry g c =
+    ap (λ (j : PlacedRing). j.ring.geometry) c.take_first.ensures.journal ∙ c.requires.ready.geometry ∙ sym c.take_first.ensures.stays.places
 
 pub serve_read-requires-clause-sector : goal.serve_read-requires-clause-sector
 serve_read-requires-clause-sector g c =
@@ -58,21 +61,23 @@ take_first-requires-clause-size g c = (c.requires.ready.parts_ refl).tag_size �
 pub returns-in_err-take_first-clause-next : goal.returns-in_err-take_first-clause-next
 returns-in_err-take_first-clause-next g c =
     let parts = c.args.parts.now in
-    let journal = c.args.journal.now in
-    let recalculation = c.args.recalculation.now in
+    let journal = c.args.state.now.journal in
+    let recalculation = c.args.state.now.recalculation in
     let ticket = c.args.ticket.now in
     let a = g.D.Disk.moments c.args.disk.now in
     let b = g.D.Disk.moments c.take_first.new.disk in
+    let new : Parts = record parts { tags = c.take_first.new.tags } in
     record {
       does = record {
         done = search rules;
         err = on_err_always c.from_residual.result (λ w at.
             let v = standing_on w at.disk in
             let is = at.over in
-            done_on w at.disk at.format (FailedServe ticket) Broken _ journal c.take_first.new.recalculation a b
-            (serve_read_failed v parts journal recalculation a is ticket c.requires.there c.args.block c.requires.turn _ c.take_first.new.recalculation b refl refl
+            done_on w at.disk at.format (FailedServe ticket) Broken new c.take_first.new.state.journal c.take_first.new.state.recalculation a b
+            (subst (λ (j : PlacedRing). HasFailedIn v ticket new j c.take_first.new.state.recalculation a b) (sym c.take_first.ensures.journal)
+            (serve_read_failed v parts journal recalculation a is ticket c.requires.there c.args.block c.requires.turn new c.take_first.new.state.recalculation b refl refl
             (first_left v parts journal recalculation a is c.args.block (block_there v parts journal recalculation a is (g.D.Disk.identity c.args.disk.now) (c.requires.ready.parts_ refl) c.args.block c.requires.within)
-            (takes_first journal recalculation c.args.block) refl b c.take_first.ensures.through)));
+            (takes_first journal recalculation c.args.block) refl b c.take_first.ensures.through))));
       };
       goes_on = search rules;
       waiting = search rules;
@@ -82,32 +87,35 @@ returns-in_err-take_first-clause-next g c =
 pub returns-in_err-take_first-clause-ready : goal.returns-in_err-take_first-clause-ready
 returns-in_err-take_first-clause-ready g c = record {
   parts_ = λ works. let failed = err_from_is_err_and c.from_residual.result c.from_residual.ensures.1 in works_no_more c.from_residual.result failed.0 failed.1 works;
-  geometry = c.requires.ready.geometry ∙ sym c.take_first.ensures.stays.places;
+  geometry = ap (λ (j : PlacedRing). j.ring.geometry) c.take_first.ensures.journal ∙ c.requires.ready.geometry ∙ sym c.take_first.ensures.stays.places;
   regions_ = c.take_first.ensures.stays.geometry ∙ c.requires.ready.regions_ ∙ sym c.take_first.ensures.stays.places;
 }
 
 pub returns-in_err-take_first-clause-writes : goal.returns-in_err-take_first-clause-writes
 returns-in_err-take_first-clause-writes g c =
     let parts = c.args.parts.now in
-    let journal = c.args.journal.now in
-    let recalculation = c.args.recalculation.now in
+    let journal = c.args.state.now.journal in
+    let recalculation = c.args.state.now.recalculation in
     let a = g.D.Disk.moments c.args.disk.now in
     let b = g.D.Disk.moments c.take_first.new.disk in
-    subst (λ (t : Turn). WritesFor t parts journal recalculation a b) (sym c.requires.turn)
+    subst (λ (t : Turn). WritesFor t parts c.args.state.now a b) (sym c.requires.turn)
     (writes_first (takes_first journal recalculation c.args.block) _ _ c.args.block recalculation parts a b c.take_first.ensures.through)
 
 pub returns-in_err-stored-clause-next : goal.returns-in_err-stored-clause-next
 returns-in_err-stored-clause-next g c =
     let parts = c.args.parts.now in
-    let journal = c.args.journal.now in
-    let recalculation = c.args.recalculation.now in
-    let first = c.take_first.new.recalculation in
+    let journal = c.args.state.now.journal in
+    let recalculation = c.args.state.now.recalculation in
+    let first = c.take_first.new.state.recalculation in
     let store = c.take_first.new.tags in
+    let same = c.take_first.ensures.journal in
     let ticket = c.args.ticket.now in
     let block = c.args.block in
     let a = g.D.Disk.moments c.args.disk.now in
     let m = g.D.Disk.moments c.take_first.new.disk in
     let b = g.D.Disk.moments c.read_block.new.disk in
+    let new : Parts = record parts { tags = c.read_block.new.tags; buffer = with_items parts.buffer c.read_block.new.out } in
+    let kept_each = subst (λ (j : PlacedRing). KeepsEach j store c.read_block.new.tags m b) same c.read_block.ensures.kept in
     record {
       does = record {
         done = search rules;
@@ -117,10 +125,11 @@ returns-in_err-stored-clause-next g c =
             let low = block_there v parts journal recalculation a is (g.D.Disk.identity c.args.disk.now) (c.requires.ready.parts_ refl) block c.requires.within in
             let t = takes_first journal recalculation block in
             let working = first_taken v parts journal recalculation a is block low t refl first store m c.take_first.ensures.stays.places c.in_ok-take_first.ensures.taken in
-            done_on w at.disk at.format (FailedServe ticket) Broken _ journal first a b
-            (serve_read_failed v parts journal recalculation a is ticket c.requires.there block c.requires.turn _ first b refl refl
+            done_on w at.disk at.format (FailedServe ticket) Broken new c.take_first.new.state.journal first a b
+            (subst (λ (j : PlacedRing). HasFailedIn v ticket new j first a b) (sym same)
+            (serve_read_failed v parts journal recalculation a is ticket c.requires.there block c.requires.turn new first b refl refl
             (EachMoment-then (first_left v parts journal recalculation a is block low t refl m c.take_first.ensures.through)
-            (c.read_block.ensures.kept (standing_of v) working.stands).left)));
+            (kept_each (standing_of v) working.stands).left))));
       };
       goes_on = search rules;
       waiting = search rules;
@@ -130,20 +139,20 @@ returns-in_err-stored-clause-next g c =
 pub returns-in_err-stored-clause-ready : goal.returns-in_err-stored-clause-ready
 returns-in_err-stored-clause-ready g c = record {
   parts_ = λ works. let failed = err_from_is_err_and c.from_residual-in_err-stored.result c.from_residual-in_err-stored.ensures.1 in works_no_more c.from_residual-in_err-stored.result failed.0 failed.1 works;
-  geometry = c.requires.ready.geometry ∙ sym c.take_first.ensures.stays.places ∙ sym c.read_block.ensures.geometry;
-  regions_ = c.take_first.ensures.stays.geometry ∙ c.requires.ready.regions_ ∙ sym c.take_first.ensures.stays.places ∙ sym c.read_block.ensures.geometry;
+  geometry = ap (λ (j : PlacedRing). j.ring.geometry) c.take_first.ensures.journal ∙ c.requires.ready.geometry ∙ sym c.take_first.ensures.stays.places ∙ sym c.read_block.ensures.stays.geometry;
+  regions_ = c.take_first.ensures.stays.geometry ∙ c.requires.ready.regions_ ∙ sym c.take_first.ensures.stays.places ∙ sym c.read_block.ensures.stays.geometry;
 }
 
 pub returns-in_err-stored-clause-writes : goal.returns-in_err-stored-clause-writes
 returns-in_err-stored-clause-writes g c =
     let parts = c.args.parts.now in
-    let journal = c.args.journal.now in
-    let recalculation = c.args.recalculation.now in
+    let journal = c.args.state.now.journal in
+    let recalculation = c.args.state.now.recalculation in
     let a = g.D.Disk.moments c.args.disk.now in
     let m = g.D.Disk.moments c.take_first.new.disk in
     let b = g.D.Disk.moments c.read_block.new.disk in
-    subst (λ (t : Turn). WritesFor t parts journal recalculation a b) (sym c.requires.turn)
-    (writes_read (takes_first journal recalculation c.args.block) _ _ c.args.block recalculation c.take_first.new.recalculation parts c.take_first.new.tags a m b c.take_first.ensures.stays.places
+    subst (λ (t : Turn). WritesFor t parts c.args.state.now a b) (sym c.requires.turn)
+    (writes_read (takes_first journal recalculation c.args.block) _ _ c.args.block recalculation c.take_first.new.state.recalculation parts c.take_first.new.tags a m b c.take_first.ensures.stays.places
     c.in_ok-take_first.ensures.taken c.take_first.ensures.through c.read_block.ensures.moments)
 
 -- ---- the block is read
@@ -151,10 +160,11 @@ returns-in_err-stored-clause-writes g c =
 pub returns-clause-next : goal.returns-clause-next
 returns-clause-next g c =
     let parts = c.args.parts.now in
-    let journal = c.args.journal.now in
-    let recalculation = c.args.recalculation.now in
-    let first = c.take_first.new.recalculation in
+    let journal = c.args.state.now.journal in
+    let recalculation = c.args.state.now.recalculation in
+    let first = c.take_first.new.state.recalculation in
     let store = c.take_first.new.tags in
+    let same = c.take_first.ensures.journal in
     let ticket = c.args.ticket.now in
     let block = c.args.block in
     let stored = c.in_ok-stored.stored in
@@ -166,6 +176,8 @@ returns-clause-next g c =
     let out : length c.read_block.new.out ≡ parts.buffer.len = search rules in
     let bytes : mid.buffer.items ≡ c.read_block.new.out = with_items_is parts.buffer c.read_block.new.out out in
     let whole : length mid.buffer.items ≡ parts.slots.block_size = search rules in
+    let kept_each = subst (λ (j : PlacedRing). KeepsEach j store c.read_block.new.tags m b) same c.read_block.ensures.kept in
+    let gives_each = subst (λ (j : PlacedRing). GivesEach j block c.read_block.new.out stored store m) same c.in_ok-stored.ensures.whole in
     record {
       does = record {
         done = λ w at.
@@ -174,52 +186,52 @@ returns-clause-next g c =
             let low = block_there v parts journal recalculation a is (g.D.Disk.identity c.args.disk.now) (c.requires.ready.parts_ refl) block c.requires.within in
             let t = takes_first journal recalculation block in
             let working = taken_working v parts journal recalculation a is ticket c.requires.there block c.requires.turn low t refl first store m c.take_first.ensures.stays.places c.in_ok-take_first.ensures.taken c.take_first.ensures.through in
-            is_done_on w at.disk at.format (Serve ticket) (served_answer c.serve_read.result) Working new journal first a b
+            is_done_on w at.disk at.format (Serve ticket) (served_answer c.serve_read.result) Working new c.take_first.new.state.journal first a b
+            (subst (λ (j : PlacedRing). IsServedAs v ticket c.serve_read.result new j first a b) (sym same)
             (subst (λ (x : Served). IsServedAs v ticket x new journal first a b) (sym c.serve_read.ensures.answer)
             (serve_read_done v parts journal recalculation a is ticket c.requires.there block c.requires.turn low t refl first store m c.take_first.ensures.stays.places c.in_ok-take_first.ensures.taken c.take_first.ensures.through
             (g.D.Disk.identity c.args.disk.now) mid new stored b (c.requires.ready.parts_ refl) refl refl refl
-            whole c.serve_read.ensures.slots (c.read_block.ensures.kept (standing_of v) working.stands)
+            whole c.serve_read.ensures.slots (kept_each (standing_of v) working.stands)
             (subst (λ (xs : List ℕ). HasNow (λ x. IsCellNow (standing_of v) block xs stored) m) (sym bytes)
-            (c.in_ok-stored.ensures.whole (standing_of v) (then_awaiting v parts journal recalculation a is ticket c.requires.there block c.requires.turn low t refl first store m c.take_first.ensures.stays.places c.in_ok-take_first.ensures.taken c.take_first.ensures.through)
+            (gives_each (standing_of v) (then_awaiting v parts journal recalculation a is ticket c.requires.there block c.requires.turn low t refl first store m c.take_first.ensures.stays.places c.in_ok-take_first.ensures.taken c.take_first.ensures.through)
             working.stands (idle_now v parts journal recalculation a is) working.keeps
-            (rests v parts journal recalculation a is ticket c.requires.there block c.requires.turn low t refl first store m c.take_first.ensures.stays.places c.in_ok-take_first.ensures.taken c.take_first.ensures.through)))));
+            (rests v parts journal recalculation a is ticket c.requires.there block c.requires.turn low t refl first store m c.take_first.ensures.stays.places c.in_ok-take_first.ensures.taken c.take_first.ensures.through))))));
         err = tt;
       };
       goes_on = λ did. c.serve_read.ensures.fewer;
-      waiting = λ same. absurd (true≢false (sym same ∙ ap waits c.serve_read.ensures.answer ∙ served-goes_on _));
+      waiting = λ waits_. absurd (true≢false (sym waits_ ∙ ap waits c.serve_read.ensures.answer ∙ served-goes_on _));
       flight = subst (λ (p : Parts). KeepsFlight parts.slots p.slots) (sym c.serve_read.ensures.slots) (keeps_read ticket block stored mid);
     }
 
 pub returns-clause-ready : goal.returns-clause-ready
 returns-clause-ready g c =
     let parts = c.args.parts.now in
-    let journal = c.args.journal.now in
     let ticket = c.args.ticket.now in
     let block = c.args.block in
     let stored = c.in_ok-stored.stored in
     let disk = c.read_block.new.disk in
     let a = g.D.Disk.moments c.args.disk.now in
     let b = g.D.Disk.moments disk in
-    let places = c.read_block.ensures.geometry ∙ c.take_first.ensures.stays.places in
+    let places = c.read_block.ensures.stays.geometry ∙ c.take_first.ensures.stays.places in
     let mid : Parts = record parts { tags = c.read_block.new.tags; buffer = with_items parts.buffer c.read_block.new.out } in
     let whole : length mid.buffer.items ≡ parts.slots.block_size = search rules in
-    subst (λ (p : Parts). IsReady Working p journal c.take_first.new.recalculation (g.D.Disk.identity disk) b) (sym c.serve_read.ensures.slots)
+    subst (λ (p : Parts). IsReady Working p c.take_first.new.state (g.D.Disk.identity disk) b) (sym c.serve_read.ensures.slots)
     (record {
       parts_ = λ _. ready_read parts (record mid { slots = after_read ticket block stored mid })
-          (g.D.Disk.identity c.args.disk.now) (g.D.Disk.identity disk) a b (c.requires.ready.parts_ refl) c.read_block.ensures.store
+          (g.D.Disk.identity c.args.disk.now) (g.D.Disk.identity disk) a b (c.requires.ready.parts_ refl) c.read_block.ensures.stays.store
           places (keeps_read ticket block stored mid) refl refl whole;
-      geometry = c.requires.ready.geometry ∙ sym places;
+      geometry = ap (λ (j : PlacedRing). j.ring.geometry) c.take_first.ensures.journal ∙ c.requires.ready.geometry ∙ sym places;
       regions_ = c.take_first.ensures.stays.geometry ∙ c.requires.ready.regions_ ∙ sym places;
     })
 
 pub returns-clause-writes : goal.returns-clause-writes
 returns-clause-writes g c =
     let parts = c.args.parts.now in
-    let journal = c.args.journal.now in
-    let recalculation = c.args.recalculation.now in
+    let journal = c.args.state.now.journal in
+    let recalculation = c.args.state.now.recalculation in
     let a = g.D.Disk.moments c.args.disk.now in
     let m = g.D.Disk.moments c.take_first.new.disk in
     let b = g.D.Disk.moments c.read_block.new.disk in
-    subst (λ (t : Turn). WritesFor t parts journal recalculation a b) (sym c.requires.turn)
-    (writes_read (takes_first journal recalculation c.args.block) _ _ c.args.block recalculation c.take_first.new.recalculation parts c.take_first.new.tags a m b c.take_first.ensures.stays.places
+    subst (λ (t : Turn). WritesFor t parts c.args.state.now a b) (sym c.requires.turn)
+    (writes_read (takes_first journal recalculation c.args.block) _ _ c.args.block recalculation c.take_first.new.state.recalculation parts c.take_first.new.tags a m b c.take_first.ensures.stays.places
     c.in_ok-take_first.ensures.taken c.take_first.ensures.through c.read_block.ensures.moments)

@@ -60,8 +60,8 @@ served-requires g c =
 pub returns-then-is_err-clause-next : goal.returns-then-is_err-clause-next
 returns-then-is_err-clause-next g c =
     let parts = c.args.parts.now in
-    let journal = c.args.journal.now in
-    let recalculation = c.args.recalculation.now in
+    let journal = c.args.state.now.journal in
+    let recalculation = c.args.state.now.recalculation in
     let ticket = c.args.ticket.now in
     let a = g.D.Disk.moments c.args.disk.now in
     let bad = sym c.is_err.ensures.value ∙ c.if-is_err.true in
@@ -84,19 +84,19 @@ returns-then-is_err-clause-next g c =
 pub returns-then-is_err-clause-writes : goal.returns-then-is_err-clause-writes
 returns-then-is_err-clause-writes g c =
     let parts = c.args.parts.now in
-    let journal = c.args.journal.now in
-    let recalculation = c.args.recalculation.now in
+    let journal = c.args.state.now.journal in
+    let recalculation = c.args.state.now.recalculation in
     let a = g.D.Disk.moments c.args.disk.now in
-    subst (λ (t : Turn). WritesFor t parts journal recalculation a a) (sym c.requires.turn)
-    (writes_none c.args.is_flushed c.args.block parts journal recalculation a)
+    subst (λ (t : Turn). WritesFor t parts c.args.state.now a a) (sym c.requires.turn)
+    (writes_none c.args.is_flushed c.args.block parts c.args.state.now a)
 
 -- ---- the disk fails
 
 pub returns-in_err-flush_if-clause-next : goal.returns-in_err-flush_if-clause-next
 returns-in_err-flush_if-clause-next g c =
     let parts = c.args.parts.now in
-    let journal = c.args.journal.now in
-    let recalculation = c.args.recalculation.now in
+    let journal = c.args.state.now.journal in
+    let recalculation = c.args.state.now.recalculation in
     let ticket = c.args.ticket.now in
     let a = g.D.Disk.moments c.args.disk.now in
     let b = g.D.Disk.moments c.flush_if.new.disk in
@@ -124,13 +124,13 @@ returns-in_err-flush_if-clause-next g c =
 pub returns-in_err-flush_if-clause-writes : goal.returns-in_err-flush_if-clause-writes
 returns-in_err-flush_if-clause-writes g c =
     let parts = c.args.parts.now in
-    let journal = c.args.journal.now in
-    let recalculation = c.args.recalculation.now in
+    let journal = c.args.state.now.journal in
+    let recalculation = c.args.state.now.recalculation in
     let a = g.D.Disk.moments c.args.disk.now in
     let b = g.D.Disk.moments c.flush_if.new.disk in
     let good = sym c.is_err.ensures.value ∙ c.if-is_err.false in
-    subst (λ (t : Turn). WritesFor t parts journal recalculation a b) (sym c.requires.turn)
-    (writes_if c.args.is_flushed c.args.block parts journal recalculation c.put.new.self a b
+    subst (λ (t : Turn). WritesFor t parts c.args.state.now a b) (sym c.requires.turn)
+    (writes_if c.args.is_flushed c.args.block parts c.args.state.now c.put.new.self a b
     (record { bytes = c.next_bytes-bytes.result.now; tag = c.tag-tag.result; is = put_ok c.put.result good c.put.ensures.put }) c.flush_if.ensures.writes)
 
 -- ---- the block is put
@@ -138,8 +138,8 @@ returns-in_err-flush_if-clause-writes g c =
 pub returns-clause-next : goal.returns-clause-next
 returns-clause-next g c =
     let parts = c.args.parts.now in
-    let journal = c.args.journal.now in
-    let recalculation = c.args.recalculation.now in
+    let journal = c.args.state.now.journal in
+    let recalculation = c.args.state.now.recalculation in
     let ticket = c.args.ticket.now in
     let a = g.D.Disk.moments c.args.disk.now in
     let b = g.D.Disk.moments c.flush_if.new.disk in
@@ -172,8 +172,8 @@ returns-clause-next g c =
 pub returns-clause-ready : goal.returns-clause-ready
 returns-clause-ready g c =
     let parts = c.args.parts.now in
-    let journal = c.args.journal.now in
-    let recalculation = c.args.recalculation.now in
+    let journal = c.args.state.now.journal in
+    let recalculation = c.args.state.now.recalculation in
     let ticket = c.args.ticket.now in
     let disk = c.flush_if.new.disk in
     let a = g.D.Disk.moments c.args.disk.now in
@@ -193,11 +193,11 @@ returns-clause-ready g c =
 pub returns-clause-writes : goal.returns-clause-writes
 returns-clause-writes g c =
     let parts = c.args.parts.now in
-    let journal = c.args.journal.now in
-    let recalculation = c.args.recalculation.now in
+    let journal = c.args.state.now.journal in
+    let recalculation = c.args.state.now.recalculation in
     let a = g.D.Disk.moments c.args.disk.now in
     let b = g.D.Disk.moments c.flush_if.new.disk in
     let good = sym c.is_err.ensures.value ∙ c.if-is_err.false in
-    subst (λ (t : Turn). WritesFor t parts journal recalculation a b) (sym c.requires.turn)
-    (writes_if c.args.is_flushed c.args.block parts journal recalculation c.put.new.self a b
+    subst (λ (t : Turn). WritesFor t parts c.args.state.now a b) (sym c.requires.turn)
+    (writes_if c.args.is_flushed c.args.block parts c.args.state.now c.put.new.self a b
     (record { bytes = c.next_bytes-bytes.result.now; tag = c.tag-tag.result; is = put_ok c.put.result good c.put.ensures.put }) c.flush_if.ensures.writes)

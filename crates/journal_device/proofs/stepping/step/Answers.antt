@@ -19,7 +19,7 @@ use Rattle.journal_device.proofs.RecalcLemmas.{recalc_failed}
 use Rattle.journal_device.proofs.EventLemmas.{clean_step, commit_step, place_step, recalc_step, settle_step, step_failed}
 use Rattle.journal_device.proofs.StepsLemmas.{commit_fewer, not_did, place_fewer, recalc_advances, recalc_fewer, settle_fewer}
 use Rattle.journal_device.proofs.FieldsLemmas.{failed_still, journal_heads, region_heads, still_heads, stepped_heads, stepped_still}
-use Rattle.journal_device.proofs.IdleLemmas.{idle_commit, idle_place, idle_recalc, idle_settle, still_recalc}
+use Rattle.journal_device.proofs.IdleLemmas.{idle_commit, idle_place, idle_recalc, idle_settle}
 use Rattle.journal_device.proofs.WriteLemmas.{ready_tags}
 use Rattle.journal_device.proofs.stepping.step.Goals as goal
 use Rattle.journal_device.proofs.stepping.step.Goals.{in-Commit+in_ok-moved-in-Commit, in-Place+in_ok-moved-in-Place, in-Settle+in_ok-moved-in-Settle, in-Clean, in-Recalc+in_ok-moved-in-Recalc}
@@ -30,8 +30,8 @@ returns-in_err-moved-in-Commit-clause-next g c = record {
   done = search rules;
   err = on_err_always c.from_residual.result (λ w is.
       let parts = c.args.parts.now in
-      let journal = c.args.journal.now in
-      let recalculation = c.args.recalculation.now in
+      let journal = c.args.state.now.journal in
+      let recalculation = c.args.state.now.recalculation in
       let a = g.D.Disk.moments c.args.disk.now in
       let v = standing_on w is.disk in
       done_on w is.disk is.format _ Broken parts c.commit.new.self recalculation a (g.D.Disk.moments c.commit.new.disk)
@@ -44,8 +44,8 @@ returns-in_err-moved-in-Place-clause-next g c = record {
   done = search rules;
   err = on_err_always c.from_residual-in_err-moved-in-Place.result (λ w is.
       let parts = c.args.parts.now in
-      let journal = c.args.journal.now in
-      let recalculation = c.args.recalculation.now in
+      let journal = c.args.state.now.journal in
+      let recalculation = c.args.state.now.recalculation in
       let a = g.D.Disk.moments c.args.disk.now in
       let v = standing_on w is.disk in
       let new : Parts = record parts { tags = c.place.new.tags } in
@@ -59,8 +59,8 @@ returns-in_err-moved-in-Settle-clause-next g c = record {
   done = search rules;
   err = on_err_always c.from_residual-in_err-moved-in-Settle.result (λ w is.
       let parts = c.args.parts.now in
-      let journal = c.args.journal.now in
-      let recalculation = c.args.recalculation.now in
+      let journal = c.args.state.now.journal in
+      let recalculation = c.args.state.now.recalculation in
       let a = g.D.Disk.moments c.args.disk.now in
       let v = standing_on w is.disk in
       let new : Parts = record parts { tags = c.settle.new.tags } in
@@ -74,8 +74,8 @@ returns-in_err-moved-in-Recalc-clause-next g c = record {
   done = search rules;
   err = on_err_always c.from_residual-in_err-moved-in-Recalc.result (λ w is.
       let parts = c.args.parts.now in
-      let journal = c.args.journal.now in
-      let recalculation = c.args.recalculation.now in
+      let journal = c.args.state.now.journal in
+      let recalculation = c.args.state.now.recalculation in
       let a = g.D.Disk.moments c.args.disk.now in
       let b = g.D.Disk.moments c.recalculate.new.disk in
       let v = standing_on w is.disk in
@@ -89,28 +89,27 @@ pub returns-clause-next : goal.returns-clause-next
 returns-clause-next g c = record {
   done = λ w at.
       let parts = c.args.parts.now in
-      let journal = c.args.journal.now in
-      let recalculation = c.args.recalculation.now in
+      let journal = c.args.state.now.journal in
+      let recalculation = c.args.state.now.recalculation in
       let before = g.D.Disk.moments c.args.disk.now in
       let v = standing_on w at.disk in
       let is = at.over in
       let stands = stands_now v parts journal recalculation before is in
       is_done_on w at.disk at.format (Step (actor_of c.args.actor)) _ Working _ _ _ before _
       (elim c.match-actor.branch [
-        | in-Commit+in_ok-moved-in-Commit x ↦ rw (c.moved_as.ensures, x.moved-is, x.disk-is, x.parts-is, x.journal-is, x.recalculation-is, x.in-Commit.is)
+        | in-Commit+in_ok-moved-in-Commit x ↦ rw (c.moved_as.ensures, x.moved-is, x.disk-is, x.parts-is, x.state-is, x.in-Commit.is)
             (commit_step v parts journal recalculation before is _ x.commit.new.self (g.D.Disk.moments x.commit.new.disk)
             (x.in_ok-moved-in-Commit.ensures.committed (standing_of v) stands) (x.commit.ensures.left (standing_of v) stands))
-        | in-Place+in_ok-moved-in-Place x ↦ rw (c.moved_as.ensures, x.moved-is, x.disk-is, x.parts-is, x.journal-is, x.recalculation-is, x.in-Place.is)
+        | in-Place+in_ok-moved-in-Place x ↦ rw (c.moved_as.ensures, x.moved-is, x.disk-is, x.parts-is, x.state-is, x.in-Place.is)
             (place_step v parts journal recalculation before is _ (record parts { tags = x.place.new.tags }) x.place.new.self (g.D.Disk.moments x.place.new.disk) refl refl
             (x.in_ok-moved-in-Place.ensures.placed (standing_of v) stands) (x.place.ensures.left (standing_of v) stands))
-        | in-Settle+in_ok-moved-in-Settle x ↦ rw (c.moved_as.ensures, x.moved-is, x.disk-is, x.parts-is, x.journal-is, x.recalculation-is, x.in-Settle.is)
+        | in-Settle+in_ok-moved-in-Settle x ↦ rw (c.moved_as.ensures, x.moved-is, x.disk-is, x.parts-is, x.state-is, x.in-Settle.is)
             (settle_step v parts journal recalculation before is _ (record parts { tags = x.settle.new.tags }) x.settle.new.self (g.D.Disk.moments x.settle.new.disk) refl refl
             (x.in_ok-moved-in-Settle.ensures.settled (standing_of v) stands) (x.settle.ensures.left (standing_of v) stands))
-        | in-Clean x ↦ rw (c.moved_as.ensures, x.moved-is, x.disk-is, x.parts-is, x.journal-is, x.recalculation-is, x.in-Clean.is) (clean_step v parts journal recalculation before is)
-        | in-Recalc+in_ok-moved-in-Recalc x ↦ rw (c.moved_as.ensures, x.moved-is, x.disk-is, x.parts-is, x.journal-is, x.recalculation-is, x.in-Recalc.is)
-            (recalc_step v parts journal recalculation before is x.in_ok-moved-in-Recalc.moved x.recalculate.new.recalculation x.recalculate.new.tags c.args.disk.now x.recalculate.new.disk
-            (g.D.Disk.moments x.recalculate.new.disk) x.recalculate.ensures.stays.places x.in_ok-moved-in-Recalc.ensures.stepped
-            (λ idle. ap (λ y. g.D.Disk.moments y) (still_recalc x.in_ok-moved-in-Recalc.moved parts.maker recalculation x.recalculate.new.recalculation parts.tags x.recalculate.new.tags c.args.disk.now x.recalculate.new.disk before _ x.in_ok-moved-in-Recalc.ensures.stepped idle)))
+        | in-Clean x ↦ rw (c.moved_as.ensures, x.moved-is, x.disk-is, x.parts-is, x.state-is, x.in-Clean.is) (clean_step v parts journal recalculation before is)
+        | in-Recalc+in_ok-moved-in-Recalc x ↦ rw (c.moved_as.ensures, x.moved-is, x.disk-is, x.parts-is, x.state-is, x.in-Recalc.is)
+            (recalc_step v parts journal recalculation x.recalculate.new.recalculation x.recalculate.new.tags g.D.Disk.moments c.args.disk.now x.recalculate.new.disk x.in_ok-moved-in-Recalc.moved
+            is x.recalculate.ensures.stays.places x.in_ok-moved-in-Recalc.ensures.stepped)
       ]);
   err = tt;
 }
@@ -118,28 +117,28 @@ returns-clause-next g c = record {
 pub returns-clause-ready : goal.returns-clause-ready
 returns-clause-ready g c =
     let parts = c.args.parts.now in
-    let journal = c.args.journal.now in
-    let recalculation = c.args.recalculation.now in
+    let journal = c.args.state.now.journal in
+    let recalculation = c.args.state.now.recalculation in
     let before = g.D.Disk.moments c.args.disk.now in
     let disk = g.D.Disk.identity c.args.disk.now in
     elim c.match-actor.branch [
-      | in-Commit+in_ok-moved-in-Commit x ↦ rw (x.disk-is, x.parts-is, x.journal-is, x.recalculation-is) (record {
+      | in-Commit+in_ok-moved-in-Commit x ↦ rw (x.disk-is, x.parts-is, x.state-is) (record {
         parts_ = λ _. ready_tags parts parts.tags disk (g.D.Disk.identity x.commit.new.disk) before (g.D.Disk.moments x.commit.new.disk) (c.requires.parts_ refl) x.in_ok-moved-in-Commit.ensures.store refl;
         geometry = batch_geometry journal x.commit.new.self (inr (one_is journal x.commit.new.self _ _ _ _ _ x.in_ok-moved-in-Commit.ensures.moved)) ∙ c.requires.geometry;
         regions_ = c.requires.regions_;
       })
-      | in-Place+in_ok-moved-in-Place x ↦ rw (x.disk-is, x.parts-is, x.journal-is, x.recalculation-is) (record {
-        parts_ = λ _. ready_tags parts x.place.new.tags disk (g.D.Disk.identity x.place.new.disk) before (g.D.Disk.moments x.place.new.disk) (c.requires.parts_ refl) x.place.ensures.store x.place.ensures.geometry;
-        geometry = ap (λ r. r.geometry) x.place.ensures.ring ∙ c.requires.geometry ∙ sym x.place.ensures.geometry;
-        regions_ = c.requires.regions_ ∙ sym x.place.ensures.geometry;
+      | in-Place+in_ok-moved-in-Place x ↦ rw (x.disk-is, x.parts-is, x.state-is) (record {
+        parts_ = λ _. ready_tags parts x.place.new.tags disk (g.D.Disk.identity x.place.new.disk) before (g.D.Disk.moments x.place.new.disk) (c.requires.parts_ refl) x.place.ensures.stays.store x.place.ensures.stays.geometry;
+        geometry = ap (λ r. r.geometry) x.place.ensures.ring ∙ c.requires.geometry ∙ sym x.place.ensures.stays.geometry;
+        regions_ = c.requires.regions_ ∙ sym x.place.ensures.stays.geometry;
       })
-      | in-Settle+in_ok-moved-in-Settle x ↦ rw (x.disk-is, x.parts-is, x.journal-is, x.recalculation-is) (record {
+      | in-Settle+in_ok-moved-in-Settle x ↦ rw (x.disk-is, x.parts-is, x.state-is) (record {
         parts_ = λ _. ready_tags parts x.settle.new.tags disk (g.D.Disk.identity x.settle.new.disk) before (g.D.Disk.moments x.settle.new.disk) (c.requires.parts_ refl) x.settle.ensures.store x.settle.ensures.geometry.0;
         geometry = x.settle.ensures.geometry.1 ∙ c.requires.geometry ∙ sym x.settle.ensures.geometry.0;
         regions_ = c.requires.regions_ ∙ sym x.settle.ensures.geometry.0;
       })
-      | in-Clean x ↦ rw (x.disk-is, x.parts-is, x.journal-is, x.recalculation-is) c.requires
-      | in-Recalc+in_ok-moved-in-Recalc x ↦ rw (x.disk-is, x.parts-is, x.journal-is, x.recalculation-is) (record {
+      | in-Clean x ↦ rw (x.disk-is, x.parts-is, x.state-is) c.requires
+      | in-Recalc+in_ok-moved-in-Recalc x ↦ rw (x.disk-is, x.parts-is, x.state-is) (record {
         parts_ = λ _. ready_tags parts x.recalculate.new.tags disk (g.D.Disk.identity x.recalculate.new.disk) before (g.D.Disk.moments x.recalculate.new.disk) (c.requires.parts_ refl) x.recalculate.ensures.stays.store_ x.recalculate.ensures.stays.places;
         geometry = c.requires.geometry ∙ sym x.recalculate.ensures.stays.places;
         regions_ = x.recalculate.ensures.stays.geometry ∙ c.requires.regions_ ∙ sym x.recalculate.ensures.stays.places;
@@ -148,36 +147,36 @@ returns-clause-ready g c =
 
 pub returns-clause-goes_on : goal.returns-clause-goes_on
 returns-clause-goes_on g c =
-    let journal = c.args.journal.now in
-    let recalculation = c.args.recalculation.now in
+    let journal = c.args.state.now.journal in
+    let recalculation = c.args.state.now.recalculation in
     elim c.match-actor.branch [
-      | in-Commit+in_ok-moved-in-Commit x ↦ rw (c.moved_as.ensures, x.moved-is, x.journal-is, x.recalculation-is, x.in-Commit.is)
+      | in-Commit+in_ok-moved-in-Commit x ↦ rw (c.moved_as.ensures, x.moved-is, x.state-is, x.in-Commit.is)
           (λ did. commit_fewer x.in_ok-moved-in-Commit.moved journal x.commit.new.self _ _ recalculation recalculation _ _ x.commit.ensures.bounds x.in_ok-moved-in-Commit.ensures.moved did)
-      | in-Place+in_ok-moved-in-Place x ↦ rw (c.moved_as.ensures, x.moved-is, x.journal-is, x.recalculation-is, x.in-Place.is)
+      | in-Place+in_ok-moved-in-Place x ↦ rw (c.moved_as.ensures, x.moved-is, x.state-is, x.in-Place.is)
           (λ did. place_fewer x.in_ok-moved-in-Place.moved journal x.place.new.self _ _ _ _ recalculation recalculation x.in_ok-moved-in-Place.ensures.moved x.place.ensures.ring did)
-      | in-Settle+in_ok-moved-in-Settle x ↦ rw (c.moved_as.ensures, x.moved-is, x.journal-is, x.recalculation-is, x.in-Settle.is)
+      | in-Settle+in_ok-moved-in-Settle x ↦ rw (c.moved_as.ensures, x.moved-is, x.state-is, x.in-Settle.is)
           (λ did. settle_fewer x.in_ok-moved-in-Settle.moved journal x.settle.new.self _ _ _ _ recalculation recalculation x.in_ok-moved-in-Settle.ensures.moved did)
       | in-Clean x ↦ rw (c.moved_as.ensures, x.moved-is) (λ did. absurd (not_did did))
-      | in-Recalc+in_ok-moved-in-Recalc x ↦ rw (c.moved_as.ensures, x.moved-is, x.journal-is, x.recalculation-is, x.in-Recalc.is)
-          (λ did. recalc_fewer x.in_ok-moved-in-Recalc.moved _ recalculation x.recalculate.new.recalculation _ _ journal journal _ _ _ _ x.in_ok-moved-in-Recalc.ensures.stepped did)
+      | in-Recalc+in_ok-moved-in-Recalc x ↦ rw (c.moved_as.ensures, x.moved-is, x.state-is, x.in-Recalc.is)
+          (λ did. recalc_fewer x.in_ok-moved-in-Recalc.moved _ recalculation x.recalculate.new.recalculation _ _ journal journal g.D.Disk.moments _ _ x.in_ok-moved-in-Recalc.ensures.stepped did)
     ]
 
 pub returns-clause-idle : goal.returns-clause-idle
 returns-clause-idle g c =
     let parts = c.args.parts.now in
-    let journal = c.args.journal.now in
-    let recalculation = c.args.recalculation.now in
+    let journal = c.args.state.now.journal in
+    let recalculation = c.args.state.now.recalculation in
     let disk = c.args.disk.now in
     elim c.match-actor.branch [
-      | in-Commit+in_ok-moved-in-Commit x ↦ rw (c.moved_as.ensures, x.moved-is, x.disk-is, x.parts-is, x.journal-is, x.recalculation-is)
+      | in-Commit+in_ok-moved-in-Commit x ↦ rw (c.moved_as.ensures, x.moved-is, x.disk-is, x.parts-is, x.state-is)
           (idle_commit parts journal x.commit.new.self recalculation disk x.commit.new.disk _ _ _ x.in_ok-moved-in-Commit.ensures.moved)
-      | in-Place+in_ok-moved-in-Place x ↦ rw (c.moved_as.ensures, x.moved-is, x.disk-is, x.parts-is, x.journal-is, x.recalculation-is)
+      | in-Place+in_ok-moved-in-Place x ↦ rw (c.moved_as.ensures, x.moved-is, x.disk-is, x.parts-is, x.state-is)
           (idle_place parts journal x.place.new.self recalculation disk x.place.new.disk _ x.place.new.tags x.in_ok-moved-in-Place.ensures.moved x.place.ensures.ring)
-      | in-Settle+in_ok-moved-in-Settle x ↦ rw (c.moved_as.ensures, x.moved-is, x.disk-is, x.parts-is, x.journal-is, x.recalculation-is)
+      | in-Settle+in_ok-moved-in-Settle x ↦ rw (c.moved_as.ensures, x.moved-is, x.disk-is, x.parts-is, x.state-is)
           (idle_settle parts journal x.settle.new.self recalculation disk x.settle.new.disk _ x.settle.new.tags x.in_ok-moved-in-Settle.ensures.moved)
-      | in-Clean x ↦ rw (x.disk-is, x.parts-is, x.journal-is, x.recalculation-is) (λ idle. (refl, refl))
-      | in-Recalc+in_ok-moved-in-Recalc x ↦ rw (c.moved_as.ensures, x.moved-is, x.disk-is, x.parts-is, x.journal-is, x.recalculation-is)
-          (idle_recalc parts journal recalculation x.recalculate.new.recalculation x.recalculate.new.tags _ disk x.recalculate.new.disk _ _ _ x.in_ok-moved-in-Recalc.ensures.stepped)
+      | in-Clean x ↦ rw (x.disk-is, x.parts-is, x.state-is) (λ idle. (refl, refl))
+      | in-Recalc+in_ok-moved-in-Recalc x ↦ rw (c.moved_as.ensures, x.moved-is, x.disk-is, x.parts-is, x.state-is)
+          (idle_recalc parts journal recalculation x.recalculate.new.recalculation x.recalculate.new.tags _ g.D.Disk.moments disk x.recalculate.new.disk _ x.in_ok-moved-in-Recalc.ensures.stepped)
     ]
 
 pub returns-in_err-moved-in-Commit-clause-quiet : goal.returns-in_err-moved-in-Commit-clause-quiet
@@ -221,36 +220,36 @@ returns-in_err-moved-in-Recalc-clause-ready g c = record {
 pub returns-clause-advances : goal.returns-clause-advances
 returns-clause-advances g c =
     elim c.match-actor.branch [
-      | in-Commit+in_ok-moved-in-Commit x ↦ rw (x.recalculation-is, x.in-Commit.is) refl
-      | in-Place+in_ok-moved-in-Place x ↦ rw (x.recalculation-is, x.in-Place.is) refl
-      | in-Settle+in_ok-moved-in-Settle x ↦ rw (x.recalculation-is, x.in-Settle.is) refl
-      | in-Clean x ↦ rw (x.recalculation-is, x.in-Clean.is) refl
-      | in-Recalc+in_ok-moved-in-Recalc x ↦ rw (c.moved_as.ensures, x.moved-is, x.recalculation-is, x.in-Recalc.is)
-          (recalc_advances x.in_ok-moved-in-Recalc.moved _ c.args.recalculation.now x.recalculate.new.recalculation _ _ _ _ _ _ x.in_ok-moved-in-Recalc.ensures.stepped)
+      | in-Commit+in_ok-moved-in-Commit x ↦ rw (x.state-is, x.in-Commit.is) refl
+      | in-Place+in_ok-moved-in-Place x ↦ rw (x.state-is, x.in-Place.is) refl
+      | in-Settle+in_ok-moved-in-Settle x ↦ rw (x.state-is, x.in-Settle.is) refl
+      | in-Clean x ↦ rw (x.state-is, x.in-Clean.is) refl
+      | in-Recalc+in_ok-moved-in-Recalc x ↦ rw (c.moved_as.ensures, x.moved-is, x.state-is, x.in-Recalc.is)
+          (recalc_advances x.in_ok-moved-in-Recalc.moved _ c.args.state.now.recalculation x.recalculate.new.recalculation _ _ g.D.Disk.moments _ _ x.in_ok-moved-in-Recalc.ensures.stepped)
     ]
 
 -- ---- the fields
 
 pub returns-in_err-moved-in-Commit-clause-heads : goal.returns-in_err-moved-in-Commit-clause-heads
 returns-in_err-moved-in-Commit-clause-heads g c =
-    journal_heads c.args.parts.now c.args.journal.now c.args.recalculation.now (g.D.Disk.moments c.args.disk.now) (fields_next c.args.recalculation.now) (g.D.Disk.moments c.commit.new.disk) c.commit.ensures.left
+    journal_heads c.args.parts.now c.args.state.now.journal c.args.state.now.recalculation (g.D.Disk.moments c.args.disk.now) (fields_next c.args.state.now.recalculation) (g.D.Disk.moments c.commit.new.disk) c.commit.ensures.left
 
 pub returns-in_err-moved-in-Place-clause-heads : goal.returns-in_err-moved-in-Place-clause-heads
 returns-in_err-moved-in-Place-clause-heads g c =
-    journal_heads c.args.parts.now c.args.journal.now c.args.recalculation.now (g.D.Disk.moments c.args.disk.now) (fields_next c.args.recalculation.now) (g.D.Disk.moments c.place.new.disk) c.place.ensures.left
+    journal_heads c.args.parts.now c.args.state.now.journal c.args.state.now.recalculation (g.D.Disk.moments c.args.disk.now) (fields_next c.args.state.now.recalculation) (g.D.Disk.moments c.place.new.disk) c.place.ensures.left
 
 pub returns-in_err-moved-in-Settle-clause-heads : goal.returns-in_err-moved-in-Settle-clause-heads
 returns-in_err-moved-in-Settle-clause-heads g c =
-    journal_heads c.args.parts.now c.args.journal.now c.args.recalculation.now (g.D.Disk.moments c.args.disk.now) (fields_next c.args.recalculation.now) (g.D.Disk.moments c.settle.new.disk) c.settle.ensures.left
+    journal_heads c.args.parts.now c.args.state.now.journal c.args.state.now.recalculation (g.D.Disk.moments c.args.disk.now) (fields_next c.args.state.now.recalculation) (g.D.Disk.moments c.settle.new.disk) c.settle.ensures.left
 
 pub returns-in_err-moved-in-Recalc-clause-heads : goal.returns-in_err-moved-in-Recalc-clause-heads
 returns-in_err-moved-in-Recalc-clause-heads g c =
-    region_heads c.args.parts.now c.args.journal.now c.args.recalculation.now (g.D.Disk.moments c.args.disk.now) (g.D.Disk.moments c.recalculate.new.disk) c.in_err-moved-in-Recalc.ensures.err
+    region_heads c.args.parts.now c.args.state.now.journal c.args.state.now.recalculation (g.D.Disk.moments c.args.disk.now) (g.D.Disk.moments c.recalculate.new.disk) c.in_err-moved-in-Recalc.ensures.err
 
 pub returns-in_err-moved-in-Recalc-clause-writes : goal.returns-in_err-moved-in-Recalc-clause-writes
 returns-in_err-moved-in-Recalc-clause-writes g c =
     let parts = c.args.parts.now in
-    let recalculation = c.args.recalculation.now in
+    let recalculation = c.args.state.now.recalculation in
     let a = g.D.Disk.moments c.args.disk.now in
     let b = g.D.Disk.moments c.recalculate.new.disk in
     rw c.in-Recalc.is (region_writes (next_of recalculation) parts.tags.geometry a b (failed_still parts.maker recalculation parts.tags a b c.in_err-moved-in-Recalc.ensures.err) c.recalculate.ensures.writes)
@@ -258,8 +257,8 @@ returns-in_err-moved-in-Recalc-clause-writes g c =
 pub returns-clause-heads : goal.returns-clause-heads
 returns-clause-heads g c =
     let parts = c.args.parts.now in
-    let journal = c.args.journal.now in
-    let recalculation = c.args.recalculation.now in
+    let journal = c.args.state.now.journal in
+    let recalculation = c.args.state.now.recalculation in
     let a = g.D.Disk.moments c.args.disk.now in
     elim c.match-actor.branch [
       | in-Commit+in_ok-moved-in-Commit x ↦ rw x.disk-is (journal_heads parts journal recalculation a (fields_next recalculation) (g.D.Disk.moments x.commit.new.disk) x.commit.ensures.left)
@@ -267,15 +266,14 @@ returns-clause-heads g c =
       | in-Settle+in_ok-moved-in-Settle x ↦ rw x.disk-is (journal_heads parts journal recalculation a (fields_next recalculation) (g.D.Disk.moments x.settle.new.disk) x.settle.ensures.left)
       | in-Clean x ↦ rw x.disk-is (still_heads parts journal recalculation a (fields_next recalculation) a refl)
       | in-Recalc+in_ok-moved-in-Recalc x ↦ rw x.disk-is
-          (stepped_heads parts journal recalculation a x.in_ok-moved-in-Recalc.moved x.recalculate.new.recalculation x.recalculate.new.tags c.args.disk.now x.recalculate.new.disk (g.D.Disk.moments x.recalculate.new.disk)
-          (λ idle. ap (λ y. g.D.Disk.moments y) (still_recalc x.in_ok-moved-in-Recalc.moved parts.maker recalculation x.recalculate.new.recalculation parts.tags x.recalculate.new.tags c.args.disk.now x.recalculate.new.disk a _ x.in_ok-moved-in-Recalc.ensures.stepped idle))
+          (stepped_heads parts journal recalculation x.recalculate.new.recalculation x.recalculate.new.tags g.D.Disk.moments c.args.disk.now x.recalculate.new.disk x.in_ok-moved-in-Recalc.moved
           x.in_ok-moved-in-Recalc.ensures.stepped)
     ]
 
 pub returns-clause-writes : goal.returns-clause-writes
 returns-clause-writes g c =
     let parts = c.args.parts.now in
-    let recalculation = c.args.recalculation.now in
+    let recalculation = c.args.state.now.recalculation in
     let a = g.D.Disk.moments c.args.disk.now in
     elim c.match-actor.branch [
       | in-Commit+in_ok-moved-in-Commit x ↦ rw (x.disk-is, x.in-Commit.is) x.commit.ensures.moments
@@ -284,6 +282,6 @@ returns-clause-writes g c =
       | in-Clean x ↦ rw (x.disk-is, x.in-Clean.is) refl
       | in-Recalc+in_ok-moved-in-Recalc x ↦ rw (x.disk-is, x.in-Recalc.is)
           (region_writes (next_of recalculation) parts.tags.geometry a (g.D.Disk.moments x.recalculate.new.disk)
-          (stepped_still x.in_ok-moved-in-Recalc.moved parts.maker recalculation x.recalculate.new.recalculation parts.tags x.recalculate.new.tags c.args.disk.now x.recalculate.new.disk a (g.D.Disk.moments x.recalculate.new.disk)
-          (λ same. ap (λ y. g.D.Disk.moments y) same) x.in_ok-moved-in-Recalc.ensures.stepped) x.recalculate.ensures.writes)
+          (stepped_still x.in_ok-moved-in-Recalc.moved parts.maker recalculation x.recalculate.new.recalculation parts.tags x.recalculate.new.tags g.D.Disk.moments c.args.disk.now x.recalculate.new.disk
+          x.in_ok-moved-in-Recalc.ensures.stepped) x.recalculate.ensures.writes)
     ]

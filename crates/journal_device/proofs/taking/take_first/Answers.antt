@@ -9,7 +9,7 @@ use Rattle.recalculation.proofs.StepLemmas.{adds_taking, has_taken}
 use Rattle.journal_mode.specs.Journal.{PlacedRing}
 use Rattle.journal_mode.specs.Reads.{newest_in}
 use Rattle.journal_device.specs.Answers.{takes_first}
-use Rattle.journal_device.specs.Recalculating.{TakesFirst, TakesFirstIn}
+use Rattle.journal_device.specs.Recalculating.{TakesIf, TakesIfIn}
 use Rattle.journal_device.proofs.taking.take_first.Goals as goal
 
 on_both : {T E P Q S : Type 0} (r : Result T E) → (P → Q → S) → OnOk r P → OnOk r Q → OnOk r S
@@ -24,38 +24,38 @@ takes journal recalculation block region here waits none =
 
 pub awaits-requires : goal.awaits-requires
 awaits-requires g c =
-    let geometry = c.args.recalculation.now.awaiting.geometry in
+    let geometry = c.args.state.now.recalculation.awaiting.geometry in
     subst (λ (r : ℕ). r < regions geometry) (sym c.region_of-region.ensures) (region_of-lt geometry c.args.block c.requires.block)
 
 pub recalc_region-requires-clause-region : goal.recalc_region-requires-clause-region
 recalc_region-requires-clause-region g c =
-    let geometry = c.args.recalculation.now.awaiting.geometry in
+    let geometry = c.args.state.now.recalculation.awaiting.geometry in
     subst (λ (r : ℕ). r < regions geometry) (sym c.region_of-region.ensures) (region_of-lt geometry c.args.block c.requires.block)
 
 pub returns-clause-taken : goal.returns-clause-taken
 returns-clause-taken g c =
-    let old = c.args.recalculation.now in
+    let old = c.args.state.now.recalculation in
     let store = c.args.tags.now in
     let rule = c.args.maker.now in
     let a = g.D.Disk.moments c.args.disk.now in
     let b = g.D.Disk.moments c.recalc_region.new.disk in
     let new : Recalculation = record { awaiting = c.recalc_region.new.self; position = old.position } in
     let waits : c.awaits.result ≡ true = search rules in
-    let is = takes c.args.journal.now old c.args.block c.region_of-region.result c.region_of-region.ensures (sym c.awaits.ensures ∙ waits) (sym c.is_journaled.ensures.newest ∙ c.if-is_journaled.false) in
-    subst (λ (t : Bool). OnOk c.recalc_region.result (TakesFirst t rule (region_of old.awaiting.geometry c.args.block) old new store c.recalc_region.new.tags a b)) (sym is)
-    (subst (λ (r : ℕ). OnOk c.recalc_region.result (TakesFirst true rule r old new store c.recalc_region.new.tags a b)) c.region_of-region.ensures
+    let is = takes c.args.state.now.journal old c.args.block c.region_of-region.result c.region_of-region.ensures (sym c.awaits.ensures ∙ waits) (sym c.is_journaled.ensures.newest ∙ c.if-is_journaled.false) in
+    subst (λ (t : Bool). OnOk c.recalc_region.result (TakesIf t rule (region_of old.awaiting.geometry c.args.block) old new store c.recalc_region.new.tags a b)) (sym is)
+    (subst (λ (r : ℕ). OnOk c.recalc_region.result (TakesIf true rule r old new store c.recalc_region.new.tags a b)) c.region_of-region.ensures
     (on_both c.recalc_region.result (λ taken bits. has_taken rule c.region_of-region.result old store.geometry c.requires.same (given_tags store) a b c.recalc_region.new.self (given_tags c.recalc_region.new.tags) taken bits
-    c.recalc_region.ensures.geometry c.recalc_region.ensures.first) c.recalc_region.ensures.taken c.recalc_region.ensures.done))
+    c.recalc_region.ensures.stays.geometry c.recalc_region.ensures.stays.first) c.recalc_region.ensures.taken c.recalc_region.ensures.done))
 
 pub returns-clause-through : goal.returns-clause-through
 returns-clause-through g c =
-    let old = c.args.recalculation.now in
+    let old = c.args.state.now.recalculation in
     let store = c.args.tags.now in
     let rule = c.args.maker.now in
     let a = g.D.Disk.moments c.args.disk.now in
     let b = g.D.Disk.moments c.recalc_region.new.disk in
     let waits : c.awaits.result ≡ true = search rules in
-    let is = takes c.args.journal.now old c.args.block c.region_of-region.result c.region_of-region.ensures (sym c.awaits.ensures ∙ waits) (sym c.is_journaled.ensures.newest ∙ c.if-is_journaled.false) in
-    subst (λ (t : Bool). TakesFirstIn t rule (region_of old.awaiting.geometry c.args.block) old store a b) (sym is)
-    (subst (λ (r : ℕ). TakesFirstIn true rule r old store a b) c.region_of-region.ensures
+    let is = takes c.args.state.now.journal old c.args.block c.region_of-region.result c.region_of-region.ensures (sym c.awaits.ensures ∙ waits) (sym c.is_journaled.ensures.newest ∙ c.if-is_journaled.false) in
+    subst (λ (t : Bool). TakesIfIn t rule (region_of old.awaiting.geometry c.args.block) old store a b) (sym is)
+    (subst (λ (r : ℕ). TakesIfIn true rule r old store a b) c.region_of-region.ensures
     (adds_taking rule c.region_of-region.result old store.geometry c.requires.same (given_tags store) a b c.recalc_region.ensures.moments))

@@ -10,7 +10,7 @@ use Rattle.journal_reading.proofs.grid.read_cell.Goals as goal
 pub show-requires-clause-inside : goal.show-requires-clause-inside
 show-requires-clause-inside g c =
     let inside = journal_inside c.args.geometry.now (g.D.Disk.identity c.args.disk.now).sectors c.requires.geometry in
-    omega (arith, inside, c.requires.next, c.len-k.ensures)
+    omega (arith, inside, c.requires.next.left, c.len-k.ensures)
 
 pub returns-clause-used : goal.returns-clause-used
 returns-clause-used g c content told =

@@ -23,10 +23,10 @@ loop-init g c = record {
 }
 
 pub read_cell-requires-clause-next : goal.read_cell-requires-clause-next
-read_cell-requires-clause-next g c = omega (arith, c.loop.invariant.done, c.loop-test.true, c.initial-end.ensures)
-
-pub read_cell-requires-clause-room : goal.read_cell-requires-clause-room
-read_cell-requires-clause-room g c = omega (arith, c.loop.invariant.done, c.loop.invariant.capacity, c.loop-test.true, c.initial-end.ensures, c.requires.room.cells)
+read_cell-requires-clause-next g c = record {
+  left = omega (arith, c.loop.invariant.done, c.loop-test.true, c.initial-end.ensures);
+  room = omega (arith, c.loop.invariant.done, c.loop.invariant.capacity, c.loop-test.true, c.initial-end.ensures, c.requires.room.cells);
+}
 
 pub read_cell-requires-clause-cells : goal.read_cell-requires-clause-cells
 read_cell-requires-clause-cells g c = subst (λ (m : List Content). AreFirstCells c.args.geometry.now m c.loop.cells.items) (sym c.loop.invariant.kept) c.loop.invariant.cells

@@ -38,7 +38,7 @@ pub regions-smaller : goal.regions-smaller
 regions-smaller g c =
     let now = c.regions.awaiting in
     let new = c.recalc_region.new.self in
-    subst (λ (x : Geometry). count_by (awaiting_of new) (range_with_len 0 (regions x)) < count_by (awaiting_of now) (range_with_len 0 (regions now.geometry))) (sym c.recalc_region.ensures.geometry)
+    subst (λ (x : Geometry). count_by (awaiting_of new) (range_with_len 0 (regions x)) < count_by (awaiting_of now) (range_with_len 0 (regions now.geometry))) (sym c.recalc_region.ensures.stays.geometry)
     (fewer_await now.geometry (awaiting_of now) (awaiting_of new) c.in-Some.region (sym c.next.ensures ∙ c.in-Some.is) c.in_ok-recalc_region.ensures.done)
 
 pub regions-preserved : goal.regions-preserved
@@ -57,18 +57,18 @@ regions-preserved g c =
           (subst (λ (x : Geometry). AreSameBits x (awaiting_of c.recalc_region.new.self) (with_region region false (awaiting_of now))) inv.stays.geometry c.in_ok-recalc_region.ensures.done);
       keeps = λ d awaiting on keeps.
           turn_keeps d c.args.maker.now now (given_tags c.regions.tags) start m (inv.keeps d awaiting on keeps) region next.0 next.1 b c.recalc_region.ensures.moments
-          c.recalc_region.new.self (given_tags c.recalc_region.new.tags) c.in_ok-recalc_region.ensures.taken c.in_ok-recalc_region.ensures.done c.recalc_region.ensures.geometry c.recalc_region.ensures.first;
+          c.recalc_region.new.self (given_tags c.recalc_region.new.tags) c.in_ok-recalc_region.ensures.taken c.in_ok-recalc_region.ensures.done c.recalc_region.ensures.stays.geometry c.recalc_region.ensures.stays.first;
       bits = λ d entry on keeps.
           bitmap_turn_keeps d entry c.args.maker.now now (given_tags c.regions.tags) start m (inv.bits d entry on keeps) region next.0 next.1 b c.recalc_region.ensures.moments
-          c.recalc_region.new.self (given_tags c.recalc_region.new.tags) c.in_ok-recalc_region.ensures.taken c.in_ok-recalc_region.ensures.done c.recalc_region.ensures.geometry c.recalc_region.ensures.first;
+          c.recalc_region.new.self (given_tags c.recalc_region.new.tags) c.in_ok-recalc_region.ensures.taken c.in_ok-recalc_region.ensures.done c.recalc_region.ensures.stays.geometry c.recalc_region.ensures.stays.first;
       idle = λ none. absurd (true≢false (sym (inv.fewer.each region low next.1) ∙ none region low));
       stays = record {
-        geometry = c.recalc_region.ensures.geometry ∙ inv.stays.geometry;
-        first = c.recalc_region.ensures.first ∙ inv.stays.first;
-        store_ = c.recalc_region.ensures.store;
-        places = c.recalc_region.ensures.places ∙ inv.stays.places;
-        rest = KeepsRest-then c.args.tags.now c.regions.tags c.recalc_region.new.tags start m b inv.stays.rest c.recalc_region.ensures.rest;
-        identity = c.recalc_region.ensures.identity ∙ inv.stays.identity;
+        geometry = c.recalc_region.ensures.stays.geometry ∙ inv.stays.geometry;
+        first = c.recalc_region.ensures.stays.first ∙ inv.stays.first;
+        store_ = c.recalc_region.ensures.stays.store_;
+        places = c.recalc_region.ensures.stays.places ∙ inv.stays.places;
+        rest = KeepsRest-then c.args.tags.now c.regions.tags c.recalc_region.new.tags start m b inv.stays.rest c.recalc_region.ensures.stays.rest;
+        identity = c.recalc_region.ensures.stays.identity ∙ inv.stays.identity;
       };
       faults = search rules;
       moments = adds_then (IsOfTagsOnly old.geometry) inv.moments
@@ -87,12 +87,12 @@ pub returns-in_err-recalc_region-clause-stays : goal.returns-in_err-recalc_regio
 returns-in_err-recalc_region-clause-stays g c =
     let stays = c.regions.invariant.stays in
     record {
-      geometry = c.recalc_region.ensures.geometry ∙ stays.geometry;
-      first = c.recalc_region.ensures.first ∙ stays.first;
-      store_ = c.recalc_region.ensures.store;
-      places = c.recalc_region.ensures.places ∙ stays.places;
-      rest = KeepsRest-then c.args.tags.now c.regions.tags c.recalc_region.new.tags (g.D.Disk.moments c.args.disk.now) (g.D.Disk.moments c.regions.disk) (g.D.Disk.moments c.recalc_region.new.disk) stays.rest c.recalc_region.ensures.rest;
-      identity = c.recalc_region.ensures.identity ∙ stays.identity;
+      geometry = c.recalc_region.ensures.stays.geometry ∙ stays.geometry;
+      first = c.recalc_region.ensures.stays.first ∙ stays.first;
+      store_ = c.recalc_region.ensures.stays.store_;
+      places = c.recalc_region.ensures.stays.places ∙ stays.places;
+      rest = KeepsRest-then c.args.tags.now c.regions.tags c.recalc_region.new.tags (g.D.Disk.moments c.args.disk.now) (g.D.Disk.moments c.regions.disk) (g.D.Disk.moments c.recalc_region.new.disk) stays.rest c.recalc_region.ensures.stays.rest;
+      identity = c.recalc_region.ensures.stays.identity ∙ stays.identity;
     }
 
 pub returns-in_err-recalc_region-clause-through : goal.returns-in_err-recalc_region-clause-through

@@ -9,9 +9,10 @@ use Rattle.bitmap_laws.specs.CallLaws.{AreSameBits}
 use Rattle.change_model.specs.PhaseLaws.{no_region}
 use Rattle.recalculate_laws.specs.Taking.{KeepsAwaitingNow}
 use Rattle.tag_store.specs.Store.{given_tags}
-use Rattle.recalculation.specs.All.{AwaitFewer, AwaitOn, IsOfTagsOnly, StaysInAll}
+use Rattle.recalculation.specs.All.{AwaitFewer, AwaitOn, IsOfTagsOnly}
 use Rattle.recalculation.specs.AllWithBitmap.{AwaitWithBitmap, KeepsOpenedNow}
 use Rattle.recalculation.specs.Awaiting.{awaiting_of}
+use Rattle.recalculation.specs.Rest.{StaysInPlace}
 use Rattle.recalculation.proofs.AllLemmas.{TurnsKeep}
 use Rattle.recalculation.proofs.AllWithBitmapLemmas.{TurnsKeepBits}
 use Rattle.recalculation.proofs.all.take_all.Given as goal
@@ -25,7 +26,7 @@ invariant-regions g l = record {
   bits : (d : BitmapDisk) (entry : Image) → AwaitWithBitmap d l.maker l.fn.awaiting → KeepsOpenedNow d entry (given_tags l.fn.tags) (g.D.Disk.moments l.fn.disk)
       → TurnsKeepBits d entry l.maker l.awaiting (given_tags l.tags) (g.D.Disk.moments l.fn.disk) (g.D.Disk.moments l.disk);
   idle : AreSameBits l.fn.awaiting.geometry (awaiting_of l.fn.awaiting) no_region → (g.D.Disk.moments l.disk ≡ g.D.Disk.moments l.fn.disk) × (l.tags ≡ l.fn.tags);
-  stays : StaysInAll l.fn.awaiting l.awaiting l.fn.tags l.tags (g.D.Disk.identity l.fn.disk) (g.D.Disk.identity l.disk) (g.D.Disk.moments l.fn.disk) (g.D.Disk.moments l.disk);
+  stays : StaysInPlace l.fn.awaiting l.awaiting l.fn.tags l.tags (g.D.Disk.identity l.fn.disk) (g.D.Disk.identity l.disk) (g.D.Disk.moments l.fn.disk) (g.D.Disk.moments l.disk);
   faults : g.D.Counted.faults l.disk ≡ g.D.Counted.faults l.fn.disk;
   moments : EachSince (OnlyAdds (IsOfTagsOnly l.fn.awaiting.geometry)) (g.D.Disk.moments l.fn.disk) (g.D.Disk.moments l.disk);
 }

@@ -1,8 +1,8 @@
 use Rattle.std.proofs.Common.{◌≡◌, ◌≤◌}
-use Rattle.tag_store.specs.Store.{IsStore, given_tags}
+use Rattle.tag_store.specs.Store.{given_tags}
 use Rattle.bitmap_laws.specs.RecalcLaws.{TakesBelow}
 use Rattle.recalculation.specs.Places.{awaits_from}
-use Rattle.recalculation.specs.Rest.{KeepsRest}
+use Rattle.recalculation.specs.Rest.{StaysButTags}
 use Rattle.recalculation.specs.Rule.{tagger_by}
 use Rattle.recalculation.specs.Run.{ShowsDisk}
 use Rattle.recalculation.proofs.taking.take_region.Given as goal
@@ -15,9 +15,6 @@ invariant-loop-block g l =
       above : l.begin ≤ l.block;
       taken : TakesBelow (tagger_by l.maker geometry) geometry (awaits_from l.places.first) l.region l.block (given_tags l.fn.tags) (given_tags l.tags) (g.D.Disk.moments l.fn.disk) (g.D.Disk.moments l.disk);
       run : ShowsDisk geometry l.run (g.D.Disk.moments l.disk);
-      store : IsStore l.tags (g.D.Disk.identity l.disk) (g.D.Disk.moments l.disk);
-      rest : KeepsRest l.fn.tags l.tags (g.D.Disk.moments l.fn.disk) (g.D.Disk.moments l.disk);
-      same : l.tags.geometry ≡ l.fn.tags.geometry;
-      identity : g.D.Disk.identity l.disk ≡ g.D.Disk.identity l.fn.disk;
+      stays : StaysButTags l.fn.tags l.tags (g.D.Disk.identity l.fn.disk) (g.D.Disk.identity l.disk) (g.D.Disk.moments l.fn.disk) (g.D.Disk.moments l.disk);
       faults : g.D.Counted.faults l.disk ≡ g.D.Counted.faults l.fn.disk;
     }

@@ -1,11 +1,17 @@
-use Rattle.std.proofs.Common.{◌^◌, List, length, subst, sym, ap, ◌∙◌}
+use Rattle.std.proofs.Common.{◌≡◌, ◌^◌, List, length, Result, Ok, Err, subst, sym, ap, ◌∙◌}
+use Rattle.std.specs.Prelude.{IfOk}
 use Rattle.std.proofs.lemmas.Result.{IfOk-weaker}
 use Rattle.disk_model.specs.Disk.{Content, last_image}
+use Rattle.disk_model.specs.Moments.{HasNow}
 use Rattle.disk_model.proofs.MomentsLemmas.{EachMoment-then}
+use Rattle.image_model.specs.Geometry.{Geometry}
+use Rattle.image_model.specs.Grid.{walk_of}
 use Rattle.place_writer.proofs.StoreCalls.{reads_whole}
 use Rattle.journal_model.specs.Opening.{opened_disk}
 use Rattle.place_model.specs.Opened.{next_after_walk}
 use Rattle.journal_model.specs.Steps.{after_settle}
+use Rattle.replay.specs.declared.recovered.Recovered.{Recovered}
+use Rattle.replay.specs.Recovery.{GoesOnFrom, GoesOnIn}
 use Rattle.replay.specs.Replaying.{all_placed}
 use Rattle.replay.specs.Writes.{OnlySyncs}
 use Rattle.replay.proofs.FillingLemmas.{placing_fills, recovery_fills}
@@ -14,6 +20,12 @@ use Rattle.replay.proofs.RecoveryLemmas.{cells_stay_erased, leaves_same, replaye
 use Rattle.replay.proofs.RestingLemmas.{placing_rests, recovery_rests, state_at_rest}
 use Rattle.replay.proofs.WritesLemmas.{recovery_adds, replay_only}
 use Rattle.replay.proofs.recovery.recover.Goals as goal
+
+-- Both are told where it succeeds.
+goes_on : {E : Type 0} (g : Geometry) (before : List Content) (result : Result Recovered E) → IfOk result (λ at. HasNow (λ start. at.next ≡ next_after_walk (walk_of g (last_image start))) before) → IfOk result (GoesOnIn g)
+    → IfOk result (GoesOnFrom g before)
+goes_on g before (Ok at) next inside = record { inside = inside; next = next }
+goes_on g before (Err fault) next inside = tt
 
 pub finish-requires : goal.finish-requires
 finish-requires g c = record {
@@ -50,8 +62,13 @@ returns-in_err-replay_journal-clause-moments g c = replay_only c.args.geometry.n
 pub returns-clause-moments : goal.returns-clause-moments
 returns-clause-moments g c = recovery_adds c.args.geometry.now c.replay_journal.ensures.moments c.finish.ensures.moments
 
-pub returns-clause-next : goal.returns-clause-next
-returns-clause-next g c = IfOk-weaker c.finish.result _ _ (λ at next start told. next ∙ sym (ap next_after_walk (c.requires.journal start told).plan_)) c.finish.ensures.next
+pub returns-clause-place : goal.returns-clause-place
+returns-clause-place g c =
+    let geometry = c.args.geometry.now in
+    let before = g.D.Disk.moments c.args.disk.now in
+    goes_on geometry before c.finish.result
+    (IfOk-weaker c.finish.result _ (λ at. HasNow (λ start. at.next ≡ next_after_walk (walk_of geometry (last_image start))) before) (λ at next start told. next ∙ sym (ap next_after_walk (c.requires.journal start told).plan_)) c.finish.ensures.next)
+    c.finish.ensures.place
 
 pub returns-clause-rest : goal.returns-clause-rest
 returns-clause-rest g c =

@@ -12,7 +12,7 @@ place_all-requires-clause-geometry g c = ap (λ (j : PlacedRing). j.ring.geometr
 pub settle-requires-clause-geometry : goal.settle-requires-clause-geometry
 settle-requires-clause-geometry g c =
     ap (λ (r : JournalRing). r.geometry) c.place_all.ensures.ring ∙ ap (λ (j : PlacedRing). j.ring.geometry) c.in_ok-flush.ensures.committed
-    ∙ flush_geometry c.args.self.now ∙ c.requires.geometry ∙ sym c.place_all.ensures.geometry
+    ∙ flush_geometry c.args.self.now ∙ c.requires.geometry ∙ sym c.place_all.ensures.stays.geometry
 
 pub returns-in_err-place_all-clause-left : goal.returns-in_err-place_all-clause-left
 returns-in_err-place_all-clause-left g c w stands =
@@ -61,19 +61,19 @@ returns-in_err-flush-clause-geometry g c = (refl, batch_geometry c.args.self.now
 
 pub returns-in_err-place_all-clause-geometry : goal.returns-in_err-place_all-clause-geometry
 returns-in_err-place_all-clause-geometry g c = (
-  c.place_all.ensures.geometry,
+  c.place_all.ensures.stays.geometry,
   ap (λ (r : JournalRing). r.geometry) c.place_all.ensures.ring ∙ ap (λ (j : PlacedRing). j.ring.geometry) c.in_ok-flush.ensures.committed ∙ flush_geometry c.args.self.now,
 )
 
 pub returns-in_err-moved-clause-geometry : goal.returns-in_err-moved-clause-geometry
 returns-in_err-moved-clause-geometry g c = (
-  c.settle.ensures.geometry.0 ∙ c.place_all.ensures.geometry,
+  c.settle.ensures.geometry.0 ∙ c.place_all.ensures.stays.geometry,
   c.settle.ensures.geometry.1 ∙ ap (λ (r : JournalRing). r.geometry) c.place_all.ensures.ring ∙ ap (λ (j : PlacedRing). j.ring.geometry) c.in_ok-flush.ensures.committed ∙ flush_geometry c.args.self.now,
 )
 
 pub returns-clause-geometry : goal.returns-clause-geometry
 returns-clause-geometry g c = (
-  c.settle.ensures.geometry.0 ∙ c.place_all.ensures.geometry,
+  c.settle.ensures.geometry.0 ∙ c.place_all.ensures.stays.geometry,
   c.settle.ensures.geometry.1 ∙ ap (λ (r : JournalRing). r.geometry) c.place_all.ensures.ring ∙ ap (λ (j : PlacedRing). j.ring.geometry) c.in_ok-flush.ensures.committed ∙ flush_geometry c.args.self.now,
 )
 
@@ -92,7 +92,7 @@ returns-in_err-moved-clause-moments g c =
     let journal = c.args.self.now in
     let committed = c.in_ok-flush.ensures.committed in
     let same = ap (λ (j : PlacedRing). j.ring.geometry) committed ∙ flush_geometry journal in
-    then_tags journal c.place_all.new.tags (c.requires.geometry ∙ sym c.place_all.ensures.geometry)
+    then_tags journal c.place_all.new.tags (c.requires.geometry ∙ sym c.place_all.ensures.stays.geometry)
     (then_entries journal c.flush.ensures.moments (flushed_adds journal c.flush.new.self committed same c.place_all.ensures.moments))
     c.settle.ensures.moments.tags
 
@@ -101,6 +101,6 @@ returns-clause-moments g c =
     let journal = c.args.self.now in
     let committed = c.in_ok-flush.ensures.committed in
     let same = ap (λ (j : PlacedRing). j.ring.geometry) committed ∙ flush_geometry journal in
-    then_tags journal c.place_all.new.tags (c.requires.geometry ∙ sym c.place_all.ensures.geometry)
+    then_tags journal c.place_all.new.tags (c.requires.geometry ∙ sym c.place_all.ensures.stays.geometry)
     (then_entries journal c.flush.ensures.moments (flushed_adds journal c.flush.new.self committed same c.place_all.ensures.moments))
     c.settle.ensures.moments.tags

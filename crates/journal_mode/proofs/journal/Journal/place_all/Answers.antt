@@ -25,9 +25,9 @@ entries-preserved g c = record {
       placed_one w c.entries.self c.place.new.self c.args.tags.now c.entries.tags c.place.new.tags (g.D.Disk.moments c.args.disk.now) (g.D.Disk.moments c.entries.disk) (g.D.Disk.moments c.place.new.disk) c.in_ok-moved.moved
       (c.entries.invariant.placed w stands) c.in_ok-moved.ensures.placed;
   faults = c.in_ok-moved.ensures.cause.passed ∙ c.entries.invariant.faults;
-  store = c.place.ensures.store;
-  geometry = c.place.ensures.geometry ∙ c.entries.invariant.geometry;
-  identity = c.place.ensures.identity ∙ c.entries.invariant.identity;
+  store = c.place.ensures.stays.store;
+  geometry = c.place.ensures.stays.geometry ∙ c.entries.invariant.geometry;
+  identity = c.place.ensures.stays.identity ∙ c.entries.invariant.identity;
   left = λ w stands.
       EachMoment-then (c.entries.invariant.left w stands)
       (left_placed w c.entries.self c.args.tags.now c.entries.tags (c.entries.invariant.placed w stands) c.place.ensures.left);

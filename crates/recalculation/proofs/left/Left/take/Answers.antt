@@ -41,8 +41,13 @@ returns-clause-moments g c =
     (g.D.Disk.moments c.args.disk.now) (g.D.Disk.moments c.take_region.new.disk)
     (same_left places.geometry places.first left c.args.region c.has.result c.has.ensures c.if-not-has.false) c.take_region.ensures.moments
 
-pub returns-then-not-has-clause-rest : goal.returns-then-not-has-clause-rest
-returns-then-not-has-clause-rest g c = KeepsRest-still c.args.tags.now (g.D.Disk.moments c.args.disk.now) (g.D.Disk.moments c.args.disk.now) refl
+pub returns-then-not-has-clause-stays : goal.returns-then-not-has-clause-stays
+returns-then-not-has-clause-stays g c = record {
+  store_ = c.requires.fits.store_;
+  places = refl;
+  rest = KeepsRest-still c.args.tags.now (g.D.Disk.moments c.args.disk.now) (g.D.Disk.moments c.args.disk.now) refl;
+  identity = refl;
+}
 
 pub returns-in_err-take_region-clause-between : goal.returns-in_err-take_region-clause-between
 returns-in_err-take_region-clause-between g c =

@@ -46,14 +46,14 @@ returns-in_err-settle-clause-through g c =
     some_next (λ region. StepsPositionIn c.args.maker.now region old store.geometry (given_tags store) a b) (next_of old) c.in-Some.region (sym c.next.ensures ∙ c.in-Some.is)
     (Taken mid (given_tags made) m
     (has_taken c.args.maker.now c.in-Some.region old store.geometry c.requires.same (given_tags store) a m c.recalc_region.new.self (given_tags made)
-    c.in_ok-recalc_region.ensures.taken c.in_ok-recalc_region.ensures.done c.recalc_region.ensures.geometry c.recalc_region.ensures.first)
-    (settles_there mid store.geometry made.geometry c.recalc_region.ensures.places (given_tags made) m b c.settle.ensures.through))
+    c.in_ok-recalc_region.ensures.taken c.in_ok-recalc_region.ensures.done c.recalc_region.ensures.stays.geometry c.recalc_region.ensures.stays.first)
+    (settles_there mid store.geometry made.geometry c.recalc_region.ensures.stays.places (given_tags made) m b c.settle.ensures.through))
 
 pub returns-in_err-settle-clause-writes : goal.returns-in_err-settle-clause-writes
 returns-in_err-settle-clause-writes g c =
     let old = c.args.self.now in
     let store = c.args.tags.now in
-    writes_there store.geometry c.recalc_region.new.tags.geometry c.recalc_region.ensures.places
+    writes_there store.geometry c.recalc_region.new.tags.geometry c.recalc_region.ensures.stays.places
     (tags_taken c.args.maker.now c.in-Some.region old store.geometry (given_tags store)
     (adds_taking c.args.maker.now c.in-Some.region old store.geometry c.requires.same (given_tags store) (g.D.Disk.moments c.args.disk.now) (g.D.Disk.moments c.recalc_region.new.disk) c.recalc_region.ensures.moments))
     c.settle.ensures.writes
@@ -71,15 +71,15 @@ returns-clause-taken g c =
       made = given_tags made;
       between = m;
       takes = has_taken c.args.maker.now c.in-Some.region old store.geometry c.requires.same (given_tags store) a m c.recalc_region.new.self (given_tags made)
-          c.in_ok-recalc_region.ensures.taken c.in_ok-recalc_region.ensures.done c.recalc_region.ensures.geometry c.recalc_region.ensures.first;
-      settles = settled_there mid c.settle.new.self store.geometry made.geometry c.recalc_region.ensures.places (given_tags made) (given_tags c.settle.new.tags) m (g.D.Disk.moments c.settle.new.disk)
+          c.in_ok-recalc_region.ensures.taken c.in_ok-recalc_region.ensures.done c.recalc_region.ensures.stays.geometry c.recalc_region.ensures.stays.first;
+      settles = settled_there mid c.settle.new.self store.geometry made.geometry c.recalc_region.ensures.stays.places (given_tags made) (given_tags c.settle.new.tags) m (g.D.Disk.moments c.settle.new.disk)
           c.in_ok-settle.ensures.settled;
     }
 
 pub returns-clause-fewer : goal.returns-clause-fewer
 returns-clause-fewer g c =
     count_fewer_of c.args.self.now c.settle.new.self c.recalc_region.new.self c.in-Some.region (sym c.next.ensures ∙ c.in-Some.is)
-    c.in_ok-recalc_region.ensures.done c.recalc_region.ensures.geometry c.in_ok-settle.ensures.settled.awaiting
+    c.in_ok-recalc_region.ensures.done c.recalc_region.ensures.stays.geometry c.in_ok-settle.ensures.settled.awaiting
 
 pub returns-clause-through : goal.returns-clause-through
 returns-clause-through g c =
@@ -93,14 +93,14 @@ returns-clause-through g c =
     some_next (λ region. StepsPositionIn c.args.maker.now region old store.geometry (given_tags store) a b) (next_of old) c.in-Some.region (sym c.next.ensures ∙ c.in-Some.is)
     (Taken mid (given_tags made) m
     (has_taken c.args.maker.now c.in-Some.region old store.geometry c.requires.same (given_tags store) a m c.recalc_region.new.self (given_tags made)
-    c.in_ok-recalc_region.ensures.taken c.in_ok-recalc_region.ensures.done c.recalc_region.ensures.geometry c.recalc_region.ensures.first)
-    (settles_there mid store.geometry made.geometry c.recalc_region.ensures.places (given_tags made) m b c.settle.ensures.through))
+    c.in_ok-recalc_region.ensures.taken c.in_ok-recalc_region.ensures.done c.recalc_region.ensures.stays.geometry c.recalc_region.ensures.stays.first)
+    (settles_there mid store.geometry made.geometry c.recalc_region.ensures.stays.places (given_tags made) m b c.settle.ensures.through))
 
 pub returns-clause-writes : goal.returns-clause-writes
 returns-clause-writes g c =
     let old = c.args.self.now in
     let store = c.args.tags.now in
-    writes_there store.geometry c.recalc_region.new.tags.geometry c.recalc_region.ensures.places
+    writes_there store.geometry c.recalc_region.new.tags.geometry c.recalc_region.ensures.stays.places
     (tags_taken c.args.maker.now c.in-Some.region old store.geometry (given_tags store)
     (adds_taking c.args.maker.now c.in-Some.region old store.geometry c.requires.same (given_tags store) (g.D.Disk.moments c.args.disk.now) (g.D.Disk.moments c.recalc_region.new.disk) c.recalc_region.ensures.moments))
     c.settle.ensures.writes
