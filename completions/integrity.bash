@@ -7,7 +7,7 @@ _integrity_options() {
         format)
             echo "$hash --tag-size= --sector-size= --interleave-sectors= --sections= --log2-blocks-per-bit= --salt=" \
                 '--integrity-legacy-padding --mode= --no-wipe --recalculate' ;;
-        run) echo "--mode= $hash --integrity-legacy-recalculate" ;;
+        run | nbd) echo "--mode= $hash --integrity-legacy-recalculate" ;;
         check) echo "$hash --placed" ;;
         salvage | resize) echo "$hash" ;;
     esac
@@ -16,7 +16,12 @@ _integrity_options() {
 # The values of an option of a command, or nothing where they are no list.
 _integrity_values() {
     case $2 in
-        --mode) [ "$1" = run ] && echo 'J D B R' || echo 'J B' ;;
+        --mode)
+            case $1 in
+                run) echo 'J D B R' ;;
+                nbd) echo 'J D B' ;;
+                *) echo 'J B' ;;
+            esac ;;
         --integrity) echo 'sha256 hmac-sha256' ;;
         --sector-size) echo '512 1024 2048 4096' ;;
         --tag-size) echo '4 8 16 20 32' ;;
@@ -50,7 +55,7 @@ _integrity() {
     local word=${COMP_WORDS[COMP_CWORD]} before=${COMP_WORDS[COMP_CWORD - 1]} command=${COMP_WORDS[1]}
     COMPREPLY=()
     if [ "$COMP_CWORD" -eq 1 ]; then
-        mapfile -t COMPREPLY < <(compgen -W 'format run dump check salvage resize exercise' -- "$word")
+        mapfile -t COMPREPLY < <(compgen -W 'format run nbd dump check salvage resize exercise' -- "$word")
         return
     fi
     # bash parts a word at its `=`.

@@ -5,8 +5,12 @@ use Rattle.disk_model.specs.Disk.{Content, EachImage, Image, last_image, newest_
 use Rattle.device_model.specs.Device.{DeviceKind}
 use Rattle.device_model.specs.Ending.{Ending, Complete, RefusedWords, RefusedKey, RefusedLine, RefusedLength, RefusedImage, DiskFailed, KeyFailed, ScriptFailed, SinkFailed, NoMemory, status_of, fault_text}
 use Rattle.device_model.specs.History.{Change, with_changes}
+use Rattle.device_model.specs.Mode.{DeviceFormat}
+use Rattle.device_model.specs.Progress.{DeviceState}
 use Rattle.device_model.specs.ScriptRun.{ScriptRun, ScriptStep, IsCameTo, IsRunOf, IsWhole, changes_in, only_ends, texts_of}
 use Rattle.image_model.specs.Geometry.{Geometry}
+use Rattle.nbd_model.specs.Session.{Deed, IsSessionOf}
+use Rattle.nbd_model.specs.Deeds.{changes_by, text_in}
 use Rattle.command_model.specs.Exercise.{exercise_run}
 
 -- A way to make an image: what is printed once it is made; what stands while it is made; and what it is then.
@@ -35,7 +39,8 @@ pub record Changing : Type 1 where
 
 -- What a command starts on: it is refused before any line; its script runs on a device that opens an image; it prints what
 -- the image tells, text by text, and whether a block's stored tag differs; it makes an image; it makes one and exercises
--- a device on it; its script runs on a device that opens an image and writes nothing; or it changes an image.
+-- a device on it; its script runs on a device that opens an image and writes nothing; it changes an image; or a stream of
+-- requests is served on a device that opens an image.
 pub data Outset : Type 1 where
   RefusedBy : (ending : Ending) → Outset
   RunsOn : (kind : DeviceKind) → (image : Image) → Outset
@@ -44,6 +49,7 @@ pub data Outset : Type 1 where
   Exercises : (exercising : Exercising) → Outset
   ReadsOn : (kind : DeviceKind) → (image : Image) → Outset
   Changes : (changing : Changing) → Outset
+  Serves : (kind : DeviceKind) → (image : Image) → Outset
 
 -- The step of a run that prints a text, and does nothing else.
 abbrev pub printing_step : List ℕ → ScriptStep
@@ -63,6 +69,13 @@ pub record IsExerciseOf (e : Exercising) (run : ScriptRun) : Type 0 where
   pub made : Content
   pub is_made : e.IsMade start made
   pub is : run ≡ run_of_exercise e (last_image made)
+
+-- The run of a session over a stream of requests: it prints all replies, and does all that the deeds do.
+pub record IsSessionRun (f : DeviceFormat) (s : DeviceState) (stream : List ℕ) (run : ScriptRun) : Type 0 where
+  pub deeds : List Deed
+  pub is_session : IsSessionOf f s stream deeds
+  pub prints : texts_of run.steps ≡ text_in deeds
+  pub does : changes_in run.steps ≡ changes_by f s deeds
 
 -- ---- how it ends
 
@@ -95,6 +108,7 @@ IsRunAt (Makes making) script run = run ≡ only_prints (making.text ∷ []) fal
 IsRunAt (Exercises exercising) script run = IsExerciseOf exercising run ⊎ IsUnmade run
 IsRunAt (ReadsOn kind image) script run = IsRunOf (kind.format image) (kind.opened image) script run
 IsRunAt (Changes changing) script run = run ≡ only_prints (changing.text ∷ []) false
+IsRunAt (Serves kind image) script run = IsSessionRun (kind.format image) (kind.opened image) script run
 
 -- ---- how far it came
 
@@ -155,6 +169,7 @@ IsLeftAt (Exercises exercising) start changes later =
     ((changes ≡ []) × exercising.MayBeLeft start later) ⊎ IsLeftOfNew exercising start changes later
 IsLeftAt (ReadsOn kind image) start changes later = later ≡ start
 IsLeftAt (Changes changing) start changes later = changing.MayBeLeft start later
+IsLeftAt (Serves kind image) start changes later = IsLeftOfRun kind image start changes later
 
 -- What is left where the making of an image ended so: the image, where it came to its end or only could not be told; all as it
 -- was, where something ended it before; and what may stand at some moment, where the disk failed.
@@ -206,15 +221,11 @@ IsLeftOfExercise e start changes NoMemory later =
 
 -- What is left of a disk with this content at the start, where the command made these changes and ended so.
 abbrev pub IsLeftAfter : Outset → (start : Content) → List Change → Ending → (later : Content) → Type 0
-IsLeftAfter (RefusedBy refused) start changes ending later = IsLeftAt (RefusedBy refused) start changes later
-IsLeftAfter (RunsOn kind image) start changes ending later = IsLeftAt (RunsOn kind image) start changes later
-IsLeftAfter (Prints texts found_fault) start changes ending later =
-    IsLeftAt (Prints texts found_fault) start changes later
 IsLeftAfter (Makes making) start changes ending later = IsLeftOfMaking making start ending later
 IsLeftAfter (Exercises exercising) start changes ending later =
     IsLeftOfExercise exercising start changes ending later
-IsLeftAfter (ReadsOn kind image) start changes ending later = IsLeftAt (ReadsOn kind image) start changes later
 IsLeftAfter (Changes changing) start changes ending later = IsLeftOfChanging changing start ending later
+IsLeftAfter outset start changes ending later = IsLeftAt outset start changes later
 
 -- What stands at a moment of the command: what some of the first changes of its run leave.
 pub record MayBeLeftAt (outset : Outset) (start : Content) (script : List ℕ) (later : Content) : Type 0 where

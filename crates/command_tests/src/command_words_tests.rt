@@ -7,7 +7,7 @@ use std::test::Fail;
 /// Words that are a command, parted by `|`, and a part of what is shown of it.
 ///
 /// Source: what clap 4 makes of such words without settings of its own, and the ends of the values.
-static TAKEN: [(&str, &str); 40] = [
+static TAKEN: [(&str, &str); 44] = [
     (
         "run|I|--mode|D",
         "Run(Run { image: FileName { name: \"I\" }, mode: Direct, hash: Sha256, consent: Withheld })",
@@ -38,6 +38,22 @@ static TAKEN: [(&str, &str); 40] = [
         "name: \"-K\"",
     ),
     ("run|I|--mode|J|--integrity|sha256", "hash: Sha256"),
+    (
+        "nbd|I|--mode|J",
+        "Nbd(Nbd { image: FileName { name: \"I\" }, mode: Journal, hash: Sha256, consent: Withheld })",
+    ),
+    (
+        "nbd|--mode=D|I|--integrity|hmac-sha256|--integrity-key-file|K",
+        "mode: Direct, hash: HmacSha256 { key_file: FileName { name: \"K\" } }, consent: Withheld })",
+    ),
+    (
+        "nbd|--integrity-legacy-recalculate|I|--mode|B",
+        "mode: Bitmap, hash: Sha256, consent: Given })",
+    ),
+    (
+        "nbd|--mode|J|--|-I",
+        "Nbd(Nbd { image: FileName { name: \"-I\" }",
+    ),
     ("dump|I", "Dump(Dump { image: FileName { name: \"I\" } })"),
     ("dump|-", "name: \"-\""),
     ("dump|", "name: \"\""),
@@ -129,7 +145,7 @@ static TAKEN: [(&str, &str); 40] = [
 ];
 
 /// Words that are no command: one beyond each end, and what clap 4 refuses.
-static REFUSED: [&str; 71] = [
+static REFUSED: [&str; 79] = [
     "run|I|--mode|X",
     "run|I|--mode|",
     "run|I|--mode",
@@ -153,6 +169,14 @@ static REFUSED: [&str; 71] = [
     "run|I|--mode|D|--integrity-key-file|K",
     "run|I|--mode|D|--integrity|sha256|--integrity-key-file|K",
     "run|I|--mode|-h",
+    "nbd|I|--mode|R",
+    "nbd|I|--mode|j",
+    "nbd|I",
+    "nbd|--mode|J",
+    "nbd|I|--mode|J|10809",
+    "nbd|I|--mode|J|--mode|J",
+    "nbd|I|--mode|J|--integrity|hmac-sha256",
+    "nbd|I|--mode|J|--help",
     "dump|--|-h",
     "dump|I|--help",
     "dump|-V",

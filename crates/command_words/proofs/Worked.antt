@@ -13,6 +13,7 @@ use Rattle.command_words.specs.declared.values.ImageMode.TheVariants as images
 use Rattle.command_words.specs.declared.values.Padding.TheVariants.{Fixed}
 use Rattle.command_words.specs.declared.values.Wipe.TheVariants.{Recalculated, Zeros}
 use Rattle.command_words.specs.declared.values.Mode.TheVariants.{Bitmap, Direct, Journal, Recovery}
+use Rattle.command_words.specs.declared.values.NbdMode.TheVariants as sessions
 
 -- The largest number of 64 bits, and one more: 2^64 - 1 and 2^64.
 number_of-largest : number_of (codes "18446744073709551615") ≡ Some 18446744073709551615
@@ -180,6 +181,33 @@ command_of-resize = refl
 command_of-resize_to : command_of (codes "integrity" ∷ codes "resize" ∷ codes "I" ∷ codes "512" ∷ []) ≡ None
 unfolding clap_on_literals
 command_of-resize_to = refl
+
+-- A session has the options of a run, in every mode but recovery mode, and a mode is named.
+command_of-nbd : command_of (codes "integrity" ∷ codes "nbd" ∷ codes "I" ∷ codes "--mode" ∷ codes "D" ∷ [])
+    ≡ Some (command.Nbd (record { image = codes "I"; mode = sessions.Direct; hash = Sha256; consent = Withheld }))
+unfolding clap_on_literals
+command_of-nbd = refl
+
+command_of-nbd_keyed : command_of (codes "integrity" ∷ codes "nbd" ∷ codes "--mode=B" ∷ codes "--integrity"
+    ∷ codes "hmac-sha256" ∷ codes "--integrity-key-file" ∷ codes "K" ∷ codes "--integrity-legacy-recalculate"
+    ∷ codes "I" ∷ [])
+    ≡ Some (command.Nbd (record {
+      image = codes "I";
+      mode = sessions.Bitmap;
+      hash = HmacSha256 (codes "K");
+      consent = Given;
+    }))
+unfolding clap_on_literals
+command_of-nbd_keyed = refl
+
+command_of-nbd_recovery : command_of (codes "integrity" ∷ codes "nbd" ∷ codes "I" ∷ codes "--mode" ∷ codes "R" ∷ [])
+    ≡ None
+unfolding clap_on_literals
+command_of-nbd_recovery = refl
+
+command_of-nbd_without_mode : command_of (codes "integrity" ∷ codes "nbd" ∷ codes "I" ∷ []) ≡ None
+unfolding clap_on_literals
+command_of-nbd_without_mode = refl
 
 -- Behind `--` a word may begin with `-`; one that asks for help makes all of them no command.
 command_of-dashes : command_of (codes "integrity" ∷ codes "dump" ∷ codes "--" ∷ codes "-I" ∷ [])

@@ -22,6 +22,8 @@ use Rattle.command_words.specs.declared.values.ImageMode.{ImageMode}
 use Rattle.command_words.specs.declared.values.ImageMode.TheVariants as images
 use Rattle.command_words.specs.declared.values.Mode.{Mode}
 use Rattle.command_words.specs.declared.values.Mode.TheVariants.{Journal, Direct, Bitmap, Recovery}
+use Rattle.command_words.specs.declared.values.NbdMode.{NbdMode}
+use Rattle.command_words.specs.declared.values.NbdMode.TheVariants as sessions
 use Rattle.command_words.specs.declared.values.Padding.{Padding}
 use Rattle.command_words.specs.declared.values.Padding.TheVariants.{Fixed, Legacy}
 use Rattle.command_words.specs.declared.values.Wipe.{Wipe}
@@ -50,6 +52,14 @@ mode_named text =
     else if bytes_eq text (codes "D") then Some Direct
     else if bytes_eq text (codes "B") then Some Bitmap
     else if bytes_eq text (codes "R") then Some Recovery
+    else None
+
+-- The mode of an NBD session: recovery mode, which refuses writes, is none.
+abbrev pub nbd_mode_named : Text → Option NbdMode
+nbd_mode_named text =
+    if bytes_eq text (codes "J") then Some sessions.Journal
+    else if bytes_eq text (codes "D") then Some sessions.Direct
+    else if bytes_eq text (codes "B") then Some sessions.Bitmap
     else None
 
 -- The mode of a new image.
@@ -145,6 +155,13 @@ run_of given = do
   hash ← hash_of given
   Some (command.Run (record { image = image; mode = mode; hash = hash; consent = consent_of given }))
 
+abbrev pub nbd_of : Given → Option Command
+nbd_of given = do
+  image ← given (codes "IMAGE")
+  mode ← option_and_then nbd_mode_named (given (codes "mode"))
+  hash ← hash_of given
+  Some (command.Nbd (record { image = image; mode = mode; hash = hash; consent = consent_of given }))
+
 abbrev pub dump_of : Given → Option Command
 dump_of given = do
   image ← given (codes "IMAGE")
@@ -180,6 +197,7 @@ abbrev pub command_named : Text → Given → Option Command
 command_named name given =
     if bytes_eq name (codes "format") then format_of given
     else if bytes_eq name (codes "run") then run_of given
+    else if bytes_eq name (codes "nbd") then nbd_of given
     else if bytes_eq name (codes "dump") then dump_of given
     else if bytes_eq name (codes "check") then check_of given
     else if bytes_eq name (codes "salvage") then salvage_of given

@@ -43,6 +43,10 @@ run_entry = record {
       ∷ flag (codes "integrity-legacy-recalculate") ∷ [];
 }
 
+-- A session has the options of a run.
+abbrev pub nbd_entry : Entry
+nbd_entry = record run_entry { name = codes "nbd" }
+
 abbrev pub dump_entry : Entry
 dump_entry = record { name = codes "dump"; places = codes "IMAGE" ∷ []; options = [] }
 
@@ -76,4 +80,5 @@ exercise_entry = record {
 
 -- The commands.
 abbrev pub table : List Entry
-table = format_entry ∷ run_entry ∷ dump_entry ∷ check_entry ∷ salvage_entry ∷ resize_entry ∷ exercise_entry ∷ []
+table = format_entry ∷ run_entry ∷ nbd_entry ∷ dump_entry ∷ check_entry ∷ salvage_entry ∷ resize_entry
+    ∷ exercise_entry ∷ []

@@ -2,7 +2,7 @@
 
 use crate::values::{
     BlockSize, Checked, Consent, FileName, HashChoice, ImageMode, Interleave, Log2BlocksPerBit,
-    Mode, Padding, RequestCount, SectionCount, TagSize, Wipe,
+    Mode, NbdMode, Padding, RequestCount, SectionCount, TagSize, Wipe,
 };
 
 /// A command that the words of a program give.
@@ -12,6 +12,8 @@ pub enum Command {
     Format(Format),
     /// Runs a script on an image.
     Run(Run),
+    /// Answers a stream of NBD requests on an image.
+    Nbd(Nbd),
     /// Prints what an image tells of itself.
     Dump(Dump),
     /// Compares the tags of an image.
@@ -58,6 +60,19 @@ pub struct Run {
     pub image: FileName,
     /// Where a write goes first.
     pub mode: Mode,
+    /// The hash of its tags.
+    pub hash: HashChoice,
+    /// Whether tags under a key may be made anew.
+    pub consent: Consent,
+}
+
+/// `nbd IMAGE --mode M`.
+#[derive(Debug, Drop)]
+pub struct Nbd {
+    /// The image.
+    pub image: FileName,
+    /// Where a write goes first.
+    pub mode: NbdMode,
     /// The hash of its tags.
     pub hash: HashChoice,
     /// Whether tags under a key may be made anew.

@@ -4,7 +4,7 @@ ghost use Rattle.command_words.specs.Answers.{Answers};
 ghost use Rattle.command_words.specs.Found.{given_in};
 ghost use Rattle.command_words.specs.Judging;
 
-use crate::command::{Check, Command, Dump, Exercise, Format, Resize, Run, Salvage};
+use crate::command::{Check, Command, Dump, Exercise, Format, Nbd, Resize, Run, Salvage};
 use crate::given::Given;
 use crate::numbers::{number, number_or, number_within};
 use crate::table::{
@@ -13,7 +13,8 @@ use crate::table::{
     TAG_SIZE,
 };
 use crate::values::{
-    BlockSize, Checked, Consent, FileName, HashChoice, ImageMode, Interleave, Mode, Padding, Wipe,
+    BlockSize, Checked, Consent, FileName, HashChoice, ImageMode, Interleave, Mode, NbdMode,
+    Padding, Wipe,
 };
 use crate::words_fault::WordsFault;
 use hex::FromHex;
@@ -30,6 +31,7 @@ pub(crate) fn command_named(
     match name {
         "format" => format(alloc, given),
         "run" => run(alloc, given),
+        "nbd" => nbd(alloc, given),
         "dump" => dump(alloc, given),
         "check" => check(alloc, given),
         "salvage" => salvage(alloc, given),
@@ -77,6 +79,21 @@ fn run(alloc: Global, given: &Given<'_>) -> Result<Command, WordsFault>
     let mode = mode(given).ok_or(WordsFault::Refused)?;
     let hash = hash(alloc, given)?;
     Ok(Command::Run(Run {
+        image,
+        mode,
+        hash,
+        consent: consent(given),
+    }))
+}
+
+/// `nbd IMAGE --mode M`.
+fn nbd(alloc: Global, given: &Given<'_>) -> Result<Command, WordsFault>
+    ensures { Answers (Judging.nbd_of (given_in given.now)) result }
+{
+    let image = image(alloc, given)?;
+    let mode = nbd_mode(given).ok_or(WordsFault::Refused)?;
+    let hash = hash(alloc, given)?;
+    Ok(Command::Nbd(Nbd {
         image,
         mode,
         hash,
@@ -172,6 +189,18 @@ fn mode(given: &Given<'_>) -> Option<Mode>
         "D" => Some(Mode::Direct),
         "B" => Some(Mode::Bitmap),
         "R" => Some(Mode::Recovery),
+        _ => None,
+    }
+}
+
+/// The mode of an NBD session. It has no default, and recovery mode is none.
+fn nbd_mode(given: &Given<'_>) -> Option<NbdMode>
+    ensures { result ≡ option_and_then Judging.nbd_mode_named (given_in given.now MODE.now) }
+{
+    match given.value(MODE)? {
+        "J" => Some(NbdMode::Journal),
+        "D" => Some(NbdMode::Direct),
+        "B" => Some(NbdMode::Bitmap),
         _ => None,
     }
 }

@@ -17,11 +17,11 @@ mod table;
 mod values;
 mod words_fault;
 
-pub use command::{Check, Command, Dump, Exercise, Format, Resize, Run, Salvage};
+pub use command::{Check, Command, Dump, Exercise, Format, Nbd, Resize, Run, Salvage};
 pub use parsing::parse;
 pub use plain_law::plain_words_are_their_command;
 pub use values::{
     BlockSize, Checked, Consent, FileName, HashChoice, ImageMode, Interleave, Log2BlocksPerBit,
-    Mode, Padding, RequestCount, SectionCount, TagSize, Wipe, Within,
+    Mode, NbdMode, Padding, RequestCount, SectionCount, TagSize, Wipe, Within,
 };
 pub use words_fault::WordsFault;

@@ -98,7 +98,7 @@ pub(crate) const NO_WIPE: &str = "no-wipe";
 pub(crate) const RECALCULATE: &str = "recalculate";
 
 /// The table. Whatever comes to it is one row here, or one option in a row.
-static COMMANDS: [CommandRow; 7] = [
+static COMMANDS: [CommandRow; 8] = [
     CommandRow {
         name: "format",
         places: &[IMAGE],
@@ -155,6 +155,28 @@ static COMMANDS: [CommandRow; 7] = [
     },
     CommandRow {
         name: "run",
+        places: &[IMAGE],
+        options: &[
+            OptionRow {
+                name: MODE,
+                takes: Takes::Value,
+            },
+            OptionRow {
+                name: INTEGRITY,
+                takes: Takes::Value,
+            },
+            OptionRow {
+                name: KEY_FILE,
+                takes: Takes::Value,
+            },
+            OptionRow {
+                name: LEGACY_RECALCULATE,
+                takes: Takes::Nothing,
+            },
+        ],
+    },
+    CommandRow {
+        name: "nbd",
         places: &[IMAGE],
         options: &[
             OptionRow {

@@ -188,6 +188,17 @@ pub enum Mode {
     Recovery,
 }
 
+/// Where a write goes first, where requests may write: recovery mode refuses writes.
+#[derive(Clone, Copy, Debug, PartialEq, Eq)]
+pub enum NbdMode {
+    /// To the journal.
+    Journal,
+    /// To its place.
+    Direct,
+    /// To its place, once the bit of its region is set.
+    Bitmap,
+}
+
 /// The mode that a new image is made for.
 #[derive(Clone, Copy, Debug, PartialEq, Eq)]
 pub enum ImageMode {

@@ -17,8 +17,8 @@ use Rattle.journal_device.specs.Device.{IsWorking}
 pub record IsOpenOn (f : DiskFormat) (image : Image) (device : JournalParts) (moments : List Content) : Type 0 where
   pub disk : JournaledDisk
   pub format : disk.format ≡ f
-  pub works : IsWorking (opened_standing f image disk) (awaiting_on Journal f image) device.state.journal device.state.recalculation
-      device.parts.tags moments
+  pub works : IsWorking (opened_standing f image disk) (awaiting_on Journal f image)
+      device.state.journal device.state.recalculation device.parts.tags moments
   pub geometry : f.geometry ≡ device.parts.tags.geometry
   pub rule : device.parts.maker ≡ rule_on f
 
@@ -28,5 +28,5 @@ HasOpenOn f device before after = HasNow (λ start. IsOpenOn f (last_image start
 
 -- The journal lies where blocks and tags say, and no section of it is opened or committed.
 abbrev pub HasEmptyRing : JournalParts → Type 0
-HasEmptyRing device =
-    device.state.journal ≡ empty_journal device.parts.tags.geometry device.state.journal.ring.next device.state.journal.ring.number
+HasEmptyRing device = device.state.journal
+    ≡ empty_journal device.parts.tags.geometry device.state.journal.ring.next device.state.journal.ring.number

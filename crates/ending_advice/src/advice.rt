@@ -12,8 +12,8 @@ struct Advice {
 static ADVICE: [Advice; 28] = [
     Advice {
         line: "fault words",
-        text: "these words are no command. The commands are format, dump, check, salvage, resize, run and exercise: \
-            `man integrity` has their words, and so has docs/COMMANDS.md",
+        text: "these words are no command. The commands are format, dump, check, salvage, resize, run, nbd and \
+            exercise: `man integrity` has their words, and so has docs/COMMANDS.md",
     },
     Advice {
         line: "fault key empty",
@@ -152,6 +152,30 @@ pub fn advice_on(line: &[u8], error: Option<ErrorKind>) -> Option<&'static str> 
         }
     }
     None
+}
+
+/// The sentence for a session of requests that ended with this status, if there is one: such a session prints no line.
+/// `error` is what the system has answered to the disk's last call that failed.
+pub fn advice_on_session(status: u8, error: Option<ErrorKind>) -> Option<&'static str> {
+    match status {
+        2 => Some(
+            "the stream has a wrong magic in a request's place, or more than 1099511627776 bytes. The requests before it \
+                were answered; the device was not closed, and its next opening recovers it",
+        ),
+        4 => advice_on(b"fault disk", error),
+        5 => Some(
+            "the requests can't be read any further. Those before were answered; the device was not closed, and its \
+                next opening recovers it",
+        ),
+        6 => Some(
+            "the replies can't be written: whoever reads them is gone. The device was not closed, and its next opening \
+                recovers it",
+        ),
+        7 => Some(
+            "there is not enough memory for a request. The device was not closed, and its next opening recovers it",
+        ),
+        _ => None,
+    }
 }
 
 /// The sentence for an image that could not be opened, or a disk that can't be written.

@@ -6,8 +6,8 @@ use file_disk::FileFault;
 use file_stream::OutputFile;
 use memchr::memrchr;
 
-/// How many bytes of a line are kept: all that advice looks at.
-const KEPT: usize = 64;
+/// How many bytes are kept: all that advice looks at.
+pub(crate) const KEPT: usize = 64;
 
 /// An output that keeps the first bytes of the last line that it was given.
 #[derive(Drop)]
@@ -73,7 +73,7 @@ fn keep(line: &mut ArrayVec<u8, KEPT>, is_ended: &mut bool, bytes: &[u8])
 }
 
 /// A line goes on by these bytes, as far as they are kept.
-fn go_on(line: &mut ArrayVec<u8, KEPT>, bytes: &[u8])
+pub(crate) fn go_on(line: &mut ArrayVec<u8, KEPT>, bytes: &[u8])
     ensures { line.new.items ≡ take KEPT (line.old.items ++ bytes.now) }
 {
     let count = line.remaining_capacity().min(bytes.len());

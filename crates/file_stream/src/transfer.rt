@@ -1,4 +1,4 @@
-//! Reads once, opens once, or writes all, by as many calls as the system asks for.
+//! Reads once, opens once, writes once, or writes all, by as many calls as the system asks for.
 //!
 //! A call that was interrupted is made again, and what was done is not done again.
 ghost use Rattle.std.specs.Prelude.{◌≡◌, ◌<◌, ◌≤◌, ◌+◌, ℕ, List, length, take, drop, IfOk, OnErr, OnOk};
@@ -52,6 +52,29 @@ pub fn open_input<O: InputFolder>(folder: &mut O, name: &str) -> Result<O::File,
     loop {
         match folder.open(name) {
             Ok(file) => return Ok(file),
+            Err(FileFault::Interrupted) => {}
+            Err(FileFault::Failed) => return Err(Failed),
+        }
+    }
+}
+
+/// Writes the front of these bytes, and tells how many: at least one, where there are any.
+///
+/// # Errors
+///
+/// - `Failed`: the file failed. It has taken nothing.
+pub fn write_next<F: OutputFile>(file: &mut F, bytes: &[u8]) -> Result<usize, Failed>
+    ensures count { IfOk result (λ n. n ≤ length bytes.now) }
+    ensures some { IfOk result (λ n. 0 < length bytes.now → 0 < n) }
+    ensures written { IfOk result (λ n. F.held file.new
+        ≡ option_map (with_bytes (take n bytes.now)) (F.held file.old)) }
+
+    ensures cause { HasCause (F.faults file.old) (F.faults file.new) result }
+    ensures err { OnErr result (F.held file.new ≡ F.held file.old) }
+{
+    loop {
+        match file.write(bytes) {
+            Ok(count) => return Ok(count),
             Err(FileFault::Interrupted) => {}
             Err(FileFault::Failed) => return Err(Failed),
         }

@@ -1,5 +1,5 @@
-//! Tests of sources and a sink over files of the system.
-use file_stream::{FileSource, LineSink, OpenSource, StdInput, StdInputs, StdOutput};
+//! Tests of sources and sinks over files of the system.
+use file_stream::{FileSource, LineSink, OpenSource, PieceSink, StdInput, StdInputs, StdOutput};
 use sector_disk::{Failed, Named};
 use std::fmt::Display;
 use std::fs::File;
@@ -61,6 +61,26 @@ fn a_line_is_one_call_of_the_system(rt: HostRuntime) -> Result<(), Fail> {
     }));
     assert_eq!(rt;
         sink.write(b"closed\n"),
+        Err(Failed),
+        "it is not open for writes"
+    );
+    Ok(())
+}
+
+#[test]
+fn a_reply_is_in_the_file_before_the_next_one_comes(rt: HostRuntime) -> Result<(), Fail> {
+    let mut sink = PieceSink::new(StdOutput::new(Page {
+        file: File::create(&rt, "page")?,
+    }));
+    put_all(&mut sink, b"header")?;
+    assert_eq!(rt; fs::read_to_string(&rt, "page")?.as_str(), "header|");
+    put_all(&mut sink, b"da\nta")?;
+    assert_eq!(rt; fs::read_to_string(&rt, "page")?.as_str(), "header|da\nta|");
+    let mut sink = PieceSink::new(StdOutput::new(Page {
+        file: File::open(&rt, "page")?,
+    }));
+    assert_eq!(rt;
+        sink.write(b"header"),
         Err(Failed),
         "it is not open for writes"
     );

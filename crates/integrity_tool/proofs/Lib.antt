@@ -9,6 +9,7 @@ pub mod OpeningLemmas
 pub mod ReopeningLemmas
 pub mod StoredTagsLemmas
 pub mod RunningLemmas
+pub mod ServingLemmas
 pub mod StartLemmas
 pub mod TakenLemmas
 pub mod TopLemmas

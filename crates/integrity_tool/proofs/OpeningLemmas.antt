@@ -1,5 +1,5 @@
 -- The opening of a run: what it leaves and writes, whether a device is open then or not; and the run behind it.
-use Rattle.std.proofs.Common.{◌≡◌, ◌≢◌, inl, inr, ℕ, ◌<◌, List, length, take, refl, sym, ◌∙◌, ap, subst, arith, Option, Some, None, Result, Ok, Err, IfErr}
+use Rattle.std.proofs.Common.{◌≡◌, ◌≢◌, ◌⊎◌, inl, inr, ℕ, ◌<◌, List, [], length, take, refl, sym, ◌∙◌, ap, subst, arith, Option, Some, None, Result, Ok, Err, IfErr}
 use Rattle.std.specs.List.{Any}
 use Rattle.std.specs.Option.{IsSomeAnd}
 use Rattle.std.proofs.lemmas.Option.{same_Some}
@@ -29,17 +29,18 @@ use Rattle.place_model.proofs.FormatLemmas.{reads_on, reads_tells}
 use Rattle.device.specs.declared.mode.DeviceParts.{DeviceParts}
 use Rattle.device.specs.declared.opening.OpenMode.{OpenMode}
 use Rattle.device.specs.declared.opening.OpenMode.TheVariants.{Bitmap, Direct, Journal, Recovery}
+use Rattle.image_judging.specs.declared.consent.Consent.{Consent}
 use Rattle.device.specs.Awaiting.{fields_of}
 use Rattle.device.specs.Device.{IsDevice, kind_by, kind_of, mode_of}
 use Rattle.device.specs.Run.{IsLeftWithin}
 use Rattle.device.specs.Opening.{IsRefused, LeavesOpening, WritesInOpening, asked_mode, fault_in_mode}
 use Rattle.device_parts.specs.declared.condition.Condition.TheVariants.{Working}
 use Rattle.device_parts.specs.Device.{IsOfSameBlocks, Standing, opened_standing}
-use Rattle.device.specs.Tags.{AreOfOthers, IsLeftOut, KeepsStill, KeepsTagsOf}
+use Rattle.device.specs.Tags.{AreOfOthers, IsLeftOut, KeepsStill, KeepsTagsOf, Leaves}
 use Rattle.device.specs.Writes.{IsOfRun}
 use Rattle.device.proofs.TagsLemmas.{still_then, tags_fewer}
 use Rattle.command_ending.specs.Ended.{ending_of}
-use Rattle.command_model.specs.CommandRun.{Outset, RunsOn, IsLeftAfter, IsRunAt, MayBeLeftAt}
+use Rattle.command_model.specs.CommandRun.{Outset, RunsOn, ReadsOn, Serves, IsLeftAfter, IsLeftAt, IsLeftBy, IsLeftOfRun, IsRunAt, MayBeLeftAt}
 use Rattle.command_ending.specs.declared.ended.Ended.{Ended}
 use Rattle.command_ending.specs.declared.ended.Ended.TheVariants as Endings
 use Rattle.script_session.specs.declared.tags_found.TagsFound.{TagsFound}
@@ -49,19 +50,20 @@ use Rattle.integrity_tool.specs.declared.closing.CloseFault.TheVariants as Close
 use Rattle.integrity_tool.specs.Calls.{LeavesUnread}
 use Rattle.integrity_tool.specs.Closing.{ended_close}
 use Rattle.integrity_tool.specs.Ends.{IsBeforeScript}
-use Rattle.integrity_tool.specs.Opening.{HasReadIn, HasRunOn, IsMomentOn, IsOfOpeningIn, IsOpenedTo, KeepsTagsBehind, WritesOnlyBy, geometry_of_device}
+use Rattle.integrity_tool.specs.declared.telling.Telling.TheVariants.{Lines}
+use Rattle.integrity_tool.specs.Opening.{HasReadIn, HasRunIn, HasRunOn, IsMomentOf, IsMomentOn, IsOfOpeningIn, IsOpenedTo, IsWrittenByRun, KeepsTagsBehind, WritesOnlyBy, geometry_of_device}
 use Rattle.integrity_tool.specs.Outset.{begun_on, geometry_on, outset_by, outset_on}
 use Rattle.integrity_tool.specs.Refusing.{ended_by_opening, ending_by_refusal}
 use Rattle.integrity_tool.specs.Running.{EndsScript, HasReadTo, IsStopped}
+use Rattle.integrity_tool.specs.Words.{MayWrite}
 use Rattle.integrity_tool.proofs.JudgedLemmas.{bitmap_opening, direct_opening, fields_on, journal_opening, kind_opened, opened_writes, tags_found, tags_made, tags_opened, written_behind}
-use Rattle.integrity_tool.proofs.StartLemmas.{IsAsBefore, as_same, before_may_be_left, fine_on, nothing_run, of_run, refused_run, some_run, untouched_now, untouched_through}
+use Rattle.integrity_tool.proofs.StartLemmas.{IsAsBefore, IsOfRun as IsRuns, IsSound, as_same, before_may_be_left, fine_begun, fine_on, nothing_begun, ran_in, read_in, refused_begun, some_run, sound_begun, sound_by, untouched_now, untouched_through}
 
 -- ---- modes that take writes, and recovery mode
 
--- A script runs on a device that takes writes, where the image has no fault, which can be read then, and that is of the
--- mode's kind. What may be left of it, by the image by which it is judged, may be left by the one that was opened.
+-- A device takes writes, where the image has no fault, which can be read then, and it is of the mode's kind. What may be left
+-- of it, by the image by which it is judged, may be left by the one that was opened.
 pub record TakesWrites (mode : OpenMode) : Type 1 where
-  pub begun : (kind : DeviceKind) (image : Image) → begun_on mode kind image ≡ RunsOn kind image
   pub kind_ : (key : Option (List ℕ)) (sectors : ℕ) → kind_by (asked_mode mode) key sectors ≡ kind_in (asked_mode mode) key sectors
   pub opens : OpensLaw → (key : Option (List ℕ)) (sectors : ℕ) (image : Image)
       → fault_in_mode mode key sectors image ≡ None → (kind_in (asked_mode mode) key sectors).CanOpen image
@@ -72,33 +74,72 @@ pub record TakesWrites (mode : OpenMode) : Type 1 where
       → (kind_in (asked_mode mode) key sectors).MayBeLeft (opened_standing (asked_mode mode) key sectors start made).entry h left
       → (kind_in (asked_mode mode) key sectors).MayBeLeft start h left
 
-data Sort (mode : OpenMode) : Type 1 where
-  Writing : TakesWrites mode → Sort mode
-  Reading : mode ≡ Recovery → Sort mode
+-- A script runs on it, or a stream is served.
+abbrev IsWriting : DeviceKind → Image → Outset → Type 1
+IsWriting kind image begun = (begun ≡ RunsOn kind image) ⊎ (begun ≡ Serves kind image)
 
-sort_of : (mode : OpenMode) → Sort mode
-sort_of (Direct consent) = Writing (record {
-  begun = λ kind image. refl;
+-- Something is begun on such a device, or on one in recovery mode.
+pub data Sort (mode : OpenMode) (kind : DeviceKind) (image : Image) (begun : Outset) : Type 1 where
+  Writing : TakesWrites mode → IsWriting kind image begun → Sort mode kind image begun
+  Reading : mode ≡ Recovery → begun ≡ ReadsOn kind image → Sort mode kind image begun
+
+writing_direct : (consent : Consent) → TakesWrites (Direct consent)
+writing_direct consent = record {
   kind_ = λ key sectors. refl;
   opens = λ law key sectors image none. ((law key consent sectors image).0 none).0;
   reads = λ key sectors image can. can.readable;
   judged = λ key sectors start made same h left is. record { blocks = is.blocks ∙ same.blocks; left_is = is.left_is };
-})
-sort_of (Journal consent) = Writing (record {
-  begun = λ kind image. refl;
+}
+
+writing_journal : (consent : Consent) → TakesWrites (Journal consent)
+writing_journal consent = record {
   kind_ = λ key sectors. refl;
   opens = λ law key sectors image none. ((law key consent sectors image).0 none).0;
   reads = λ key sectors image can. can.readable;
   judged = λ key sectors start made same h left is. record { blocks = is.blocks ∙ same.blocks; left_is = is.left_is };
-})
-sort_of (Bitmap consent) = Writing (record {
-  begun = λ kind image. refl;
+}
+
+writing_bitmap : (consent : Consent) → TakesWrites (Bitmap consent)
+writing_bitmap consent = record {
   kind_ = λ key sectors. refl;
   opens = λ law key sectors image none. ((law key consent sectors image).0 none).0;
   reads = λ key sectors image can. can.readable;
   judged = λ key sectors start made same h left is. record { blocks = is.blocks ∙ same.blocks; left_is = is.left_is };
-})
-sort_of Recovery = Reading refl
+}
+
+-- So it is of a run in each mode,
+pub sort_of_run : (mode : OpenMode) (kind : DeviceKind) (image : Image) → Sort mode kind image (begun_on mode kind image)
+sort_of_run (Direct consent) kind image = Writing (writing_direct consent) (inl refl)
+sort_of_run (Journal consent) kind image = Writing (writing_journal consent) (inl refl)
+sort_of_run (Bitmap consent) kind image = Writing (writing_bitmap consent) (inl refl)
+sort_of_run Recovery kind image = Reading refl refl
+
+-- and of a session in one that takes writes.
+pub writes_in : (mode : OpenMode) → MayWrite mode → TakesWrites mode
+writes_in (Direct consent) may = writing_direct consent
+writes_in (Journal consent) may = writing_journal consent
+writes_in (Bitmap consent) may = writing_bitmap consent
+writes_in Recovery may = absurd may
+
+pub sort_of_serving : (mode : OpenMode) → MayWrite mode → (kind : DeviceKind) (image : Image) → Sort mode kind image (Serves kind image)
+sort_of_serving mode may kind image = Writing (writes_in mode may) (inr refl)
+
+-- What an opening leaves, and what is left and written behind it, is so of what is begun on the device.
+module _ {kind : DeviceKind} {image : Image} (start : Content) (begun : Outset) (writing : IsWriting kind image begun) where
+  by_both : (P : Outset → Type 0) → P (RunsOn kind image) → P (Serves kind image) → P begun
+  by_both P runs serves = elim writing [
+    | inl is ↦ subst P (sym is) runs
+    | inr is ↦ subst P (sym is) serves
+  ]
+
+  as_before_on : (c : Content) → IsLeftOfRun kind image start [] c → IsAsBefore begun start c
+  as_before_on c left = by_both (λ (o : Outset). IsAsBefore o start c) left left
+
+  writes_on : (g : Geometry) (run : ScriptRun) (c : Content) → IsWrittenByRun kind image g run start c → WritesOnlyBy begun g run start c
+  writes_on g run c written = by_both (λ (o : Outset). WritesOnlyBy o g run start c) written written
+
+  left_on : (changes : List Change) (c : Content) → IsLeftOfRun kind image start changes c → IsLeftAt begun start changes c
+  left_on changes c left = by_both (λ (o : Outset). IsLeftAt o start changes c) left left
 
 -- A run of the device is one of the command, in every mode.
 run_at : (mode : OpenMode) (kind : DeviceKind) (image : Image) (script : List ℕ) (run : ScriptRun)
@@ -137,278 +178,345 @@ written_in Recovery key sectors start is told kept = EachMoment-kept _ kept
 -- ---- the opening
 
 module _ (law : OpensLaw) (mode : OpenMode) (key : Option (List ℕ)) (disk now : DiskIdentity) (a b : List Content)
-    (start : Content) (told : content_now a ≡ Some start) (script : List ℕ) where
-  abbrev image : Image
-  image = last_image start
+    (start : Content) (told : content_now a ≡ Some start) (script : List ℕ)
+    (begun : Outset) (sort : Sort mode (kind_in (asked_mode mode) key disk.sectors) (last_image start) begun) (sound : IsSound begun)
+  where
+    abbrev image : Image
+    image = last_image start
 
-  abbrev kind : DeviceKind
-  kind = kind_in (asked_mode mode) key disk.sectors
+    abbrev kind : DeviceKind
+    kind = kind_in (asked_mode mode) key disk.sectors
 
-  abbrev outset : Outset
-  outset = outset_on mode key disk.sectors image
+    abbrev outset : Outset
+    outset = outset_by begun (fault_in_mode mode key disk.sectors image)
 
-  abbrev g : Geometry
-  g = geometry_on disk.sectors image
+    abbrev g : Geometry
+    g = geometry_on disk.sectors image
 
-  -- An image that a device takes writes on has the fields of its first sector.
-  fields_same : TakesWrites mode → fault_in_mode mode key disk.sectors image ≡ None
-      → (format_on key disk.sectors image).superblock ≡ fields_of image
-  fields_same writing none = fields_on key disk.sectors image (writing.reads key disk.sectors image (writing.opens law key disk.sectors image none))
+    -- An image that a device takes writes on has the fields of its first sector.
+    fields_same : TakesWrites mode → fault_in_mode mode key disk.sectors image ≡ None
+        → (format_on key disk.sectors image).superblock ≡ fields_of image
+    fields_same writing none = fields_on key disk.sectors image (writing.reads key disk.sectors image (writing.opens law key disk.sectors image none))
 
-  -- The geometry of the device that is opened on it.
-  abbrev on_geometry : Geometry
-  on_geometry = geometry_of_device kind image g
+    -- What is begun is refused, or is so on a device.
+    sound_on : IsSound outset
+    sound_on = sound_by begun sound (fault_in_mode mode key disk.sectors image)
 
-  module _ (leaves : LeavesOpening mode key disk now a b) where
-    opening_still : mode ≡ Recovery → b ≡ a
-    opening_still is = subst (λ (m : OpenMode). WritesInOpening m key disk.sectors a b) is leaves.writes
-
-    left_by : (refusal : Option ImageFault) → fault_in_mode mode key disk.sectors image ≡ refusal
-        → EachMoment a b (IsAsBefore (outset_by mode key disk.sectors image refusal) start)
-    left_by None none = elim (sort_of mode) [
-      | Writing writing ↦
-          let left = leaves.left (at_told _ a start told (writing.opens law key disk.sectors image none)) in
-          subst (λ (o : Outset). EachMoment a b (IsAsBefore o start)) (sym (writing.begun kind image))
-          (EachMoment-weaker (λ c both. inr (record { opens = both.0; left = both.1 }))
-          (EachMoment-both (each_from _ start told left.opens) (each_from _ start told left.left)))
-      | Reading is ↦ EachMoment-kept _ (opening_still is)
+    of_begun_by : (refusal : Option ImageFault) → IsRuns (outset_by begun refusal)
+    of_begun_by None = elim sort [
+      | Writing writing on ↦ by_both start begun on IsRuns tt tt
+      | Reading is on ↦ subst IsRuns (sym on) tt
     ]
-    left_by (Some refusal) is = untouched_through start told (leaves.refused start told refusal is)
+    of_begun_by (Some refusal) = tt
 
-    -- Each moment is as before,
-    left_each : EachMoment a b (IsAsBefore outset start)
-    left_each = left_by (fault_in_mode mode key disk.sectors image) refl
+    of_begun : IsRuns outset
+    of_begun = of_begun_by (fault_in_mode mode key disk.sectors image)
 
-    -- and so is the end.
-    left_now : HasNow (IsAsBefore outset start) b
-    left_now = content_at_end left_each (at_told (IsAsBefore outset start) a start told (as_same outset start start refl))
+    -- Nothing is written where all stays as it was.
+    stays_at_start : b ≡ a → EachMoment a b (λ c. c ≡ start)
+    stays_at_start same = EachMoment-kept (λ c. c ≡ start) same
 
-    writes_by : (run : ScriptRun) (refusal : Option ImageFault) → fault_in_mode mode key disk.sectors image ≡ refusal
-        → EachMoment a b (WritesOnlyBy (outset_by mode key disk.sectors image refusal) g run start)
-    writes_by run None none = elim (sort_of mode) [
-      | Writing writing ↦
-          subst (λ (o : Outset). EachMoment a b (WritesOnlyBy o g run start)) (sym (writing.begun kind image))
-          (EachMoment-weaker (λ c of. record {
-            opened = c;
-            opening = inr of;
-            behind = OnlyAdds-none (IsOfRun (asked_mode mode) on_geometry image (changes_in run.steps)) c;
-            tags = tags_opened key disk.sectors g run start c (asked_mode mode) of;
-          })
-          (written_in mode key disk.sectors start (fields_same writing none) told leaves.writes))
-      | Reading is ↦ EachMoment-kept _ (opening_still is)
-    ]
-    writes_by run (Some refusal) is = untouched_through start told (leaves.refused start told refusal is)
+    -- The geometry of the device that is opened on it.
+    abbrev on_geometry : Geometry
+    on_geometry = geometry_of_device kind image g
 
-    -- Each is one of the command.
-    pub opening_moments : EachMoment a b (IsMomentOn mode key disk.sectors start script)
-    opening_moments =
-        let run = some_run outset script in
-        EachMoment-weaker
-        (λ c both. record { left = both.0; only = record { run = run.0; is_run = run.1; only = both.1 } })
-        (EachMoment-both
-        (EachMoment-weaker (before_may_be_left outset (of_run mode key disk.sectors image) start script) left_each)
-        (writes_by run.0 (fault_in_mode mode key disk.sectors image) refl))
+    module _ (leaves : LeavesOpening mode key disk now a b) where
+      opening_still : mode ≡ Recovery → b ≡ a
+      opening_still is = subst (λ (m : OpenMode). WritesInOpening m key disk.sectors a b) is leaves.writes
 
-    -- What stands at the end is told, too.
-    pub opened_content : (c : Content) × (content_now b ≡ Some c)
-    opened_content = now_told opening_moments start told
+      left_by : (refusal : Option ImageFault) → fault_in_mode mode key disk.sectors image ≡ refusal
+          → EachMoment a b (IsAsBefore (outset_by begun refusal) start)
+      left_by None none = elim sort [
+        | Writing writing on ↦
+            let left = leaves.left (at_told _ a start told (writing.opens law key disk.sectors image none)) in
+            EachMoment-weaker (λ c both. as_before_on start begun on c (inr (record { opens = both.0; left = both.1 })))
+            (EachMoment-both (each_from _ start told left.opens) (each_from _ start told left.left))
+        | Reading is on ↦ subst (λ (o : Outset). EachMoment a b (IsAsBefore o start)) (sym on) (stays_at_start (opening_still is))
+      ]
+      left_by (Some refusal) is = untouched_through start told (leaves.refused start told refusal is)
 
-    -- ---- no device is open
+      -- Each moment is as before,
+      left_each : EachMoment a b (IsAsBefore outset start)
+      left_each = left_by (fault_in_mode mode key disk.sectors image) refl
 
-    module _ (held : Option (List ℕ)) where
-      told_by : (refusal : ImageFault) (fault : OpeningFault) → IsRefused mode key disk a b fault → fault ≢ OpeningFaults.Disk
-          → fault ≢ OpeningFaults.Memory → fault_in {T = DeviceParts} (Err fault) ≡ Some refusal
-          → HasRunOn outset start script (ending_by_refusal refusal) b held held
-      told_by refusal fault refused not_disk not_memory is =
-          refused_run outset start script (ending_by_refusal refusal)
-          (ap (outset_by mode key disk.sectors image) (sym (refused.told not_disk not_memory start told) ∙ is)) b
-          (untouched_now start told (EachMoment-kept _ (refused.untouched not_disk))) held held refl
+      -- and so is the end.
+      left_now : HasNow (IsAsBefore outset start) b
+      left_now = content_at_end left_each (at_told (IsAsBefore outset start) a start told (as_same outset start start refl))
 
-      -- What ended the run is that the image is refused, or comes from outside.
-      pub refused_by_opening : (fault : OpeningFault) → IsRefused mode key disk a b fault
-          → HasRunOn outset start script (ending_of (ended_by_opening fault)) b held held
-      refused_by_opening OpeningFaults.Memory refused =
-          nothing_run outset (fine_on mode key disk.sectors image) start script NoMemory tt b left_now held held refl
-      refused_by_opening OpeningFaults.Disk refused =
-          nothing_run outset (fine_on mode key disk.sectors image) start script DiskFailed tt b left_now held held refl
-      refused_by_opening (OpeningFaults.Super fault) refused =
-          told_by _ (OpeningFaults.Super fault) refused (λ is. absurd (cc)) (λ is. absurd (cc)) refl
-      refused_by_opening (OpeningFaults.Geom fault) refused =
-          told_by _ (OpeningFaults.Geom fault) refused (λ is. absurd (cc)) (λ is. absurd (cc)) refl
-      refused_by_opening (OpeningFaults.Consent flags) refused =
-          told_by _ (OpeningFaults.Consent flags) refused (λ is. absurd (cc)) (λ is. absurd (cc)) refl
-      refused_by_opening (OpeningFaults.Journal fault) refused =
-          told_by _ (OpeningFaults.Journal fault) refused (λ is. absurd (cc)) (λ is. absurd (cc)) refl
+      writes_by : (run : ScriptRun) (refusal : Option ImageFault) → fault_in_mode mode key disk.sectors image ≡ refusal
+          → EachMoment a b (WritesOnlyBy (outset_by begun refusal) g run start)
+      writes_by run None none = elim sort [
+        | Writing writing on ↦
+            EachMoment-weaker (λ c of. writes_on start begun on g run c (record {
+              opened = c;
+              opening = inr of;
+              behind = OnlyAdds-none (IsOfRun (asked_mode mode) on_geometry image (changes_in run.steps)) c;
+              tags = tags_opened key disk.sectors g run start c (asked_mode mode) of;
+            }))
+            (written_in mode key disk.sectors start (fields_same writing none) told leaves.writes)
+        | Reading is on ↦ subst (λ (o : Outset). EachMoment a b (WritesOnlyBy o g run start)) (sym on) (stays_at_start (opening_still is))
+      ]
+      writes_by run (Some refusal) is = untouched_through start told (leaves.refused start told refusal is)
 
-    -- ---- a device is open, and its run came so far
+      -- Each is one of the command.
+      pub moments_in_opening : EachMoment a b (IsMomentOf outset g start script)
+      moments_in_opening =
+          let run = some_run outset script in
+          EachMoment-weaker
+          (λ c both. record { left = both.0; only = record { run = run.0; is_run = run.1; only = both.1 } })
+          (EachMoment-both
+          (EachMoment-weaker (before_may_be_left outset of_begun start script) left_each)
+          (writes_by run.0 (fault_in_mode mode key disk.sectors image) refl))
 
-    module _ (none : fault_in_mode mode key disk.sectors image ≡ None) (run : ScriptRun) (ending : Ending) (after : List Content)
-        (held_before held : Option (List ℕ))
-        (is_run : IsRunOf (kind.format image) (kind.opened image) script run)
-        (made : Content) (told_made : content_now b ≡ Some made)
-        (reads : IsImage made (last_image made))
-        (parts : DeviceParts) (asked : mode_of parts.mode ≡ asked_mode mode)
-        (device : IsDevice (opened_standing (asked_mode mode) key disk.sectors image (last_image made)) Working parts b)
-        (same : IsOfSameBlocks (asked_mode mode) key disk.sectors image (last_image made))
-        (stopped : IsStopped (opened_standing (asked_mode mode) key disk.sectors image (last_image made)) run ending b after held_before held) where
-      begins : outset ≡ begun_on mode kind image
-      begins = ap (outset_by mode key disk.sectors image) none
+      -- What stands at the end is told, too.
+      pub content_opened : (c : Content) × (content_now b ≡ Some c)
+      content_opened = now_told moments_in_opening start told
 
-      is_run_of : IsRunAt outset script run
-      is_run_of = subst (λ (o : Outset). IsRunAt o script run) (sym begins) (run_at mode kind image script run is_run)
+      -- ---- no device is open
 
-      -- ---- in recovery mode
+      module _ (held : Option (List ℕ)) where
+        told_by : (refusal : ImageFault) (fault : OpeningFault) → IsRefused mode key disk a b fault → fault ≢ OpeningFaults.Disk
+            → fault ≢ OpeningFaults.Memory → fault_in {T = DeviceParts} (Err fault) ≡ Some refusal
+            → HasRunIn outset Lines start script (ending_by_refusal refusal) b held held
+        told_by refusal fault refused not_disk not_memory is =
+            refused_begun outset start script (ending_by_refusal refusal)
+            (ap (outset_by begun) (sym (refused.told not_disk not_memory start told) ∙ is)) b
+            (untouched_now start told (EachMoment-kept _ (refused.untouched not_disk))) held held refl
 
-      module _ (reading : mode ≡ Recovery) where
-        as_it_was : after ≡ b
-        as_it_was = subst (λ (m : OpenMode). KeepsStill (asked_mode m) b after) reading stopped.others.still
+        -- What ended the run is that the image is refused, or comes from outside.
+        pub refused_in_opening : (fault : OpeningFault) → IsRefused mode key disk a b fault
+            → HasRunIn outset Lines start script (ending_of (ended_by_opening fault)) b held held
+        refused_in_opening OpeningFaults.Memory refused =
+            nothing_begun outset sound_on start script NoMemory tt b left_now held held refl
+        refused_in_opening OpeningFaults.Disk refused =
+            nothing_begun outset sound_on start script DiskFailed tt b left_now held held refl
+        refused_in_opening (OpeningFaults.Super fault) refused =
+            told_by _ (OpeningFaults.Super fault) refused (λ is. absurd (cc)) (λ is. absurd (cc)) refl
+        refused_in_opening (OpeningFaults.Geom fault) refused =
+            told_by _ (OpeningFaults.Geom fault) refused (λ is. absurd (cc)) (λ is. absurd (cc)) refl
+        refused_in_opening (OpeningFaults.Consent flags) refused =
+            told_by _ (OpeningFaults.Consent flags) refused (λ is. absurd (cc)) (λ is. absurd (cc)) refl
+        refused_in_opening (OpeningFaults.Journal fault) refused =
+            told_by _ (OpeningFaults.Journal fault) refused (λ is. absurd (cc)) (λ is. absurd (cc)) refl
 
-        read_only : HasRunOn outset start script ending after held_before held
-        read_only = record {
-          run = run;
-          is_run = is_run_of;
-          text = stopped.text;
-          changes = stopped.changes;
-          ended = stopped.ended;
-          told = stopped.told;
-          left =
-              subst (λ (o : Outset). HasNow (IsLeftAfter o start stopped.changes ending) after)
-              (sym (begins ∙ ap (λ (m : OpenMode). begun_on m kind image) reading))
-              (λ c at. same_Some c start (sym at ∙ ap content_now (as_it_was ∙ opening_still reading) ∙ told));
-        }
+      -- ---- a device is open, and what is done on it came so far
 
-      -- ---- in the other modes
+      module _ (none : fault_in_mode mode key disk.sectors image ≡ None) (run : ScriptRun) (after : List Content)
+          (is_run : IsRunAt begun script run)
+          (made : Content) (told_made : content_now b ≡ Some made)
+          (reads : IsImage made (last_image made))
+          (parts : DeviceParts) (asked : mode_of parts.mode ≡ asked_mode mode)
+          (device : IsDevice (opened_standing (asked_mode mode) key disk.sectors image (last_image made)) Working parts b)
+          (same : IsOfSameBlocks (asked_mode mode) key disk.sectors image (last_image made))
+          (since : let w = opened_standing (asked_mode mode) key disk.sectors image (last_image made) in
+          EachMoment b after (IsLeftWithin (kind_of w) w.entry w.state.history (changes_in run.steps)))
+          (others : Leaves (opened_standing (asked_mode mode) key disk.sectors image (last_image made)) (changes_in run.steps) b after) where
+        begins : outset ≡ begun
+        begins = ap (outset_by begun) none
 
-      module _ (writing : TakesWrites mode) where
-        abbrev w : Standing
-        w = opened_standing (asked_mode mode) key disk.sectors image (last_image made)
+        -- In recovery mode the disk is as it was.
+        as_it_was : mode ≡ Recovery → after ≡ b
+        as_it_was reading = subst (λ (m : OpenMode). KeepsStill (asked_mode m) b after) reading others.still
 
-        fields : (format_on key disk.sectors image).superblock ≡ fields_of image
-        fields = fields_same writing none
+        -- ---- in the other modes
 
-        -- The disk has a sector, since its image can be read.
-        some_sector : 0 < disk.sectors
-        some_sector =
-            let d = format_on key disk.sectors image in
-            some_disk d.geometry disk.sectors (reads_tells d image (reads_on key disk.sectors image (writing.reads key disk.sectors image (writing.opens law key disk.sectors image none)))).is_geometry
+        module _ (writing : TakesWrites mode) (on : IsWriting kind image begun) where
+          abbrev w : Standing
+          w = opened_standing (asked_mode mode) key disk.sectors image (last_image made)
 
-        is_outset : outset ≡ RunsOn kind image
-        is_outset = begins ∙ writing.begun kind image
+          fields : (format_on key disk.sectors image).superblock ≡ fields_of image
+          fields = fields_same writing none
 
-        is_kind : kind_of w ≡ kind
-        is_kind = kind_opened (asked_mode mode) key disk.sectors image (last_image made) ∙ writing.kind_ key disk.sectors
+          -- The disk has a sector, since its image can be read.
+          some_sector : 0 < disk.sectors
+          some_sector =
+              let d = format_on key disk.sectors image in
+              some_disk d.geometry disk.sectors (reads_tells d image (reads_on key disk.sectors image (writing.reads key disk.sectors image (writing.opens law key disk.sectors image none)))).is_geometry
 
-        -- What may be left by the image by which the device is judged may be left by the one at the start.
-        left_judged : (h : History) (c : Content) → EachImage (kind.MayBeLeft w.entry h) c → EachImage (kind.MayBeLeft image h) c
-        left_judged h c each left is = writing.judged key disk.sectors image (last_image made) same h left (each left is)
+          is_kind : kind_of w ≡ kind
+          is_kind = kind_opened (asked_mode mode) key disk.sectors image (last_image made) ∙ writing.kind_ key disk.sectors
 
-        within_judged : (h : History) (changes : List Change) (c : Content) → IsLeftWithin kind w.entry h changes c
-            → IsLeftWithin kind image h changes c
-        within_judged h changes c within = record {
-          made = within.made;
-          opens = within.opens;
-          left = left_judged (with_changes (take within.made changes) h) c within.left;
-        }
+          -- What may be left by the image by which the device is judged may be left by the one at the start.
+          left_judged : (h : History) (c : Content) → EachImage (kind.MayBeLeft w.entry h) c → EachImage (kind.MayBeLeft image h) c
+          left_judged h c each left is = writing.judged key disk.sectors image (last_image made) same h left (each left is)
 
-        left_then : IsLeftNow kind image (with_changes stopped.changes (kind.opened image).history) after
-        left_then =
-            let h = with_changes stopped.changes (kind.opened image).history in
-            let judged : IsLeftNow kind w.entry h after = subst (λ (k : DeviceKind). IsLeftNow k w.entry h after) is_kind stopped.now in
-            record { opens = judged.opens; left = λ c at. left_judged h c (judged.left c at) }
+          within_judged : (h : History) (changes : List Change) (c : Content) → IsLeftWithin kind w.entry h changes c
+              → IsLeftWithin kind image h changes c
+          within_judged h changes c within = record {
+            made = within.made;
+            opens = within.opens;
+            left = left_judged (with_changes (take within.made changes) h) c within.left;
+          }
 
-        left_since : EachMoment b after (IsLeftWithin kind image (kind.opened image).history (changes_in run.steps))
-        left_since =
-            let h = (kind.opened image).history in
-            EachMoment-weaker (within_judged h (changes_in run.steps))
-            (subst (λ (k : DeviceKind). EachMoment b after (IsLeftWithin k w.entry h (changes_in run.steps))) is_kind stopped.since)
+          left_then : (changes : List Change) → IsLeftNow (kind_of w) w.entry (with_changes changes w.state.history) after
+              → IsLeftNow kind image (with_changes changes (kind.opened image).history) after
+          left_then changes now =
+              let h = with_changes changes (kind.opened image).history in
+              let judged : IsLeftNow kind w.entry h after = subst (λ (k : DeviceKind). IsLeftNow k w.entry h after) is_kind now in
+              record { opens = judged.opens; left = λ c at. left_judged h c (judged.left c at) }
 
-        ran : HasRunOn outset start script ending after held_before held
-        ran =
-            subst (λ (o : Outset). HasRunOn o start script ending after held_before held) (sym is_outset) (record {
-              run = run;
-              is_run = is_run;
-              text = stopped.text;
-              changes = stopped.changes;
-              ended = stopped.ended;
-              told = stopped.told;
-              left = λ c at. inr (record { opens = left_then.opens c at; left = left_then.left c at });
-            })
+          left_since : EachMoment b after (IsLeftWithin kind image (kind.opened image).history (changes_in run.steps))
+          left_since =
+              let h = (kind.opened image).history in
+              EachMoment-weaker (within_judged h (changes_in run.steps))
+              (subst (λ (k : DeviceKind). EachMoment b after (IsLeftWithin k w.entry h (changes_in run.steps))) is_kind since)
 
-        ran_through : EachMoment b after (MayBeLeftAt outset start script)
-        ran_through =
-            EachMoment-weaker
-            (λ c within. subst (λ (o : Outset). MayBeLeftAt o start script c) (sym is_outset)
-            (record { run = run; is_run = is_run; made = within.made; left = inr (record { opens = within.opens; left = within.left }) }))
-            left_since
-
-        -- What stands once the device is open is what its opening left.
-        opened_to : HasNow (IsOpenedTo (asked_mode mode) g start) b
-        opened_to =
-            content_at_end
-            (EachMoment-weaker (λ c of. inr of) (written_in mode key disk.sectors start fields told leaves.writes))
-            (at_told (IsOpenedTo (asked_mode mode) g start) a start told (inl refl))
-
-        -- No block has a write where the device was opened, so the tags of those stand that the run does not write.
-        unwritten : (block : ℕ) → Any (λ write. write.block ≡ block) (all_writes (kind.opened image).history) → ⊥
-        unwritten block any =
-            Any-nil (λ write. write.block ≡ block)
-            (subst (λ (writes : List BlockWrite). Any (λ write. write.block ≡ block) writes)
-            (opened_writes (asked_mode mode) (format_on key disk.sectors image) image) any)
-
-        fewer_tags : (c : Content) → KeepsTagsOf (asked_mode mode) (IsLeftOut (kind.opened image).history (changes_in run.steps)) w.on.geometry w.entry c
-            → KeepsTagsOf (asked_mode mode) (AreOfOthers (changes_in run.steps)) w.on.geometry w.entry c
-        fewer_tags =
-            tags_fewer (asked_mode mode) (IsLeftOut (kind.opened image).history (changes_in run.steps)) (AreOfOthers (changes_in run.steps))
-            w.on.geometry w.entry (λ block others. record { before = unwritten block; since = others })
-
-        tags_by : (c : Content) → KeepsTagsOf (asked_mode mode) (AreOfOthers (changes_in run.steps)) w.on.geometry w.entry c
-            → KeepsTagsBehind kind image g run c
-        tags_by c keeps = record {
-          found = λ none. tags_found key disk.sectors start fields some_sector (asked_mode mode) made same (AreOfOthers (changes_in run.steps)) c none keeps;
-          made = λ changed.
-              tags_made key disk.sectors start fields some_sector (asked_mode mode) made same parts b told_made reads asked device changed
-              (AreOfOthers (changes_in run.steps)) c keeps;
-        }
-
-        adds_by : (c : Content) → OnlyAdds (IsOfRun (asked_mode mode) w.on.geometry w.entry (changes_in run.steps)) made c
-            → OnlyAdds (IsOfRun (asked_mode mode) on_geometry image (changes_in run.steps)) made c
-        adds_by c =
-            written_behind key disk.sectors start fields some_sector (asked_mode mode) made same (changes_in run.steps) c
-
-        writes_behind : EachMoment b after (WritesOnlyBy (RunsOn kind image) g run start)
-        writes_behind =
-            EachMoment-weaker
-            (λ c both. record {
-              opened = made;
-              opening = opened_to made told_made;
-              behind = adds_by c both.0;
-              tags = inr (inr (tags_by c (fewer_tags c both.1)));
-            })
-            (EachMoment-both (each_from _ made told_made stopped.others.sectors) stopped.others.tags)
-
-        ran_moments : EachMoment b after (IsMomentOn mode key disk.sectors start script)
-        ran_moments =
-            EachMoment-weaker
-            (λ c both. record {
-              left = both.0;
-              only = record {
+          left_through : EachMoment b after (MayBeLeftAt begun start script)
+          left_through =
+              EachMoment-weaker
+              (λ c within. record {
                 run = run;
-                is_run = is_run_of;
-                only = subst (λ (o : Outset). WritesOnlyBy o g run start c) (sym is_outset) both.1;
-              };
-            })
-            (EachMoment-both ran_through writes_behind)
+                is_run = is_run;
+                made = within.made;
+                left = left_on start begun on (take within.made (changes_in run.steps)) c (inr (record { opens = within.opens; left = within.left }));
+              })
+              left_since
 
-      -- All of it is one of the command's runs.
-      pub ran_on : HasRunOn outset start script ending after held_before held
-          × EachMoment a after (IsMomentOn mode key disk.sectors start script) × KeepsStill (asked_mode mode) a after
-      ran_on =
-          let still = still_then (asked_mode mode) a b after (still_opened mode key disk.sectors a b leaves.writes) stopped.others.still in
-          elim (sort_of mode) [
-            | Writing writing ↦ (ran writing, EachMoment-then opening_moments (ran_moments writing), still)
-            | Reading reading ↦
-                (read_only reading, EachMoment-then opening_moments (EachMoment-kept _ (as_it_was reading)), still)
+          -- What stands once the device is open is what its opening left.
+          opened_to : HasNow (IsOpenedTo (asked_mode mode) g start) b
+          opened_to =
+              content_at_end
+              (EachMoment-weaker (λ c of. inr of) (written_in mode key disk.sectors start fields told leaves.writes))
+              (at_told (IsOpenedTo (asked_mode mode) g start) a start told (inl refl))
+
+          -- No block has a write where the device was opened, so the tags of those stand that the run does not write.
+          unwritten : (block : ℕ) → Any (λ write. write.block ≡ block) (all_writes (kind.opened image).history) → ⊥
+          unwritten block any =
+              Any-nil (λ write. write.block ≡ block)
+              (subst (λ (writes : List BlockWrite). Any (λ write. write.block ≡ block) writes)
+              (opened_writes (asked_mode mode) (format_on key disk.sectors image) image) any)
+
+          fewer_tags : (c : Content) → KeepsTagsOf (asked_mode mode) (IsLeftOut (kind.opened image).history (changes_in run.steps)) w.on.geometry w.entry c
+              → KeepsTagsOf (asked_mode mode) (AreOfOthers (changes_in run.steps)) w.on.geometry w.entry c
+          fewer_tags =
+              tags_fewer (asked_mode mode) (IsLeftOut (kind.opened image).history (changes_in run.steps)) (AreOfOthers (changes_in run.steps))
+              w.on.geometry w.entry (λ block others. record { before = unwritten block; since = others })
+
+          tags_by : (c : Content) → KeepsTagsOf (asked_mode mode) (AreOfOthers (changes_in run.steps)) w.on.geometry w.entry c
+              → KeepsTagsBehind kind image g run c
+          tags_by c keeps = record {
+            found = λ none. tags_found key disk.sectors start fields some_sector (asked_mode mode) made same (AreOfOthers (changes_in run.steps)) c none keeps;
+            made = λ changed.
+                tags_made key disk.sectors start fields some_sector (asked_mode mode) made same parts b told_made reads asked device changed
+                (AreOfOthers (changes_in run.steps)) c keeps;
+          }
+
+          adds_by : (c : Content) → OnlyAdds (IsOfRun (asked_mode mode) w.on.geometry w.entry (changes_in run.steps)) made c
+              → OnlyAdds (IsOfRun (asked_mode mode) on_geometry image (changes_in run.steps)) made c
+          adds_by c =
+              written_behind key disk.sectors start fields some_sector (asked_mode mode) made same (changes_in run.steps) c
+
+          writes_behind : EachMoment b after (WritesOnlyBy begun g run start)
+          writes_behind =
+              EachMoment-weaker
+              (λ c both. writes_on start begun on g run c (record {
+                opened = made;
+                opening = opened_to made told_made;
+                behind = adds_by c both.0;
+                tags = inr (inr (tags_by c (fewer_tags c both.1)));
+              }))
+              (EachMoment-both (each_from _ made told_made others.sectors) others.tags)
+
+          moments_then : EachMoment b after (IsMomentOf begun g start script)
+          moments_then =
+              EachMoment-weaker
+              (λ c both. record { left = both.0; only = record { run = run; is_run = is_run; only = both.1 } })
+              (EachMoment-both left_through writes_behind)
+
+        -- Each moment is one of the command,
+        pub moments_behind : EachMoment a after (IsMomentOf outset g start script)
+        moments_behind = elim sort [
+          | Writing writing on ↦
+              EachMoment-then moments_in_opening (subst (λ (o : Outset). EachMoment b after (IsMomentOf o g start script)) (sym begins) (moments_then writing on))
+          | Reading reading on ↦ EachMoment-then moments_in_opening (EachMoment-kept _ (as_it_was reading))
+        ]
+
+        -- in its order,
+        pub still_behind : KeepsStill (asked_mode mode) a after
+        still_behind = still_then (asked_mode mode) a b after (still_opened mode key disk.sectors a b leaves.writes) others.still
+
+        -- and where the device takes writes this is left of it.
+        pub left_behind : (writing : TakesWrites mode) → (on : IsWriting kind image begun) → (changes : List Change)
+            → let w = opened_standing (asked_mode mode) key disk.sectors image (last_image made) in
+            IsLeftNow (kind_of w) w.entry (with_changes changes w.state.history) after → HasNow (IsLeftBy kind image changes) after
+        left_behind writing on changes now =
+            let left = left_then writing on changes now in
+            λ c at. record { opens = left.opens c at; left = left.left c at }
+
+        -- ---- a run that was stopped
+
+        module _ (ending : Ending) (held_before held : Option (List ℕ))
+            (stopped : IsStopped (opened_standing (asked_mode mode) key disk.sectors image (last_image made)) run ending b after held_before held) where
+          left_of_run : HasNow (IsLeftAfter begun start stopped.changes ending) after
+          left_of_run = elim sort [
+            | Writing writing on ↦ λ c at.
+                let left = left_behind writing on stopped.changes stopped.now c at in
+                by_both start begun on (λ (o : Outset). IsLeftAfter o start stopped.changes ending c) (inr left) (inr left)
+            | Reading reading on ↦
+                subst (λ (o : Outset). HasNow (IsLeftAfter o start stopped.changes ending) after) (sym on)
+                (λ c at. same_Some c start (sym at ∙ ap content_now (as_it_was reading ∙ opening_still reading) ∙ told))
           ]
+
+          pub ran_behind : HasRunOn outset start script ending after held_before held
+          ran_behind = subst (λ (o : Outset). HasRunOn o start script ending after held_before held) (sym begins) (record {
+            run = run;
+            is_run = is_run;
+            text = stopped.text;
+            changes = stopped.changes;
+            ended = stopped.ended;
+            told = stopped.told;
+            left = left_of_run;
+          })
+
+-- ---- a run
+
+module _ (law : OpensLaw) (mode : OpenMode) (key : Option (List ℕ)) (disk now : DiskIdentity) (a b : List Content)
+    (start : Content) (told : content_now a ≡ Some start) (script : List ℕ) (leaves : LeavesOpening mode key disk now a b) where
+  abbrev run_kind : DeviceKind
+  run_kind = kind_in (asked_mode mode) key disk.sectors
+
+  abbrev run_begun : Outset
+  run_begun = begun_on mode run_kind (last_image start)
+
+  abbrev run_sort : Sort mode run_kind (last_image start) run_begun
+  run_sort = sort_of_run mode run_kind (last_image start)
+
+  abbrev run_sound : IsSound run_begun
+  run_sound = sound_begun mode run_kind (last_image start)
+
+  pub opening_moments : EachMoment a b (IsMomentOn mode key disk.sectors start script)
+  opening_moments = moments_in_opening law mode key disk now a b start told script run_begun run_sort run_sound leaves
+
+  pub opened_content : (c : Content) × (content_now b ≡ Some c)
+  opened_content = now_told opening_moments start told
+
+  pub refused_by_opening : (held : Option (List ℕ)) (fault : OpeningFault) → IsRefused mode key disk a b fault
+      → HasRunOn (outset_on mode key disk.sectors (last_image start)) start script (ending_of (ended_by_opening fault)) b held held
+  refused_by_opening held fault refused =
+      ran_in (outset_on mode key disk.sectors (last_image start)) (fine_on mode key disk.sectors (last_image start)) start script
+      (ending_of (ended_by_opening fault)) b held held
+      (refused_in_opening law mode key disk now a b start told script run_begun run_sort run_sound leaves held fault refused)
+
+  -- All of it is one of the command's runs.
+  pub ran_on : (none : fault_in_mode mode key disk.sectors (last_image start) ≡ None) (run : ScriptRun) (ending : Ending) (after : List Content)
+      (held_before held : Option (List ℕ))
+      → IsRunOf (run_kind.format (last_image start)) (run_kind.opened (last_image start)) script run
+      → (made : Content) → content_now b ≡ Some made → IsImage made (last_image made)
+      → (parts : DeviceParts) → mode_of parts.mode ≡ asked_mode mode
+      → IsDevice (opened_standing (asked_mode mode) key disk.sectors (last_image start) (last_image made)) Working parts b
+      → IsOfSameBlocks (asked_mode mode) key disk.sectors (last_image start) (last_image made)
+      → IsStopped (opened_standing (asked_mode mode) key disk.sectors (last_image start) (last_image made)) run ending b after held_before held
+      → HasRunOn (outset_on mode key disk.sectors (last_image start)) start script ending after held_before held
+      × EachMoment a after (IsMomentOn mode key disk.sectors start script) × KeepsStill (asked_mode mode) a after
+  ran_on none run ending after held_before held is_run made told_made reads parts asked device same stopped =
+      let at = run_at mode run_kind (last_image start) script run is_run in (
+        ran_behind law mode key disk now a b start told script run_begun run_sort run_sound leaves none run after at made told_made reads parts asked device same
+            stopped.since stopped.others ending held_before held stopped,
+        moments_behind law mode key disk now a b start told script run_begun run_sort run_sound leaves none run after at made told_made reads parts asked device same
+            stopped.since stopped.others,
+        still_behind law mode key disk now a b start told script run_begun run_sort run_sound leaves none run after at made told_made reads parts asked device same
+            stopped.since stopped.others,
+      )
 
 -- What is taken of the script is so of the command's.
 pub read_on_image : {failed : Type 0} (mode : OpenMode) (key : Option (List ℕ)) (sectors : ℕ) (image : Image) (script : List ℕ)
@@ -416,12 +524,11 @@ pub read_on_image : {failed : Type 0} (mode : OpenMode) (key : Option (List ℕ)
     → (run : ScriptRun) (left held_before held : Option (List ℕ))
     → IsRunOf (kind.format image) (kind.opened image) script run → HasReadTo run script left held_before held failed
     → HasReadIn (outset_on mode key sectors image) script left held_before held failed
-read_on_image mode key sectors image script none run left held_before held is_run read = record {
-  run = run;
-  is_run = subst (λ (o : Outset). IsRunAt o script run) (sym (ap (outset_by mode key sectors image) none))
-      (run_at mode (kind_in (asked_mode mode) key sectors) image script run is_run);
-  read = read;
-}
+read_on_image {failed} mode key sectors image script none run left held_before held is_run read =
+    let kind = kind_in (asked_mode mode) key sectors in
+    subst (λ (o : Outset). HasReadIn o script left held_before held failed) (sym (ap (outset_by (begun_on mode kind image)) none))
+    (read_in (begun_on mode kind image) (fine_begun mode kind image) script left held_before held
+    (record { run = run; is_run = run_at mode kind image script run is_run; read = read }))
 
 -- The disk at the end is the one that was given back.
 pub given_back : (mode : OpenMode) (key : Option (List ℕ)) (sectors : ℕ) (start : Content) (script : List ℕ) (ending : Ending)

@@ -1,5 +1,5 @@
 -- A command that runs no line: what it starts on, what it leaves, and what its run is.
-use Rattle.std.proofs.Common.{◌≡◌, ◌⊎◌, inl, inr, ℕ, ◌+◌, ◌<◌, ◌≤◌, Bool, false, List, [], ◌∷◌, ◌++◌, length, map, take, drop, append_assoc, length-append, codes, arith, refl, sym, ◌∙◌, ap, subst, Option, Some, None, unwrap_or, Result, Ok, Err}
+use Rattle.std.proofs.Common.{◌≡◌, ◌⊎◌, inl, inr, ℕ, ◌+◌, ◌<◌, ◌≤◌, Bool, false, List, [], ◌∷◌, ◌++◌, length, map, take, drop, append-nil, append_assoc, length-append, codes, arith, refl, sym, ◌∙◌, ap, subst, Option, Some, None, unwrap_or, Result, Ok, Err}
 use Rattle.std.specs.List.{range_with_len}
 use Rattle.std.specs.Option.{IsSomeAnd}
 use Rattle.std.proofs.lemmas.Bool.{cases_Bool}
@@ -15,7 +15,13 @@ use Rattle.device_model.specs.Ending.{Ending, Complete, DiskFailed, KeyFailed, N
 use Rattle.device_model.specs.Mode.{DeviceFormat}
 use Rattle.device_model.specs.Progress.{DeviceState}
 use Rattle.device_model.specs.ScriptBytes.{is_too_long}
-use Rattle.device_model.specs.ScriptRun.{ScriptRun, IsCameTo, IsRunOf, only_ends, texts_of}
+use Rattle.device_model.specs.ScriptRun.{ScriptRun, ScriptStep, IsCameTo, IsRunOf, only_ends, texts_of}
+use Rattle.nbd_model.specs.Stream.{most_stream, requests_of}
+use Rattle.nbd_model.specs.Session.{session_deeds}
+use Rattle.nbd_model.specs.Deeds.{changes_by, text_in}
+use Rattle.nbd_command.specs.ServedRun.{EndsUnbegun}
+use Rattle.nbd_session.proofs.CourseLemmas.{course, small-none}
+use Rattle.nbd_session.proofs.ReadLemmas.{none_unended}
 use Rattle.script_text.proofs.ScriptRunLemmas.{came_to_end, came_to_nothing}
 use Rattle.script_text.proofs.TotalLemmas.{has_run}
 use Rattle.image_model.specs.declared.geom_fault.GeomFault.{GeomFault}
@@ -61,8 +67,10 @@ use Rattle.integrity_tool.specs.KeyFile.{HasFile, HasHash, IsKeyRefused, IsKeyed
 use Rattle.integrity_tool.specs.Top.{Given, HasMomentsIn, IsGiven, IsLeftClosed, image_in, outset_in}
 use Rattle.integrity_tool.specs.World.{World}
 use Rattle.script_reader.specs.Reading.{most_piece}
-use Rattle.command_model.specs.CommandRun.{Exercising, Making, Outset, RefusedBy, RunsOn, Prints, Makes, Exercises, ReadsOn, Changes, Changing, IsLeftOfChanging, IsComplete, IsFromOutside, IsEndedShort, IsLeftAt, IsLeftOfExercise, IsLeftOfMaking, IsRunAt, IsUntouched, MayBeLeftAt, only_prints}
-use Rattle.integrity_tool.specs.Opening.{HasReadIn, HasRunOn, IsMomentOf}
+use Rattle.command_model.specs.CommandRun.{Exercising, Making, Outset, RefusedBy, RunsOn, Prints, Makes, Exercises, ReadsOn, Changes, Serves, Changing, IsSessionRun, IsLeftOfChanging, IsComplete, IsFromOutside, IsEndedShort, IsLeftAt, IsLeftOfExercise, IsLeftOfMaking, IsRunAt, IsUntouched, MayBeLeftAt, only_prints}
+use Rattle.integrity_tool.specs.declared.telling.Telling.{Telling}
+use Rattle.integrity_tool.specs.declared.telling.Telling.TheVariants.{Lines}
+use Rattle.integrity_tool.specs.Opening.{HasReadIn, HasReadOn, HasRunIn, HasRunOn, IsMomentOf}
 use Rattle.integrity_tool.specs.Closed.{IsClosedAt, IsClosedFor, IsClosedUnder}
 use Rattle.integrity_tool.specs.Order.{HasMomentsAt, IsInOrderAt, IsInOrderFor, IsInOrderUnder}
 use Rattle.integrity_tool.specs.Running.{HasReadTo, HoldsText}
@@ -79,7 +87,7 @@ use Rattle.integrity_tool.specs.Outset.{begun_on, geometry_on, key_by, outset_at
 
 -- ---- what a command starts on
 
--- It is not refused by a run's own end.
+-- It is not refused by a run's own end, and no stream is served.
 abbrev pub IsFine : Outset → Type 0
 IsFine (RefusedBy ending) = (found : Bool) → ending ≡ Complete found → ⊥
 IsFine (RunsOn kind image) = Unit {0}
@@ -88,6 +96,7 @@ IsFine (Makes making) = (0 < length making.text) × ((start : Content) → makin
 IsFine (Exercises exercising) = (start : Content) → exercising.MayBeLeft start start
 IsFine (ReadsOn kind image) = Unit {0}
 IsFine (Changes changing) = (0 < length changing.text) × ((start : Content) → changing.MayBeLeft start start)
+IsFine (Serves kind image) = ⊥
 
 abbrev is_complete_type : Ending → Type 0
 is_complete_type (Complete found) = Unit {0}
@@ -107,18 +116,20 @@ fine_refused (faults.ByFormat fault) = fine_format_fault fault
 fine_refused (faults.ByConsent flags) = no_complete _ (λ (x : ⊥). x)
 fine_refused (faults.ByJournal fault) = no_complete _ (λ (x : ⊥). x)
 
-fine_begun : (mode : OpenMode) (kind : DeviceKind) (image : Image) → IsFine (begun_on mode kind image)
+pub fine_begun : (mode : OpenMode) (kind : DeviceKind) (image : Image) → IsFine (begun_on mode kind image)
 fine_begun (Direct consent) kind image = tt
 fine_begun (Journal consent) kind image = tt
 fine_begun (Bitmap consent) kind image = tt
 fine_begun Recovery kind image = tt
 
-fine_by : (mode : OpenMode) (key : Option (List ℕ)) (sectors : ℕ) (image : Image) (refusal : Option ImageFault) → IsFine (outset_by mode key sectors image refusal)
-fine_by mode key sectors image None = fine_begun mode (kind_in (asked_mode mode) key sectors) image
-fine_by mode key sectors image (Some refusal) = fine_refused refusal
+fine_by : (begun : Outset) → IsFine begun → (refusal : Option ImageFault) → IsFine (outset_by begun refusal)
+fine_by begun fine None = fine
+fine_by begun fine (Some refusal) = fine_refused refusal
 
 pub fine_on : (mode : OpenMode) (key : Option (List ℕ)) (sectors : ℕ) (image : Image) → IsFine (outset_on mode key sectors image)
-fine_on mode key sectors image = fine_by mode key sectors image (fault_in_mode mode key sectors image)
+fine_on mode key sectors image =
+    let kind = kind_in (asked_mode mode) key sectors in
+    fine_by (begun_on mode kind image) (fine_begun mode kind image) (fault_in_mode mode key sectors image)
 
 -- Lines have a text where the first one has.
 some_lines : (line : List ℕ) (lines : List (List ℕ)) → 0 < length line → 0 < length (joined_lines (line ∷ lines))
@@ -217,22 +228,48 @@ fine_exercised sectors count seed (Err fault) = no_complete _ (λ (x : ⊥). x)
 pub fine_exercise : (sectors count seed : ℕ) → IsFine (exercise_outset sectors count seed)
 fine_exercise sectors count seed = fine_exercised sectors count seed (provided_of exercise_image sectors)
 
-fine_at : (task : Task) (key : Option (List ℕ)) (sectors : ℕ) (image : Image) → IsFine (outset_at task key sectors image)
-fine_at (Tasks.Run mode) key sectors image = fine_on mode key sectors image
-fine_at Tasks.Dump key sectors image = fine_dump sectors image
-fine_at (Tasks.Check what) key sectors image = fine_check what key sectors image
-fine_at Tasks.Salvage key sectors image = fine_salvage key sectors image
-fine_at Tasks.Resize key sectors image = fine_resize key sectors image
-fine_at (Tasks.Format new) key sectors image = fine_format key sectors new
-fine_at (Tasks.Exercise seed count) key sectors image = fine_exercise sectors count seed
+-- ---- what it starts on where a stream may be served
 
-fine_under : (task : Task) (told : Result (Option (List ℕ)) KeyRefusal) (sectors : ℕ) (image : Image) → IsFine (outset_under task told sectors image)
-fine_under task (Ok key) sectors image = fine_at task key sectors image
-fine_under task (Err refusal) sectors image = no_complete (RefusedKey refusal) (λ (x : ⊥). x)
+-- It is fine, or a stream is served.
+abbrev pub IsSound : Outset → Type 0
+IsSound (Serves kind image) = Unit {0}
+IsSound outset = IsFine outset
 
-pub fine_for : (asked : Option Asked) (key_bytes : List ℕ) (sectors : ℕ) (image : Image) → IsFine (outset_for asked key_bytes sectors image)
-fine_for None key_bytes sectors image = no_complete RefusedWords (λ (x : ⊥). x)
-fine_for (Some asked) key_bytes sectors image = fine_under asked.task _ sectors image
+pub fine_sound : (outset : Outset) → IsFine outset → IsSound outset
+fine_sound (RefusedBy ending) fine = fine
+fine_sound (RunsOn kind image) fine = fine
+fine_sound (Prints texts found) fine = fine
+fine_sound (Makes making) fine = fine
+fine_sound (Exercises exercising) fine = fine
+fine_sound (ReadsOn kind image) fine = fine
+fine_sound (Changes changing) fine = fine
+fine_sound (Serves kind image) fine = tt
+
+pub sound_by : (begun : Outset) → IsSound begun → (refusal : Option ImageFault) → IsSound (outset_by begun refusal)
+sound_by begun sound None = sound
+sound_by begun sound (Some refusal) = fine_refused refusal
+
+pub sound_begun : (mode : OpenMode) (kind : DeviceKind) (image : Image) → IsSound (begun_on mode kind image)
+sound_begun mode kind image = fine_sound (begun_on mode kind image) (fine_begun mode kind image)
+
+sound_at : (task : Task) (key : Option (List ℕ)) (sectors : ℕ) (image : Image) → IsSound (outset_at task key sectors image)
+sound_at (Tasks.Run mode) key sectors image = fine_sound (outset_on mode key sectors image) (fine_on mode key sectors image)
+sound_at (Tasks.Serve mode) key sectors image =
+    sound_by (Serves (kind_in (asked_mode mode) key sectors) image) tt (fault_in_mode mode key sectors image)
+sound_at Tasks.Dump key sectors image = fine_sound (dump_outset sectors image) (fine_dump sectors image)
+sound_at (Tasks.Check what) key sectors image = fine_sound (check_outset what key sectors image) (fine_check what key sectors image)
+sound_at Tasks.Salvage key sectors image = fine_sound (salvage_outset key sectors image) (fine_salvage key sectors image)
+sound_at Tasks.Resize key sectors image = fine_sound (resizing_outset key sectors image) (fine_resize key sectors image)
+sound_at (Tasks.Format new) key sectors image = fine_sound (format_outset key sectors new) (fine_format key sectors new)
+sound_at (Tasks.Exercise seed count) key sectors image = fine_sound (exercise_outset sectors count seed) (fine_exercise sectors count seed)
+
+sound_under : (task : Task) (told : Result (Option (List ℕ)) KeyRefusal) (sectors : ℕ) (image : Image) → IsSound (outset_under task told sectors image)
+sound_under task (Ok key) sectors image = sound_at task key sectors image
+sound_under task (Err refusal) sectors image = no_complete (RefusedKey refusal) (λ (x : ⊥). x)
+
+pub sound_for : (asked : Option Asked) (key_bytes : List ℕ) (sectors : ℕ) (image : Image) → IsSound (outset_for asked key_bytes sectors image)
+sound_for None key_bytes sectors image = no_complete RefusedWords (λ (x : ⊥). x)
+sound_for (Some asked) key_bytes sectors image = sound_under asked.task _ sectors image
 
 -- It is a run's, or is refused.
 abbrev pub IsOfRun : Outset → Type 0
@@ -243,19 +280,7 @@ IsOfRun (Makes making) = ⊥
 IsOfRun (Exercises exercising) = ⊥
 IsOfRun (ReadsOn kind image) = Unit {0}
 IsOfRun (Changes changing) = ⊥
-
-of_run_begun : (mode : OpenMode) (kind : DeviceKind) (image : Image) → IsOfRun (begun_on mode kind image)
-of_run_begun (Direct consent) kind image = tt
-of_run_begun (Journal consent) kind image = tt
-of_run_begun (Bitmap consent) kind image = tt
-of_run_begun Recovery kind image = tt
-
-of_run_by : (mode : OpenMode) (key : Option (List ℕ)) (sectors : ℕ) (image : Image) (refusal : Option ImageFault) → IsOfRun (outset_by mode key sectors image refusal)
-of_run_by mode key sectors image None = of_run_begun mode (kind_in (asked_mode mode) key sectors) image
-of_run_by mode key sectors image (Some refusal) = tt
-
-pub of_run : (mode : OpenMode) (key : Option (List ℕ)) (sectors : ℕ) (image : Image) → IsOfRun (outset_on mode key sectors image)
-of_run mode key sectors image = of_run_by mode key sectors image (fault_in_mode mode key sectors image)
+IsOfRun (Serves kind image) = Unit {0}
 
 -- ---- no sector is written
 
@@ -287,6 +312,7 @@ IsAsBefore (Makes making) start later = later ≡ start
 IsAsBefore (Exercises exercising) start later = later ≡ start
 IsAsBefore (ReadsOn kind image) start later = later ≡ start
 IsAsBefore (Changes changing) start later = later ≡ start
+IsAsBefore (Serves kind image) start later = IsLeftAt (Serves kind image) start [] later
 
 pub as_same : (outset : Outset) (start later : Content) → later ≡ start → IsAsBefore outset start later
 as_same (RefusedBy ending) start later same = inl same
@@ -296,6 +322,7 @@ as_same (Makes making) start later same = same
 as_same (Exercises exercising) start later same = same
 as_same (ReadsOn kind image) start later same = same
 as_same (Changes changing) start later same = same
+as_same (Serves kind image) start later same = inl (refl, inl same)
 
 -- So it is where the moments are.
 pub before_kept : (outset : Outset) {a b : List Content} (start : Content) → content_now a ≡ Some start → b ≡ a → HasNow (IsAsBefore outset start) b
@@ -308,6 +335,23 @@ before_kept outset start told same c here =
 run_on : (kind : DeviceKind) (image : Image) (script : List ℕ) → (run : ScriptRun) × IsRunOf (kind.format image) (kind.opened image) script run
 run_on kind image script = has_run (kind.format image) (kind.opened image) script
 
+-- A session on it, whose stream comes byte by byte.
+serve_on : (kind : DeviceKind) (image : Image) (stream : List ℕ) → (run : ScriptRun) × IsSessionRun (kind.format image) (kind.opened image) stream run
+serve_on kind image stream =
+    let f = kind.format image in
+    let s = kind.opened image in
+    let own = course (Some stream) (Some stream) [] most_stream [] small-none (omega arith) refl in
+    let deeds = session_deeds f s (requests_of stream).ending own.pieces in
+    let step : ScriptStep = record { text = text_in deeds; changes = changes_by f s deeds } in (
+      record { steps = step ∷ []; ending = Complete false },
+      record {
+        deeds = deeds;
+        is_session = record { pieces = own.pieces; cut = own.cut; small = own.small; is = refl };
+        prints = append-nil (text_in deeds);
+        does = append-nil (changes_by f s deeds);
+      },
+    )
+
 -- Whatever a command starts on, it has a run.
 pub some_run : (outset : Outset) (script : List ℕ) → (run : ScriptRun) × IsRunAt outset script run
 some_run (RefusedBy ending) script = (only_ends ending, refl)
@@ -317,6 +361,7 @@ some_run (Makes making) script = (only_prints (making.text ∷ []) false, refl)
 some_run (Exercises exercising) script = (only_ends NoMemory, inr (record { ending = NoMemory; outside = tt; is = refl }))
 some_run (ReadsOn kind image) script = run_on kind image script
 some_run (Changes changing) script = (only_prints (changing.text ∷ []) false, refl)
+some_run (Serves kind image) script = serve_on kind image script
 
 pub before_may_be_left : (outset : Outset) → IsOfRun outset → (start : Content) (script : List ℕ) (later : Content) → IsAsBefore outset start later → MayBeLeftAt outset start script later
 before_may_be_left (RefusedBy ending) of start script later before = record { run = only_ends ending; is_run = refl; made = 0; left = before }
@@ -328,6 +373,8 @@ before_may_be_left (Exercises exercising) of start script later before = absurd 
 before_may_be_left (ReadsOn kind image) of start script later before =
     let r = run_on kind image script in record { run = r.0; is_run = r.1; made = 0; left = before }
 before_may_be_left (Changes changing) of start script later before = absurd of
+before_may_be_left (Serves kind image) of start script later before =
+    let r = serve_on kind image script in record { run = r.0; is_run = r.1; made = 0; left = before }
 
 short_of : (f : DeviceFormat) (s : DeviceState) (script : List ℕ) (run : ScriptRun) (ending : Ending) → IsRunOf f s script run → IsFromOutside ending → IsEndedShort run [] [] ending
 short_of f s script run ending is outside = record {
@@ -479,6 +526,7 @@ nothing_run (Changes changing) fine start script ending outside after untouched 
   told = same ∙ told_nothing held_before;
   left = λ c told. left_unchanged changing fine start c ending outside (untouched c told);
 }
+nothing_run (Serves kind image) fine start script ending outside after untouched held_before held same = absurd fine
 
 -- It was refused.
 pub refused_run : (outset : Outset) (start : Content) (script : List ℕ) (ending : Ending) → outset ≡ RefusedBy ending
@@ -494,12 +542,104 @@ refused_run outset start script ending is after untouched held_before held same 
       left = untouched;
     })
 
+-- ---- the same where a stream may be served
+
+-- A run is told by lines, and so is what is told by lines where no stream is served.
+module _ (start : Content) (script : List ℕ) (ending : Ending) (after : List Content) (held_before held : Option (List ℕ)) where
+  abbrev RunsOn_ : Outset → Type 0
+  RunsOn_ outset = HasRunOn outset start script ending after held_before held
+
+  abbrev RunsIn_ : Outset → Type 0
+  RunsIn_ outset = HasRunIn outset Lines start script ending after held_before held
+
+  run_in : (outset : Outset) → IsFine outset → RunsOn_ outset → RunsIn_ outset
+  run_in (RefusedBy refused) fine run = run
+  run_in (RunsOn kind image) fine run = run
+  run_in (Prints texts found) fine run = run
+  run_in (Makes making) fine run = run
+  run_in (Exercises exercising) fine run = run
+  run_in (ReadsOn kind image) fine run = run
+  run_in (Changes changing) fine run = run
+  run_in (Serves kind image) fine run = absurd fine
+
+  run_out : (outset : Outset) → IsFine outset → RunsIn_ outset → RunsOn_ outset
+  run_out (RefusedBy refused) fine run = run
+  run_out (RunsOn kind image) fine run = run
+  run_out (Prints texts found) fine run = run
+  run_out (Makes making) fine run = run
+  run_out (Exercises exercising) fine run = run
+  run_out (ReadsOn kind image) fine run = run
+  run_out (Changes changing) fine run = run
+  run_out (Serves kind image) fine run = absurd fine
+
+pub told_by_lines : (outset : Outset) → IsFine outset → (start : Content) (script : List ℕ) (ending : Ending) (after : List Content)
+    (held_before held : Option (List ℕ)) → HasRunOn outset start script ending after held_before held
+    → HasRunIn outset Lines start script ending after held_before held
+told_by_lines outset fine start script ending after held_before held = run_in start script ending after held_before held outset fine
+
+pub ran_in : (outset : Outset) → IsFine outset → (start : Content) (script : List ℕ) (ending : Ending) (after : List Content)
+    (held_before held : Option (List ℕ)) → HasRunIn outset Lines start script ending after held_before held
+    → HasRunOn outset start script ending after held_before held
+ran_in outset fine start script ending after held_before held = run_out start script ending after held_before held outset fine
+
+early_unbegun : (ending : Ending) → IsEarly ending → EndsUnbegun ending
+early_unbegun (Complete found_fault) early = absurd early
+early_unbegun RefusedWords early = absurd early
+early_unbegun (RefusedKey refusal) early = absurd early
+early_unbegun (RefusedLine number fault) early = absurd early
+early_unbegun RefusedLength early = absurd early
+early_unbegun (RefusedImage fault) early = absurd early
+early_unbegun DiskFailed early = tt
+early_unbegun KeyFailed early = tt
+early_unbegun ScriptFailed early = absurd early
+early_unbegun SinkFailed early = absurd early
+early_unbegun NoMemory early = tt
+
+-- Something outside ended it before it had begun,
+pub nothing_begun : (outset : Outset) → IsSound outset → (start : Content) (script : List ℕ) (ending : Ending) → IsEarly ending
+    → (after : List Content) → HasNow (IsAsBefore outset start) after → (held_before held : Option (List ℕ)) → held ≡ held_before
+    → HasRunIn outset Lines start script ending after held_before held
+nothing_begun (RefusedBy refused) sound start script ending outside after untouched held_before held same =
+    nothing_run (RefusedBy refused) sound start script ending outside after untouched held_before held same
+nothing_begun (RunsOn kind image) sound start script ending outside after untouched held_before held same =
+    nothing_run (RunsOn kind image) sound start script ending outside after untouched held_before held same
+nothing_begun (Prints texts found) sound start script ending outside after untouched held_before held same =
+    nothing_run (Prints texts found) sound start script ending outside after untouched held_before held same
+nothing_begun (Makes making) sound start script ending outside after untouched held_before held same =
+    nothing_run (Makes making) sound start script ending outside after untouched held_before held same
+nothing_begun (Exercises exercising) sound start script ending outside after untouched held_before held same =
+    nothing_run (Exercises exercising) sound start script ending outside after untouched held_before held same
+nothing_begun (ReadsOn kind image) sound start script ending outside after untouched held_before held same =
+    nothing_run (ReadsOn kind image) sound start script ending outside after untouched held_before held same
+nothing_begun (Changes changing) sound start script ending outside after untouched held_before held same =
+    nothing_run (Changes changing) sound start script ending outside after untouched held_before held same
+nothing_begun (Serves kind image) sound start script ending outside after untouched held_before held same =
+    record { outside = early_unbegun ending outside; told = same; left = untouched }
+
+-- or it was refused.
+pub refused_begun : (outset : Outset) (start : Content) (script : List ℕ) (ending : Ending) → outset ≡ RefusedBy ending
+    → (after : List Content) → HasNow (IsUntouched start) after → (held_before held : Option (List ℕ)) → held ≡ held_before
+    → HasRunIn outset Lines start script ending after held_before held
+refused_begun outset start script ending is after untouched held_before held same =
+    subst (λ (o : Outset). HasRunIn o Lines start script ending after held_before held) (sym is)
+    (refused_run (RefusedBy ending) start script ending refl after untouched held_before held same)
+
 -- ---- what is taken of the script
 
--- Nothing of it is taken.
-pub read_none : (outset : Outset) (script : List ℕ) (held : Option (List ℕ)) {left : Option (List ℕ)} {failed : Type 0}
-    → left ≡ Some script → HasReadIn outset script left held held failed
-read_none outset script held told =
+pub read_in : {failed : Type 0} (outset : Outset) → IsFine outset → (script : List ℕ) (left held_before held : Option (List ℕ))
+    → HasReadOn outset script left held_before held failed → HasReadIn outset script left held_before held failed
+read_in (RefusedBy refused) fine script left held_before held read = read
+read_in (RunsOn kind image) fine script left held_before held read = read
+read_in (Prints texts found) fine script left held_before held read = read
+read_in (Makes making) fine script left held_before held read = read
+read_in (Exercises exercising) fine script left held_before held read = read
+read_in (ReadsOn kind image) fine script left held_before held read = read
+read_in (Changes changing) fine script left held_before held read = read
+read_in (Serves kind image) fine script left held_before held read = absurd fine
+
+read_none_on : (outset : Outset) (script : List ℕ) (held : Option (List ℕ)) {left : Option (List ℕ)} {failed : Type 0}
+    → left ≡ Some script → HasReadOn outset script left held held failed
+read_none_on outset script held told =
     let run = some_run outset script in
     record {
       run = run.0;
@@ -522,20 +662,45 @@ read_none outset script held told =
       };
     }
 
+-- Nothing of it is taken.
+pub read_none : (outset : Outset) (script : List ℕ) (held : Option (List ℕ)) {left : Option (List ℕ)} (failed : Type 0)
+    → left ≡ Some script → HasReadIn outset script left held held failed
+read_none (RefusedBy refused) script held failed told = read_none_on (RefusedBy refused) script held told
+read_none (RunsOn kind image) script held failed told = read_none_on (RunsOn kind image) script held told
+read_none (Prints texts found) script held failed told = read_none_on (Prints texts found) script held told
+read_none (Makes making) script held failed told = read_none_on (Makes making) script held told
+read_none (Exercises exercising) script held failed told = read_none_on (Exercises exercising) script held told
+read_none (ReadsOn kind image) script held failed told = read_none_on (ReadsOn kind image) script held told
+read_none (Changes changing) script held failed told = read_none_on (Changes changing) script held told
+read_none (Serves kind image) script held failed told = record {
+  pieces = [];
+  small = small-none;
+  behind = script;
+  bytes = refl;
+  taken = told;
+  done = 0;
+  but_one = omega arith;
+  printed = record { more = []; is = told_nothing held };
+  unended = none_unended;
+  asked = λ rose. omega arith;
+}
+
 -- More is printed.
+pub holds_further : {text : List ℕ} {held_before held held_after : Option (List ℕ)} → HoldsText text held_before held → HoldsText [] held held_after
+    → HoldsText text held_before held_after
+holds_further {text} {held_before} printed more = record {
+  more = printed.more ++ more.more;
+  is = more.is ∙ ap (held_with more.more) printed.is ∙ told_further (text ++ printed.more) more.more held_before
+      ∙ ap (λ (l : List ℕ). held_with l held_before) (append_assoc text printed.more more.more);
+}
+
 pub read_further : (run : ScriptRun) (script : List ℕ) (left held_before held : Option (List ℕ)) {held_after : Option (List ℕ)}
     {failed : Type 0} → HasReadTo run script left held_before held failed → HoldsText [] held held_after
     → HasReadTo run script left held_before held_after failed
 read_further run script left held_before held read more = record {
   done = read.done;
   of_run = read.of_run;
-  printed = record {
-    more = read.printed.more ++ more.more;
-    is = more.is ∙ ap (held_with more.more) read.printed.is
-        ∙ told_further (texts_of (take read.done run.steps) ++ read.printed.more) more.more held_before
-        ∙ ap (λ (text : List ℕ). held_with text held_before)
-        (append_assoc (texts_of (take read.done run.steps)) read.printed.more more.more);
-  };
+  printed = holds_further read.printed more;
   front = read.front;
   line = read.line;
   ending = read.ending;
@@ -548,11 +713,34 @@ read_further run script left held_before held read more = record {
   asked = read.asked;
 }
 
-pub read_in_further : (outset : Outset) (script : List ℕ) (left held_before held : Option (List ℕ)) {held_after : Option (List ℕ)}
-    {failed : Type 0} → HasReadIn outset script left held_before held failed → HoldsText [] held held_after
-    → HasReadIn outset script left held_before held_after failed
-read_in_further outset script left held_before held read more =
+read_on_further : (outset : Outset) (script : List ℕ) (left held_before held : Option (List ℕ)) {held_after : Option (List ℕ)}
+    {failed : Type 0} → HasReadOn outset script left held_before held failed → HoldsText [] held held_after
+    → HasReadOn outset script left held_before held_after failed
+read_on_further outset script left held_before held read more =
     record { run = read.run; is_run = read.is_run; read = read_further read.run script left held_before held read.read more }
+
+pub read_in_further : (outset : Outset) (script : List ℕ) (left held_before held : Option (List ℕ)) {held_after : Option (List ℕ)}
+    (failed : Type 0) → HasReadIn outset script left held_before held failed → HoldsText [] held held_after
+    → HasReadIn outset script left held_before held_after failed
+read_in_further (RefusedBy refused) script left held_before held failed read more = read_on_further (RefusedBy refused) script left held_before held read more
+read_in_further (RunsOn kind image) script left held_before held failed read more = read_on_further (RunsOn kind image) script left held_before held read more
+read_in_further (Prints texts found) script left held_before held failed read more = read_on_further (Prints texts found) script left held_before held read more
+read_in_further (Makes making) script left held_before held failed read more = read_on_further (Makes making) script left held_before held read more
+read_in_further (Exercises exercising) script left held_before held failed read more = read_on_further (Exercises exercising) script left held_before held read more
+read_in_further (ReadsOn kind image) script left held_before held failed read more = read_on_further (ReadsOn kind image) script left held_before held read more
+read_in_further (Changes changing) script left held_before held failed read more = read_on_further (Changes changing) script left held_before held read more
+read_in_further (Serves kind image) script left held_before held failed read more = record {
+  pieces = read.pieces;
+  small = read.small;
+  behind = read.behind;
+  bytes = read.bytes;
+  taken = read.taken;
+  done = read.done;
+  but_one = read.but_one;
+  printed = holds_further read.printed more;
+  unended = read.unended;
+  asked = read.asked;
+}
 
 -- ---- the order
 
@@ -569,6 +757,7 @@ unmade_kept key sectors new same = record { order = inl (EachMoment-kept _ same)
 -- So it keeps to every order.
 kept_at : (task : Task) (key : Option (List ℕ)) (sectors : ℕ) {a b : List Content} → b ≡ a → IsInOrderAt task key sectors a b
 kept_at (Tasks.Run mode) key sectors same = still_kept (asked_mode mode) same
+kept_at (Tasks.Serve mode) key sectors same = still_kept (asked_mode mode) same
 kept_at Tasks.Dump key sectors same = same
 kept_at (Tasks.Check what) key sectors same = same
 kept_at Tasks.Salvage key sectors same = same
@@ -596,43 +785,43 @@ module _ (given : Given) (words : List (List ℕ)) (world : World) (is : IsGiven
   outset_asked : (asked : Option Asked) → asked_of words ≡ asked → outset_in given ≡ outset_for asked given.key_bytes given.sectors (last_image given.content)
   outset_asked asked asks = ap (λ (o : Option Asked). outset_for o given.key_bytes given.sectors (last_image given.content)) (ap asked_of is.words_are ∙ asks)
 
-  fine_given : IsFine (outset_in given)
-  fine_given = fine_for (asked_of given.words) given.key_bytes given.sectors (last_image given.content)
+  sound_given : IsSound (outset_in given)
+  sound_given = sound_for (asked_of given.words) given.key_bytes given.sectors (last_image given.content)
 
   nothing_changed : (later : NamedDisk) → later.moments ≡ (image_in words world).moments → HasMomentsIn given (image_in words world).moments later.moments
   nothing_changed later same = record { each = EachMoment-kept _ same; order = kept_for (asked_of given.words) given.key_bytes given.sectors same }
 
   pub outside_first : (ending : Ending) → IsEarly ending → (later : NamedDisk) → later.moments ≡ (image_in words world).moments
-      → HasRunOn (outset_in given) given.content given.script ending later.moments held held
+      → HasRunIn (outset_in given) Lines given.content given.script ending later.moments held held
       × HasMomentsIn given (image_in words world).moments later.moments
   outside_first ending outside later same = (
-    nothing_run (outset_in given) fine_given given.content given.script ending outside later.moments (before_kept (outset_in given) given.content is.content same) held held refl,
+    nothing_begun (outset_in given) sound_given given.content given.script ending outside later.moments (before_kept (outset_in given) given.content is.content same) held held refl,
     nothing_changed later same,
   )
 
   refused_first : (ending : Ending) → outset_in given ≡ RefusedBy ending
-      → HasRunOn (outset_in given) given.content given.script ending (image_in words world).moments held held
+      → HasRunIn (outset_in given) Lines given.content given.script ending (image_in words world).moments held held
       × HasMomentsIn given (image_in words world).moments (image_in words world).moments
   refused_first ending refused = (
-    refused_run (outset_in given) given.content given.script ending refused (image_in words world).moments (untouched_kept given.content is.content refl) held held refl,
+    refused_begun (outset_in given) given.content given.script ending refused (image_in words world).moments (untouched_kept given.content is.content refl) held held refl,
     nothing_changed (image_in words world) refl,
   )
 
   -- The words ask for nothing.
   pub words_first : asked_of words ≡ None
-      → HasRunOn (outset_in given) given.content given.script RefusedWords (image_in words world).moments held held
+      → HasRunIn (outset_in given) Lines given.content given.script RefusedWords (image_in words world).moments held held
       × HasMomentsIn given (image_in words world).moments (image_in words world).moments
   words_first none = refused_first RefusedWords (outset_asked None none)
 
   pub stopped_at_words : (ended : Ended) → (ended ≡ Endings.Words) ⊎ (ended ≡ Endings.Memory) → (ended ≡ Endings.Words → asked_of words ≡ None)
-      → HasRunOn (outset_in given) given.content given.script (ending_of ended) (image_in words world).moments held held
+      → HasRunIn (outset_in given) Lines given.content given.script (ending_of ended) (image_in words world).moments held held
       × HasMomentsIn given (image_in words world).moments (image_in words world).moments
   stopped_at_words ended ends none = elim ends [
     | inl words_end ↦
-        subst (λ (e : Ended). HasRunOn (outset_in given) given.content given.script (ending_of e) (image_in words world).moments held held
+        subst (λ (e : Ended). HasRunIn (outset_in given) Lines given.content given.script (ending_of e) (image_in words world).moments held held
         × HasMomentsIn given (image_in words world).moments (image_in words world).moments) (sym words_end) (words_first (none words_end))
     | inr memory ↦
-        subst (λ (e : Ended). HasRunOn (outset_in given) given.content given.script (ending_of e) (image_in words world).moments held held
+        subst (λ (e : Ended). HasRunIn (outset_in given) Lines given.content given.script (ending_of e) (image_in words world).moments held held
         × HasMomentsIn given (image_in words world).moments (image_in words world).moments) (sym memory) (outside_first NoMemory tt (image_in words world) refl)
   ]
 
@@ -642,7 +831,7 @@ module _ (given : Given) (words : List (List ℕ)) (world : World) (is : IsGiven
 
     -- The key file, or its source, ended it.
     pub stopped_at_key : (faults_before faults : ℕ) (ended : Ended) → IsKeyRefused (key_file_of asked.hash) world.keys faults_before faults ended
-        → HasRunOn (outset_in given) given.content given.script (ending_of ended) (image_in words world).moments held held
+        → HasRunIn (outset_in given) Lines given.content given.script (ending_of ended) (image_in words world).moments held held
         × HasMomentsIn given (image_in words world).moments (image_in words world).moments
     stopped_at_key faults_before faults Endings.Words refused = absurd refused
     stopped_at_key faults_before faults (Endings.Key refusal) refused =
@@ -660,12 +849,12 @@ module _ (given : Given) (words : List (List ℕ)) (world : World) (is : IsGiven
 
     -- What is asked was done on the image, with this key.
     pub ran_given : (key : Option (List ℕ)) → IsKeyed (key_file_of asked.hash) world.keys (HasHash key) → (sectors : ℕ) (mid after : List Content) (later : NamedDisk)
-        → image_in words world ≡ record { sectors = sectors; moments = mid } → later.moments ≡ after → (ending : Ending) (held_after : Option (List ℕ))
-        → HasRunOn (outset_at asked.task key sectors (last_image given.content)) given.content given.script ending after held held_after
+        → image_in words world ≡ record { sectors = sectors; moments = mid } → later.moments ≡ after → (telling : Telling) (ending : Ending) (held_after : Option (List ℕ))
+        → HasRunIn (outset_at asked.task key sectors (last_image given.content)) telling given.content given.script ending after held held_after
         × HasMomentsAt asked.task key sectors given.content given.script mid after
-        → HasRunOn (outset_in given) given.content given.script ending later.moments held held_after
+        → HasRunIn (outset_in given) telling given.content given.script ending later.moments held held_after
         × HasMomentsIn given (image_in words world).moments later.moments
-    ran_given key keyed sectors mid after later there at_end ending held_after runs =
+    ran_given key keyed sectors mid after later there at_end telling ending held_after runs =
         let entry : Image = last_image given.content in
         let same_sectors : given.sectors ≡ sectors = is.sectors ∙ ap (λ (n : NamedDisk). n.sectors) there in
         let same_outset : outset_in given ≡ outset_at asked.task key sectors entry =
@@ -675,10 +864,10 @@ module _ (given : Given) (words : List (List ℕ)) (world : World) (is : IsGiven
         ∙ ap (λ (n : ℕ). outset_at asked.task key n entry) same_sectors in
         let same_moments : (image_in words world).moments ≡ mid = ap (λ (n : NamedDisk). n.moments) there in
         let At = λ (o : Outset) (n : ℕ). IsMomentOf o (geometry_on n entry) given.content given.script in (
-          subst (λ (o : Outset). HasRunOn o given.content given.script ending later.moments held held_after)
+          subst (λ (o : Outset). HasRunIn o telling given.content given.script ending later.moments held held_after)
               (sym same_outset)
               (subst (λ (m : List Content).
-              HasRunOn (outset_at asked.task key sectors entry) given.content given.script ending m held held_after)
+              HasRunIn (outset_at asked.task key sectors entry) telling given.content given.script ending m held held_after)
               (sym at_end) runs.0),
           record {
             each = subst (λ (o : Outset). EachMoment (image_in words world).moments later.moments (At o given.sectors)) (sym same_outset)
@@ -713,11 +902,11 @@ module _ (given : Given) (words : List (List ℕ)) (world : World) (is : IsGiven
     -- What is taken of its script is so of the command's.
     pub read_given : (key : Option (List ℕ)) → IsKeyed (key_file_of asked.hash) world.keys (HasHash key) → (sectors : ℕ)
         (mid : List Content) → image_in words world ≡ record { sectors = sectors; moments = mid }
-        → (left held_after : Option (List ℕ)) {failed : Type 0}
+        → (left held_after : Option (List ℕ)) (failed : Type 0)
         → HasReadIn (outset_at asked.task key sectors (last_image given.content)) given.script left held held_after
         failed
         → HasReadIn (outset_in given) given.script left held held_after failed
-    read_given key keyed sectors mid there left held_after {failed} read =
+    read_given key keyed sectors mid there left held_after failed read =
         let entry : Image = last_image given.content in
         subst (λ (o : Outset). HasReadIn o given.script left held held_after failed)
         (sym (outset_asked (Some asked) asks

@@ -24,11 +24,11 @@ use Rattle.place_model.proofs.PlacedLemmas.{recalculated-tag}
 use Rattle.bitmap_device.specs.Device.{IsUnwritten}
 use Rattle.device.specs.declared.opening.OpenMode.{OpenMode}
 use Rattle.device.specs.declared.opening.OpenMode.TheVariants as Modes
-use Rattle.device.specs.Opening.{fault_in_mode}
+use Rattle.device.specs.Opening.{asked_mode, fault_in_mode}
 use Rattle.device.specs.Tags.{AreOfOthers}
 use Rattle.device.proofs.TagsLemmas.{unwritten_behind}
 use Rattle.command_model.specs.CommandRun.{IsLeftAt, IsUntouched}
-use Rattle.integrity_tool.specs.Outset.{geometry_on, outset_by}
+use Rattle.integrity_tool.specs.Outset.{begun_on, geometry_on, outset_by}
 use Rattle.integrity_tool.specs.Reopening.{history_on}
 use Rattle.integrity_tool.specs.StoredTags.{HasJournal, HasStoredTags, StoredTagsLaw, awaits_tag, stored_tag}
 
@@ -137,7 +137,8 @@ module _ (key : Option (List ℕ)) (sectors : ℕ) (start later : Content) (chan
   Keeps = IsUntouched start later ⊎ EachImage (HasStoredTags (AreOfOthers changes) sectors (last_image start)) later
 
   abbrev LeftIn : OpenMode → Option ImageFault → Type 0
-  LeftIn mode fault = IsLeftAt (outset_by mode key sectors (last_image start) fault) start changes later
+  LeftIn mode fault =
+      IsLeftAt (outset_by (begun_on mode (kind_in (asked_mode mode) key sectors) (last_image start)) fault) start changes later
 
   -- By why the image is refused, if it is, and by what is left.
   kept_by : (mode : OpenMode) → HasJournal mode → (fault : Option ImageFault) → LeftIn mode fault → Keeps

@@ -1,5 +1,6 @@
 -- How much of a script's source is taken.
-use Rattle.std.proofs.Common.{◌≡◌, ℕ, ◌+◌, ◌<◌, ◌≤◌, List, [], ◌++◌, length, length-append, refl, sym, ◌∙◌, ap, subst, arith, Option, Some, None}
+use Rattle.std.proofs.Common.{◌≡◌, ℕ, ◌+◌, ◌<◌, ◌≤◌, List, [], ◌++◌, drop, length, length-append, length-drop, option_map, refl, sym, ◌∙◌, ap, subst, arith, Option, Some, None}
+use Rattle.stream_io.specs.Stream.{TakesAtMost}
 use Rattle.std.specs.Option.{ForSome, IsSomeAnd}
 use Rattle.script_reader.specs.Reading.{Reading, TakesLine}
 use Rattle.integrity_tool.specs.Running.{HasRead, HasTaken, most_taken, read_by}
@@ -44,6 +45,13 @@ taken_some left reader None some read = absurd read
 taken_some left reader (Some more) some read = omega (arith, some, read)
 
 -- A source that is not called has given nothing.
-pub none_taken : (left later : Option (List ℕ)) → later ≡ left → HasTaken left later
-none_taken left later same bytes told =
-    subst (λ (o : Option (List ℕ)). IsSomeAnd o (λ more. length bytes ≤ length more + most_taken)) (sym (same ∙ told)) (omega arith)
+pub none_taken : (most : ℕ) (left later : Option (List ℕ)) → later ≡ left → HasTaken most left later
+none_taken most left later same bytes told =
+    subst (λ (o : Option (List ℕ)). IsSomeAnd o (λ more. length bytes ≤ length more + most)) (sym (same ∙ told)) (omega arith)
+
+-- So many were taken of a source that has given so many at most.
+pub taken_at_most : (most : ℕ) (left later : Option (List ℕ)) → TakesAtMost most left later → HasTaken most left later
+taken_at_most most left later took bytes told =
+    let gone : later ≡ Some (drop took.count bytes) = took.rest ∙ ap (option_map (drop took.count)) told in
+    subst (λ (o : Option (List ℕ)). IsSomeAnd o (λ more. length bytes ≤ length more + most)) (sym gone)
+    (let size = length-drop took.count bytes in let within = took.within in omega (arith, size, within))

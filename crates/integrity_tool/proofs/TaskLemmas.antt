@@ -1,13 +1,18 @@
 -- The end of what has no script, as the end of a run.
-use Rattle.std.proofs.Common.{◌≡◌, ℕ, List, refl, ap, arith, Option, Result, Ok, Err, IfErr}
-use Rattle.disk_model.specs.Disk.{Content}
+use Rattle.std.proofs.Common.{◌≡◌, ℕ, List, refl, sym, ap, subst, arith, Option, Result, Ok, Err, IfErr}
+use Rattle.disk_model.specs.Disk.{Content, last_image}
 use Rattle.command_ending.specs.declared.ended.Ended.{Ended}
 use Rattle.command_ending.specs.declared.ended.Ended.TheVariants as Endings
 use Rattle.command_model.specs.CommandRun.{Outset}
-use Rattle.integrity_tool.specs.Opening.{EndsImage, HasReadIn, HasRunOn}
+use Rattle.integrity_tool.specs.declared.asked.Task.{Task}
+use Rattle.integrity_tool.specs.declared.telling.Telling.{Telling}
+use Rattle.integrity_tool.specs.declared.telling.Telling.TheVariants.{Lines}
+use Rattle.integrity_tool.specs.Opening.{EndsImage, HasReadIn, HasRunIn, HasRunOn}
+use Rattle.integrity_tool.specs.Order.{HasMomentsAt}
+use Rattle.integrity_tool.specs.Outset.{outset_at}
 use Rattle.integrity_tool.specs.Running.{HasEndCause, IsCounted, ending_by}
 use Rattle.integrity_tool.specs.Tasks.{EndsTask, ending_done, found_by}
-use Rattle.integrity_tool.proofs.StartLemmas.{read_in_further, read_none}
+use Rattle.integrity_tool.proofs.StartLemmas.{IsFine, read_in_further, read_none, told_by_lines}
 use Rattle.device_model.specs.Ending.{Ending}
 use Rattle.std.specs.Prelude.{Some}
 
@@ -72,8 +77,22 @@ whatever_ended P holds (Err ended) = holds ended
 
 -- A script that is not called has all of it left, whatever is printed.
 pub read_no_script : (outset : Outset) (start : Content) (script : List ℕ) (ending : Ending) (after : List Content) (held_before held left : Option (List ℕ))
-    {failed : Type 0} → left ≡ Some script → HasRunOn outset start script ending after held_before held
+    (failed : Type 0) → left ≡ Some script → HasRunOn outset start script ending after held_before held
     → HasReadIn outset script left held_before held failed
-read_no_script outset start script ending after held_before held left told ran =
-    read_in_further outset script left held_before held_before (read_none outset script held_before told)
+read_no_script outset start script ending after held_before held left failed told ran =
+    read_in_further outset script left held_before held_before failed (read_none outset script held_before failed told)
     (record { more = ran.text; is = ran.told })
+
+-- What has no stream to serve is told by lines.
+pub runs_told : (task : Task) (telling : Telling) (key : Option (List ℕ)) (sectors : ℕ) (start : Content) (script : List ℕ) (ending : Ending)
+    (before after : List Content) (held_before held : Option (List ℕ)) → telling ≡ Lines → IsFine (outset_at task key sectors (last_image start))
+    → HasRunOn (outset_at task key sectors (last_image start)) start script ending after held_before held
+    × HasMomentsAt task key sectors start script before after
+    → HasRunIn (outset_at task key sectors (last_image start)) telling start script ending after held_before held
+    × HasMomentsAt task key sectors start script before after
+runs_told task telling key sectors start script ending before after held_before held lines fine runs =
+    let outset = outset_at task key sectors (last_image start) in (
+      subst (λ (t : Telling). HasRunIn outset t start script ending after held_before held) (sym lines)
+          (told_by_lines outset fine start script ending after held_before held runs.0),
+      runs.1,
+    )

@@ -12,14 +12,21 @@ use Rattle.script_session.specs.LineRun.{held_with}
 use Rattle.command_ending.specs.Ended.{ending_of}
 use Rattle.command_ending.specs.declared.ended.Ended.{Ended}
 use Rattle.command_ending.specs.declared.ended.Ended.TheVariants as Endings
-use Rattle.command_model.specs.CommandRun.{Faults, HasCauseIn, IsLastLine}
+use Rattle.command_model.specs.CommandRun.{Faults, Outset, RefusedBy, RunsOn, Prints, Makes, Exercises, ReadsOn, Changes, Serves, HasCauseIn, IsLastLine}
+use Rattle.nbd_command.specs.ServedRun as ends
+use Rattle.nbd_command.specs.ServedRun.{HasSessionCause, SessionEnd, session_status}
 use Rattle.integrity_tool.specs.Ends.{IsBeforeScript}
 use Rattle.integrity_tool.specs.KeyFile.{IsKeyRefused}
-use Rattle.integrity_tool.specs.Opening.{EndsImage, HasRunOn}
+use Rattle.integrity_tool.specs.declared.telling.Telling.{Telling}
+use Rattle.integrity_tool.specs.declared.telling.Telling.TheVariants.{Lines, Replies}
+use Rattle.integrity_tool.specs.Opening.{EndsImage, HasRunIn, HasRunOn}
 use Rattle.integrity_tool.specs.Running.{HasEndCause, HoldsText}
-use Rattle.integrity_tool.specs.Top.{Given, HasStatus, IsCountedBy, TellsRun, outset_in}
+use Rattle.integrity_tool.specs.Serving.{session_ending}
+use Rattle.integrity_tool.specs.Telling.{last_text}
+use Rattle.integrity_tool.specs.Top.{Given, HasStatus, IsCountedBy, TellsIn, TellsRun, outset_in}
 use Rattle.integrity_tool.specs.World.{Counts, rises}
 use Rattle.integrity_tool.proofs.LoopLemmas.{same_ended}
+use Rattle.integrity_tool.proofs.RunningLemmas.{told_nothing}
 
 -- ---- the disk
 
@@ -210,69 +217,165 @@ sink_status ended r is is_sink = ap (λ (e : Ended). status_of (ending_of e)) (s
 
 -- ---- the last line
 
--- The run came so far, and this line stands behind its text.
+-- What stands behind the text: its last line, or a part of it, where lines are written, and nothing behind replies. With another status
+-- than 6 the sink has failed in that line at most.
+abbrev EndsWith : Telling → Ending → (line : List ℕ) → (status : ℕ) → (first last : Counts) → Type 0
+EndsWith Lines ending line status first last =
+    IsLastLine (Rose first.sink last.sink) ending line × (status ≢ 6 → line ≡ fault_text ending → last.sink ≡ first.sink)
+EndsWith Replies ending line status first last = (line ≡ []) × (status ≢ 6 → last.sink ≡ first.sink)
+
+-- What ended a session has its status, and its cause.
+session_status_is : (ended : SessionEnd) → status_of (session_ending ended) ≡ session_status ended
+session_status_is (ends.Complete found) = refl
+session_status_is ends.RefusedStream = refl
+session_status_is ends.DiskFailed = refl
+session_status_is ends.SourceFailed = refl
+session_status_is ends.SinkFailed = refl
+session_status_is ends.NoMemory = refl
+
+session_cause : (faults : Faults) (ended : SessionEnd) → HasCauseIn faults (session_ending ended) → HasSessionCause faults ended
+session_cause faults (ends.Complete found) cause = cause
+session_cause faults ends.RefusedStream cause = cause
+session_cause faults ends.DiskFailed cause = cause
+session_cause faults ends.SourceFailed cause = cause
+session_cause faults ends.SinkFailed cause = cause
+session_cause faults ends.NoMemory cause = cause
+
 module _ (given : Given) (ending : Ending) (moments : List Content) (held_before held : Option (List ℕ)) (status : ℕ) (before : List ℕ) (d : Content)
-    (run : HasRunOn (outset_in given) given.content given.script ending moments held_before held) (is_before : held_before ≡ Some before)
-    (told : content_now moments ≡ Some d) (is_status : status ≡ status_of ending) where
-  tells_line : (after : Option (List ℕ)) (first last : Counts) (line : List ℕ) → HasCauseIn (rises first last) ending
-      → IsLastLine (Rose first.sink last.sink) ending line → (status ≢ 6 → line ≡ fault_text ending → last.sink ≡ first.sink)
-      → after ≡ option_map (with_bytes line) held
-      → IsSomeAnd after (λ text. IsSomeAnd (content_now moments) (TellsRun given status first last before text))
-  tells_line after first last line cause end passed is_after =
-      let all : after ≡ Some ((before ++ run.text) ++ line) =
-      is_after ∙ ap (option_map (with_bytes line)) run.told ∙ ap (λ (o : Option (List ℕ)). option_map (with_bytes line) (held_with run.text o)) is_before in
-      subst (λ (o : Option (List ℕ)). IsSomeAnd o (λ text. IsSomeAnd (content_now moments) (TellsRun given status first last before text))) (sym all)
-      (subst (λ (o : Option Content). IsSomeAnd o (TellsRun given status first last before ((before ++ run.text) ++ line))) (sym told) (record {
-        told = record {
-          run = run.run;
-          is_run = run.is_run;
-          text = run.text;
-          changes = run.changes;
-          ending = ending;
-          ended = run.ended;
-          cause = cause;
-          is_status = is_status;
-          line = line;
-          last = end;
-          printed = append_assoc before run.text line;
-          left = run.left d told;
-        };
-        sink_passed = passed;
-      }))
+    (is_before : held_before ≡ Some before) (told : content_now moments ≡ Some d) (is_status : status ≡ status_of ending)
+    (after : Option (List ℕ)) (first last : Counts) (line : List ℕ) (cause : HasCauseIn (rises first last) ending)
+    (is_after : after ≡ option_map (with_bytes line) held) where
+  -- The sink holds this text and this line behind what it held.
+  abbrev Told : Outset → Type 0
+  Told outset = IsSomeAnd after (λ text. IsSomeAnd (content_now moments) (TellsIn outset given status first last before text))
+
+  tells_text : (outset : Outset) (text : List ℕ) → held ≡ held_with text held_before
+      → TellsIn outset given status first last before ((before ++ text) ++ line) d → Told outset
+  tells_text outset text holds tells =
+      let all : after ≡ Some ((before ++ text) ++ line) =
+      is_after ∙ ap (option_map (with_bytes line)) holds ∙ ap (λ (o : Option (List ℕ)). option_map (with_bytes line) (held_with text o)) is_before in
+      subst (λ (o : Option (List ℕ)). IsSomeAnd o (λ text. IsSomeAnd (content_now moments) (TellsIn outset given status first last before text))) (sym all)
+      (subst (λ (o : Option Content). IsSomeAnd o (TellsIn outset given status first last before ((before ++ text) ++ line))) (sym told) tells)
+
+  -- A run came so far, and this line stands behind its text.
+  tells_run : (outset : Outset) (run : HasRunOn outset given.content given.script ending moments held_before held)
+      → EndsWith Lines ending line status first last → TellsRun outset given status first last before ((before ++ run.text) ++ line) d
+  tells_run outset run end = record {
+    told = record {
+      run = run.run;
+      is_run = run.is_run;
+      text = run.text;
+      changes = run.changes;
+      ending = ending;
+      ended = run.ended;
+      cause = cause;
+      is_status = is_status;
+      line = line;
+      last = end.0;
+      printed = append_assoc before run.text line;
+      left = run.left d told;
+    };
+    sink_passed = end.1;
+  }
+
+  -- So it is of what is done, whatever it starts on.
+  tells_line : (outset : Outset) (telling : Telling) → HasRunIn outset telling given.content given.script ending moments held_before held
+      → EndsWith telling ending line status first last → Told outset
+  tells_line (RefusedBy refused) Lines run end = tells_text (RefusedBy refused) run.text run.told (tells_run (RefusedBy refused) run end)
+  tells_line (RefusedBy refused) Replies run end = absurd run
+  tells_line (RunsOn kind image) Lines run end = tells_text (RunsOn kind image) run.text run.told (tells_run (RunsOn kind image) run end)
+  tells_line (RunsOn kind image) Replies run end = absurd run
+  tells_line (Prints texts found) Lines run end = tells_text (Prints texts found) run.text run.told (tells_run (Prints texts found) run end)
+  tells_line (Prints texts found) Replies run end = absurd run
+  tells_line (Makes making) Lines run end = tells_text (Makes making) run.text run.told (tells_run (Makes making) run end)
+  tells_line (Makes making) Replies run end = absurd run
+  tells_line (Exercises exercising) Lines run end = tells_text (Exercises exercising) run.text run.told (tells_run (Exercises exercising) run end)
+  tells_line (Exercises exercising) Replies run end = absurd run
+  tells_line (ReadsOn kind image) Lines run end = tells_text (ReadsOn kind image) run.text run.told (tells_run (ReadsOn kind image) run end)
+  tells_line (ReadsOn kind image) Replies run end = absurd run
+  tells_line (Changes changing) Lines run end = tells_text (Changes changing) run.text run.told (tells_run (Changes changing) run end)
+  tells_line (Changes changing) Replies run end = absurd run
+  tells_line (Serves kind image) Lines run end = tells_text (Serves kind image) [] (run.told ∙ told_nothing held_before) (record {
+    told = inl (record {
+      ended = ending;
+      outside = run.outside;
+      cause = cause;
+      is_status = is_status;
+      line = line;
+      last = end.0;
+      printed = ap (λ (l : List ℕ). l ++ line) (append-nil before);
+      left = run.left d told;
+    });
+    sink_passed = end.1;
+  })
+  tells_line (Serves kind image) Replies run end = tells_text (Serves kind image) run.text run.told (record {
+    told = inr (record {
+      deeds = run.deeds;
+      is_session = run.is_session;
+      text = run.text;
+      changes = run.changes;
+      ended = run.ended;
+      came = run.came;
+      cause = session_cause (rises first last) run.ended (subst (HasCauseIn (rises first last)) run.is cause);
+      is_status = is_status ∙ ap status_of run.is ∙ session_status_is run.ended;
+      printed = ap (λ (l : List ℕ). (before ++ run.text) ++ l) end.0 ∙ append-nil (before ++ run.text);
+      left = run.left d told;
+    });
+    sink_passed = λ other whole. end.1 other;
+  })
 
 no_line : (held : Option (List ℕ)) → held ≡ option_map (with_bytes []) held
 no_line None = refl
 no_line (Some bytes) = ap (λ (x : List ℕ). Some x) (sym (append-nil bytes))
 
+ends_complete : (telling : Telling) (found : Bool) (status : ℕ) (first last : Counts) → last.sink ≡ first.sink
+    → EndsWith telling (Complete found) [] status first last
+ends_complete Lines found status first last same = (inl refl, λ other whole. same)
+ends_complete Replies found status first last same = (refl, λ other. same)
+
 -- A run that came to its end has no last line.
-pub tells_complete : (given : Given) (found : Bool) (moments : List Content) (held_before held : Option (List ℕ)) (status : ℕ) (before : List ℕ) (d : Content)
-    → HasRunOn (outset_in given) given.content given.script (Complete found) moments held_before held → held_before ≡ Some before
+pub tells_complete : (given : Given) (telling : Telling) (found : Bool) (moments : List Content) (held_before held : Option (List ℕ)) (status : ℕ) (before : List ℕ) (d : Content)
+    → HasRunIn (outset_in given) telling given.content given.script (Complete found) moments held_before held → held_before ≡ Some before
     → content_now moments ≡ Some d → status ≡ status_of (Complete found) → (first last : Counts) → last.sink ≡ first.sink
-    → IsSomeAnd held (λ text. IsSomeAnd (content_now moments) (TellsRun given status first last before text))
-tells_complete given found moments held_before held status before d run is_before told is_status first last same =
-    tells_line given (Complete found) moments held_before held status before d run is_before told is_status
-    held first last [] tt (inl refl) (λ other whole. same) (no_line held)
+    → IsSomeAnd held (λ text. IsSomeAnd (content_now moments) (TellsIn (outset_in given) given status first last before text))
+tells_complete given telling found moments held_before held status before d run is_before told is_status first last same =
+    tells_line given (Complete found) moments held_before held status before d is_before told is_status
+    held first last [] tt (no_line held) (outset_in given) telling run (ends_complete telling found status first last same)
 
 -- What is less than all of a line is not that line.
 not_whole : (count : ℕ) (line : List ℕ) → count < length line → take count line ≡ line → ⊥
 not_whole count line short is = omega (arith, short, length-take count line, ap length is)
 
--- One that was ended early has one, or where the sink failed a part of it.
-pub tells_early : (given : Given) (ended : Ended) (moments : List Content) (held_before held : Option (List ℕ)) (status : ℕ) (before : List ℕ) (d : Content)
-    → HasRunOn (outset_in given) given.content given.script (ending_of ended) moments held_before held → held_before ≡ Some before
+ends_early : (telling : Telling) (ending : Ending) (status : ℕ) (first last : Counts) → (status ≢ 6 → last.sink ≡ first.sink)
+    → EndsWith telling ending (last_text telling ending) status first last
+ends_early Lines ending status first last passed = (inl refl, λ other whole. passed other)
+ends_early Replies ending status first last passed = (refl, passed)
+
+ends_torn : (telling : Telling) (ending : Ending) (status : ℕ) (first last : Counts) (count : ℕ) → count < length (last_text telling ending)
+    → Rose first.sink last.sink → EndsWith telling ending (take count (last_text telling ending)) status first last
+ends_torn Lines ending status first last count short rose = (inr (rose, count, short, refl), λ other whole. absurd (not_whole count _ short whole))
+ends_torn Replies ending status first last count short rose = absurd (omega (arith, short))
+
+-- One that was ended early has one where lines are written, or where the sink failed a part of it.
+pub tells_early : (given : Given) (telling : Telling) (ended : Ended) (moments : List Content) (held_before held : Option (List ℕ)) (status : ℕ) (before : List ℕ) (d : Content)
+    → HasRunIn (outset_in given) telling given.content given.script (ending_of ended) moments held_before held → held_before ≡ Some before
     → content_now moments ≡ Some d → status ≡ status_of (ending_of ended) → {T E R : Type 0} (result : Result T E) (after : Option (List ℕ)) (first mid : Counts) (sink : ℕ)
     → HasCauseIn (rises first mid) (ending_of ended) → IsCountedBy {R = R} (Err ended) first mid → HasCause mid.sink sink result
-    → OnOk result (after ≡ option_map (with_bytes (fault_text (ending_of ended))) held) → OnErr result (AddsPrefix (fault_text (ending_of ended)) held after)
-    → IsSomeAnd after (λ text. IsSomeAnd (content_now moments) (TellsRun given status first (record mid { sink = sink }) before text))
-tells_early given ended moments held_before held status before d run is_before told is_status (Ok x) after first mid sink cause counted put written err =
-    tells_line given (ending_of ended) moments held_before held status before d run is_before told is_status
-    after first (record mid { sink = sink }) (fault_text (ending_of ended)) (cause_later first mid sink put.later (ending_of ended) cause) (inl refl)
-    (λ other whole. put.passed ∙ counted.sink.passed (λ is. other (is_status ∙ sink_status ended _ refl is))) written
-tells_early given ended moments held_before held status before d run is_before told is_status (Err e) after first mid sink cause counted put written err =
-    tells_line given (ending_of ended) moments held_before held status before d run is_before told is_status
-    after first (record mid { sink = sink }) (take err.count (fault_text (ending_of ended))) (cause_later first mid sink put.later (ending_of ended) cause)
-    (inr (rose_earlier _ _ _ counted.sink.later put.failed, err.count, err.short, refl))
-    (λ other whole. absurd (not_whole err.count _ err.short whole)) err.held
+    → OnOk result (after ≡ option_map (with_bytes (last_text telling (ending_of ended))) held)
+    → OnErr result (AddsPrefix (last_text telling (ending_of ended)) held after)
+    → IsSomeAnd after (λ text. IsSomeAnd (content_now moments) (TellsIn (outset_in given) given status first (record mid { sink = sink }) before text))
+tells_early given telling ended moments held_before held status before d run is_before told is_status (Ok x) after first mid sink cause counted put written err =
+    tells_line given (ending_of ended) moments held_before held status before d is_before told is_status
+    after first (record mid { sink = sink }) (last_text telling (ending_of ended)) (cause_later first mid sink put.later (ending_of ended) cause) written
+    (outset_in given) telling run
+    (ends_early telling (ending_of ended) status first (record mid { sink = sink })
+    (λ other. put.passed ∙ counted.sink.passed (λ is. other (is_status ∙ sink_status ended _ refl is))))
+tells_early given telling ended moments held_before held status before d run is_before told is_status (Err e) after first mid sink cause counted put written err =
+    tells_line given (ending_of ended) moments held_before held status before d is_before told is_status
+    after first (record mid { sink = sink }) (take err.count (last_text telling (ending_of ended))) (cause_later first mid sink put.later (ending_of ended) cause) err.held
+    (outset_in given) telling run
+    (ends_torn telling (ending_of ended) status first (record mid { sink = sink }) err.count err.short
+    (rose_earlier _ _ _ counted.sink.later put.failed))
 
 -- What was put of the last line stands behind what the sink held.
 pub last_line_holds : {T E : Type 0} (result : Result T E) (line : List ℕ) (held after : Option (List ℕ))

@@ -1,8 +1,9 @@
 -- Values of the definitions, computed: what a run in bitmap mode starts on, and which geometry its device has, of an image
 -- with a journal and of one with a bitmap.
 use Rattle.std.proofs.Common.{◌≡◌, ◌==◌, true, false, if◌then◌else◌, refl, None, Some, [], ◌∷◌, replicate}
+use Rattle.std.specs.Prelude.{codes}
 use Rattle.disk_model.specs.Disk.{Image}
-use Rattle.device_model.specs.Ending.{ByConsent, RefusedImage}
+use Rattle.device_model.specs.Ending.{ByConsent, DiskFailed, RefusedImage, status_of}
 use Rattle.device_model.specs.Mode.{Bitmap, Direct, Journal}
 use Rattle.image_model.specs.Bitmap.{is_bit_set}
 use Rattle.image_model.specs.CommitId.{id_in, number_of}
@@ -17,9 +18,14 @@ use Rattle.place_model.specs.Kind.{kind_in}
 use Rattle.place_model.proofs.WorkedDisk.{fresh_bitmap, fresh_journal, journal_format}
 use Rattle.image_judging.specs.declared.consent.Consent.TheVariants.{Withheld}
 use Rattle.device.specs.declared.opening.OpenMode.TheVariants as Modes
-use Rattle.command_model.specs.CommandRun.{RefusedBy, RunsOn}
+use Rattle.command_model.specs.CommandRun.{RefusedBy, RunsOn, Serves}
+use Rattle.nbd_command.specs.ServedRun as ends
 use Rattle.integrity_tool.specs.Opening.{geometry_of_device, changes_mode_of, opened_geometry}
-use Rattle.integrity_tool.specs.Outset.{outset_on}
+use Rattle.integrity_tool.specs.declared.asked.Task.TheVariants as Tasks
+use Rattle.integrity_tool.specs.declared.telling.Telling.TheVariants.{Lines, Replies}
+use Rattle.integrity_tool.specs.Outset.{outset_on, serving_on}
+use Rattle.integrity_tool.specs.Serving.{most_taken_at, session_ending}
+use Rattle.integrity_tool.specs.Telling.{last_text}
 
 -- ---- what a run starts on
 
@@ -50,6 +56,28 @@ to_recalculate sector =
 outset_on-withheld : outset_on (Modes.Bitmap Withheld) (Some (0x4a ∷ [])) 1024 to_recalculate ≡ RefusedBy (RefusedImage (ByConsent 0xa))
 unfolding superblock_of fields_in geometry_of sector_at tag_run_of bitmap_sectors_for regions_for fitting_log2_region entry_size entries_per_sector section_entries section_sectors is_bit_set
 outset_on-withheld = refl
+
+-- A session starts on a device where a run does, and is refused where that is, with the same fault.
+serving_on-journal : serving_on (Modes.Journal Withheld) None 112 fresh_journal ≡ Serves (kind_in Journal None 112) fresh_journal
+unfolding superblock_of fields_in geometry_of sector_at tag_run_of walk_of_grid plan_of grid_with blank_bound bitmap_sectors_for regions_for fitting_log2_region is_used number_of id_in entry_at entry_size entries_per_sector section_entries section_sectors is_bit_set journal_fault_of
+serving_on-journal = refl
+
+serving_on-withheld : serving_on (Modes.Bitmap Withheld) (Some (0x4a ∷ [])) 1024 to_recalculate ≡ RefusedBy (RefusedImage (ByConsent 0xa))
+unfolding superblock_of fields_in geometry_of sector_at tag_run_of bitmap_sectors_for regions_for fitting_log2_region entry_size entries_per_sector section_entries section_sectors is_bit_set
+serving_on-withheld = refl
+
+-- ---- what is taken of a source, and what is written last
+
+most_taken_at-values : (most_taken_at (Tasks.Serve (Modes.Direct Withheld)) ≡ 1099511693312) × (most_taken_at (Tasks.Run (Modes.Direct Withheld)) ≡ 16777217)
+most_taken_at-values = (refl, refl)
+
+last_text-values : (last_text Lines DiskFailed ≡ codes "fault disk\n") × (last_text Replies DiskFailed ≡ [])
+last_text-values = (refl, refl)
+
+-- A session that ends so has the status of a command that ends so.
+session_ending-values : (status_of (session_ending (ends.Complete true)) ≡ 1) × (status_of (session_ending ends.RefusedStream) ≡ 2)
+    × (status_of (session_ending ends.SourceFailed) ≡ 5)
+session_ending-values = (refl, refl, refl)
 
 -- ---- the geometry
 

@@ -78,6 +78,7 @@ of_error P Q (Err ended) all one = all one
 
 unopened_same_at : (task : Task) (moments : List Content) → IsUnopenedAt task moments moments
 unopened_same_at (Tasks.Run mode) moments = refl
+unopened_same_at (Tasks.Serve mode) moments = tt
 unopened_same_at Tasks.Dump moments = tt
 unopened_same_at (Tasks.Check what) moments = tt
 unopened_same_at Tasks.Salvage moments = tt

@@ -23,10 +23,11 @@ use Rattle.command_ending.specs.declared.ended.Ended.TheVariants as Endings
 use Rattle.command_model.specs.CommandRun.{Outset}
 use Rattle.integrity_tool.specs.declared.asked.Task.{Task}
 use Rattle.integrity_tool.specs.Lines.{HasRunBytes, IsStoppedByBytes}
-use Rattle.integrity_tool.specs.Opening.{HasReadIn, HasRunOn, IsMomentOn}
+use Rattle.integrity_tool.specs.declared.telling.Telling.{Telling}
+use Rattle.integrity_tool.specs.Opening.{HasReadIn, HasRunIn, HasRunOn, IsMomentOn}
 use Rattle.integrity_tool.specs.Order.{HasMomentsAt}
 use Rattle.integrity_tool.specs.Outset.{outset_at, outset_on}
-use Rattle.integrity_tool.specs.Running.{HasEndCause, HasReadTo, HasTaken, IsAtClose, IsCounted, IsStopped, TakesSome}
+use Rattle.integrity_tool.specs.Running.{HasEndCause, HasReadTo, HasTaken, IsAtClose, IsCounted, IsStopped, TakesSome, most_taken}
 use Rattle.integrity_tool.specs.Ends.{IsBeforeScript}
 use Rattle.integrity_tool.specs.Unopened.{IsUnopenedAt}
 use Rattle.integrity_tool.specs.Words.{IsScriptless}
@@ -78,11 +79,12 @@ PassesMoments identity moments task key first last = (script : List ℕ) → Has
 
 -- What is asked ran so, and this stands at each moment of it, whatever script its source tells.
 abbrev pub RunsAsked : {D S O : Type 0} → (D → DiskIdentity) → (D → List Content) → (S → Option (List ℕ))
-    → (O → Option (List ℕ)) → Task → (key : Option (List ℕ)) → Ending → (first last : D) → S → (sink out : O) → Type 0
-RunsAsked identity moments left held task key ending first last script sink out = (bytes : List ℕ)
+    → (O → Option (List ℕ)) → Task → (key : Option (List ℕ)) → Telling → Ending → (first last : D) → S → (sink out : O)
+    → Type 0
+RunsAsked identity moments left held task key telling ending first last script sink out = (bytes : List ℕ)
     → left script ≡ Some bytes → HasNow (λ c.
-    HasRunOn (outset_at task key (identity first).sectors (last_image c)) c bytes ending (moments last) (held sink)
-    (held out)
+    HasRunIn (outset_at task key (identity first).sectors (last_image c)) telling c bytes ending (moments last)
+    (held sink) (held out)
     × HasMomentsAt task key (identity first).sectors c bytes (moments first) (moments last)) (moments first)
 
 -- The same, of the run of a script on a device in this mode, which in recovery mode leaves the disk as it was.
@@ -160,7 +162,7 @@ StopsLines moments left held result old first last script sink out = IfErr resul
 -- that. Where there was no memory, some of it is taken.
 abbrev pub ReadsLines : {T D S O : Type 0} → (D → List Content) → (S → Option (List ℕ)) → (O → Option (List ℕ))
     → (S → ℕ) → Result T Ended → DeviceParts → D → (script read : S) → (sink out : O) → Type 0
-ReadsLines moments left held faults result old first script read sink out = HasTaken (left script) (left read)
+ReadsLines moments left held faults result old first script read sink out = HasTaken most_taken (left script) (left read)
     × ((w : Standing) (bytes : List ℕ) (run : ScriptRun) → IsDevice w Working old (moments first)
     → left script ≡ Some bytes → IsRunOf w.format w.state bytes run
     → HasReadTo run bytes (left read) (held sink) (held out) (faults script < faults read))

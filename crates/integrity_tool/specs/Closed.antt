@@ -17,6 +17,7 @@ use Rattle.device_model.specs.Regions.{least_region}
 use Rattle.device_model.specs.Script.{after_script, line_outcome}
 use Rattle.device_model.specs.ScriptBytes.{lines_of}
 use Rattle.command_model.specs.Exercise.{exercise_lines}
+use Rattle.nbd_model.specs.Session.{Deed, IsSessionOf, ending_in, opened_session, take_pieces}
 use Rattle.place_model.specs.Changed.{opened_format}
 use Rattle.place_model.specs.Format.{DiskFormat, OpensAs, format_on, placed_on}
 use Rattle.place_model.specs.Kind.{kind_in}
@@ -96,6 +97,18 @@ pub record IsClosedBehind (kind : DeviceKind) (image : Image) (d : DiskFormat) (
   pub closed : IsClosedIn (kind.format image).mode d (kind.format image).blocks.tag
       (state_behind (kind.format image) (kind.opened image) lines) c
 
+-- The state of a device behind all that a session does on it over these pieces of a stream.
+abbrev pub state_served : DeviceFormat → DeviceState → (pieces : List (List ℕ)) → DeviceState
+state_served f s pieces = (take_pieces f (opened_session s) (ending_in [] 0 pieces)).behind.state
+
+-- So is each image left by the close of such a device behind the requests of a stream.
+pub record IsClosedServed (kind : DeviceKind) (image : Image) (d : DiskFormat) (stream : List ℕ) (c : Content)
+    : Type 0 where
+  pub deeds : List Deed
+  pub is_session : IsSessionOf (kind.format image) (kind.opened image) stream deeds
+  pub closed : IsClosedIn (kind.format image).mode d (kind.format image).blocks.tag
+      (state_served (kind.format image) (kind.opened image) is_session.pieces) c
+
 -- So is it left by the close of the device that opened an image which was made, behind all requests of an exercise.
 abbrev pub IsClosedOn : (sectors count seed : ℕ) → (made c : Content) → Type 0
 IsClosedOn sectors count seed made c =
@@ -117,6 +130,9 @@ abbrev pub IsClosedAt : Task → (key : Option (List ℕ)) → (sectors : ℕ) �
     → Type 0
 IsClosedAt (Tasks.Run mode) key sectors start script c =
     IsClosedBehind (kind_in (asked_mode mode) key sectors) (last_image start)
+    (opened_format (asked_mode mode) (format_on key sectors (last_image start))) script c
+IsClosedAt (Tasks.Serve mode) key sectors start script c =
+    IsClosedServed (kind_in (asked_mode mode) key sectors) (last_image start)
     (opened_format (asked_mode mode) (format_on key sectors (last_image start))) script c
 IsClosedAt Tasks.Dump key sectors start script c = Unit {0}
 IsClosedAt (Tasks.Check what) key sectors start script c = Unit {0}

@@ -2,6 +2,8 @@ pub mod Words
 pub mod Closing
 pub mod KeyFile
 pub mod Lines
+pub mod Serving
+pub mod Telling
 pub mod Opening
 pub mod Order
 pub mod Outset

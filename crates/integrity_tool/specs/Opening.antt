@@ -2,7 +2,7 @@
 use Rattle.std.specs.Prelude.{◌≡◌, ◌⊎◌, ℕ, ◌<◌, Bool, true, false, if◌then◌else◌, List, Option}
 use Rattle.disk_model.specs.Disk.{Content, EachImage, Image, OnlyAdds, last_image}
 use Rattle.disk_model.specs.Moments.{HasNow}
-use Rattle.command_model.specs.CommandRun.{Exercising, Outset, RefusedBy, RunsOn, Prints, Makes, Exercises, ReadsOn, Changes, IsEndedBy, IsLeftAfter, IsRunAt, IsUntouched, MayBeLeftAt}
+use Rattle.command_model.specs.CommandRun.{Exercising, Outset, RefusedBy, RunsOn, Prints, Makes, Exercises, ReadsOn, Changes, Serves, IsEndedBy, IsLeftAfter, IsRunAt, IsUntouched, MayBeLeftAt}
 use Rattle.device_model.specs.Device.{DeviceKind}
 use Rattle.device_model.specs.Ending.{Ending}
 use Rattle.device_model.specs.History.{Change}
@@ -23,8 +23,11 @@ use Rattle.script_session.specs.LineRun.{held_with}
 use Rattle.command_ending.specs.declared.ended.Ended.{Ended}
 use Rattle.command_ending.specs.declared.ended.Ended.TheVariants as Endings
 use Rattle.integrity_tool.specs.declared.asked.Task.{Task}
+use Rattle.integrity_tool.specs.declared.telling.Telling.{Telling}
+use Rattle.integrity_tool.specs.declared.telling.Telling.TheVariants.{Lines, Replies}
 use Rattle.integrity_tool.specs.Outset.{geometry_on, outset_at, outset_on}
 use Rattle.integrity_tool.specs.Running.{HasReadTo}
+use Rattle.integrity_tool.specs.Serving.{HasNotBegun, HasReadStream, HasServedOn}
 
 -- The run came so far, and ended so: the sink holds its text behind what it held, and this is left of the disk.
 pub record HasRunOn (outset : Outset) (start : Content) (script : List ℕ) (ending : Ending) (after : List Content)
@@ -36,6 +39,17 @@ pub record HasRunOn (outset : Outset) (start : Content) (script : List ℕ) (end
   pub ended : IsEndedBy run text changes ending
   pub told : held ≡ held_with text held_before
   pub left : HasNow (IsLeftAfter outset start changes ending) after
+
+-- A command came so far, and ended so, by what it starts on. Where a session has begun nothing but its replies is written.
+abbrev pub HasRunIn : Outset → Telling → (start : Content) → (script : List ℕ) → Ending → (after : List Content)
+    → (held_before held : Option (List ℕ)) → Type 0
+HasRunIn (Serves kind image) Lines start stream ending after held_before held =
+    HasNotBegun kind image start ending after held_before held
+HasRunIn (Serves kind image) Replies start stream ending after held_before held =
+    HasServedOn kind image stream ending after held_before held
+HasRunIn outset Lines start script ending after held_before held =
+    HasRunOn outset start script ending after held_before held
+HasRunIn outset Replies start script ending after held_before held = ⊥
 
 -- The content comes by an opening in this mode: what was pending is settled, and behind that nothing is written of an
 -- image with a journal but its entries in their places, sectors of tags, and empty sections of the journal; in direct
@@ -135,6 +149,7 @@ WritesOnlyBy (Exercises exercising) g run start later =
     exercising.MayBeLeft start later ⊎ IsWrittenByExercise exercising run start later
 WritesOnlyBy (ReadsOn kind image) g run start later = later ≡ start
 WritesOnlyBy (Changes changing) g run start later = changing.IsWritten start later
+WritesOnlyBy (Serves kind image) g run start later = IsWrittenByRun kind image g run start later
 
 -- No other sector was written.
 pub record IsOnlyWritten (outset : Outset) (g : Geometry) (start : Content) (script : List ℕ) (later : Content)
@@ -164,11 +179,17 @@ IsMomentAt task key sectors start script later =
     later
 
 -- No more of the script is taken than its run has come to, nor is its source asked for more before that.
-pub record HasReadIn (outset : Outset) (script : List ℕ) (left held_before held : Option (List ℕ)) (failed : Type 0)
+pub record HasReadOn (outset : Outset) (script : List ℕ) (left held_before held : Option (List ℕ)) (failed : Type 0)
     : Type 0 where
   pub run : ScriptRun
   pub is_run : IsRunAt outset script run
   pub read : HasReadTo run script left held_before held failed
+
+-- The same, or so it is of a stream that is served.
+abbrev pub HasReadIn : Outset → (script : List ℕ) → (left held_before held : Option (List ℕ)) → (failed : Type 0) → Type 0
+HasReadIn (Serves kind image) stream left held_before held failed =
+    HasReadStream kind image stream left held_before held failed
+HasReadIn outset script left held_before held failed = HasReadOn outset script left held_before held failed
 
 -- What can end a run on an image: neither words, nor a key.
 abbrev pub EndsImage : Ended → Type 0

@@ -21,6 +21,7 @@ use Rattle.integrity_tool.specs.Words.{key_file_of}
 -- writes to its disk nor syncs it.
 abbrev pub IsInOrderAt : Task → (key : Option (List ℕ)) → (sectors : ℕ) → (before after : List Content) → Type 0
 IsInOrderAt (Tasks.Run mode) key sectors before after = KeepsStill (asked_mode mode) before after
+IsInOrderAt (Tasks.Serve mode) key sectors before after = KeepsStill (asked_mode mode) before after
 IsInOrderAt Tasks.Dump key sectors before after = KeepsMoments before after
 IsInOrderAt (Tasks.Check what) key sectors before after = KeepsMoments before after
 IsInOrderAt Tasks.Salvage key sectors before after = KeepsMoments before after

@@ -22,7 +22,7 @@ use Rattle.integrity_tool.specs.Making.{format_outset}
 use Rattle.integrity_tool.specs.Refusing.{ending_by_refusal}
 use Rattle.integrity_tool.specs.Resizing.{resizing_outset}
 use Rattle.integrity_tool.specs.Words.{asked_of, key_file_of}
-use Rattle.command_model.specs.CommandRun.{Outset, ReadsOn, RefusedBy, RunsOn}
+use Rattle.command_model.specs.CommandRun.{Outset, ReadsOn, RefusedBy, RunsOn, Serves}
 
 -- A key has at most so many bytes.
 abbrev pub most_key : ℕ
@@ -48,18 +48,25 @@ begun_on (Journal consent) kind image = RunsOn kind image
 begun_on (Bitmap consent) kind image = RunsOn kind image
 begun_on Recovery kind image = ReadsOn kind image
 
--- By why the image is refused, if it is: a device in this mode opens it, or it is refused.
-abbrev pub outset_by : OpenMode → (key : Option (List ℕ)) → (sectors : ℕ) → Image → Option ImageFault → Outset
-outset_by mode key sectors image None = begun_on mode (kind_in (asked_mode mode) key sectors) image
-outset_by mode key sectors image (Some refusal) = RefusedBy (ending_by_refusal refusal)
+-- By why the image is refused, if it is: it is begun so on a device that opens it, or it is refused.
+abbrev pub outset_by : (begun : Outset) → Option ImageFault → Outset
+outset_by begun None = begun
+outset_by begun (Some refusal) = RefusedBy (ending_by_refusal refusal)
 
 -- What a run in this mode starts on, on a disk of so many sectors with this image, under a key.
 abbrev pub outset_on : OpenMode → (key : Option (List ℕ)) → (sectors : ℕ) → Image → Outset
-outset_on mode key sectors image = outset_by mode key sectors image (fault_in_mode mode key sectors image)
+outset_on mode key sectors image =
+    outset_by (begun_on mode (kind_in (asked_mode mode) key sectors) image) (fault_in_mode mode key sectors image)
+
+-- What a session in this mode starts on: an image is refused exactly where a run in this mode is.
+abbrev pub serving_on : OpenMode → (key : Option (List ℕ)) → (sectors : ℕ) → Image → Outset
+serving_on mode key sectors image =
+    outset_by (Serves (kind_in (asked_mode mode) key sectors) image) (fault_in_mode mode key sectors image)
 
 -- What is done on such a disk starts on this, with this key.
 abbrev pub outset_at : Task → (key : Option (List ℕ)) → (sectors : ℕ) → Image → Outset
 outset_at (Tasks.Run mode) key sectors image = outset_on mode key sectors image
+outset_at (Tasks.Serve mode) key sectors image = serving_on mode key sectors image
 outset_at Tasks.Dump key sectors image = dump_outset sectors image
 outset_at (Tasks.Check what) key sectors image = check_outset what key sectors image
 outset_at Tasks.Salvage key sectors image = salvage_outset key sectors image

@@ -152,12 +152,13 @@ abbrev pub HasRead : (old new : Reading) → (left later : Option (List ℕ)) �
 HasRead old new left later =
     ForSome left (λ bytes. IsSomeAnd later (λ more. length bytes + read_by old ≡ length more + read_by new))
 
--- At most so many bytes were taken of a source: one beyond the bound of a script.
+-- At most so many bytes were taken of a source.
+abbrev pub HasTaken : (most : ℕ) → (left later : Option (List ℕ)) → Type 0
+HasTaken most left later = ForSome left (λ bytes. IsSomeAnd later (λ more. length bytes ≤ length more + most))
+
+-- Of a script one byte beyond its bound is taken at most.
 abbrev pub most_taken : ℕ
 most_taken = 16777217
-
-abbrev pub HasTaken : (left later : Option (List ℕ)) → Type 0
-HasTaken left later = ForSome left (λ bytes. IsSomeAnd later (λ more. length bytes ≤ length more + most_taken))
 
 -- A byte of it at least was taken.
 abbrev pub TakesSome : (left later : Option (List ℕ)) → Type 0

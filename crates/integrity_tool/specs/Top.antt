@@ -1,13 +1,16 @@
 -- What a command is given, and what it keeps of what lies outside, from first to last.
 use Rattle.std.specs.Prelude.{◌≡◌, ◌≢◌, ◌⊎◌, ℕ, ◌<◌, ◌≤◌, List, map, Some, None, Result, Err, IfErr, OnOk, String}
+use Rattle.std.proofs.Common.{inl, inr}
 use Rattle.std.specs.Option.{ForSome, IsSomeAnd}
 use Rattle.std.specs.String.{string_bytes}
 use Rattle.disk_model.specs.Causes.{Rose}
-use Rattle.disk_model.specs.Disk.{Content, last_image}
+use Rattle.disk_model.specs.Disk.{Content, Image, last_image}
 use Rattle.disk_model.specs.Identity.{IsBoundTo, NamedDisk}
 use Rattle.disk_model.specs.Moments.{content_now, EachMoment, HasNow}
+use Rattle.device_model.specs.Device.{DeviceKind}
 use Rattle.device_model.specs.Ending.{KeyRefusal, fault_text}
-use Rattle.command_model.specs.CommandRun.{HasCauseIn, Outset, Tells}
+use Rattle.command_model.specs.CommandRun.{Faults, HasCauseIn, Outset, Serves, Tells}
+use Rattle.nbd_command.specs.ServedRun.{TellsServed}
 use Rattle.script_session.specs.declared.tags_found.TagsFound.{TagsFound}
 use Rattle.command_ending.specs.Ended.{ending_of}
 use Rattle.command_ending.specs.declared.ended.Ended.{Ended}
@@ -16,10 +19,12 @@ use Rattle.integrity_tool.specs.declared.top_call.Outside.{Outside}
 use Rattle.integrity_tool.specs.Closed.{IsClosedFor}
 use Rattle.integrity_tool.specs.Ends.{Ends}
 use Rattle.integrity_tool.specs.KeyFile.{HasFile, ReadsKeyFile}
-use Rattle.integrity_tool.specs.Opening.{HasReadIn, HasRunOn, IsMomentOf}
+use Rattle.integrity_tool.specs.declared.telling.Telling.{Telling}
+use Rattle.integrity_tool.specs.Opening.{HasReadIn, HasRunIn, IsMomentOf}
 use Rattle.integrity_tool.specs.Order.{IsInOrderFor}
 use Rattle.integrity_tool.specs.Outset.{geometry_on, key_by, outset_of}
 use Rattle.integrity_tool.specs.Running.{HasTaken, IsCounted, ending_by}
+use Rattle.integrity_tool.specs.Serving.{most_taken_for}
 use Rattle.integrity_tool.specs.Unopened.{IsUnopenedFor}
 use Rattle.integrity_tool.specs.Words.{HasNoScript, asked_of, image_name, key_file_of_asked}
 use Rattle.integrity_tool.specs.World.{Counts, World, rises}
@@ -85,10 +90,30 @@ ReadsNoFurther given first last =
 
 -- It tells its run with this status, and leaves the image so. With another status than 6 no fault of the sink is passed
 -- over: where all of the last line stands, the sink has not failed; it has failed in that line at most.
-pub record TellsRun (given : Given) (status : ℕ) (first last : Counts) (before after : List ℕ) (later : Content)
-    : Type 0 where
-  pub told : Tells (outset_in given) given.content given.script before after status (rises first last) later
+pub record TellsRun (outset : Outset) (given : Given) (status : ℕ) (first last : Counts) (before after : List ℕ)
+    (later : Content) : Type 0 where
+  pub told : Tells outset given.content given.script before after status (rises first last) later
   pub sink_passed : status ≢ 6 → told.line ≡ fault_text told.ending → last.sink ≡ first.sink
+
+-- All of the last line stands, which a session does not have.
+abbrev pub HasWholeLine : {kind : DeviceKind} {image : Image} {start later : Content} {stream before after : List ℕ}
+    {status : ℕ} {faults : Faults} → TellsServed kind image start stream before after status faults later → Type 0
+HasWholeLine (inl unbegun) = unbegun.line ≡ fault_text unbegun.ended
+HasWholeLine (inr served) = Unit {0}
+
+-- The same of a stream that is served: from the session's beginning on nothing but replies is written.
+pub record TellsSession (kind : DeviceKind) (image : Image) (given : Given) (status : ℕ) (first last : Counts)
+    (before after : List ℕ) (later : Content) : Type 0 where
+  pub told : TellsServed kind image given.content given.script before after status (rises first last) later
+  pub sink_passed : status ≢ 6 → HasWholeLine told → last.sink ≡ first.sink
+
+-- Either of them, by what it starts on.
+abbrev pub TellsIn : Outset → Given → (status : ℕ) → (first last : Counts) → (before after : List ℕ)
+    → (later : Content) → Type 0
+TellsIn (Serves kind image) given status first last before after later =
+    TellsSession kind image given status first last before after later
+TellsIn outset given status first last before after later =
+    TellsRun outset given status first last before after later
 
 -- What a command with this status keeps of the world that gave it this: what it tells, where the sink tells what it
 -- holds; what stands at each moment, and in which order; what a close leaves, once it came to its end; that for want of
@@ -96,7 +121,7 @@ pub record TellsRun (given : Given) (status : ℕ) (first last : Counts) (before
 pub record Keeps (command : List (List ℕ)) (given : Given) (status : ℕ) (first last : World) : Type 0 where
   pub tells : (before : List ℕ) → first.held ≡ Some before → IsSomeAnd last.held (λ after.
       IsSomeAnd (content_now (image_in command last).moments)
-      (TellsRun given status first.faults last.faults before after))
+      (TellsIn (outset_in given) given status first.faults last.faults before after))
   pub moments : HasMomentsIn given (image_in command first).moments (image_in command last).moments
   pub closed : status ≤ 1 → IsLeftClosed given (image_in command last).moments
   pub unopened : status ≡ 7 → IsUnopened command first last
@@ -108,19 +133,19 @@ KeepsGiven world command status first last = (given : Given) → IsGiven command
     → Keeps command given status (world first) (world last)
 
 -- What its run keeps of it before the last line: it came so far, and the rest as above.
-pub record KeepsRun (command : List (List ℕ)) (given : Given) (result : Result TagsFound Ended) (first last : World)
-    : Type 0 where
-  pub runs : HasRunOn (outset_in given) given.content given.script (ending_by result) (image_in command last).moments
-      first.held last.held
+pub record KeepsRun (command : List (List ℕ)) (given : Given) (telling : Telling) (result : Result TagsFound Ended)
+    (first last : World) : Type 0 where
+  pub runs : HasRunIn (outset_in given) telling given.content given.script (ending_by result)
+      (image_in command last).moments first.held last.held
   pub moments : HasMomentsIn given (image_in command first).moments (image_in command last).moments
   pub closed : OnOk result (IsLeftClosed given (image_in command last).moments)
   pub unopened : result ≡ Err Endings.Memory → IsUnopened command first last
   pub ahead : ReadsNoFurther given first last
 
-abbrev pub RunsGiven : {T : Type 0} → (T → World) → (command : List (List ℕ)) → Result TagsFound Ended
+abbrev pub RunsGiven : {T : Type 0} → (T → World) → (command : List (List ℕ)) → Telling → Result TagsFound Ended
     → (first last : T) → Type 0
-RunsGiven world command result first last = (given : Given) → IsGiven command (world first) given
-    → KeepsRun command given result (world first) (world last)
+RunsGiven world command telling result first last = (given : Given) → IsGiven command (world first) given
+    → KeepsRun command given telling result (world first) (world last)
 
 -- ---- its status
 
@@ -177,11 +202,11 @@ pub record CallsOnly {D K S O : Type 0} (world : Outside D K S O → World) (com
   pub unread : ends.before_script ⊎ HasNoScript (asked_of command) → last.script.now ≡ first.script.now
 
 -- What it reads: of the key's source nothing but the file that the words name, and at most 4097 bytes of that; and of
--- the script at most one byte beyond its bound.
+-- the script at most so many.
 pub record ReadsOnly {D K S O : Type 0} (world : Outside D K S O → World) (command : List (List ℕ)) (ends : Ends)
     (first last : Outside D K S O) : Type 0 where
   pub key : ReadsKeyFile (key_file_of_asked (asked_of command)) world first last ends.key_read
-  pub taken : HasTaken (world first).script (world last).script
+  pub taken : HasTaken (most_taken_for (asked_of command)) (world first).script (world last).script
 
 -- The disk is bound to the image, once it came to its end, and the image has as many sectors as before, where the disk
 -- tells its content.

@@ -6,9 +6,10 @@ use Rattle.integrity_tool.specs.declared.asked.Task.{Task}
 use Rattle.integrity_tool.specs.declared.asked.Task.TheVariants as Tasks
 
 -- The disk of a run is as it was, not even synced. What is done without a script opens no device, or makes its image
--- first.
+-- first; and a session takes memory once its device is open.
 abbrev pub IsUnopenedAt : Task → (before after : List Content) → Type 0
 IsUnopenedAt (Tasks.Run mode) before after = after ≡ before
+IsUnopenedAt (Tasks.Serve mode) before after = Unit {0}
 IsUnopenedAt Tasks.Dump before after = Unit {0}
 IsUnopenedAt (Tasks.Check what) before after = Unit {0}
 IsUnopenedAt Tasks.Salvage before after = Unit {0}

@@ -1,5 +1,5 @@
 -- What the words ask for.
--- Own: the commands are `format`, `dump`, `check`, `salvage`, `resize`, `run` and `exercise`.
+-- Own: the commands are `format`, `dump`, `check`, `salvage`, `resize`, `run`, `nbd` and `exercise`.
 use Rattle.std.specs.Prelude.{◌≤◌, ℕ, List, [], Option, Some, None}
 use Rattle.std.specs.Option.{option_map}
 use Rattle.command_words.specs.Commands.{command_of}
@@ -11,6 +11,7 @@ use Rattle.command_words.specs.declared.command.Check.{Check}
 use Rattle.command_words.specs.declared.command.Dump.{Dump}
 use Rattle.command_words.specs.declared.command.Exercise.{Exercise}
 use Rattle.command_words.specs.declared.command.Format.{Format}
+use Rattle.command_words.specs.declared.command.Nbd.{Nbd}
 use Rattle.command_words.specs.declared.command.Run.{Run}
 use Rattle.command_words.specs.declared.command.Resize.{Resize}
 use Rattle.command_words.specs.declared.command.Salvage.{Salvage}
@@ -24,6 +25,8 @@ use Rattle.command_words.specs.declared.values.ImageMode as words_mode
 use Rattle.command_words.specs.declared.values.ImageMode.TheVariants as image_modes
 use Rattle.command_words.specs.declared.values.Mode.{Mode}
 use Rattle.command_words.specs.declared.values.Mode.TheVariants as modes
+use Rattle.command_words.specs.declared.values.NbdMode.{NbdMode}
+use Rattle.command_words.specs.declared.values.NbdMode.TheVariants as nbd_modes
 use Rattle.command_words.specs.declared.values.Padding as words
 use Rattle.command_words.specs.declared.values.Padding.TheVariants as paddings
 use Rattle.command_words.specs.declared.values.Wipe as words_wipe
@@ -74,12 +77,21 @@ new_image_of format = record {
   wipe = wipe_as format.wipe;
 }
 
--- Its fields are in their ranges, and an exercise has at most so many requests. What else is done asks for none.
+-- Its fields are in their ranges, an exercise has at most so many requests, and requests are served in a mode that takes
+-- writes. What else is done asks for none.
 abbrev pub most_requests : ℕ
 most_requests = 1000000
 
+-- The mode takes writes.
+abbrev pub MayWrite : OpenMode → Type 0
+MayWrite (Direct consent) = Unit {0}
+MayWrite (Journal consent) = Unit {0}
+MayWrite (Bitmap consent) = Unit {0}
+MayWrite Recovery = ⊥
+
 abbrev pub IsTask : Task → Type 0
 IsTask (Tasks.Run mode) = Unit {0}
+IsTask (Tasks.Serve mode) = MayWrite mode
 IsTask Tasks.Dump = Unit {0}
 IsTask (Tasks.Check what) = Unit {0}
 IsTask Tasks.Salvage = Unit {0}
@@ -105,6 +117,15 @@ mode_as modes.Recovery consent = Recovery
 
 abbrev pub run_asked : Run → Asked
 run_asked run = record { image = run.image; hash = run.hash; task = Tasks.Run (mode_as run.mode run.consent) }
+
+-- The mode of a device that serves requests.
+abbrev pub nbd_mode_as : NbdMode → words_consent.Consent → OpenMode
+nbd_mode_as nbd_modes.Journal consent = Journal (consent_as consent)
+nbd_mode_as nbd_modes.Direct consent = Direct (consent_as consent)
+nbd_mode_as nbd_modes.Bitmap consent = Bitmap (consent_as consent)
+
+abbrev pub nbd_asked : Nbd → Asked
+nbd_asked nbd = record { image = nbd.image; hash = nbd.hash; task = Tasks.Serve (nbd_mode_as nbd.mode nbd.consent) }
 
 -- A dump looks at no tag, and needs no key.
 abbrev pub dump_asked : Dump → Asked
@@ -136,6 +157,7 @@ exercise_asked exercise = record {
 abbrev pub asked_by : Command → Asked
 asked_by (Commands.Format format) = format_asked format
 asked_by (Commands.Run run) = run_asked run
+asked_by (Commands.Nbd nbd) = nbd_asked nbd
 asked_by (Commands.Dump dump) = dump_asked dump
 asked_by (Commands.Check check) = check_asked check
 asked_by (Commands.Salvage salvage) = salvage_asked salvage
@@ -168,6 +190,7 @@ key_file_of_asked (Some asked) = key_file_of asked.hash
 
 abbrev pub IsScriptless : Task → Type 0
 IsScriptless (Tasks.Run mode) = ⊥
+IsScriptless (Tasks.Serve mode) = ⊥
 IsScriptless Tasks.Dump = Unit {0}
 IsScriptless (Tasks.Check what) = Unit {0}
 IsScriptless Tasks.Salvage = Unit {0}

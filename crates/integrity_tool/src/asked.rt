@@ -2,13 +2,13 @@
 ghost use Rattle.std.specs.Prelude.{◌≡◌, ◌⊎◌, Err, IfErr, IfOk, None, Some, map};
 ghost use Rattle.std.specs.String.{string_bytes};
 ghost use Rattle.command_ending.specs.declared.ended.Ended.TheVariants as Endings;
-ghost use Rattle.integrity_tool.specs.Words.{IsTask, asked_by, asked_of, check_asked, consent_as, dump_asked, exercise_asked, format_asked, image_mode_as, mode_as, new_image_of, padding_as, resize_asked, run_asked, salvage_asked, what_as, wipe_as};
+ghost use Rattle.integrity_tool.specs.Words.{IsTask, MayWrite, asked_by, asked_of, check_asked, consent_as, dump_asked, exercise_asked, format_asked, image_mode_as, mode_as, nbd_asked, nbd_mode_as, new_image_of, padding_as, resize_asked, run_asked, salvage_asked, what_as, wipe_as};
 ghost use Rattle.image_formatting.specs.NewImage.{IsNewImage};
 
 use command_ending::Ended;
 use command_words::{
     Check, Checked, Command, Consent, Dump, Exercise, FileName, Format, HashChoice, ImageMode,
-    Mode, Padding, Resize, Run, Salvage, Wipe, WordsFault, parse,
+    Mode, Nbd, NbdMode, Padding, Resize, Run, Salvage, Wipe, WordsFault, parse,
 };
 use device::OpenMode;
 use image_check::What;
@@ -31,6 +31,8 @@ pub(crate) struct Asked {
 pub(crate) enum Task {
     /// A script is run on a device in this mode.
     Run(OpenMode),
+    /// A stream of requests is served on a device in this mode, which takes writes.
+    Serve(OpenMode),
     /// What the image shows is printed.
     Dump,
     /// Its bad blocks are printed.
@@ -78,6 +80,7 @@ fn asked_by(command: Command) -> Asked
     match command {
         Command::Format(format) => format_asked(format),
         Command::Run(run) => run_asked(run),
+        Command::Nbd(nbd) => nbd_asked(nbd),
         Command::Dump(dump) => dump_asked(dump),
         Command::Check(check) => check_asked(check),
         Command::Salvage(salvage) => salvage_asked(salvage),
@@ -119,6 +122,30 @@ fn mode(mode: Mode, by: Consent) -> OpenMode
         Mode::Direct => OpenMode::Direct(consent(by)),
         Mode::Bitmap => OpenMode::Bitmap(consent(by)),
         Mode::Recovery => OpenMode::Recovery,
+    }
+}
+
+/// What `nbd` asks for.
+fn nbd_asked(nbd: Nbd) -> Asked
+    ensures asked { result ≡ nbd_asked nbd }
+    ensures task { IsTask result.task }
+{
+    Asked {
+        image: nbd.image,
+        hash: nbd.hash,
+        task: Task::Serve(nbd_mode(nbd.mode, nbd.consent)),
+    }
+}
+
+/// The same mode.
+fn nbd_mode(mode: NbdMode, by: Consent) -> OpenMode
+    ensures mode { result ≡ nbd_mode_as mode by }
+    ensures writes { MayWrite result }
+{
+    match mode {
+        NbdMode::Journal => OpenMode::Journal(consent(by)),
+        NbdMode::Direct => OpenMode::Direct(consent(by)),
+        NbdMode::Bitmap => OpenMode::Bitmap(consent(by)),
     }
 }
 

@@ -7,6 +7,7 @@ ghost use Rattle.integrity_tool.specs.Closed.{ClosesTask};
 ghost use Rattle.integrity_tool.specs.Opening.{EndsImage};
 ghost use Rattle.integrity_tool.specs.Outset.{outset_at};
 ghost use Rattle.integrity_tool.specs.Running.{HasTaken, ending_by};
+ghost use Rattle.integrity_tool.specs.Serving.{most_taken_at};
 ghost use Rattle.integrity_tool.specs.Tasks.{found_by};
 ghost use Rattle.integrity_tool.specs.Words.{IsTask};
 
@@ -18,6 +19,8 @@ use crate::making::make_image;
 use crate::opening::run_image;
 use crate::resizing::resize_image;
 use crate::salvaging::print_salvage;
+use crate::serving::serve_image;
+use crate::telling::Telling;
 use command_ending::Ended;
 use hmac_tag::Hash;
 use script_session::TagsFound;
@@ -26,13 +29,13 @@ use std::alloc::Global;
 use stream_io::{Sink, Source};
 
 /// Does what is asked on the image that the disk is bound to. It tells whether a line told a block whose stored tag
-/// differs. What has no script reads none.
+/// differs, and in `telling` whether a session has begun. What has no script reads none.
 ///
 /// # Errors
 ///
 /// - `Memory`: there is none for what is asked.
 /// - `Image`: the image is refused.
-/// - `Line`, `Length`: the script is refused.
+/// - `Line`, `Length`: the script is refused, or the stream of a session.
 /// - `Disk`, `Script`, `Sink`: that failed.
 pub(crate) fn carry_out<D: Disk, S: Source, O: Sink>(
     alloc: Global,
@@ -41,11 +44,13 @@ pub(crate) fn carry_out<D: Disk, S: Source, O: Sink>(
     task: Task,
     script: &mut S,
     out: &mut O,
+    telling: &mut Telling,
 ) -> Result<TagsFound, Ended>
     requires bound { IsBound (D.identity disk.old).name }
     requires task { IsTask task }
+    requires lines { telling.old ≡ Telling.Lines }
 
-    ensures runs { RunsAsked D.identity D.moments S.left O.held task (key_of hash) (ending_by result)
+    ensures runs { RunsAsked D.identity D.moments S.left O.held task (key_of hash) telling.new (ending_by result)
         disk.old disk.new script.old out.old out.new }
     ensures closed { ClosesTask D.identity D.moments S.left task (key_of hash) result disk.old disk.new script.old }
 
@@ -56,13 +61,14 @@ pub(crate) fn carry_out<D: Disk, S: Source, O: Sink>(
         disk.old disk.new script.old script.new out.old out.new }
 
     ensures unread { LeavesUnread D.moments S.left task result disk.old disk.new script.old script.new }
-    ensures taken { HasTaken (S.left script.old) (S.left script.new) }
+    ensures taken { HasTaken (most_taken_at task) (S.left script.old) (S.left script.new) }
     ensures ahead { ReadsOnlyRun D.identity D.moments S.left O.held S.faults (outset_at task (key_of hash))
         disk.old script.old script.new out.old out.new }
     ensures identity { D.identity disk.new ≡ D.identity disk.old }
 {
     match task {
         Task::Run(mode) => run_image(alloc, disk, hash, mode, script, out),
+        Task::Serve(mode) => serve_image(alloc, disk, hash, mode, script, out, telling),
         Task::Dump => done(print_image(alloc, disk, out)),
         Task::Check(what) => print_check(alloc, disk, hash, what, out),
         Task::Salvage => print_salvage(alloc, disk, hash, out),

@@ -19,7 +19,9 @@ mod reopening;
 mod resizing;
 mod running;
 mod salvaging;
+mod serving;
 mod stored_tags;
+mod telling;
 mod top_call;
 mod verdict_lines;
 

@@ -8,7 +8,7 @@ ghost use Rattle.integrity_tool.specs.Closed.{ClosesTask};
 ghost use Rattle.integrity_tool.specs.Closing.{ended_close};
 ghost use Rattle.integrity_tool.specs.Opening.{EndsImage};
 ghost use Rattle.integrity_tool.specs.Outset.{outset_on};
-ghost use Rattle.integrity_tool.specs.Running.{HasTaken, ending_by};
+ghost use Rattle.integrity_tool.specs.Running.{HasTaken, ending_by, most_taken};
 
 use crate::closing::{CloseFault, close};
 use crate::refusing::ended_by_opening;
@@ -55,7 +55,7 @@ pub(crate) fn run_image<D: Disk, S: Source, O: Sink>(
         disk.old disk.new script.old script.new out.old out.new }
 
     ensures unread { LeavesUnread D.moments S.left (Run mode) result disk.old disk.new script.old script.new }
-    ensures taken { HasTaken (S.left script.old) (S.left script.new) }
+    ensures taken { HasTaken most_taken (S.left script.old) (S.left script.new) }
     ensures ahead { ReadsOnlyRun D.identity D.moments S.left O.held S.faults (outset_on mode (key_of hash))
         disk.old script.old script.new out.old out.new }
     ensures identity { D.identity disk.new ≡ D.identity disk.old }
@@ -114,7 +114,7 @@ fn run_device<'d, D: Disk, S: Source, O: Sink>(
         disk.old result.now script.old script.new out.old out.new }
 
     ensures unread { LeavesUnread D.moments S.left (Run mode) ended.new disk.old result.now script.old script.new }
-    ensures taken { HasTaken (S.left script.old) (S.left script.new) }
+    ensures taken { HasTaken most_taken (S.left script.old) (S.left script.new) }
     ensures ahead { ReadsOnlyRun D.identity D.moments S.left O.held S.faults (outset_on mode (key_of hash))
         disk.old script.old script.new out.old out.new }
     ensures identity { D.identity result.now ≡ D.identity disk.old }

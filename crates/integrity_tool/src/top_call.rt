@@ -14,6 +14,7 @@ ghost use Rattle.integrity_tool.specs.World.{World};
 use crate::asked::{Task, words_asked};
 use crate::carrying_out::carry_out;
 use crate::keyed::hash_of;
+use crate::telling::{Telling, put_end};
 use command_ending::Ended;
 use device::OpenMode;
 use script_session::TagsFound;
@@ -60,17 +61,17 @@ impl<D: Disk, K: NamedSource, S: Source, O: Sink> AsWorld for Outside<'_, D, K, 
 impl<D: Disk, K: NamedSource, S: Source, O: Sink> Outside<'_, D, K, S, O> {
     /// Does what the words say, and answers the status. The words are the program's name and then those of a command.
     ///
-    /// The commands are `format IMAGE`, `dump IMAGE`, `check IMAGE`, `salvage IMAGE`, `resize IMAGE`, `run IMAGE` in a
-    /// mode, and `exercise IMAGE SEED COUNT`. The key is bound and read, at most 4097 bytes of it, before the image is
-    /// bound, and the script of a run only once the device is open.
+    /// The commands are `format IMAGE`, `dump IMAGE`, `check IMAGE`, `salvage IMAGE`, `resize IMAGE`, `run IMAGE` and
+    /// `nbd IMAGE` in a mode, and `exercise IMAGE SEED COUNT`. The key is bound and read, at most 4097 bytes of it,
+    /// before the image is bound, and the script of a run, or the stream of a session, only once the device is open.
     ///
     /// # Statuses
     ///
-    /// - 0: the command came to its end: the image is made or resized, its lines are printed, or the script or the
-    ///   exercise was run to its end and the device closed.
+    /// - 0: the command came to its end: the image is made or resized, its lines are printed, or the script, the stream
+    ///   or the exercise was run to its end and the device closed.
     /// - 1: it came to its end, and a reply that was taken, or a line of a check or a salvage, names a block whose
     ///   stored tag differs.
-    /// - 2: the words are no command, the bytes of the key file no key, or the script is refused.
+    /// - 2: the words are no command, the bytes of the key file no key, or the script or the stream is refused.
     /// - 3: the image is refused.
     /// - 4, 5, 6: the disk, the source of the key or of the script, or the sink failed.
     /// - 7: there was no memory.
@@ -90,23 +91,31 @@ impl<D: Disk, K: NamedSource, S: Source, O: Sink> Outside<'_, D, K, S, O> {
         // Which image it is on, and that this keeps its size.
         ensures image { IsOnImage ⟦<Self as AsWorld>⟧.world (texts words.now) (ends_with result) self.old self.new }
     {
-        match self.run(alloc, words) {
+        let mut telling = Telling::Lines;
+        match self.run(alloc, words, &mut telling) {
             Ok(found) => complete_status(found),
             Err(ended) => {
-                let _ = ended.put_last_line(self.out);
+                let _ = put_end(telling, &ended, self.out);
                 ended.status()
             }
         }
     }
 
     /// Does what the words say, up to the end or to what ends it. It tells whether a line told a block whose stored tag
-    /// differs.
+    /// differs, and in `telling` whether a session has begun.
     ///
     /// # Errors
     ///
     /// What ends it, in this order: the words, the key, the image, the script.
-    fn run(&mut self, alloc: Global, words: &[String]) -> Result<TagsFound, Ended>
-        ensures given { RunsGiven ⟦<Self as AsWorld>⟧.world (texts words.now) result self.old self.new }
+    fn run(
+        &mut self,
+        alloc: Global,
+        words: &[String],
+        telling: &mut Telling,
+    ) -> Result<TagsFound, Ended>
+        requires lines { telling.old ≡ Telling.Lines }
+
+        ensures given { RunsGiven ⟦<Self as AsWorld>⟧.world (texts words.now) telling.new result self.old self.new }
 
         ensures cause { HasCauseOfCommand ⟦<Self as AsWorld>⟧.world result self.old self.new }
         ensures counted { IsCountedInCommand ⟦<Self as AsWorld>⟧.world result self.old self.new }
@@ -118,7 +127,15 @@ impl<D: Disk, K: NamedSource, S: Source, O: Sink> Outside<'_, D, K, S, O> {
         let asked = words_asked(alloc, words)?;
         let hash = hash_of(alloc, self.key, &asked.hash)?;
         bind_image(self.disk, asked.image.as_str(), &asked.task)?;
-        carry_out(alloc, self.disk, hash, asked.task, self.script, self.out)
+        carry_out(
+            alloc,
+            self.disk,
+            hash,
+            asked.task,
+            self.script,
+            self.out,
+            telling,
+        )
     }
 }
 
@@ -171,6 +188,8 @@ fn bind_for<D: Disk>(disk: &mut D, name: &str, task: &Task) -> Result<(), Failed
         Task::Dump | Task::Check(_) | Task::Salvage | Task::Run(OpenMode::Recovery) => {
             disk.bind_to_read(name)
         }
-        Task::Run(_) | Task::Resize | Task::Format(_) | Task::Exercise { .. } => disk.bind(name),
+        Task::Run(_) | Task::Serve(_) | Task::Resize | Task::Format(_) | Task::Exercise { .. } => {
+            disk.bind(name)
+        }
     }
 }

@@ -1,5 +1,5 @@
 -- What stops a call that was stopped in another one.
-use Rattle.std.proofs.Common.{◌≡◌, ℕ, ◌≤◌, IfErr, Result, Ok, Err, sym, ◌∙◌, ap, subst, arith}
+use Rattle.std.proofs.Common.{◌≡◌, ◌≢◌, ℕ, ◌≤◌, IfErr, Result, Ok, Err, sym, ◌∙◌, ap, subst, arith}
 use Rattle.disk_model.specs.Causes.{Rose}
 use Rattle.nbd_flight.specs.declared.stop.Stop.{Stop}
 use Rattle.nbd_flight.specs.declared.stop.Stop.TheVariants as Faults
@@ -46,3 +46,7 @@ module _ {T U : Type 0} (inner : Result T Stop) (outer : Result U Stop) (fault :
     disk_passed = λ is. causes.disk_passed (λ e. is (to_outer Faults.Disk e)) ∙ same;
     sink_passed = λ is. causes.sink_passed (λ e. is (to_outer Faults.Sink e)) ∙ same_sink;
   }
+
+  -- What did not stop the other call did not stop it.
+  pub passed_behind : (other : Stop) → inner ≢ Err other → outer ≢ Err other
+  passed_behind other passed is = passed (to_inner other is)

@@ -72,6 +72,7 @@ module _ (w : Standing) where
   stopped_then a b Faults.Disk x y z first second = record {
     made = a ++ second.made;
     calls = second.calls;
+    some = second.some;
     rest = second.rest;
     all = ap (λ (l : List Deed). a ++ l) second.all ∙ sym (append_assoc a second.made (calls_of second.calls ++ second.rest));
     of_disk = second.of_disk;
@@ -104,6 +105,7 @@ module _ (w : Standing) where
   stopped_wider a b Faults.Disk x z first = record {
     made = first.made;
     calls = first.calls;
+    some = first.some;
     rest = first.rest ++ b;
     all = ap (λ (l : List Deed). l ++ b) first.all ∙ append_assoc first.made (calls_of first.calls ++ first.rest) b
         ∙ ap (λ (l : List Deed). first.made ++ l) (append_assoc (calls_of first.calls) first.rest b);

@@ -1,5 +1,5 @@
 -- A request in flight that is served once.
-use Rattle.std.proofs.Common.{◌≡◌, ◌≢◌, inl, inr, ℕ, ◌||◌, ◌==◌, Bool, true, false, List, [], ◌∷◌, ◌++◌, zero, suc, Option, Some, refl, sym, ◌∙◌, ap, subst, append-nil, append_assoc}
+use Rattle.std.proofs.Common.{◌≡◌, ◌≢◌, inl, inr, ℕ, ◌||◌, ◌==◌, Bool, true, false, List, [], ◌∷◌, ◌++◌, zero, suc, Option, Some, refl, sym, ◌∙◌, ap, subst, append-nil, append_assoc, arith}
 use Rattle.std.specs.List.{AllByRecursion}
 use Rattle.std.proofs.lemmas.Bool.{cases_Bool}
 use Rattle.device_model.specs.Mode.{DeviceFormat}
@@ -133,6 +133,7 @@ module _ (w : Standing) (taken : ℕ) (r : Flying) where
   service_failed old new failed same none = record {
     made = [];
     calls = events;
+    some = omega arith;
     rest = begins.rest;
     all = begins.is;
     of_disk = all_turn w.format r.ticket w.state;

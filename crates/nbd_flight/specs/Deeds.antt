@@ -1,5 +1,5 @@
 -- The deeds of a session, done on a device and told to a sink, and how far they came where something stopped them.
-use Rattle.std.specs.Prelude.{◌≡◌, ℕ, List, ◌∷◌, ◌++◌, map, Option}
+use Rattle.std.specs.Prelude.{◌≡◌, ℕ, ◌<◌, List, ◌∷◌, ◌++◌, length, map, Option}
 use Rattle.std.specs.List.{AllByRecursion}
 use Rattle.std.specs.Option.{option_map}
 use Rattle.disk_model.specs.Disk.{Content}
@@ -56,6 +56,7 @@ pub record IsStoppedBetween (w : Standing) (deeds : List Deed) (old new : Scene)
 pub record IsStoppedByDisk (w : Standing) (deeds : List Deed) (old new : Scene) : Type 0 where
   pub made : List Deed
   pub calls : List Event
+  pub some : 0 < length calls
   pub rest : List Deed
   pub all : deeds ≡ made ++ (calls_of calls ++ rest)
   pub of_disk : AllByRecursion ReachesDisk calls

@@ -9,11 +9,10 @@ ghost use Rattle.nbd_flight.specs.Rounds.{HasCauses, Stays};
 
 use crate::flight::Waiting;
 use crate::replying::refuse;
-use crate::{Asked, Flight, Stop, Whole};
+use crate::{Asked, Buffers, Flight, Stop, Whole};
 use device::Device;
 use request_slots::{Bytes, Request};
 use sector_disk::{Disk, Memory};
-use std::alloc::Global;
 use stream_io::Sink;
 
 /// Refuses a request that came whole, or hands it in. No disk is called.
@@ -23,9 +22,9 @@ use stream_io::Sink;
 /// - `Memory`: there is none for the request, which is not handed in.
 /// - `Sink`: the sink failed.
 pub fn ask<'d, 'p, D: Disk, O: Sink>(
-    alloc: Global,
     device: &mut Device<'d, 'p, D>,
     flight: &mut Flight,
+    buffers: &mut Buffers,
     sink: &mut O,
     whole: Whole,
 ) -> Result<(), Stop>
@@ -52,7 +51,7 @@ pub fn ask<'d, 'p, D: Disk, O: Sink>(
     let Ok(()) = flight.make_room() else {
         return Err(Stop::Memory);
     };
-    match request_of(alloc, whole) {
+    match request_of(buffers, whole) {
         Ok(Some(request)) => {
             submit(device, flight, request, cookie);
             Ok(())
@@ -70,7 +69,7 @@ pub fn ask<'d, 'p, D: Disk, O: Sink>(
 /// # Errors
 ///
 /// - `Memory`: there is none for a read's buffer.
-fn request_of(alloc: Global, whole: Whole) -> Result<Option<Request>, Memory>
+fn request_of(buffers: &mut Buffers, whole: Whole) -> Result<Option<Request>, Memory>
     ensures { IfOk result (λ request. option_map as_submission request
         ≡ handed_for whole.asked whole.request.length whole.bytes.items) }
 {
@@ -81,7 +80,7 @@ fn request_of(alloc: Global, whole: Whole) -> Result<Option<Request>, Memory>
     } = whole;
     match asked {
         Asked::Read { first, count } => {
-            let buffer = zeros(alloc, request.length)?;
+            let buffer = zeros(buffers, request.length)?;
             Ok(Some(Request::Read {
                 first,
                 count,
@@ -100,13 +99,14 @@ fn request_of(alloc: Global, whole: Whole) -> Result<Option<Request>, Memory>
 }
 
 /// So many zeros.
-fn zeros(alloc: Global, length: u32) -> Result<Bytes, Memory>
+fn zeros(buffers: &mut Buffers, length: u32) -> Result<Bytes, Memory>
     ensures { IfOk result (λ bytes. bytes ≡ replicate length 0) }
 {
-    let Ok(bytes) = Vec::from_elem(alloc, 0, length as usize) else {
-        return Err(Memory);
-    };
-    Ok(Bytes::from_vec(bytes))
+    let mut bytes = buffers.next(length as usize)?;
+    match bytes.resize(length as usize, 0) {
+        Ok(()) => Ok(Bytes::from_vec(bytes)),
+        Err(_) => Err(Memory),
+    }
 }
 
 /// Hands a request in. Where it gets a ticket it is in flight, behind all others; there is room for it.

@@ -23,7 +23,7 @@ const FUA: u16 = 1;
 /// The most blocks of one request.
 ///
 /// Own: as many as a line of a script may move.
-const MOST_BLOCKS: u64 = 1024;
+pub(crate) const MOST_BLOCKS: u64 = 1024;
 
 /// What a request asks for.
 #[derive(Clone, Copy, Drop)]

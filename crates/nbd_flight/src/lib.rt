@@ -7,6 +7,7 @@
 #![tactic(auto)]
 
 mod asking;
+mod buffers;
 mod flight;
 mod judging;
 mod replying;
@@ -15,6 +16,7 @@ mod stop;
 mod whole;
 
 pub use asking::ask;
+pub use buffers::Buffers;
 pub use flight::Flight;
 pub use judging::{Asked, judge};
 pub use rounds::until;

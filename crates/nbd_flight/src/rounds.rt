@@ -1,5 +1,5 @@
 //! Rounds of the requests in flight, in each of which every one is served once.
-ghost use Rattle.std.specs.Prelude.{◌≡◌, ◌<◌, IfOk, OnOk, vec_len};
+ghost use Rattle.std.specs.Prelude.{◌≡◌, ◌≢◌, ◌<◌, Err, IfOk, OnOk, vec_len};
 ghost use Rattle.std.specs.List.{remove};
 ghost use Rattle.device.specs.Calls.{Works};
 ghost use Rattle.nbd_flight.specs.Deeds.{scene_of};
@@ -9,7 +9,7 @@ ghost use Rattle.nbd_flight.specs.Rounds.{StopsRounds, StopsServing, one_round, 
 
 use crate::flight::Waiting;
 use crate::replying::{is_damage, put_reply};
-use crate::{Flight, Stop};
+use crate::{Buffers, Flight, Stop};
 use device::{Device, serve_with_room};
 use device_parts::Served;
 use sector_disk::Disk;
@@ -33,6 +33,7 @@ enum Turn {
 pub fn until<'d, 'p, D: Disk, O: Sink>(
     device: &mut Device<'d, 'p, D>,
     flight: &mut Flight,
+    buffers: &mut Buffers,
     sink: &mut O,
     most: usize,
 ) -> Result<(), Stop>
@@ -48,6 +49,7 @@ pub fn until<'d, 'p, D: Disk, O: Sink>(
         (scene_of D.moments O.held device.new.parts device.new.disk.now sink.new) }
     ensures cause { HasCauses (D.faults device.old.disk.now) (D.faults device.new.disk.now)
         (O.faults sink.old) (O.faults sink.new) result }
+    ensures memory { result ≢ Err Stop.Memory }
 
     ensures stays { OnOk result (Stays 0 D.identity D.moments device.new.condition device.old.parts device.new.parts
         device.new.disk.now flight.new) }
@@ -58,7 +60,7 @@ pub fn until<'d, 'p, D: Disk, O: Sink>(
         if flight.waiting.len() <= most {
             return Ok(());
         }
-        round(device, flight, sink)?;
+        round(device, flight, buffers, sink)?;
     }
     Ok(())
 }
@@ -72,6 +74,7 @@ pub fn until<'d, 'p, D: Disk, O: Sink>(
 fn round<'d, 'p, D: Disk, O: Sink>(
     device: &mut Device<'d, 'p, D>,
     flight: &mut Flight,
+    buffers: &mut Buffers,
     sink: &mut O,
 ) -> Result<(), Stop>
     requires works { Works D.identity D.moments device.old.condition device.old.parts device.old.disk.now }
@@ -86,6 +89,7 @@ fn round<'d, 'p, D: Disk, O: Sink>(
         (scene_of D.moments O.held device.new.parts device.new.disk.now sink.new) }
     ensures cause { HasCauses (D.faults device.old.disk.now) (D.faults device.new.disk.now)
         (O.faults sink.old) (O.faults sink.new) result }
+    ensures memory { result ≢ Err Stop.Memory }
 
     ensures stays { OnOk result (Stays 0 D.identity D.moments device.new.condition device.old.parts device.new.parts
         device.new.disk.now flight.new) }
@@ -94,7 +98,7 @@ fn round<'d, 'p, D: Disk, O: Sink>(
 {
     let mut at = 0;
     while at < flight.waiting.len() {
-        let turn = serve(device, flight, sink, at)?;
+        let turn = serve(device, flight, buffers, sink, at)?;
         at += places(turn);
     }
     Ok(())
@@ -119,6 +123,7 @@ fn places(turn: Turn) -> usize
 fn serve<'d, 'p, D: Disk, O: Sink>(
     device: &mut Device<'d, 'p, D>,
     flight: &mut Flight,
+    buffers: &mut Buffers,
     sink: &mut O,
     at: usize,
 ) -> Result<Turn, Stop>
@@ -135,6 +140,7 @@ fn serve<'d, 'p, D: Disk, O: Sink>(
         (scene_of D.moments O.held device.new.parts device.new.disk.now sink.new) }
     ensures cause { HasCauses (D.faults device.old.disk.now) (D.faults device.new.disk.now)
         (O.faults sink.old) (O.faults sink.new) result }
+    ensures memory { result ≢ Err Stop.Memory }
 
     ensures left { IfOk result (λ turn. flight.new.waiting.items
         ≡ waiting_after turn at flight.old.waiting.items) }
@@ -149,14 +155,14 @@ fn serve<'d, 'p, D: Disk, O: Sink>(
     };
     match served {
         Served::Done => {
-            reply(device, flight, sink, at)?;
+            reply(device, flight, buffers, sink, at)?;
             Ok(Turn::Over)
         }
         _ => Ok(Turn::Waits),
     }
 }
 
-/// Takes the reply of the request at a place, which is done, and writes it.
+/// Takes the reply of the request at a place, which is done, and writes it. Its buffer may be used again then.
 ///
 /// # Errors
 ///
@@ -164,6 +170,7 @@ fn serve<'d, 'p, D: Disk, O: Sink>(
 fn reply<'d, 'p, D: Disk, O: Sink>(
     device: &mut Device<'d, 'p, D>,
     flight: &mut Flight,
+    buffers: &mut Buffers,
     sink: &mut O,
     at: usize,
 ) -> Result<(), Stop>
@@ -180,6 +187,7 @@ fn reply<'d, 'p, D: Disk, O: Sink>(
         (scene_of D.moments O.held device.new.parts device.new.disk.now sink.new) }
     ensures cause { HasCauses (D.faults device.old.disk.now) (D.faults device.new.disk.now)
         (O.faults sink.old) (O.faults sink.new) result }
+    ensures memory { result ≢ Err Stop.Memory }
 
     ensures left { flight.new.waiting.items ≡ remove flight.old.waiting.items at }
     ensures stays { OnOk result (Stays 0 D.identity D.moments device.new.condition device.old.parts device.new.parts
@@ -192,7 +200,10 @@ fn reply<'d, 'p, D: Disk, O: Sink>(
         Ok(reply) => {
             flight.eio |= is_damage(&reply);
             match put_reply(sink, cookie, &reply) {
-                Ok(()) => Ok(()),
+                Ok(()) => {
+                    buffers.take_back(reply);
+                    Ok(())
+                }
                 Err(_) => Err(Stop::Sink),
             }
         }

@@ -6,10 +6,9 @@ ghost use Rattle.nbd_wire.specs.Splitting.{InHead};
 ghost use Rattle.nbd_incoming.specs.Incoming.{BeginsSo, GoesOnSo, HasTaken, Keeps, WaitsSo};
 
 use crate::Taken;
-use nbd_flight::{Asked, Whole, judge};
+use nbd_flight::{Asked, Buffers, Whole, judge};
 use nbd_wire::{Event, NbdRequest, Splitter};
 use sector_disk::Memory;
-use std::alloc::Global;
 
 /// The kind of a request behind which bytes stand.
 ///
@@ -55,7 +54,7 @@ impl Incoming {
     /// # Errors
     ///
     /// - `Memory`: there is none for the bytes of a write. The stream can't be taken on then.
-    pub fn take(&mut self, alloc: Global, piece: &[u8]) -> Result<(usize, Taken), Memory>
+    pub fn take(&mut self, buffers: &mut Buffers, piece: &[u8]) -> Result<(usize, Taken), Memory>
         requires { 0 < self.old.block_size }
 
         ensures taken { IfOk result (λ told. HasTaken self.old self.new piece.now told.0 told.1) }
@@ -71,7 +70,7 @@ impl Incoming {
             Event::More => Taken::Part,
             Event::Ask(request) => {
                 begin(
-                    alloc,
+                    buffers,
                     &mut self.coming,
                     request,
                     self.blocks,
@@ -91,7 +90,7 @@ impl Incoming {
 ///
 /// - `Memory`: there is none for the bytes of a write.
 fn begin(
-    alloc: Global,
+    buffers: &mut Buffers,
     coming: &mut Option<Coming>,
     request: NbdRequest,
     blocks: u64,
@@ -105,7 +104,7 @@ fn begin(
     if let Asked::Disconnect = asked {
         return Ok(Taken::Disconnected);
     }
-    let bytes = room_for(alloc, asked, request.length)?;
+    let bytes = room_for(buffers, asked, request.length)?;
     let whole = Whole {
         request,
         asked,
@@ -149,16 +148,13 @@ fn wait_for(coming: &mut Option<Coming>, whole: Whole, left: usize) -> Taken
 /// # Errors
 ///
 /// - `Memory`: there is none for them.
-fn room_for(alloc: Global, asked: Asked, length: u32) -> Result<Vec<u8>, Memory>
+fn room_for(buffers: &mut Buffers, asked: Asked, length: u32) -> Result<Vec<u8>, Memory>
     ensures { IfOk result (λ bytes. bytes.items ≡ []) }
 {
-    let Asked::Write { .. } = asked else {
-        return Ok(Vec::new(alloc));
-    };
-    let Ok(bytes) = Vec::with_capacity(alloc, length as usize) else {
-        return Err(Memory);
-    };
-    Ok(bytes)
+    match asked {
+        Asked::Write { .. } => buffers.next(length as usize),
+        _ => Ok(buffers.none()),
+    }
 }
 
 /// How many bytes stand behind the head of a request.

@@ -8,10 +8,9 @@ ghost use Rattle.nbd_pieces.specs.Piece.{Asks, IsFor, StopsPiece, TakesPiece};
 
 use crate::PieceEnd;
 use device::Device;
-use nbd_flight::{Flight, Stop, ask, until};
+use nbd_flight::{Buffers, Flight, Stop, ask, until};
 use nbd_incoming::{Incoming, Taken};
 use sector_disk::Disk;
-use std::alloc::Global;
 use stream_io::Sink;
 
 /// How many requests may be in flight where more is taken: one fewer than a device takes.
@@ -28,9 +27,9 @@ const MOST_WAITING: usize = 15;
 /// - `Disk`: the disk failed. The device is broken then.
 /// - `Sink`: the sink failed.
 pub fn serve_piece<'d, 'p, D: Disk, O: Sink>(
-    alloc: Global,
     device: &mut Device<'d, 'p, D>,
     flight: &mut Flight,
+    buffers: &mut Buffers,
     incoming: &mut Incoming,
     piece: &[u8],
     sink: &mut O,
@@ -56,8 +55,8 @@ pub fn serve_piece<'d, 'p, D: Disk, O: Sink>(
     ensures identity { D.identity device.new.disk.now ≡ D.identity device.old.disk.now }
     ensures same_disk { device.new.disk.ghost_name ≡ device.old.disk.ghost_name }
 {
-    let end = take_piece(alloc, device, flight, incoming, piece, sink)?;
-    until(device, flight, sink, 0)?;
+    let end = take_piece(device, flight, buffers, incoming, piece, sink)?;
+    until(device, flight, buffers, sink, 0)?;
     Ok(end)
 }
 
@@ -68,9 +67,9 @@ pub fn serve_piece<'d, 'p, D: Disk, O: Sink>(
 ///
 /// As `serve_piece`.
 fn take_piece<'d, 'p, D: Disk, O: Sink>(
-    alloc: Global,
     device: &mut Device<'d, 'p, D>,
     flight: &mut Flight,
+    buffers: &mut Buffers,
     incoming: &mut Incoming,
     piece: &[u8],
     sink: &mut O,
@@ -98,13 +97,13 @@ fn take_piece<'d, 'p, D: Disk, O: Sink>(
 {
     let mut at = 0;
     while at < piece.len() {
-        until(device, flight, sink, MOST_WAITING)?;
-        let Ok((count, taken)) = incoming.take(alloc, &piece[at..]) else {
+        until(device, flight, buffers, sink, MOST_WAITING)?;
+        let Ok((count, taken)) = incoming.take(buffers, &piece[at..]) else {
             return Err(Stop::Memory);
         };
         match taken {
             Taken::Part => {}
-            Taken::Whole(whole) => ask(alloc, device, flight, sink, whole)?,
+            Taken::Whole(whole) => ask(device, flight, buffers, sink, whole)?,
             Taken::Disconnected => return Ok(Some(PieceEnd::Disconnected)),
             Taken::Wrong { magic } => return Ok(Some(PieceEnd::Wrong { magic })),
         }

@@ -37,6 +37,7 @@ use Rattle.nbd_pieces.proofs.PieceLemmas.{IsAlong, along_then, here-is}
 use Rattle.nbd_pieces.proofs.SettledLemmas.{until-none}
 use Rattle.nbd_session.specs.Serving.{HasServed, end_in_piece, ending_told, fault_of}
 use Rattle.nbd_session.specs.Session.{Course, HasLostSource, HasStoppedIn, HasStoppedSo, IsNew, deeds_over, ending_of}
+use Rattle.nbd_session.proofs.CutLemmas.{take-front}
 use Rattle.nbd_session.proofs.CourseLemmas.{AreSmall, course, left_more, left_none, rest_in, singles, small-append, small-none, small-one, unread, whole-append, whole_of}
 
 -- What ends the requests in a piece ends the stream so.
@@ -237,28 +238,31 @@ module _ (w : Standing) (left left_now : Option (List ℕ)) (room : ℕ) (incomi
       take-none [] = refl
       take-none (x ∷ xs) = refl
 
+  -- What is done so far, and that nothing ends the requests in that.
+  pub deeds_so_far : deeds_over w on.pieces ≡ on.part.deeds
+  deeds_so_far =
+      deeds-groups w on.pieces
+      ∙ ap (λ (l : List (List ℕ)). (take_pieces f (opened_session w.state) (groups_of l)).deeds) (sym (append-nil on.pieces)) ∙ none_more [] refl
+
+  pub unended_so_far : (requests_of (whole_of on.pieces)).ending ≡ streams.Ended
+  unended_so_far =
+      ending_law (whole_of on.pieces) on.pieces (sym (take_all most_stream (whole_of on.pieces) few))
+      ∙ ap (λ (b : Bool). end_of b (ending_of_all on.pieces)) (le-ltb most_stream (length (whole_of on.pieces)) few)
+      ∙ ap (end_of false) (ap ending_of_all (sym (append-nil on.pieces)) ∙ on.ends [])
+
   -- The source failed.
   pub stream_lost : HasLostSource w left old (record { moments = mid.moments; held = mid.held })
   stream_lost =
       let own = course left left_now on.pieces room [] on.small on.size on.is_left in
       let count = length on.pieces in
       let read : take count own.pieces ≡ on.pieces = take-front on.pieces (unread left left_now on.pieces room [] on.small on.size on.is_left) in
-      let all : deeds_over w (take count own.pieces) ≡ on.part.deeds =
-      ap (deeds_over w) read ∙ deeds-groups w on.pieces ∙ ap (λ (l : List (List ℕ)). (take_pieces f (opened_session w.state) (groups_of l)).deeds) (sym (append-nil on.pieces)) ∙ none_more [] refl in
+      let all : deeds_over w (take count own.pieces) ≡ on.part.deeds = ap (deeds_over w) read ∙ deeds_so_far in
       record {
         course = own;
         count = count;
         served = record { parts = mid.parts; done = subst (λ (l : List Deed). HasDone w l old mid) (sym all) on.along.made.done };
-        unended = ap (λ (l : List (List ℕ)). (requests_of (whole_of l)).ending) read
-            ∙ ending_law (whole_of on.pieces) on.pieces (sym (take_all most_stream (whole_of on.pieces) few))
-            ∙ ap (λ (b : Bool). end_of b (ending_of_all on.pieces)) (le-ltb most_stream (length (whole_of on.pieces)) few)
-            ∙ ap (end_of false) (ap ending_of_all (sym (append-nil on.pieces)) ∙ on.ends []);
+        unended = ap (λ (l : List (List ℕ)). (requests_of (whole_of l)).ending) read ∙ unended_so_far;
       }
-    where
-      take-front : (a b : List (List ℕ)) → take (length a) (a ++ b) ≡ a
-      take-front [] [] = refl
-      take-front [] (y ∷ b) = refl
-      take-front (y ∷ a) b = ap (λ (l : List (List ℕ)). y ∷ l) (take-front a b)
 
   -- ---- one piece
 

@@ -1,2 +1,3 @@
 pub mod Serving
 pub mod Session
+pub mod Ending

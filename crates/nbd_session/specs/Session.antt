@@ -1,7 +1,7 @@
 -- What a session does on each device that had just been opened, and how far it came where something ended it.
 -- Own.
-use Rattle.std.specs.Prelude.{◌≡◌, ◌≢◌, ◌⊎◌, ℕ, ◌≤◌, Bool, List, [], length, take, flat_map, Option, Result, Err, All, IfErr, IfOk}
-use Rattle.std.specs.Option.{ForSome}
+use Rattle.std.specs.Prelude.{◌≡◌, ◌≢◌, ◌⊎◌, ℕ, suc, ◌+◌, ◌≤◌, Bool, List, [], ◌∷◌, ◌++◌, length, take, flat_map, Option, Result, Err, All, IfErr, IfOk}
+use Rattle.std.specs.Option.{ForSome, option_map}
 use Rattle.disk_model.specs.Causes.{Rose}
 use Rattle.disk_model.specs.Disk.{Content}
 use Rattle.image_model.specs.Cells.{Cell}
@@ -9,15 +9,18 @@ use Rattle.device_model.specs.Progress.{Close, DiskFailed, FailedClose, IsClosed
 use Rattle.device_parts.specs.declared.condition.Condition.TheVariants.{Working}
 use Rattle.device_parts.specs.Device.{HasEnded, Standing}
 use Rattle.device.specs.declared.mode.DeviceParts.{DeviceParts}
+use Rattle.device.specs.Answers.{IsAtRest}
 use Rattle.device.specs.Device.{IsDevice, any_mode}
+use Rattle.device.specs.Tags.{LeavesIn}
+use Rattle.stream_io.specs.Stream.{TakesAtMost}
 use Rattle.nbd_model.specs.Stream as streams
 use Rattle.nbd_model.specs.Stream.{most_stream, requests_of}
 use Rattle.nbd_model.specs.Session.{Deed, ending_in, most_piece, opened_session, take_pieces}
-use Rattle.nbd_model.specs.Deeds.{tells_eio}
+use Rattle.nbd_model.specs.Deeds.{tells_eio, text_in}
 use Rattle.nbd_command.specs.ServedRun.{IsClosing}
 use Rattle.nbd_flight.specs.declared.stop.Stop.{Stop}
 use Rattle.nbd_flight.specs.declared.stop.Stop.TheVariants as stops
-use Rattle.nbd_flight.specs.Deeds.{HasDone, HasStopped, Scene, behind}
+use Rattle.nbd_flight.specs.Deeds.{HasDone, HasStopped, Scene, behind, held_with}
 use Rattle.nbd_session.specs.declared.ended.Ended.{Ended}
 use Rattle.nbd_session.specs.declared.ended.Ended.TheVariants.{Closed, Wrong, Long}
 use Rattle.nbd_session.specs.declared.ended.SessionFault.{SessionFault}
@@ -58,6 +61,29 @@ outside_of moments held disk sink = record { moments = moments disk; held = held
 abbrev pub scene_at : DeviceParts → Outside → Scene
 scene_at parts out = record { parts = parts; moments = out.moments; held = out.held }
 
+-- ---- what is read
+
+-- So many bytes of a stream are read at most: those within its bound, and one piece.
+abbrev pub most_read : ℕ
+most_read = most_stream + most_piece
+
+abbrev pub joined : List (List ℕ) → List ℕ
+joined pieces = flat_map (λ piece. piece) pieces
+
+-- These pieces of the stream are read. All that is asked in those before the last one is replied to, and nothing in them ends the
+-- requests; so it is in all of them where the source failed, which is read only then.
+pub record HasReadPieces (w : Standing) (left later : Option (List ℕ)) (failed : Type 0) (held_before held : Option (List ℕ)) : Type 0 where
+  pub pieces : List (List ℕ)
+  pub small : All (λ piece. length piece ≤ most_piece) pieces
+  pub read : left ≡ option_map (λ rest. joined pieces ++ rest) later
+  pub done : ℕ
+  pub but_one : length pieces ≤ suc done
+  pub more : List ℕ
+  pub told : held ≡ held_with (text_in (deeds_over w (take done pieces)) ++ more) held_before
+  pub within : length (joined (take done pieces)) ≤ most_stream
+  pub unended : (requests_of (joined (take done pieces))).ending ≡ streams.Ended
+  pub asked : failed → length pieces ≤ done
+
 -- ---- it came to its end
 
 -- All its deeds are done.
@@ -65,13 +91,15 @@ pub record HasServedAll (w : Standing) (pieces : List (List ℕ)) (old : Scene) 
   pub parts : DeviceParts
   pub done : HasDone w (deeds_over w pieces) old (scene_at parts new)
 
--- And the device was closed, or was not.
+-- And the device was closed, so that each image is as its mode has it; or it was not.
 pub record HasClosed (w : Standing) (left : Option (List ℕ)) (eio : Bool) (old : Scene) (new : Outside) : Type 0 where
   pub course : Course left
   pub closes : IsClosing (ending_of course)
   pub between : List Content
   pub served : HasServedAll w course.pieces old (record { moments = between; held = new.held })
   pub closed : HasEnded any_mode (behind w (deeds_over w course.pieces)) Close IsClosed between new.moments
+  pub leaves : LeavesIn (behind w (deeds_over w course.pieces)) (Close ∷ []) between new.moments
+  pub rests : IsAtRest served.parts.mode (behind w (deeds_over w course.pieces)) new.moments
   pub damage : eio ≡ tells_eio (deeds_over w course.pieces)
 
 pub record HasRefused (w : Standing) (left : Option (List ℕ)) (ending : streams.StreamEnd) (old : Scene) (new : Outside) : Type 0 where
@@ -99,6 +127,7 @@ pub record HasFailedClose (w : Standing) (left : Option (List ℕ)) (old : Scene
   pub between : List Content
   pub served : HasServedAll w course.pieces old (record { moments = between; held = new.held })
   pub failed : HasEnded any_mode (behind w (deeds_over w course.pieces)) FailedClose DiskFailed between new.moments
+  pub leaves : LeavesIn (behind w (deeds_over w course.pieces)) (Close ∷ []) between new.moments
 
 -- The source failed, which is read only between two pieces: all that is asked in those before is replied to, and nothing in them ends
 -- the requests.
@@ -124,6 +153,15 @@ ServesSession result left old new = IfOk result (λ ended. ForNew old (λ w. Has
 
 abbrev pub StopsSession : {T : Type 0} → Result T SessionFault → (left : Option (List ℕ)) → Scene → Outside → Type 0
 StopsSession result left old new = IfErr result (λ fault. ForNew old (λ w. HasStoppedSo w left fault old new))
+
+-- So much of the stream is read: no more than its bound and a piece, and one piece behind those that are replied to.
+pub record ReadsStream (left later : Option (List ℕ)) (failed : Type 0) (old : Scene) (held : Option (List ℕ)) : Type 0 where
+  pub most : TakesAtMost most_read left later
+  pub pieces : ForNew old (λ w. HasReadPieces w left later failed old.held held)
+
+-- A close of a device that works writes what its mode does, and leaves these tags.
+abbrev pub LeavesClosed : DeviceParts → (before after : List Content) → Type 0
+LeavesClosed parts before after = (w : Standing) → IsDevice w Working parts before → LeavesIn w (Close ∷ []) before after
 
 -- The counts of faults never fall; what is outside ends a session only where its count rose, and else that is as it was.
 pub record HasSessionCauses {T : Type 0} (disk disk_now source source_now sink sink_now : ℕ) (result : Result T SessionFault)

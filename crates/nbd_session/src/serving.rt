@@ -1,18 +1,19 @@
 //! The session: pieces of the source, one after the other.
-ghost use Rattle.std.specs.Prelude.{◌≡◌, [], IfErr, IfOk, OnOk, length};
+ghost use Rattle.std.specs.Prelude.{◌≡◌, ◌<◌, [], IfErr, IfOk, OnOk, length};
 ghost use Rattle.disk_model.specs.Causes.{HasCause};
-ghost use Rattle.device.specs.Calls.{Works};
+ghost use Rattle.device.specs.Calls.{LeavesAtRest, Works};
 ghost use Rattle.device.specs.Device.{any_mode};
 ghost use Rattle.device_parts.specs.Device.{Ends};
+ghost use Rattle.device_parts.specs.declared.condition.Condition.TheVariants.{Working};
 ghost use Rattle.nbd_model.specs.Session.{most_piece};
 ghost use Rattle.nbd_flight.specs.Deeds.{scene_of};
 ghost use Rattle.nbd_session.specs.Serving.{IsFirst, ServesStream, end_in_piece};
-ghost use Rattle.nbd_session.specs.Session.{HasSessionCauses, ServesSession, StopsSession, outside_of};
+ghost use Rattle.nbd_session.specs.Session.{HasSessionCauses, LeavesClosed, ReadsStream, ServesSession, StopsSession, outside_of};
 
 use crate::ended::fault_of_stop;
 use crate::{Ended, SessionFault};
 use device::Device;
-use nbd_flight::Flight;
+use nbd_flight::{Buffers, Flight};
 use nbd_incoming::Incoming;
 use nbd_pieces::{PieceEnd, serve_piece};
 use sector_disk::{Disk, Memory};
@@ -72,6 +73,9 @@ pub fn session<'d, 'p, D: Disk, S: Source, O: Sink>(
     ensures cause { HasSessionCauses (D.faults device.entry.disk.now) (D.faults result.1.now)
         (S.faults source.old) (S.faults source.new) (O.faults sink.old) (O.faults sink.new) result.0 }
 
+    ensures read { ReadsStream (S.left source.old) (S.left source.new)
+        (S.faults source.old < S.faults source.new)
+        (scene_of D.moments O.held device.entry.parts device.entry.disk.now sink.old) (O.held sink.new) }
     ensures identity { D.identity result.1.now ≡ D.identity device.entry.disk.now }
     ensures same_disk { result.1.ghost_name ≡ device.entry.disk.ghost_name }
 {
@@ -103,9 +107,14 @@ fn close<'d, 'p, D: Disk>(
     ensures ends { Ends any_mode device.entry.parts
         (D.moments device.entry.disk.now) (D.moments result.1.now) result.0 }
 
+    ensures rests { LeavesAtRest result.0 Working device.entry.parts
+        (D.moments device.entry.disk.now) (D.moments result.1.now) }
+
     ensures failed { IfErr result.0 (λ fault. fault ≡ SessionFault.Disk) }
     ensures cause { HasCause (D.faults device.entry.disk.now) (D.faults result.1.now) result.0 }
 
+    ensures leaves { LeavesClosed device.entry.parts
+        (D.moments device.entry.disk.now) (D.moments result.1.now) }
     ensures identity { D.identity result.1.now ≡ D.identity device.entry.disk.now }
     ensures same_disk { result.1.ghost_name ≡ device.entry.disk.ghost_name }
 {
@@ -144,21 +153,24 @@ fn serve_stream<'d, 'p, D: Disk, S: Source, O: Sink>(
     ensures cause { HasSessionCauses (D.faults device.old.disk.now) (D.faults device.new.disk.now)
         (S.faults source.old) (S.faults source.new) (O.faults sink.old) (O.faults sink.new) result }
 
+    ensures read { ReadsStream (S.left source.old) (S.left source.new)
+        (S.faults source.old < S.faults source.new)
+        (scene_of D.moments O.held device.old.parts device.old.disk.now sink.old) (O.held sink.new) }
     ensures identity { D.identity device.new.disk.now ≡ D.identity device.old.disk.now }
     ensures same_disk { device.new.disk.ghost_name ≡ device.old.disk.ghost_name }
 {
-    let Ok(mut buffer) = room_for(alloc, MOST_PIECE) else {
-        return Err(SessionFault::Memory);
-    };
     let blocks = device.blocks();
     let block_size = device.block_size();
+    let Ok(mut room) = Room::new(alloc, block_size) else {
+        return Err(SessionFault::Memory);
+    };
     let mut incoming = Incoming::new(blocks, block_size as u64);
     serve_pieces(
-        alloc,
         device,
         flight,
+        &mut room.buffers,
         &mut incoming,
-        buffer.as_mut_slice(),
+        room.piece.as_mut_slice(),
         source,
         sink,
     )
@@ -172,9 +184,9 @@ fn serve_stream<'d, 'p, D: Disk, S: Source, O: Sink>(
 /// - `Memory`: there is none for a request.
 /// - `Disk`, `Source`, `Sink`: as `session`.
 fn serve_pieces<'d, 'p, D: Disk, S: Source, O: Sink>(
-    alloc: Global,
     device: &mut Device<'d, 'p, D>,
     flight: &mut Flight,
+    buffers: &mut Buffers,
     incoming: &mut Incoming,
     buffer: &mut [u8],
     source: &mut S,
@@ -198,6 +210,9 @@ fn serve_pieces<'d, 'p, D: Disk, S: Source, O: Sink>(
     ensures cause { HasSessionCauses (D.faults device.old.disk.now) (D.faults device.new.disk.now)
         (S.faults source.old) (S.faults source.new) (O.faults sink.old) (O.faults sink.new) result }
 
+    ensures read { ReadsStream (S.left source.old) (S.left source.new)
+        (S.faults source.old < S.faults source.new)
+        (scene_of D.moments O.held device.old.parts device.old.disk.now sink.old) (O.held sink.new) }
     ensures identity { D.identity device.new.disk.now ≡ D.identity device.old.disk.now }
     ensures same_disk { device.new.disk.ghost_name ≡ device.old.disk.ghost_name }
 {
@@ -211,7 +226,7 @@ fn serve_pieces<'d, 'p, D: Disk, S: Source, O: Sink>(
             return Ok(StreamEnd::Ended);
         }
         let within = count.min(left as usize);
-        match serve_piece(alloc, device, flight, incoming, &buffer[..within], sink) {
+        match serve_piece(device, flight, buffers, incoming, &buffer[..within], sink) {
             Ok(Some(end)) => return Ok(end_of_piece(end)),
             Ok(None) => {}
             Err(stop) => return Err(fault_of_stop(stop)),
@@ -223,18 +238,28 @@ fn serve_pieces<'d, 'p, D: Disk, S: Source, O: Sink>(
     }
 }
 
-/// Room for so many bytes.
-///
-/// # Errors
-///
-/// - `Memory`: there is none for them.
-fn room_for(alloc: Global, size: usize) -> Result<Vec<u8>, Memory>
-    ensures { IfOk result (λ bytes. length bytes.items ≡ size) }
-{
-    let Ok(bytes) = Vec::from_elem(alloc, 0, size) else {
-        return Err(Memory);
-    };
-    Ok(bytes)
+/// The memory of a session: room for a piece of the stream, and the buffers of requests.
+#[derive(Drop)]
+struct Room {
+    piece: Vec<u8>,
+    buffers: Buffers,
+}
+
+impl Room {
+    /// That for blocks of so many bytes.
+    ///
+    /// # Errors
+    ///
+    /// - `Memory`: there is none.
+    fn new(alloc: Global, block_size: usize) -> Result<Room, Memory>
+        ensures { IfOk result (λ room. length room.piece.items ≡ most_piece) }
+    {
+        let Ok(piece) = Vec::from_elem(alloc, 0, MOST_PIECE) else {
+            return Err(Memory);
+        };
+        let buffers = Buffers::new(alloc, block_size)?;
+        Ok(Room { piece, buffers })
+    }
 }
 
 /// What ends the requests of a stream, where it stands in one of its pieces.

@@ -274,6 +274,40 @@ fn forty_requests_in_one_piece_are_served(rt: HostRuntime) -> Result<(), Fail> {
     Ok(())
 }
 
+/// There are far more requests than buffers, of two sizes, and each stands on the blocks of the one before: so replies
+/// come in order however the stream is cut, and a read that showed bytes of another request would be seen.
+#[test]
+fn buffers_come_back_and_show_nothing_of_what_they_held(rt: HostRuntime) -> Result<(), Fail> {
+    let mut stream = Vec::new(rt.alloc());
+    let mut wanted = Vec::new(rt.alloc());
+    for cookie in 0..40 {
+        stream.extend_from_slice(&request(1, cookie, 512, 2048))?;
+        stream.extend_from_slice(&[cookie; 2048])?;
+        wanted.extend_from_slice(&reply(0, cookie))?;
+        stream.extend_from_slice(&request(0, cookie + 100, 1024, 512))?;
+        wanted.extend_from_slice(&reply(0, cookie + 100))?;
+        wanted.extend_from_slice(&[cookie; 512])?;
+        stream.extend_from_slice(&request(1, cookie + 200, 2048, 512))?;
+        stream.extend_from_slice(&[cookie + 200; 512])?;
+        wanted.extend_from_slice(&reply(0, cookie + 200))?;
+        stream.extend_from_slice(&request(0, cookie + 50, 1536, 1536))?;
+        wanted.extend_from_slice(&reply(0, cookie + 50))?;
+        wanted.extend_from_slice(&[cookie; 512])?;
+        wanted.extend_from_slice(&[cookie + 200; 512])?;
+        wanted.extend_from_slice(&[0; 512])?;
+    }
+    for most in [65_536, 700] {
+        let mut disk = new_disk(rt.alloc(), Wipe::Wiped)?;
+        let mut out = MemSink::new(rt.alloc(), 100_000)?;
+        assert_eq!(rt;
+            told(rt.alloc(), &mut disk, &stream, most, &mut out),
+            CLOSED
+        );
+        assert_eq!(rt; out.bytes(), wanted.as_slice(), "pieces of {most}");
+    }
+    Ok(())
+}
+
 /// Each call of the sink fails in turn.
 #[test]
 fn a_sink_that_fails_ends_the_session(rt: HostRuntime) -> Result<(), Fail> {

@@ -16,8 +16,9 @@ use Rattle.integrity_tool.specs.Outset.{outset_at}
 use Rattle.integrity_tool.specs.Running.{HasEndCause, IsCounted, ending_by}
 use Rattle.integrity_tool.specs.Ends.{IsBeforeScript}
 use Rattle.integrity_tool.proofs.ClosedLemmas.{ok_holds}
+use Rattle.integrity_tool.proofs.StartLemmas.{IsFine, fine_check, fine_dump, fine_exercise, fine_format, fine_on, fine_resize, fine_salvage}
 use Rattle.integrity_tool.proofs.TakenLemmas.{none_taken}
-use Rattle.integrity_tool.proofs.TaskLemmas.{cause_found, causes_wider, counted_found, ending_found, ends_found, ends_wider, read_no_script, uncounted, whatever_ended}
+use Rattle.integrity_tool.proofs.TaskLemmas.{cause_found, causes_wider, counted_found, ending_found, ends_found, ends_wider, read_no_script, runs_told, uncounted, whatever_ended}
 use Rattle.integrity_tool.proofs.carrying_out.carry_out.Goals as goal
 
 pub returns-in-Run-clause-runs : goal.returns-in-Run-clause-runs
@@ -27,8 +28,10 @@ returns-in-Run-clause-runs g c left told start told_start =
     let before = g.D.Disk.moments c.args.disk.now in
     let after = g.D.Disk.moments c.run_image.new.disk in
     let runs = c.run_image.ensures.runs left told start told_start in
-    subst (λ (t : Task). HasRunOn (outset_at t key sectors (last_image start)) start left (ending_by c.run_image.result) after (g.O.Sink.held c.args.out.now) (g.O.Sink.held c.run_image.new.out)
-    × HasMomentsAt t key sectors start left before after) (sym c.in-Run.is) (runs.0, record { each = runs.1; order = runs.2 })
+    runs_told c.args.task c.args.telling.now key sectors start left (ending_by c.run_image.result) before after (g.O.Sink.held c.args.out.now) (g.O.Sink.held c.run_image.new.out) c.requires.lines
+    (subst (λ (t : Task). IsFine (outset_at t key sectors (last_image start))) (sym c.in-Run.is) (fine_on c.in-Run.mode key sectors (last_image start)))
+    (subst (λ (t : Task). HasRunOn (outset_at t key sectors (last_image start)) start left (ending_by c.run_image.result) after (g.O.Sink.held c.args.out.now) (g.O.Sink.held c.run_image.new.out)
+    × HasMomentsAt t key sectors start left before after) (sym c.in-Run.is) (runs.0, record { each = runs.1; order = runs.2 }))
 
 pub returns-in-Run-clause-closed : goal.returns-in-Run-clause-closed
 returns-in-Run-clause-closed g c = rw c.in-Run.is c.run_image.ensures.closed
@@ -45,12 +48,14 @@ returns-in-Dump-clause-runs g c left told start told_start =
     let sectors = (g.D.Disk.identity c.args.disk.now).sectors in
     let before = g.D.Disk.moments c.args.disk.now in
     let after = g.D.Disk.moments c.print_image.new.disk in
-    subst (λ (t : Task). HasRunOn (outset_at t key sectors (last_image start)) start left (ending_by c.done.result) after (g.O.Sink.held c.args.out.now) (g.O.Sink.held c.print_image.new.out)
+    runs_told c.args.task c.args.telling.now key sectors start left (ending_by c.done.result) before after (g.O.Sink.held c.args.out.now) (g.O.Sink.held c.print_image.new.out) c.requires.lines
+    (subst (λ (t : Task). IsFine (outset_at t key sectors (last_image start))) (sym c.in-Dump.is) (fine_dump sectors (last_image start)))
+    (subst (λ (t : Task). HasRunOn (outset_at t key sectors (last_image start)) start left (ending_by c.done.result) after (g.O.Sink.held c.args.out.now) (g.O.Sink.held c.print_image.new.out)
     × HasMomentsAt t key sectors start left before after) (sym c.in-Dump.is) (
       subst (λ (e : Ending). HasRunOn (outset_at Tasks.Dump key sectors (last_image start)) start left e after (g.O.Sink.held c.args.out.now) (g.O.Sink.held c.print_image.new.out))
           (sym (ap ending_by c.done.ensures ∙ ending_found c.print_image.result)) (c.print_image.ensures.runs left start told_start),
       record { each = EachMoment-kept (IsMomentAt Tasks.Dump key sectors start left) c.print_image.ensures.kept; order = c.print_image.ensures.kept },
-    )
+    ))
 
 pub returns-in-Dump-clause-closed : goal.returns-in-Dump-clause-closed
 returns-in-Dump-clause-closed g c = rw c.in-Dump.is (ok_holds _ (λ bytes told start told_start later told_later. tt) c.done.result)
@@ -84,7 +89,7 @@ returns-in-Dump-clause-unread g c =
     })
 
 pub returns-in-Dump-clause-taken : goal.returns-in-Dump-clause-taken
-returns-in-Dump-clause-taken g c = none_taken _ _ refl
+returns-in-Dump-clause-taken g c = none_taken _ _ _ refl
 
 pub returns-in-Dump-clause-ahead : goal.returns-in-Dump-clause-ahead
 returns-in-Dump-clause-ahead g c left told start told_start =
@@ -93,7 +98,7 @@ returns-in-Dump-clause-ahead g c left told start told_start =
     subst (λ (t : Task). HasReadIn (outset_at t key sectors (last_image start)) left (g.S.Source.left c.args.script.now) (g.O.Sink.held c.args.out.now) (g.O.Sink.held c.print_image.new.out)
     (g.S.Counted.faults c.args.script.now < g.S.Counted.faults c.args.script.now))
     (sym c.in-Dump.is)
-    (read_no_script (outset_at Tasks.Dump key sectors (last_image start)) start left _ _ _ _ _ told (c.print_image.ensures.runs left start told_start))
+    (read_no_script (outset_at Tasks.Dump key sectors (last_image start)) start left _ _ _ _ _ _ told (c.print_image.ensures.runs left start told_start))
 
 pub returns-in-Check-clause-runs : goal.returns-in-Check-clause-runs
 returns-in-Check-clause-runs g c left told start told_start =
@@ -102,11 +107,13 @@ returns-in-Check-clause-runs g c left told start told_start =
     let before = g.D.Disk.moments c.args.disk.now in
     let after = g.D.Disk.moments c.print_check.new.disk in
     let what = c.in-Check.what in
-    subst (λ (t : Task). HasRunOn (outset_at t key sectors (last_image start)) start left (ending_by c.print_check.result) after (g.O.Sink.held c.args.out.now) (g.O.Sink.held c.print_check.new.out)
+    runs_told c.args.task c.args.telling.now key sectors start left (ending_by c.print_check.result) before after (g.O.Sink.held c.args.out.now) (g.O.Sink.held c.print_check.new.out) c.requires.lines
+    (subst (λ (t : Task). IsFine (outset_at t key sectors (last_image start))) (sym c.in-Check.is) (fine_check c.in-Check.what key sectors (last_image start)))
+    (subst (λ (t : Task). HasRunOn (outset_at t key sectors (last_image start)) start left (ending_by c.print_check.result) after (g.O.Sink.held c.args.out.now) (g.O.Sink.held c.print_check.new.out)
     × HasMomentsAt t key sectors start left before after) (sym c.in-Check.is) (
       c.print_check.ensures.runs left start told_start,
       record { each = EachMoment-kept (IsMomentAt (Tasks.Check what) key sectors start left) c.print_check.ensures.kept; order = c.print_check.ensures.kept },
-    )
+    ))
 
 pub returns-in-Check-clause-closed : goal.returns-in-Check-clause-closed
 returns-in-Check-clause-closed g c = rw c.in-Check.is (ok_holds _ (λ bytes told start told_start later told_later. tt) c.print_check.result)
@@ -130,7 +137,7 @@ returns-in-Check-clause-unread g c =
     })
 
 pub returns-in-Check-clause-taken : goal.returns-in-Check-clause-taken
-returns-in-Check-clause-taken g c = none_taken _ _ refl
+returns-in-Check-clause-taken g c = none_taken _ _ _ refl
 
 pub returns-in-Check-clause-ahead : goal.returns-in-Check-clause-ahead
 returns-in-Check-clause-ahead g c left told start told_start =
@@ -139,7 +146,7 @@ returns-in-Check-clause-ahead g c left told start told_start =
     subst (λ (t : Task). HasReadIn (outset_at t key sectors (last_image start)) left (g.S.Source.left c.args.script.now) (g.O.Sink.held c.args.out.now) (g.O.Sink.held c.print_check.new.out)
     (g.S.Counted.faults c.args.script.now < g.S.Counted.faults c.args.script.now))
     (sym c.in-Check.is)
-    (read_no_script (outset_at (Tasks.Check c.in-Check.what) key sectors (last_image start)) start left _ _ _ _ _ told (c.print_check.ensures.runs left start told_start))
+    (read_no_script (outset_at (Tasks.Check c.in-Check.what) key sectors (last_image start)) start left _ _ _ _ _ _ told (c.print_check.ensures.runs left start told_start))
 
 pub returns-in-Salvage-clause-runs : goal.returns-in-Salvage-clause-runs
 returns-in-Salvage-clause-runs g c left told start told_start =
@@ -147,11 +154,13 @@ returns-in-Salvage-clause-runs g c left told start told_start =
     let sectors = (g.D.Disk.identity c.args.disk.now).sectors in
     let before = g.D.Disk.moments c.args.disk.now in
     let after = g.D.Disk.moments c.print_salvage.new.disk in
-    subst (λ (t : Task). HasRunOn (outset_at t key sectors (last_image start)) start left (ending_by c.print_salvage.result) after (g.O.Sink.held c.args.out.now) (g.O.Sink.held c.print_salvage.new.out)
+    runs_told c.args.task c.args.telling.now key sectors start left (ending_by c.print_salvage.result) before after (g.O.Sink.held c.args.out.now) (g.O.Sink.held c.print_salvage.new.out) c.requires.lines
+    (subst (λ (t : Task). IsFine (outset_at t key sectors (last_image start))) (sym c.in-Salvage.is) (fine_salvage key sectors (last_image start)))
+    (subst (λ (t : Task). HasRunOn (outset_at t key sectors (last_image start)) start left (ending_by c.print_salvage.result) after (g.O.Sink.held c.args.out.now) (g.O.Sink.held c.print_salvage.new.out)
     × HasMomentsAt t key sectors start left before after) (sym c.in-Salvage.is) (
       c.print_salvage.ensures.runs left start told_start,
       record { each = EachMoment-kept (IsMomentAt Tasks.Salvage key sectors start left) c.print_salvage.ensures.kept; order = c.print_salvage.ensures.kept },
-    )
+    ))
 
 pub returns-in-Salvage-clause-closed : goal.returns-in-Salvage-clause-closed
 returns-in-Salvage-clause-closed g c = rw c.in-Salvage.is (ok_holds _ (λ bytes told start told_start later told_later. tt) c.print_salvage.result)
@@ -175,7 +184,7 @@ returns-in-Salvage-clause-unread g c =
     })
 
 pub returns-in-Salvage-clause-taken : goal.returns-in-Salvage-clause-taken
-returns-in-Salvage-clause-taken g c = none_taken _ _ refl
+returns-in-Salvage-clause-taken g c = none_taken _ _ _ refl
 
 pub returns-in-Salvage-clause-ahead : goal.returns-in-Salvage-clause-ahead
 returns-in-Salvage-clause-ahead g c left told start told_start =
@@ -184,7 +193,7 @@ returns-in-Salvage-clause-ahead g c left told start told_start =
     subst (λ (t : Task). HasReadIn (outset_at t key sectors (last_image start)) left (g.S.Source.left c.args.script.now) (g.O.Sink.held c.args.out.now) (g.O.Sink.held c.print_salvage.new.out)
     (g.S.Counted.faults c.args.script.now < g.S.Counted.faults c.args.script.now))
     (sym c.in-Salvage.is)
-    (read_no_script (outset_at Tasks.Salvage key sectors (last_image start)) start left _ _ _ _ _ told (c.print_salvage.ensures.runs left start told_start))
+    (read_no_script (outset_at Tasks.Salvage key sectors (last_image start)) start left _ _ _ _ _ _ told (c.print_salvage.ensures.runs left start told_start))
 
 pub returns-in-Resize-clause-runs : goal.returns-in-Resize-clause-runs
 returns-in-Resize-clause-runs g c left told start told_start =
@@ -192,12 +201,14 @@ returns-in-Resize-clause-runs g c left told start told_start =
     let sectors = (g.D.Disk.identity c.args.disk.now).sectors in
     let before = g.D.Disk.moments c.args.disk.now in
     let after = g.D.Disk.moments c.resize_image.new.disk in
-    subst (λ (t : Task). HasRunOn (outset_at t key sectors (last_image start)) start left (ending_by c.done-in-Resize.result) after (g.O.Sink.held c.args.out.now) (g.O.Sink.held c.resize_image.new.out)
+    runs_told c.args.task c.args.telling.now key sectors start left (ending_by c.done-in-Resize.result) before after (g.O.Sink.held c.args.out.now) (g.O.Sink.held c.resize_image.new.out) c.requires.lines
+    (subst (λ (t : Task). IsFine (outset_at t key sectors (last_image start))) (sym c.in-Resize.is) (fine_resize key sectors (last_image start)))
+    (subst (λ (t : Task). HasRunOn (outset_at t key sectors (last_image start)) start left (ending_by c.done-in-Resize.result) after (g.O.Sink.held c.args.out.now) (g.O.Sink.held c.resize_image.new.out)
     × HasMomentsAt t key sectors start left before after) (sym c.in-Resize.is) (
       subst (λ (e : Ending). HasRunOn (outset_at Tasks.Resize key sectors (last_image start)) start left e after (g.O.Sink.held c.args.out.now) (g.O.Sink.held c.resize_image.new.out))
           (sym (ap ending_by c.done-in-Resize.ensures ∙ ending_found c.resize_image.result)) (c.resize_image.ensures.runs left start told_start),
       c.resize_image.ensures.moments left start told_start,
-    )
+    ))
 
 pub returns-in-Resize-clause-closed : goal.returns-in-Resize-clause-closed
 returns-in-Resize-clause-closed g c = rw c.in-Resize.is (ok_holds _ (λ bytes told start told_start later told_later. tt) c.done-in-Resize.result)
@@ -231,7 +242,7 @@ returns-in-Resize-clause-unread g c =
     })
 
 pub returns-in-Resize-clause-taken : goal.returns-in-Resize-clause-taken
-returns-in-Resize-clause-taken g c = none_taken _ _ refl
+returns-in-Resize-clause-taken g c = none_taken _ _ _ refl
 
 pub returns-in-Resize-clause-ahead : goal.returns-in-Resize-clause-ahead
 returns-in-Resize-clause-ahead g c left told start told_start =
@@ -240,7 +251,7 @@ returns-in-Resize-clause-ahead g c left told start told_start =
     subst (λ (t : Task). HasReadIn (outset_at t key sectors (last_image start)) left (g.S.Source.left c.args.script.now) (g.O.Sink.held c.args.out.now) (g.O.Sink.held c.resize_image.new.out)
     (g.S.Counted.faults c.args.script.now < g.S.Counted.faults c.args.script.now))
     (sym c.in-Resize.is)
-    (read_no_script (outset_at Tasks.Resize key sectors (last_image start)) start left _ _ _ _ _ told (c.resize_image.ensures.runs left start told_start))
+    (read_no_script (outset_at Tasks.Resize key sectors (last_image start)) start left _ _ _ _ _ _ told (c.resize_image.ensures.runs left start told_start))
 
 pub returns-in-Format-clause-runs : goal.returns-in-Format-clause-runs
 returns-in-Format-clause-runs g c left told start told_start =
@@ -249,12 +260,14 @@ returns-in-Format-clause-runs g c left told start told_start =
     let before = g.D.Disk.moments c.args.disk.now in
     let after = g.D.Disk.moments c.make_image.new.disk in
     let new = c.in-Format.new in
-    subst (λ (t : Task). HasRunOn (outset_at t key sectors (last_image start)) start left (ending_by c.done-in-Format.result) after (g.O.Sink.held c.args.out.now) (g.O.Sink.held c.make_image.new.out)
+    runs_told c.args.task c.args.telling.now key sectors start left (ending_by c.done-in-Format.result) before after (g.O.Sink.held c.args.out.now) (g.O.Sink.held c.make_image.new.out) c.requires.lines
+    (subst (λ (t : Task). IsFine (outset_at t key sectors (last_image start))) (sym c.in-Format.is) (fine_format key sectors c.in-Format.new))
+    (subst (λ (t : Task). HasRunOn (outset_at t key sectors (last_image start)) start left (ending_by c.done-in-Format.result) after (g.O.Sink.held c.args.out.now) (g.O.Sink.held c.make_image.new.out)
     × HasMomentsAt t key sectors start left before after) (sym c.in-Format.is) (
       subst (λ (e : Ending). HasRunOn (outset_at (Tasks.Format new) key sectors (last_image start)) start left e after (g.O.Sink.held c.args.out.now) (g.O.Sink.held c.make_image.new.out))
           (sym (ap ending_by c.done-in-Format.ensures ∙ ending_found c.make_image.result)) (c.make_image.ensures.runs left start told_start),
       c.make_image.ensures.moments left start told_start,
-    )
+    ))
 
 pub returns-in-Format-clause-closed : goal.returns-in-Format-clause-closed
 returns-in-Format-clause-closed g c = rw c.in-Format.is (ok_holds _ (λ bytes told start told_start later told_later. tt) c.done-in-Format.result)
@@ -288,7 +301,7 @@ returns-in-Format-clause-unread g c =
     })
 
 pub returns-in-Format-clause-taken : goal.returns-in-Format-clause-taken
-returns-in-Format-clause-taken g c = none_taken _ _ refl
+returns-in-Format-clause-taken g c = none_taken _ _ _ refl
 
 pub returns-in-Format-clause-ahead : goal.returns-in-Format-clause-ahead
 returns-in-Format-clause-ahead g c left told start told_start =
@@ -297,7 +310,7 @@ returns-in-Format-clause-ahead g c left told start told_start =
     subst (λ (t : Task). HasReadIn (outset_at t key sectors (last_image start)) left (g.S.Source.left c.args.script.now) (g.O.Sink.held c.args.out.now) (g.O.Sink.held c.make_image.new.out)
     (g.S.Counted.faults c.args.script.now < g.S.Counted.faults c.args.script.now))
     (sym c.in-Format.is)
-    (read_no_script (outset_at (Tasks.Format c.in-Format.new) key sectors (last_image start)) start left _ _ _ _ _ told (c.make_image.ensures.runs left start told_start))
+    (read_no_script (outset_at (Tasks.Format c.in-Format.new) key sectors (last_image start)) start left _ _ _ _ _ _ told (c.make_image.ensures.runs left start told_start))
 
 pub returns-in-Exercise-clause-runs : goal.returns-in-Exercise-clause-runs
 returns-in-Exercise-clause-runs g c left told start told_start =
@@ -306,11 +319,13 @@ returns-in-Exercise-clause-runs g c left told start told_start =
     let before = g.D.Disk.moments c.args.disk.now in
     let after = g.D.Disk.moments c.exercise_image.new.disk in
     let moments = c.exercise_image.ensures.moments left start told_start in
-    subst (λ (t : Task). HasRunOn (outset_at t key sectors (last_image start)) start left (ending_by c.exercise_image.result) after (g.O.Sink.held c.args.out.now) (g.O.Sink.held c.exercise_image.new.out)
+    runs_told c.args.task c.args.telling.now key sectors start left (ending_by c.exercise_image.result) before after (g.O.Sink.held c.args.out.now) (g.O.Sink.held c.exercise_image.new.out) c.requires.lines
+    (subst (λ (t : Task). IsFine (outset_at t key sectors (last_image start))) (sym c.in-Exercise.is) (fine_exercise sectors c.in-Exercise.count c.in-Exercise.seed))
+    (subst (λ (t : Task). HasRunOn (outset_at t key sectors (last_image start)) start left (ending_by c.exercise_image.result) after (g.O.Sink.held c.args.out.now) (g.O.Sink.held c.exercise_image.new.out)
     × HasMomentsAt t key sectors start left before after) (sym c.in-Exercise.is) (
       c.exercise_image.ensures.runs left start told_start,
       record { each = moments.each; order = moments.order },
-    )
+    ))
 
 pub returns-in-Exercise-clause-closed : goal.returns-in-Exercise-clause-closed
 returns-in-Exercise-clause-closed g c = rw c.in-Exercise.is (on_ok_weaker c.exercise_image.result (λ closes bytes told. closes) c.exercise_image.ensures.closed)
@@ -334,7 +349,7 @@ returns-in-Exercise-clause-unread g c =
     })
 
 pub returns-in-Exercise-clause-taken : goal.returns-in-Exercise-clause-taken
-returns-in-Exercise-clause-taken g c = none_taken _ _ refl
+returns-in-Exercise-clause-taken g c = none_taken _ _ _ refl
 
 pub returns-in-Exercise-clause-ahead : goal.returns-in-Exercise-clause-ahead
 returns-in-Exercise-clause-ahead g c left told start told_start =
@@ -343,4 +358,22 @@ returns-in-Exercise-clause-ahead g c left told start told_start =
     subst (λ (t : Task). HasReadIn (outset_at t key sectors (last_image start)) left (g.S.Source.left c.args.script.now) (g.O.Sink.held c.args.out.now) (g.O.Sink.held c.exercise_image.new.out)
     (g.S.Counted.faults c.args.script.now < g.S.Counted.faults c.args.script.now))
     (sym c.in-Exercise.is)
-    (read_no_script (outset_at (Tasks.Exercise c.in-Exercise.seed c.in-Exercise.count) key sectors (last_image start)) start left _ _ _ _ _ told (c.exercise_image.ensures.runs left start told_start))
+    (read_no_script (outset_at (Tasks.Exercise c.in-Exercise.seed c.in-Exercise.count) key sectors (last_image start)) start left _ _ _ _ _ _ told (c.exercise_image.ensures.runs left start told_start))
+
+pub returns-in-Run-clause-taken : goal.returns-in-Run-clause-taken
+returns-in-Run-clause-taken g c = rw c.in-Run.is c.run_image.ensures.taken
+
+pub returns-in-Serve-clause-runs : goal.returns-in-Serve-clause-runs
+returns-in-Serve-clause-runs g c = rw c.in-Serve.is c.serve_image.ensures.runs
+
+pub returns-in-Serve-clause-closed : goal.returns-in-Serve-clause-closed
+returns-in-Serve-clause-closed g c = rw c.in-Serve.is c.serve_image.ensures.closed
+
+pub returns-in-Serve-clause-unread : goal.returns-in-Serve-clause-unread
+returns-in-Serve-clause-unread g c = rw c.in-Serve.is c.serve_image.ensures.unread
+
+pub returns-in-Serve-clause-taken : goal.returns-in-Serve-clause-taken
+returns-in-Serve-clause-taken g c = rw c.in-Serve.is c.serve_image.ensures.taken
+
+pub returns-in-Serve-clause-ahead : goal.returns-in-Serve-clause-ahead
+returns-in-Serve-clause-ahead g c = rw c.in-Serve.is c.serve_image.ensures.ahead

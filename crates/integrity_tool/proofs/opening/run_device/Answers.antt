@@ -86,10 +86,10 @@ returns-in-Err-run_lines-clause-runs g c left told start told_start =
     (c.in-Err-run_lines.ensures.stopped w left run.0 (opened.device start told_start made.0 made.1) told run.1)) (ap g.D.Disk.moments c.give_back.ensures.disk)
 
 pub returns-in-Err-clause-taken : goal.returns-in-Err-clause-taken
-returns-in-Err-clause-taken g c = none_taken _ _ refl
+returns-in-Err-clause-taken g c = none_taken _ _ _ refl
 
 pub returns-in-Err-clause-ahead : goal.returns-in-Err-clause-ahead
-returns-in-Err-clause-ahead g c left told start told_start = read_none _ left _ told
+returns-in-Err-clause-ahead g c left told start told_start = read_none _ left _ _ told
 
 pub returns-in-Ok-run_lines-clause-ahead : goal.returns-in-Ok-run_lines-clause-ahead
 returns-in-Ok-run_lines-clause-ahead g c left told start told_start =

@@ -29,10 +29,10 @@ returns-in_default-clause-runs g c left told start told_start =
     )
 
 pub returns-in_default-clause-taken : goal.returns-in_default-clause-taken
-returns-in_default-clause-taken g c = none_taken _ _ refl
+returns-in_default-clause-taken g c = none_taken _ _ _ refl
 
 pub returns-in_default-clause-ahead : goal.returns-in_default-clause-ahead
-returns-in_default-clause-ahead g c left told start told_start = read_none _ left _ told
+returns-in_default-clause-ahead g c left told start told_start = read_none _ left _ _ told
 
 pub returns-clause-runs : goal.returns-clause-runs
 returns-clause-runs g c left told start told_start =

@@ -39,8 +39,8 @@ returns-in-Ok-put_reply-clause-replied g c w is before own rest split place numb
     (ap g.D.Disk.moments c.take.ensures.disk) c.in-Ok.reply taken c.in-Ok.ensures.reply c.in-Ok-put_reply.ensures.written
     (ap (λ (b : Bool). c.args.flight.now.eio || b) c.is_damage.ensures))
 
-pub returns-in-Ok-clause-stopped : goal.returns-in-Ok-clause-stopped
-returns-in-Ok-clause-stopped g c w is before own rest split place number =
+pub returns-in-Err-put_reply-clause-stopped : goal.returns-in-Err-put_reply-clause-stopped
+returns-in-Err-put_reply-clause-stopped g c w is before own rest split place number =
     let counted = c.args.flight.now.waiting.ok.0 in
     let at = c.requires.at in
     let low : c.args.at < length c.args.flight.now.waiting.items = omega (arith, counted, at) in
@@ -54,8 +54,8 @@ returns-in-Ok-clause-stopped g c w is before own rest split place number =
     c.args.at c.remove-ticket.result c.args.flight.now c.requires.works c.requires.held low c.remove-ticket.ensures.value) c.requires.works.is
     (ap g.D.Disk.moments c.take.ensures.disk) c.in-Ok.reply taken c.in-Ok.ensures.reply c.in-Err-put_reply.ensures.err)
 
-pub returns-clause-replied : goal.returns-clause-replied
-returns-clause-replied g c w is before own rest split place number =
+pub returns-in-Err-clause-replied : goal.returns-in-Err-clause-replied
+returns-in-Err-clause-replied g c w is before own rest split place number =
     let counted = c.args.flight.now.waiting.ok.0 in
     let at = c.requires.at in
     let low : c.args.at < length c.args.flight.now.waiting.items = omega (arith, counted, at) in
@@ -80,8 +80,8 @@ returns-in-Ok-put_reply-clause-stays g c =
     (record { waiting = c.remove-ticket.new.self; eio = c.args.flight.now.eio || c.is_damage.result })
     c.take.ensures.condition c.take.ensures.taken c.take.ensures.ready c.remove-ticket.ensures.items
 
-pub returns-clause-stays : goal.returns-clause-stays
-returns-clause-stays g c =
+pub returns-in-Err-clause-stays : goal.returns-in-Err-clause-stays
+returns-in-Err-clause-stays g c =
     let counted = c.args.flight.now.waiting.ok.0 in
     let at = c.requires.at in
     let low : c.args.at < length c.args.flight.now.waiting.items = omega (arith, counted, at) in

@@ -1,9 +1,10 @@
 use Rattle.std.proofs.Common.{ℕ, ◌+◌, ◌<◌, length, Err, refl, sym, ◌∙◌, ap, subst, arith}
 use Rattle.std.proofs.lemmas.Result.{err_from_is_err_and}
 use Rattle.nbd_flight.specs.declared.stop.Stop.{Stop}
+use Rattle.nbd_flight.specs.declared.stop.Stop.TheVariants as Faults
 use Rattle.nbd_flight.specs.Deeds.{HasStopped, Scene, scene_of}
 use Rattle.nbd_flight.specs.Rounds.{ForMoment, one_round}
-use Rattle.nbd_flight.proofs.CauseLemmas.{causes_behind, causes_none, if_err_of}
+use Rattle.nbd_flight.proofs.CauseLemmas.{causes_behind, causes_none, if_err_of, passed_behind}
 use Rattle.nbd_flight.proofs.MeasureLemmas.{fewer_ahead}
 use Rattle.nbd_flight.proofs.RoundLemmas.{IsOnRound, ahead, here, round_begins, round_ends, round_goes, round_stopped, split}
 use Rattle.nbd_flight.proofs.StaysLemmas.{stays_none, stays_then}
@@ -38,6 +39,11 @@ returns-in_err-turn-clause-stopped g c =
     round_stopped w taken flying c.loop-at.at x y old mid way low _ new
     (c.in_err-turn.ensures.stopped (here w taken flying c.loop-at.at x y old mid way low) way.done.run.device way.before next.own next.more
     (split w taken flying c.loop-at.at x y old mid way low) way.place next.r.number taken)))
+
+pub returns-in_err-turn-clause-memory : goal.returns-in_err-turn-clause-memory
+returns-in_err-turn-clause-memory g c =
+    let p = err_from_is_err_and c.from_residual.result c.from_residual.ensures.1 in
+    passed_behind c.serve.result c.from_residual.result p.0 (c.in_err-turn.was ∙ ap Err (sym p.2)) p.1 Faults.Memory c.serve.ensures.memory
 
 pub returns-in_err-turn-clause-cause : goal.returns-in_err-turn-clause-cause
 returns-in_err-turn-clause-cause g c =

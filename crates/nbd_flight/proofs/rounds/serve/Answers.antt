@@ -1,4 +1,4 @@
-use Rattle.std.proofs.Common.{◌≡◌, ℕ, ◌<◌, length, Some, refl, sym, subst, arith}
+use Rattle.std.proofs.Common.{◌≡◌, ℕ, ◌<◌, length, Some, Err, refl, sym, ◌∙◌, ap, subst, arith}
 use Rattle.std.proofs.lemmas.Result.{err_from_is_err_and}
 use Rattle.device_model.specs.Progress.{answers}
 use Rattle.device_model.specs.Script.{last_answer, turn_events}
@@ -7,12 +7,13 @@ use Rattle.device_parts.specs.declared.answers.Served.TheVariants as Serves
 use Rattle.device_parts.specs.Answers.{served_answer}
 use Rattle.device.specs.Run.{HasFailed, HasRun, standing_behind}
 use Rattle.nbd_flight.specs.declared.stop.Stop.{Stop}
+use Rattle.nbd_flight.specs.declared.stop.Stop.TheVariants as Faults
 use Rattle.nbd_flight.specs.declared.flight.Waiting.{Waiting}
 use Rattle.nbd_flight.specs.declared.rounds.Turn.TheVariants.{Waits}
 use Rattle.nbd_flight.specs.Deeds.{HasStopped, Scene, scene_of}
 use Rattle.nbd_flight.specs.Flight.{flying_of}
 use Rattle.nbd_flight.specs.Rounds.{ForOwn, one_service}
-use Rattle.nbd_flight.proofs.CauseLemmas.{causes_none, if_err_of}
+use Rattle.nbd_flight.proofs.CauseLemmas.{causes_none, if_err_of, passed_behind}
 use Rattle.nbd_flight.proofs.DeedLemmas.{done_none}
 use Rattle.nbd_flight.proofs.FlightLemmas.{held_kept, own-is}
 use Rattle.nbd_flight.proofs.ServiceLemmas.{service_failed, service_over, service_torn, service_waits}
@@ -48,6 +49,11 @@ returns-in_err-reply-in-Done-clause-stopped g c =
     service_torn w taken (flying_of number own) answer _ old mid new run refl
     (c.in_err-reply-in-Done.ensures.stopped there run.device before own rest split place number)))
 
+pub returns-in_err-reply-in-Done-clause-memory : goal.returns-in_err-reply-in-Done-clause-memory
+returns-in_err-reply-in-Done-clause-memory g c =
+    let p = err_from_is_err_and c.from_residual.result c.from_residual.ensures.1 in
+    passed_behind c.reply.result c.from_residual.result p.0 (c.in_err-reply-in-Done.was ∙ ap Err (sym p.2)) p.1 Faults.Memory c.reply.ensures.memory
+
 pub returns-in_ok-reply-in-Done-clause-served : goal.returns-in_ok-reply-in-Done-clause-served
 returns-in_ok-reply-in-Done-clause-served g c w is before own rest split place number taken =
     let old : Scene = scene_of g.D.Disk.moments g.O.Sink.held c.args.device.now.parts c.args.device.now.disk.now c.args.sink.now in
@@ -75,6 +81,7 @@ returns-in_default g c =
           service_waits w taken (flying_of number own) c.in-Ok.served c.in_default.not-Done answer c.args.flight.now c.args.flight.now old new run refl refl;
       stopped = tt;
       cause = causes_none Waits _ _ _ _ c.in-Ok.ensures.cause.passed refl;
+      memory = λ e. cc;
       left = refl;
       stays = stays_kept g.D.Disk.identity g.D.Disk.moments c.serve_with_room.new.device.condition c.args.device.now.parts c.serve_with_room.new.device.parts _ c.serve_with_room.new.device.disk.now c.args.flight.now
           c.in-Ok.ensures.turn c.in-Ok.ensures.runs.keeps c.requires.held;

@@ -1,9 +1,10 @@
 use Rattle.std.proofs.Common.{◌≡◌, ◌^◌, inl, inr, ◌-◌, ◌<◌, ◌≤◌, length, Err, refl, sym, ◌∙◌, ap, subst, arith}
 use Rattle.std.proofs.lemmas.Result.{err_from_is_err_and}
 use Rattle.nbd_flight.specs.declared.stop.Stop.{Stop}
+use Rattle.nbd_flight.specs.declared.stop.Stop.TheVariants as Faults
 use Rattle.nbd_flight.specs.Deeds.{Scene, scene_of}
 use Rattle.nbd_flight.specs.Rounds.{ForMoment, HasStoppedRounds, moment_of}
-use Rattle.nbd_flight.proofs.CauseLemmas.{causes_behind, causes_none, if_err_of}
+use Rattle.nbd_flight.proofs.CauseLemmas.{causes_behind, causes_none, if_err_of, passed_behind}
 use Rattle.nbd_flight.proofs.RoundLemmas.{now, round_state, rounds_begin, rounds_end, rounds_go, rounds_stopped}
 use Rattle.nbd_flight.proofs.StaysLemmas.{stays_none, stays_then}
 use Rattle.nbd_flight.proofs.rounds.until.Goals as goal
@@ -48,6 +49,11 @@ returns-in_err-round-clause-stopped g c =
     let m = moment_of w flying taken in
     rounds_stopped w c.args.most m c.loop-round._round x y old mid way many low _ new
     (c.in_err-round.ensures.stopped (now w c.args.most m c.loop-round._round x y old mid way) way.made.done.run.device way.part.behind.flying way.made.flying way.part.behind.taken)))
+
+pub returns-in_err-round-clause-memory : goal.returns-in_err-round-clause-memory
+returns-in_err-round-clause-memory g c =
+    let p = err_from_is_err_and c.from_residual.result c.from_residual.ensures.1 in
+    passed_behind c.round.result c.from_residual.result p.0 (c.in_err-round.was ∙ ap Err (sym p.2)) p.1 Faults.Memory c.round.ensures.memory
 
 pub returns-in_err-round-clause-cause : goal.returns-in_err-round-clause-cause
 returns-in_err-round-clause-cause g c =

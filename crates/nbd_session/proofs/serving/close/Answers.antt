@@ -1,6 +1,8 @@
-use Rattle.std.proofs.Common.{sym, ◌∙◌}
+use Rattle.std.proofs.Common.{[], ◌∷◌, sym, ◌∙◌}
+use Rattle.device_model.specs.Progress.{Close, changes_of}
 use Rattle.device.proofs.CallLemmas.{device_works}
-use Rattle.nbd_session.proofs.CloseLemmas.{ended_closed, ended_failed}
+use Rattle.device.proofs.LeavesLemmas.{close_leaves}
+use Rattle.nbd_session.proofs.CloseLemmas.{ended_closed, ended_failed, rests_closed}
 use Rattle.nbd_session.proofs.serving.close.Goals as goal
 
 pub returns-then-is_err-clause-ends : goal.returns-then-is_err-clause-ends
@@ -17,3 +19,18 @@ returns-clause-ends g c = record {
       (c.close-closed.ensures.closed w (device_works w _ _ _ c.requires.works.is is));
   err = tt;
 }
+
+pub returns-then-is_err-clause-leaves : goal.returns-then-is_err-clause-leaves
+returns-then-is_err-clause-leaves g c w is =
+    close_leaves w c.args.device.parts.common _ c.args.device.parts.mode is (changes_of w.format w.state (Close ∷ []))
+    (c.close-closed.ensures.writes c.requires.works.is) c.close-closed.ensures.tags
+
+pub returns-clause-leaves : goal.returns-clause-leaves
+returns-clause-leaves g c w is =
+    close_leaves w c.args.device.parts.common _ c.args.device.parts.mode is (changes_of w.format w.state (Close ∷ []))
+    (c.close-closed.ensures.writes c.requires.works.is) c.close-closed.ensures.tags
+
+pub returns-clause-rests : goal.returns-clause-rests
+returns-clause-rests g c w is =
+    rests_closed c.close-closed.result.0 (sym c.is_err.ensures.value ∙ c.if-is_err.false) _ _ _ _ c.close-closed.ensures.rests w
+    (device_works w _ _ _ c.requires.works.is is)

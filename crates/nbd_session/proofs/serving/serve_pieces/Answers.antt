@@ -11,9 +11,10 @@ use Rattle.nbd_pieces.proofs.FitLemmas.{stays_more}
 use Rattle.nbd_session.specs.declared.ended.SessionFault.{SessionFault}
 use Rattle.nbd_session.specs.declared.serving.StreamEnd.{StreamEnd}
 use Rattle.nbd_session.specs.Serving.{HasServed, ending_told}
-use Rattle.nbd_session.specs.Session.{HasSessionCauses, HasStoppedSo}
+use Rattle.nbd_session.specs.Session.{HasSessionCauses, HasStoppedSo, most_read}
 use Rattle.nbd_session.proofs.CauseLemmas.{session_none, session_source, session_stop}
 use Rattle.nbd_session.proofs.CourseLemmas.{left_given}
+use Rattle.nbd_session.proofs.ReadLemmas.{done_holds, none_dropped, read_one_more, read_so_far, stopped_holds, took_more, took_none, took_same}
 use Rattle.nbd_session.proofs.StreamLemmas.{IsOnStream, here_way, piece_ends_all, piece_goes, piece_stops, stream_begins, stream_ends, stream_long, stream_lost, told_end}
 use Rattle.nbd_session.proofs.serving.serve_pieces.Goals as goal
 
@@ -29,6 +30,7 @@ loop-count-init g c =
       identity = refl;
       disk_same = refl;
       source_same = refl;
+      took = took_none (most_stream - 0x100_0000_0000) _ _ refl;
       sink_same = refl;
       same_disk = refl;
       way = λ w is new.
@@ -217,6 +219,8 @@ loop-count-preserved g c =
       identity = c.serve_piece.ensures.identity ∙ kept.identity;
       disk_same = c.in-Ok-None.ensures.cause.disk_passed (λ e. cc) ∙ kept.disk_same;
       source_same = c.in-Ok.ensures.cause.passed ∙ kept.source_same;
+      took = took_more (most_stream - c.loop-count.left) within (most_stream - (c.loop-count.left - within)) left_first left_now (g.S.Source.left c.read.new.self)
+          kept.took next (omega (arith, most, within_));
       sink_same = c.in-Ok-None.ensures.cause.sink_passed (λ e. cc) ∙ kept.sink_same;
       same_disk = c.serve_piece.ensures.same_disk ∙ kept.same_disk;
       way = λ w is new.
@@ -227,4 +231,113 @@ loop-count-preserved g c =
           c.serve_piece.new.flight new_ both.0 both.1 c.in-Ok-None.field-0-is in
           subst (λ (o : Option (List ℕ)). IsOnStream w left_first o (c.loop-count.left - within) c.serve_piece.new.incoming c.args.flight.now c.serve_piece.new.flight old new_) (sym next)
           (subst (λ (n : ℕ). IsOnStream w left_first (option_map (drop within) left_now) n c.serve_piece.new.incoming c.args.flight.now c.serve_piece.new.flight old new_) (sym room) on_now);
+    }
+
+-- ---- what is read
+
+pub returns-in-Err-clause-read : goal.returns-in-Err-clause-read
+returns-in-Err-clause-read g c =
+    let old : Scene = scene_of g.D.Disk.moments g.O.Sink.held c.args.device.now.parts c.args.device.now.disk.now c.args.sink.now in
+    let mid : Scene = scene_of g.D.Disk.moments g.O.Sink.held c.loop-count.device.parts c.loop-count.device.disk.now c.loop-count.sink in
+    let left = g.S.Source.left c.args.source.now in
+    let left_now = g.S.Source.left c.loop-count.source in
+    let kept = c.loop-count.invariant in
+    record {
+      most = took_same (most_stream - c.loop-count.left) most_read left left_now _ kept.took c.in-Err.ensures.err (let within = kept.within in omega (arith, within));
+      pieces = λ w is new. read_so_far w left left_now c.loop-count.left c.loop-count.incoming c.args.flight.now c.loop-count.flight old mid (kept.way w is new) _ c.in-Err.ensures.err;
+    }
+
+pub returns-then-count-eq0-clause-read : goal.returns-then-count-eq0-clause-read
+returns-then-count-eq0-clause-read g c =
+    let old : Scene = scene_of g.D.Disk.moments g.O.Sink.held c.args.device.now.parts c.args.device.now.disk.now c.args.sink.now in
+    let mid : Scene = scene_of g.D.Disk.moments g.O.Sink.held c.loop-count.device.parts c.loop-count.device.disk.now c.loop-count.sink in
+    let left = g.S.Source.left c.args.source.now in
+    let left_now = g.S.Source.left c.loop-count.source in
+    let kept = c.loop-count.invariant in
+    let same = c.in-Ok.ensures.left ∙ ap (λ (n : ℕ). option_map (drop n) left_now) c.if-count-eq0.true ∙ none_dropped left_now in
+    record {
+      most = took_same (most_stream - c.loop-count.left) most_read left left_now _ kept.took same (let within = kept.within in omega (arith, within));
+      pieces = λ w is new. read_so_far w left left_now c.loop-count.left c.loop-count.incoming c.args.flight.now c.loop-count.flight old mid (kept.way w is new) _ same;
+    }
+
+pub returns-in-Ok-Some-clause-read : goal.returns-in-Ok-Some-clause-read
+returns-in-Ok-Some-clause-read g c =
+    let old : Scene = scene_of g.D.Disk.moments g.O.Sink.held c.args.device.now.parts c.args.device.now.disk.now c.args.sink.now in
+    let mid : Scene = scene_of g.D.Disk.moments g.O.Sink.held c.loop-count.device.parts c.loop-count.device.disk.now c.loop-count.sink in
+    let new_ : Scene = scene_of g.D.Disk.moments g.O.Sink.held c.serve_piece.new.device.parts c.serve_piece.new.device.disk.now c.serve_piece.new.sink in
+    let left = g.S.Source.left c.args.source.now in
+    let left_now = g.S.Source.left c.loop-count.source in
+    let buffer = c.read.new.buffer in
+    let kept = c.loop-count.invariant in
+    let size = kept.size in
+    let same = c.read.auto.buffer in
+    let read = c.in-Ok.ensures.count in
+    let cut = length-take c.in-Ok.count buffer in
+    let few : length (take c.in-Ok.count buffer) ≤ most_piece = omega (arith, size, same, cut) in
+    let sound : g.S.Counted.faults c.args.source.now < g.S.Counted.faults c.read.new.self → ⊥ = λ rose.
+    let passed = c.in-Ok.ensures.cause.passed ∙ kept.source_same in omega (arith, rose, passed) in
+    record {
+      most = took_more (most_stream - c.loop-count.left) c.in-Ok.count most_read left left_now _ kept.took c.in-Ok.ensures.left
+          (let within = kept.within in omega (arith, size, same, read, within));
+      pieces = λ w is new.
+          let on = kept.way w is new in
+          let both = c.in-Ok-Some.ensures.taken (behind w on.part.deeds) on.along.made.done.run.device on.part.behind.flying on.along.made.flying on.part.behind.taken
+          (here_way w left left_now c.loop-count.left c.loop-count.incoming c.args.flight.now c.loop-count.flight old mid on) on.coming on.keeps in
+          read_one_more w left left_now c.loop-count.left c.loop-count.incoming c.args.flight.now c.loop-count.flight old mid on
+          c.in-Ok.count buffer few c.in-Ok.ensures.read _ c.in-Ok.ensures.left sound new_ (done_holds (behind w on.part.deeds) _ mid new_ both.0.made.done);
+    }
+
+pub returns-then-within-count-clause-read : goal.returns-then-within-count-clause-read
+returns-then-within-count-clause-read g c =
+    let old : Scene = scene_of g.D.Disk.moments g.O.Sink.held c.args.device.now.parts c.args.device.now.disk.now c.args.sink.now in
+    let mid : Scene = scene_of g.D.Disk.moments g.O.Sink.held c.loop-count.device.parts c.loop-count.device.disk.now c.loop-count.sink in
+    let new_ : Scene = scene_of g.D.Disk.moments g.O.Sink.held c.serve_piece.new.device.parts c.serve_piece.new.device.disk.now c.serve_piece.new.sink in
+    let left = g.S.Source.left c.args.source.now in
+    let left_now = g.S.Source.left c.loop-count.source in
+    let buffer = c.read.new.buffer in
+    let kept = c.loop-count.invariant in
+    let size = kept.size in
+    let same = c.read.auto.buffer in
+    let read = c.in-Ok.ensures.count in
+    let cut = length-take c.in-Ok.count buffer in
+    let few : length (take c.in-Ok.count buffer) ≤ most_piece = omega (arith, size, same, cut) in
+    let sound : g.S.Counted.faults c.args.source.now < g.S.Counted.faults c.read.new.self → ⊥ = λ rose.
+    let passed = c.in-Ok.ensures.cause.passed ∙ kept.source_same in omega (arith, rose, passed) in
+    record {
+      most = took_more (most_stream - c.loop-count.left) c.in-Ok.count most_read left left_now _ kept.took c.in-Ok.ensures.left
+          (let within = kept.within in omega (arith, size, same, read, within));
+      pieces = λ w is new.
+          let on = kept.way w is new in
+          let both = c.in-Ok-None.ensures.taken (behind w on.part.deeds) on.along.made.done.run.device on.part.behind.flying on.along.made.flying on.part.behind.taken
+          (here_way w left left_now c.loop-count.left c.loop-count.incoming c.args.flight.now c.loop-count.flight old mid on) on.coming on.keeps in
+          read_one_more w left left_now c.loop-count.left c.loop-count.incoming c.args.flight.now c.loop-count.flight old mid on
+          c.in-Ok.count buffer few c.in-Ok.ensures.read _ c.in-Ok.ensures.left sound new_ (done_holds (behind w on.part.deeds) _ mid new_ both.0.made.done);
+    }
+
+pub returns-in-Err-serve_piece-clause-read : goal.returns-in-Err-serve_piece-clause-read
+returns-in-Err-serve_piece-clause-read g c =
+    let old : Scene = scene_of g.D.Disk.moments g.O.Sink.held c.args.device.now.parts c.args.device.now.disk.now c.args.sink.now in
+    let mid : Scene = scene_of g.D.Disk.moments g.O.Sink.held c.loop-count.device.parts c.loop-count.device.disk.now c.loop-count.sink in
+    let new_ : Scene = scene_of g.D.Disk.moments g.O.Sink.held c.serve_piece.new.device.parts c.serve_piece.new.device.disk.now c.serve_piece.new.sink in
+    let left = g.S.Source.left c.args.source.now in
+    let left_now = g.S.Source.left c.loop-count.source in
+    let buffer = c.read.new.buffer in
+    let kept = c.loop-count.invariant in
+    let size = kept.size in
+    let same = c.read.auto.buffer in
+    let read = c.in-Ok.ensures.count in
+    let cut = length-take c.in-Ok.count buffer in
+    let few : length (take c.in-Ok.count buffer) ≤ most_piece = omega (arith, size, same, cut) in
+    let sound : g.S.Counted.faults c.args.source.now < g.S.Counted.faults c.read.new.self → ⊥ = λ rose.
+    let passed = c.in-Ok.ensures.cause.passed ∙ kept.source_same in omega (arith, rose, passed) in
+    record {
+      most = took_more (most_stream - c.loop-count.left) c.in-Ok.count most_read left left_now _ kept.took c.in-Ok.ensures.left
+          (let within = kept.within in omega (arith, size, same, read, within));
+      pieces = λ w is new.
+          let on = kept.way w is new in
+          read_one_more w left left_now c.loop-count.left c.loop-count.incoming c.args.flight.now c.loop-count.flight old mid on
+          c.in-Ok.count buffer few c.in-Ok.ensures.read _ c.in-Ok.ensures.left sound new_
+          (stopped_holds (behind w on.part.deeds) _ c.in-Err-serve_piece.stop mid new_
+          (c.in-Err-serve_piece.ensures.stopped (behind w on.part.deeds) on.along.made.done.run.device on.part.behind.flying on.along.made.flying on.part.behind.taken
+          (here_way w left left_now c.loop-count.left c.loop-count.incoming c.args.flight.now c.loop-count.flight old mid on) on.coming on.keeps));
     }

@@ -1,4 +1,5 @@
 use Rattle.std.proofs.Common.{◌≡◌, ◌-◌, ◌≤◌, length}
+use Rattle.stream_io.specs.Stream.{TakesAtMost}
 use Rattle.nbd_model.specs.Session.{most_piece}
 use Rattle.nbd_model.specs.Stream.{most_stream}
 use Rattle.nbd_flight.specs.Deeds.{scene_of}
@@ -17,6 +18,7 @@ invariant-loop-count g l = record {
   identity : g.D.Disk.identity l.device.disk.now ≡ g.D.Disk.identity l.initial.device.disk.now;
   disk_same : g.D.Counted.faults l.device.disk.now ≡ g.D.Counted.faults l.initial.device.disk.now;
   source_same : g.S.Counted.faults l.source ≡ g.S.Counted.faults l.initial.source;
+  took : TakesAtMost (most_stream - l.left) (g.S.Source.left l.initial.source) (g.S.Source.left l.source);
   sink_same : g.O.Counted.faults l.sink ≡ g.O.Counted.faults l.initial.sink;
   same_disk : l.device.disk.ghost_name ≡ l.initial.device.disk.ghost_name;
   way : ForNew (scene_of g.D.Disk.moments g.O.Sink.held l.initial.device.parts l.initial.device.disk.now l.initial.sink)

@@ -1,6 +1,8 @@
-use Rattle.std.proofs.Common.{ℕ, ◌<◌, None, sym, ◌∙◌, subst, arith}
+use Rattle.std.proofs.Common.{ℕ, ◌<◌, None, refl, sym, ◌∙◌, subst, arith}
 use Rattle.nbd_flight.specs.Deeds.{scene_of}
+use Rattle.nbd_session.specs.Session.{most_read}
 use Rattle.nbd_session.proofs.DeviceLemmas.{some_bytes}
+use Rattle.nbd_session.proofs.ReadLemmas.{read_nothing, took_none}
 use Rattle.nbd_session.proofs.StreamLemmas.{stream_unbegun}
 use Rattle.nbd_session.proofs.serving.serve_stream.Goals as goal
 
@@ -29,3 +31,9 @@ serve_pieces-requires-clause-size g c =
     let slice = c.as_mut_slice.ensures.len in
     let room = c.in-Ok.ensures in
     omega (arith, slice, room)
+
+pub returns-in_default-clause-read : goal.returns-in_default-clause-read
+returns-in_default-clause-read g c = record {
+  most = took_none most_read _ _ refl;
+  pieces = λ w is new. read_nothing w _ _ _ _ refl refl;
+}

@@ -15,10 +15,24 @@ pub returns-in-Ok-clause-given : goal.returns-in-Ok-clause-given
 returns-in-Ok-clause-given g c given is =
     let runs = c.in-Ok.ensures.given given is in
     let now = told_at_end given.content is.content runs.moments.each in
+    let old = c.args.self.now in
+    let mid = c.run.new.self in
+    let first : Counts = record {
+      disk = g.D.Counted.faults old.disk.now;
+      key = g.K.Counted.faults old.key.now;
+      script = g.S.Counted.faults old.script.now;
+      sink = g.O.Counted.faults old.out.now;
+    } in
+    let last : Counts = record {
+      disk = g.D.Counted.faults mid.disk.now;
+      key = g.K.Counted.faults mid.key.now;
+      script = g.S.Counted.faults mid.script.now;
+      sink = g.O.Counted.faults mid.out.now;
+    } in
     record {
       tells = λ before held.
-          tells_complete given (finds_fault c.in-Ok.found) _ _ _ _ before now.0 runs.runs held now.1 c.complete_status.ensures _ _
-          (c.in-Ok.ensures.counted.sink.passed (not_ended _ _ refl));
+          tells_complete given c.run.new.telling (finds_fault c.in-Ok.found) _ _ (g.O.Sink.held mid.out.now) _ before now.0 runs.runs held now.1 c.complete_status.ensures
+          first last (c.in-Ok.ensures.counted.sink.passed (not_ended _ _ refl));
       moments = runs.moments;
       closed = λ low. runs.closed;
       unopened = λ memory. absurd (omega (arith, memory, c.complete_status.ensures, complete_is_low (finds_fault c.in-Ok.found)));
@@ -45,14 +59,14 @@ returns-in-Err-clause-given g c given is =
     } in
     record {
       tells = λ text held.
-          tells_early given c.in-Err.ended _ _ _ _ text now.0 runs.runs held now.1 c.status.ensures
-          c.put_last_line.result _ first before (g.O.Counted.faults c.put_last_line.new.out) c.in-Err.ensures.cause c.in-Err.ensures.counted
-          c.put_last_line.ensures.cause c.put_last_line.ensures.written c.put_last_line.ensures.err;
+          tells_early given c.run.new.telling c.in-Err.ended _ _ (g.O.Sink.held mid.out.now) _ text now.0 runs.runs held now.1 c.status.ensures
+          c.put_end.result _ first before (g.O.Counted.faults c.put_end.new.out) c.in-Err.ensures.cause c.in-Err.ensures.counted
+          c.put_end.ensures.cause c.put_end.ensures.written c.put_end.ensures.err;
       moments = runs.moments;
       closed = λ low. absurd (omega (arith, low, c.status.ensures, ended_is_high c.in-Err.ended));
       unopened = λ memory. runs.unopened (ap (λ (e : Ended). Err e) (memory_ended c.in-Err.ended (sym c.status.ensures ∙ memory)));
-      ahead = read_in_further (outset_in given) given.script _ _ _ runs.ahead
-          (last_line_holds c.put_last_line.result _ _ _ c.put_last_line.ensures.written c.put_last_line.ensures.err);
+      ahead = read_in_further (outset_in given) given.script _ _ _ _ runs.ahead
+          (last_line_holds c.put_end.result _ _ _ c.put_end.ensures.written c.put_end.ensures.err);
     }
 
 pub returns-in-Ok-clause-status : goal.returns-in-Ok-clause-status
@@ -76,10 +90,10 @@ returns-in-Err-clause-status g c =
       script = g.S.Counted.faults mid.script.now;
       sink = g.O.Counted.faults mid.out.now;
     } in
-    let sink = g.O.Counted.faults c.put_last_line.new.out in
+    let sink = g.O.Counted.faults c.put_end.new.out in
     let after : Counts = record before { sink = sink } in
     subst (λ (n : ℕ). HasStatus first after n) (sym c.status.ensures)
-    (status_ended first before sink c.in-Err.ended (cause_later first before sink c.put_last_line.ensures.cause.later _ c.in-Err.ensures.cause) c.in-Err.ensures.counted)
+    (status_ended first before sink c.in-Err.ended (cause_later first before sink c.put_end.ensures.cause.later _ c.in-Err.ensures.cause) c.in-Err.ensures.counted)
 
 pub returns-in-Ok-clause-calls : goal.returns-in-Ok-clause-calls
 returns-in-Ok-clause-calls g c = record {

@@ -1,12 +1,14 @@
-use Rattle.std.proofs.Common.{◌≡◌, ℕ, List, Err, refl, sym, ap, ◌∙◌, subst, inl, inr}
+use Rattle.std.proofs.Common.{◌≡◌, ℕ, List, Option, Err, refl, sym, ap, ◌∙◌, subst, inl, inr}
 use Rattle.std.specs.Option.{ForSome}
 use Rattle.std.proofs.lemmas.Result.{err_from_is_err_and, on_ok_weaker}
 use Rattle.disk_model.specs.Identity.{DiskIdentity, IsBoundTo, IsThere, NamedDisk}
 use Rattle.disk_model.specs.Moments.{content_now}
 use Rattle.device_model.specs.Ending.{DiskFailed}
 use Rattle.hmac_tag.specs.TagMaker.{key_of}
-use Rattle.integrity_tool.specs.Running.{ending_by}
-use Rattle.integrity_tool.specs.Top.{texts}
+use Rattle.integrity_tool.specs.declared.asked.Asked.{Asked}
+use Rattle.integrity_tool.specs.Running.{HasTaken, ending_by}
+use Rattle.integrity_tool.specs.Serving.{most_taken_for}
+use Rattle.integrity_tool.specs.Top.{outset_in, texts}
 use Rattle.integrity_tool.specs.Words.{HasNoScript, image_name, image_of, key_file_of, key_file_of_asked}
 use Rattle.integrity_tool.proofs.KeyLemmas.{ok_no_err, words_unread}
 use Rattle.integrity_tool.proofs.StartLemmas.{closed_given, outside_first, ran_given, read_given, read_none, stopped_at_key, stopped_at_words}
@@ -22,12 +24,12 @@ returns-in_err-asked-clause-given g c given is =
     let p = err_from_is_err_and c.from_residual.result c.from_residual.ensures.1 in
     let runs = stopped_at_words given _ _ is (g.O.Sink.held c.args.self.now.out.now) c.in_err-asked.field-0.0
     c.in_err-asked.ensures.errors (λ e. c.in_err-asked.ensures.words (ap (λ x. Err x) e)) in
-    rw (p.1, p.2) (record {
+    rw (p.1, p.2, c.requires.lines) (record {
       runs = runs.0;
       moments = runs.1;
       closed = tt;
       unopened = λ memory same. unopened_same _ _;
-      ahead = read_none _ given.script _ is.script_is;
+      ahead = read_none (outset_in given) given.script _ _ is.script_is;
     })
 
 pub returns-in_err-hash-clause-given : goal.returns-in_err-hash-clause-given
@@ -35,12 +37,12 @@ returns-in_err-hash-clause-given g c given is =
     let p = err_from_is_err_and c.from_residual-in_err-hash.result c.from_residual-in_err-hash.ensures.1 in
     let runs = stopped_at_key given _ _ is (g.O.Sink.held c.args.self.now.out.now) c.in_ok-asked.asked
     c.in_ok-asked.ensures.asked _ _ c.in_err-hash.field-0.0 c.in_err-hash.ensures.refused in
-    rw (p.1, p.2) (record {
+    rw (p.1, p.2, c.requires.lines) (record {
       runs = runs.0;
       moments = runs.1;
       closed = tt;
       unopened = λ memory same. unopened_same _ _;
-      ahead = read_none _ given.script _ is.script_is;
+      ahead = read_none (outset_in given) given.script _ _ is.script_is;
     })
 
 pub returns-in_err-bind_image-clause-given : goal.returns-in_err-bind_image-clause-given
@@ -53,12 +55,12 @@ returns-in_err-bind_image-clause-given g c given is =
     subst (λ (n : List ℕ). ForSome (content_now (old n).moments) (λ d. new n ≡ old n)) (sym name) c.bind_image.ensures.same given.content is.content in
     let p = err_from_is_err_and c.from_residual-in_err-bind_image.result c.from_residual-in_err-bind_image.ensures.1 in
     let runs = outside_first given _ _ is (g.O.Sink.held c.args.self.now.out.now) DiskFailed tt (new (image_name words)) (ap (λ (n : NamedDisk). n.moments) same) in
-    rw (p.1, p.2, c.in_err-bind_image.ensures.disk.0) (record {
+    rw (p.1, p.2, c.requires.lines, c.in_err-bind_image.ensures.disk.0) (record {
       runs = runs.0;
       moments = runs.1;
       closed = tt;
       unopened = λ memory. absurd (cc);
-      ahead = read_none _ given.script _ is.script_is;
+      ahead = read_none (outset_in given) given.script _ _ is.script_is;
     })
 
 pub returns-clause-given : goal.returns-clause-given
@@ -78,7 +80,7 @@ returns-clause-given g c given is =
     let told = told_there there is.content in
     let held = g.O.Sink.held c.args.self.now.out.now in
     let runs = ran_given given _ _ is held asked asks (key_of c.in_ok-hash.hash) c.in_ok-hash.ensures.hash (g.D.Disk.identity mid).sectors (g.D.Disk.moments mid) (g.D.Disk.moments last)
-    (g.D.Disk.named last (image_name words)) there at_end (ending_by c.carry_out.result) (g.O.Sink.held c.carry_out.new.out)
+    (g.D.Disk.named last (image_name words)) there at_end c.carry_out.new.telling (ending_by c.carry_out.result) (g.O.Sink.held c.carry_out.new.out)
     (c.carry_out.ensures.runs given.script is.script_is given.content told) in
     record {
       runs = runs.0;
@@ -89,7 +91,7 @@ returns-clause-given g c given is =
       unopened = λ memory same.
           unopened_given asked _ asks _ _ _ _ (ap (λ (n : NamedDisk). n.moments) there) at_end
           (c.carry_out.ensures.unread.unopened memory given.script is.script_is (same ∙ is.script_is));
-      ahead = read_given given _ _ is held asked asks (key_of c.in_ok-hash.hash) c.in_ok-hash.ensures.hash (g.D.Disk.identity mid).sectors (g.D.Disk.moments mid) there _ _
+      ahead = read_given given _ _ is held asked asks (key_of c.in_ok-hash.hash) c.in_ok-hash.ensures.hash (g.D.Disk.identity mid).sectors (g.D.Disk.moments mid) there _ _ _
           (c.carry_out.ensures.ahead given.script is.script_is given.content told);
     }
 
@@ -143,14 +145,15 @@ returns-in_err-asked-clause-read g c =
       key = key_file_read _ g.K.NamedSource.named g.K.NamedSource.left c.args.self.now c.args.self.now _ _ refl (λ read. read) refl refl refl
           (words_unread (texts c.args.words.now) g.K.NamedSource.named g.K.NamedSource.left c.args.self.now.key.now _
           c.in_err-asked.ensures.errors (λ e. c.in_err-asked.ensures.words (ap (λ x. Err x) e)));
-      taken = none_taken _ _ refl;
+      taken = none_taken _ _ _ refl;
     })
 
 pub returns-clause-read : goal.returns-clause-read
 returns-clause-read g c = record {
   key = key_file_read _ g.K.NamedSource.named g.K.NamedSource.left _ _ (key_file_of c.in_ok-asked.asked.hash) _ (ap key_file_of_asked c.in_ok-asked.ensures.asked)
       (λ read. tt) refl refl refl c.in_ok-hash.ensures.read;
-  taken = c.carry_out.ensures.taken;
+  taken = subst (λ (o : Option Asked). HasTaken (most_taken_for o) (g.S.Source.left c.args.self.now.script.now) (g.S.Source.left c.carry_out.new.script)) (sym c.in_ok-asked.ensures.asked)
+      c.carry_out.ensures.taken;
 }
 
 -- ---- its image
@@ -191,12 +194,12 @@ returns-in_err-hash-clause-read g c =
     rw (p.1, p.2) (record {
       key = key_file_read _ g.K.NamedSource.named g.K.NamedSource.left _ _ (key_file_of c.in_ok-asked.asked.hash) _ (ap key_file_of_asked c.in_ok-asked.ensures.asked)
           (λ read. read) refl refl refl c.in_err-hash.ensures.read;
-      taken = none_taken _ _ refl;
+      taken = none_taken _ _ _ refl;
     })
 
 pub returns-in_err-bind_image-clause-read : goal.returns-in_err-bind_image-clause-read
 returns-in_err-bind_image-clause-read g c = record {
   key = key_file_read _ g.K.NamedSource.named g.K.NamedSource.left _ _ (key_file_of c.in_ok-asked.asked.hash) _ (ap key_file_of_asked c.in_ok-asked.ensures.asked)
       (λ read. tt) refl refl refl c.in_ok-hash.ensures.read;
-  taken = none_taken _ _ refl;
+  taken = none_taken _ _ _ refl;
 }

@@ -1,0 +1,97 @@
+-- A stream of requests that is served on a device: how far its session came, and how much of the stream is read.
+use Rattle.std.specs.Prelude.{◌≡◌, ℕ, suc, ◌+◌, ◌≤◌, true, false, List, [], ◌++◌, length, take, flat_map, Option, Some, None, Result, Ok, Err, All}
+use Rattle.disk_model.specs.Disk.{Content, Image}
+use Rattle.disk_model.specs.Moments.{HasNow}
+use Rattle.device_model.specs.Device.{DeviceKind}
+use Rattle.device_model.specs.Ending as endings
+use Rattle.device_model.specs.Ending.{Ending}
+use Rattle.device_model.specs.History.{Change}
+use Rattle.nbd_model.specs.Deeds.{text_in}
+use Rattle.nbd_model.specs.Session.{Deed, IsSessionOf, ending_in, most_piece, opened_session, take_pieces}
+use Rattle.nbd_model.specs.Stream as streams
+use Rattle.nbd_model.specs.Stream.{most_stream, requests_of}
+use Rattle.nbd_command.specs.ServedRun.{Complete, DiskFailed, EndsUnbegun, IsEndedBy, NoMemory, RefusedStream, SessionEnd, SinkFailed, SourceFailed}
+use Rattle.nbd_session.specs.declared.ended.Ended as sessions
+use Rattle.nbd_session.specs.declared.ended.Ended.TheVariants.{Closed, Wrong, Long}
+use Rattle.nbd_session.specs.declared.ended.SessionFault.{SessionFault}
+use Rattle.nbd_session.specs.declared.ended.SessionFault.TheVariants as faults
+use Rattle.script_session.specs.LineRun.{held_with}
+use Rattle.script_session.specs.declared.tags_found.TagsFound.{TagsFound}
+use Rattle.script_session.specs.declared.tags_found.TagsFound.TheVariants.{Matching, Differing}
+use Rattle.command_ending.specs.declared.ended.Ended.{Ended}
+use Rattle.command_ending.specs.declared.ended.Ended.TheVariants as Endings
+use Rattle.command_model.specs.CommandRun.{IsLeftBy, IsLeftOfRun}
+use Rattle.integrity_tool.specs.declared.asked.Asked.{Asked}
+use Rattle.integrity_tool.specs.declared.asked.Task.{Task}
+use Rattle.integrity_tool.specs.declared.asked.Task.TheVariants as Tasks
+use Rattle.integrity_tool.specs.Running.{HoldsText, most_taken}
+
+-- ---- how far it came
+
+-- What ended a session, as an ending of a command. A stream that is refused is a script that is refused as a whole.
+abbrev pub session_ending : SessionEnd → Ending
+session_ending (Complete found_fault) = endings.Complete found_fault
+session_ending RefusedStream = endings.RefusedLength
+session_ending DiskFailed = endings.DiskFailed
+session_ending SourceFailed = endings.ScriptFailed
+session_ending SinkFailed = endings.SinkFailed
+session_ending NoMemory = endings.NoMemory
+
+-- How it ended, as the end of a command.
+abbrev pub ended_by_session : Result sessions.Ended SessionFault → Result TagsFound Ended
+ended_by_session (Ok (Closed false)) = Ok Matching
+ended_by_session (Ok (Closed true)) = Ok Differing
+ended_by_session (Ok (Wrong magic)) = Err Endings.Length
+ended_by_session (Ok Long) = Err Endings.Length
+ended_by_session (Err faults.Memory) = Err Endings.Memory
+ended_by_session (Err faults.Disk) = Err Endings.Disk
+ended_by_session (Err faults.Source) = Err Endings.Script
+ended_by_session (Err faults.Sink) = Err Endings.Sink
+
+-- Something ended the command before its session: nothing is written, and this is left of the disk.
+pub record HasNotBegun (kind : DeviceKind) (image : Image) (start : Content) (ending : Ending) (after : List Content)
+    (held_before held : Option (List ℕ)) : Type 0 where
+  pub outside : EndsUnbegun ending
+  pub told : held ≡ held_before
+  pub left : HasNow (IsLeftOfRun kind image start []) after
+
+-- Its session came so far, and ended so: the sink holds its replies behind what it held, and this is left of the disk.
+pub record HasServedOn (kind : DeviceKind) (image : Image) (stream : List ℕ) (ending : Ending) (after : List Content)
+    (held_before held : Option (List ℕ)) : Type 0 where
+  pub deeds : List Deed
+  pub is_session : IsSessionOf (kind.format image) (kind.opened image) stream deeds
+  pub text : List ℕ
+  pub changes : List Change
+  pub ended : SessionEnd
+  pub is : ending ≡ session_ending ended
+  pub came : IsEndedBy (kind.format image) (kind.opened image) is_session.pieces (requests_of stream).ending deeds text
+      changes ended
+  pub told : held ≡ held_with text held_before
+  pub left : HasNow (IsLeftBy kind image changes) after
+
+-- ---- what is read
+
+-- How many bytes of its source are taken at most: of a script one beyond its bound, of a stream one piece beyond that.
+abbrev pub most_taken_at : Task → ℕ
+most_taken_at (Tasks.Serve mode) = most_stream + most_piece
+most_taken_at task = most_taken
+
+abbrev pub most_taken_for : Option Asked → ℕ
+most_taken_for None = most_taken
+most_taken_for (Some asked) = most_taken_at asked.task
+
+-- No more of a stream is taken than pieces in which all that is asked is replied to and nothing ends the requests, and
+-- one piece behind those. Its source is called only where all that it gave is replied to.
+pub record HasReadStream (kind : DeviceKind) (image : Image) (stream : List ℕ) (left held_before held : Option (List ℕ))
+    (failed : Type 0) : Type 0 where
+  pub pieces : List (List ℕ)
+  pub small : All (λ piece. length piece ≤ most_piece) pieces
+  pub behind : List ℕ
+  pub bytes : stream ≡ flat_map (λ piece. piece) pieces ++ behind
+  pub taken : left ≡ Some behind
+  pub done : ℕ
+  pub but_one : length pieces ≤ suc done
+  pub printed : HoldsText (text_in (take_pieces (kind.format image) (opened_session (kind.opened image))
+      (ending_in [] 0 (take done pieces))).deeds) held_before held
+  pub unended : (requests_of (flat_map (λ piece. piece) (take done pieces))).ending ≡ streams.Ended
+  pub asked : failed → length pieces ≤ done
