@@ -19,7 +19,7 @@ use Rattle.bitmap_laws.proofs.EventLemmas.{clean_idle_law, clean_law, quiet_even
 use Rattle.bitmap_laws.proofs.LeastLemmas.{least_found, least_law}
 use Rattle.request_slots.specs.Flight.{Flight}
 use Rattle.request_slots.specs.InFlight.{IsFlightOf}
-use Rattle.device_parts.specs.declared.answers.Actor.TheVariants as Actors
+use Rattle.device_model.specs.declared.actor.Actor.TheVariants as Actors
 use Rattle.device_parts.specs.declared.condition.Condition.TheVariants as Conditions
 use Rattle.device_parts.specs.declared.parts.Parts.{Parts}
 use Rattle.device_parts.specs.Device.{Standing}

@@ -11,7 +11,7 @@ use Rattle.dirty_bitmap.specs.Bits.{bits_of}
 use Rattle.request_slots.specs.Flight.{Flight, newly_slotted}
 use Rattle.request_slots.specs.Serving.{with_change, with_finish}
 use Rattle.request_slots.specs.declared.request.Request.TheVariants.{Flush, Read, Write}
-use Rattle.device_parts.specs.declared.answers.Actor.TheVariants.{Clean, Commit, Recalc}
+use Rattle.device_model.specs.declared.actor.Actor.TheVariants.{Clean, Commit, Recalc}
 use Rattle.device_parts.specs.declared.parts.Parts.{Parts}
 use Rattle.bitmap_mode.proofs.Worked.{states}
 use Rattle.bitmap_device.specs.Answers.{WritesAs, is_held_by, is_to_clean, least_to_clean, steps_left}

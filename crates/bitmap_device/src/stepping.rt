@@ -1,9 +1,10 @@
 //! What is done in the background: bits are cleared, and regions recalculated.
 ghost use Rattle.std.specs.Prelude.{◌≡◌, ◌<◌, IfOk};
 ghost use Rattle.disk_model.specs.Causes.{HasCause};
+ghost use Rattle.device_model.specs.Actors.{actor_of};
 ghost use Rattle.device_model.specs.Progress as Model;
-ghost use Rattle.device_parts.specs.Answers.{StepsNext, actor_of};
-ghost use Rattle.device_parts.specs.declared.answers.Actor.TheVariants.{Clean, Recalc};
+ghost use Rattle.device_parts.specs.Answers.{StepsNext};
+ghost use Rattle.device_model.specs.declared.actor.Actor.TheVariants.{Clean, Recalc};
 ghost use Rattle.bitmap_mode.specs.States.{least_awaiting};
 ghost use Rattle.bitmap_device.specs.Answers.{HasNoWork, WritesAs, WritesClean, WritesRecalc};
 ghost use Rattle.bitmap_device.specs.Answers.{least_to_clean, steps_left};

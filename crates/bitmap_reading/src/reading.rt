@@ -10,13 +10,10 @@ ghost use Rattle.bitmap_model.specs.BitmapDisk.{bit_in, bit_sector};
 ghost use Rattle.bitmap_reading.specs.Bitmap.{HasBitmap};
 ghost use Rattle.sector_window.specs.Window.{HasRoom};
 
-use crate::words::BITMAP_AT;
+use image_model::{SECTOR_BITS, SUPERBLOCK_SECTORS};
 use layout::Geometry;
 use sector_disk::{Disk, Failed};
 use sector_window::SectorWindow;
-
-/// How many regions have their bits in a sector.
-const SECTOR_BITS: u64 = 4096;
 
 /// Whether the region of a block is dirty. The sector of its bit is read where the window does not show it, so that
 /// whoever asks for the blocks in order reads the bitmap once, in runs.
@@ -67,7 +64,7 @@ fn read_bit<D: Disk>(disk: &mut D, window: &mut SectorWindow, region: u64) -> Re
     ensures identity { D.identity disk.new ≡ D.identity disk.old }
     ensures kept { D.moments disk.new ≡ D.moments disk.old }
 {
-    let sector = BITMAP_AT + region / SECTOR_BITS;
+    let sector = SUPERBLOCK_SECTORS + region / SECTOR_BITS;
     window.show(disk, sector, 1)?;
     let bit = region % SECTOR_BITS;
     let bytes = window.run(sector, 1);

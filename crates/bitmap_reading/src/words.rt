@@ -9,13 +9,9 @@ ghost use Rattle.image_model.specs.Bitmap.{is_bit_set};
 ghost use Rattle.sector_window.specs.Window.{HasRoom};
 
 use byteorder::{ByteOrder, LittleEndian};
+use image_model::SUPERBLOCK_SECTORS;
 use sector_disk::{Disk, Failed};
 use sector_window::SectorWindow;
-
-/// The first sector of the bitmap on every disk. The superblock has those before it.
-///
-/// Source: Linux, `drivers/md/dm-integrity.c`, `SB_SECTORS`.
-pub(crate) const BITMAP_AT: u64 = 8;
 
 /// The bits of a word.
 pub(crate) const WORD_BITS: u64 = 64;
@@ -60,7 +56,7 @@ pub(crate) fn read_word<D: Disk>(
     ensures identity { D.identity disk.new ≡ D.identity disk.old }
     ensures kept { D.moments disk.new ≡ D.moments disk.old }
 {
-    let sector = BITMAP_AT + at / SECTOR_WORDS;
+    let sector = SUPERBLOCK_SECTORS + at / SECTOR_WORDS;
     window.show(disk, sector, 1)?;
     Ok(word_at(window.run(sector, 1), (at % SECTOR_WORDS) as usize))
 }

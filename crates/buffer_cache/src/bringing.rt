@@ -12,7 +12,7 @@ ghost use Rattle.buffer_cache.specs.Steps.{GivesSame, IsOverDisk};
 
 use crate::write_out::{make_room, write_held};
 use crate::{Held, HeldSectors, Scratch};
-use sector_disk::{Disk, Failed};
+use sector_disk::{Disk, Failed, SECTOR_SIZE};
 
 /// Makes a sector the most recently used one, and reads it where it is not held.
 pub(crate) fn bring<D: Disk>(disk: &mut D, held: &mut HeldSectors, at: u64) -> Result<(), Failed>
@@ -55,7 +55,7 @@ fn fetch<D: Disk>(disk: &mut D, held: &mut HeldSectors, at: u64) -> Result<(), F
         (D.moments disk.old) (D.moments disk.new) }
     ensures unwritten { HasNoMark held.old → D.moments disk.new ≡ D.moments disk.old }
 {
-    let mut bytes = [0; 512];
+    let mut bytes = [0; SECTOR_SIZE];
     disk.read_run(at, &mut bytes)?;
     make_room(disk, held)?;
     hold(disk, held, at, bytes)
@@ -66,7 +66,7 @@ fn hold<D: Disk>(
     disk: &mut D,
     held: &mut HeldSectors,
     at: u64,
-    bytes: [u8; 512],
+    bytes: [u8; SECTOR_SIZE],
 ) -> Result<(), Failed>
     requires over { IsOverDisk held.old (D.identity disk.old) (D.moments disk.old) }
     requires at { at < (D.identity disk.old).sectors }

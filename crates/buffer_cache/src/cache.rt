@@ -43,12 +43,8 @@ impl Cache {
         ensures { IfOk result (λ cache. sectors_of cache ≡ no_sectors slots) }
     {
         let cap = NonZeroUsize::new(slots as usize).unwrap();
-        let Ok(recent) = LruCache::new(alloc, cap) else {
-            return Err(Memory);
-        };
-        let Ok(ascending) = Vec::with_capacity(alloc, slots as usize + 1) else {
-            return Err(Memory);
-        };
+        let recent = LruCache::new(alloc, cap)?;
+        let ascending = Vec::with_capacity(alloc, slots as usize + 1)?;
         Ok(Cache {
             sectors: HeldSectors {
                 recent,

@@ -7,11 +7,12 @@ use crate::scratch::{
     find_scratch, put_recent_piece, put_scratch_piece, unmark_recent, unmark_scratch,
 };
 use lru::LruCache;
+use sector_disk::SECTOR_SIZE;
 
 /// A sector that is held.
 #[derive(Drop)]
 pub struct Held {
-    pub(crate) bytes: [u8; 512],
+    pub(crate) bytes: [u8; SECTOR_SIZE],
     // Whether they are still to be written.
     pub(crate) marked: bool,
 }

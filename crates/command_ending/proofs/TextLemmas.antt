@@ -2,7 +2,8 @@
 use Rattle.std.proofs.Common.{◌≡◌, ℕ, List, [], ◌∷◌, ◌++◌, refl, sym, ap, ◌∙◌, subst, append_assoc, append-nil, codes, false, Result, OnOk, OnErr, Option}
 use Rattle.std.specs.Option.{option_map}
 use Rattle.std.proofs.lemmas.Result.{on_ok_weaker, on_err_weaker}
-use Rattle.device_model.specs.Ending.{ImageFault, LineFault, RefusedImage, RefusedLine, fault_text, hexadecimal}
+use Rattle.device_model.specs.Refusals.{ImageFault, LineFault, hexadecimal}
+use Rattle.run_model.specs.Ending.{ByImage, ByLine, refusal_line}
 use Rattle.std.specs.Fmt.{digits}
 use Rattle.stream_io.specs.Stream.{with_bytes, AddsPrefix}
 use Rattle.command_ending.specs.Ended.{Puts, image_line, image_line_of, numbered_line, script_line_of}
@@ -139,13 +140,13 @@ form_line digits number name word text is_number is_text =
     ∙ ap (λ (x : List ℕ). codes "fault line " ++ (number ++ (codes " " ++ (x ++ codes "\n")))) is_text
     ∙ script_line number text
 
--- ---- as an ending's last line
+-- ---- as the last line of a refusal
 
-pub image_told : (fault : ImageFault) → image_line_of fault ≡ fault_text (RefusedImage fault)
+pub image_told : (fault : ImageFault) → image_line_of fault ≡ refusal_line (ByImage fault)
 unfolding image_line
 image_told fault = refl
 
 pub line_told : (number : ℕ) (fault : LineFault)
-    → script_line_of number fault ≡ fault_text (RefusedLine number fault)
+    → script_line_of number fault ≡ refusal_line (ByLine number fault)
 unfolding numbered_line
 line_told number fault = refl

@@ -1,4 +1,4 @@
--- What ended a command, as an ending of `device_model`.
+-- What ended a command, as an ending of `run_model`.
 use Rattle.std.specs.Borrow.{Bor}
 use Rattle.std.specs.Prelude.{◌≡◌, ◌⊎◌, ℕ, List, ◌++◌, flat_map, codes, Option, Result, OnOk, OnErr}
 use Rattle.std.specs.Fmt.{decimal}
@@ -6,22 +6,24 @@ use Rattle.std.specs.Option.{option_map}
 use Rattle.disk_model.specs.Causes.{Rose}
 use Rattle.journal_reading.specs.Faults.{as_fault}
 use Rattle.stream_io.specs.Stream.{with_bytes, AddsPrefix}
-use Rattle.device_model.specs.Ending as Endings
-use Rattle.device_model.specs.Ending.{Ending, image_fault_text, line_fault_text}
+use Rattle.device_model.specs.Refusals as model
+use Rattle.device_model.specs.Refusals.{image_fault_text, line_fault_text}
 use Rattle.device_model.specs.LineFault as Faults
 use Rattle.device_model.specs.LineFault.{WordsFault}
 use Rattle.script_session.specs.Meaning.{meaning_of}
+use Rattle.run_model.specs.Ending as endings
+use Rattle.run_model.specs.Ending.{Ending, ByWords, ByKey, ByImage, ByLine, ByLength}
 use Rattle.command_ending.specs.declared.ended.Ended.{Ended}
-use Rattle.command_ending.specs.declared.ended.Ended.TheVariants.{Words, Key, Line, Length, Image, Disk, KeySource, Script, Sink, Memory}
+use Rattle.command_ending.specs.declared.ended.Ended.TheVariants.{Refused, Failed, Memory}
 use Rattle.command_ending.specs.declared.form_fault.FormFault.{FormFault}
 use Rattle.command_ending.specs.declared.form_fault.FormFault.TheVariants.{TooLong, NotText, WrongWord, WrongNumber, WrongByte, WrongRuns, MissingWord, ExtraWord}
 use Rattle.command_ending.specs.declared.image_fault.ImageFault.{ImageFault}
 use Rattle.command_ending.specs.declared.image_fault.ImageFault.TheVariants.{Super, Geom, Journal}
 use Rattle.command_ending.specs.declared.image_fault.ImageFault.TheVariants as ImageFaults
-use Rattle.command_ending.specs.declared.key_refusal.KeyRefusal.{KeyRefusal}
-use Rattle.command_ending.specs.declared.key_refusal.KeyRefusal.TheVariants.{Empty, Long}
 use Rattle.command_ending.specs.declared.line_refusal.LineRefusal.{LineRefusal}
 use Rattle.command_ending.specs.declared.line_refusal.LineRefusal.TheVariants.{Form, Meaning}
+use Rattle.command_ending.specs.declared.refusal.Refusal.{Refusal}
+use Rattle.command_ending.specs.declared.refusal.Refusal.TheVariants.{Words, Key, Image, Line, Length}
 
 -- The fault of a line's words that this is.
 abbrev pub form_of : FormFault → WordsFault
@@ -34,32 +36,29 @@ form_of (WrongRuns word) = Faults.WrongStretches word.items
 form_of MissingWord = Faults.MissingWord
 form_of (ExtraWord word) = Faults.ExtraWord word.items
 
-abbrev pub refusal_of : LineRefusal → Endings.LineFault
-refusal_of (Form fault) = Endings.ByWords (form_of fault)
-refusal_of (Meaning fault) = Endings.ByMeaning (meaning_of fault)
+abbrev pub line_fault_of : LineRefusal → model.LineFault
+line_fault_of (Form fault) = model.ByWords (form_of fault)
+line_fault_of (Meaning fault) = model.ByMeaning (meaning_of fault)
 
-abbrev pub image_fault_of : ImageFault → Endings.ImageFault
-image_fault_of (Super fault) = Endings.BySuperblock fault
-image_fault_of (Geom fault) = Endings.ByGeometry fault
-image_fault_of (ImageFaults.Consent flags) = Endings.ByConsent flags
-image_fault_of (Journal fault) = Endings.ByJournal (as_fault fault)
+abbrev pub image_fault_of : ImageFault → model.ImageFault
+image_fault_of (Super fault) = model.BySuperblock fault
+image_fault_of (Geom fault) = model.ByGeometry fault
+image_fault_of (ImageFaults.Consent flags) = model.ByConsent flags
+image_fault_of (Journal fault) = model.ByJournal (as_fault fault)
 
-abbrev pub key_refusal_of : KeyRefusal → Endings.KeyRefusal
-key_refusal_of Empty = Endings.EmptyKey
-key_refusal_of Long = Endings.LongKey
+-- The refusal that each stands for,
+abbrev pub refusal_of : Refusal → endings.Refusal
+refusal_of Words = ByWords
+refusal_of (Key refusal) = ByKey refusal
+refusal_of (Image fault) = ByImage (image_fault_of fault)
+refusal_of (Line number refusal) = ByLine number (line_fault_of refusal)
+refusal_of Length = ByLength
 
--- The ending that each stands for.
+-- and the ending.
 abbrev pub ending_of : Ended → Ending
-ending_of Words = Endings.RefusedWords
-ending_of (Key refusal) = Endings.RefusedKey (key_refusal_of refusal)
-ending_of (Line number refusal) = Endings.RefusedLine number (refusal_of refusal)
-ending_of Length = Endings.RefusedLength
-ending_of (Image fault) = Endings.RefusedImage (image_fault_of fault)
-ending_of Disk = Endings.DiskFailed
-ending_of KeySource = Endings.KeyFailed
-ending_of Script = Endings.ScriptFailed
-ending_of Sink = Endings.SinkFailed
-ending_of Memory = Endings.NoMemory
+ending_of (Refused refusal) = endings.Refused (refusal_of refusal)
+ending_of (Failed outer) = endings.Failed outer
+ending_of Memory = endings.NoMemory
 
 -- ---- its last line
 
@@ -81,12 +80,12 @@ bytes_of pieces = flat_map (λ piece. piece.now) pieces
 unfoldable pub image_line : List ℕ → List ℕ
 image_line text = codes "fault image " ++ text ++ codes "\n"
 
-abbrev pub image_line_of : Endings.ImageFault → List ℕ
+abbrev pub image_line_of : model.ImageFault → List ℕ
 image_line_of fault = image_line (image_fault_text fault)
 
 -- The line of a script's line that is refused, with the digits of its number and the text of its fault.
 unfoldable pub numbered_line : (number text : List ℕ) → List ℕ
 numbered_line number text = codes "fault line " ++ number ++ codes " " ++ text ++ codes "\n"
 
-abbrev pub script_line_of : ℕ → Endings.LineFault → List ℕ
+abbrev pub script_line_of : ℕ → model.LineFault → List ℕ
 script_line_of number fault = numbered_line (decimal number) (line_fault_text fault)

@@ -3,36 +3,24 @@ ghost use Rattle.std.specs.Prelude.{◌≡◌, ◌≤◌, OnOk, OnErr};
 ghost use Rattle.std.specs.Option.{option_map};
 ghost use Rattle.disk_model.specs.Causes.{HasCause};
 ghost use Rattle.stream_io.specs.Stream.{with_bytes, AddsPrefix};
-ghost use Rattle.device_model.specs.Ending.{NoMemory, RefusedKey, status_of, fault_text};
-ghost use Rattle.command_ending.specs.Ended.{IsPut, ending_of, key_refusal_of};
+ghost use Rattle.run_model.specs.Ending.{ByKey, NoMemory, failed_line, refusal_line, status_of, fault_text};
+ghost use Rattle.command_ending.specs.Ended.{IsPut, Puts, ending_of, refusal_of};
 
+use crate::Refusal;
 use crate::image_texts::put_image_fault;
 use crate::line_texts::put_line_fault;
-use crate::{ImageFault, KeyRefusal, LineRefusal};
+use crate::pieces::put_pieces;
+use run_model::{KeyRefusal, Outer};
 use sector_disk::Failed;
 use stream_io::{Sink, put_all};
 
 /// What ended a command early.
 #[derive(Debug, Drop)]
 pub enum Ended {
-    /// The words are none that the program has a command for.
-    Words,
-    /// The bytes of the key file are no key.
-    Key(KeyRefusal),
-    /// A line of the script is refused. Lines are numbered from 1.
-    Line { number: u64, refusal: LineRefusal },
-    /// The script has more than 16777216 bytes.
-    Length,
-    /// The image is refused.
-    Image(ImageFault),
-    /// The disk failed.
-    Disk,
-    /// The source of the key failed.
-    KeySource,
-    /// The source of the script failed.
-    Script,
-    /// The sink failed.
-    Sink,
+    /// It is refused.
+    Refused(Refusal),
+    /// What lies outside the program failed.
+    Failed(Outer),
     /// There was no memory.
     Memory,
 }
@@ -43,11 +31,13 @@ impl Ended {
         ensures { result ≡ status_of (ending_of self.now) }
     {
         match self {
-            Ended::Words | Ended::Key(_) | Ended::Line { .. } | Ended::Length => 2,
-            Ended::Image(_) => 3,
-            Ended::Disk => 4,
-            Ended::KeySource | Ended::Script => 5,
-            Ended::Sink => 6,
+            Ended::Refused(Refusal::Image(_)) => 3,
+            Ended::Refused(
+                Refusal::Words | Refusal::Key(_) | Refusal::Line { .. } | Refusal::Length,
+            ) => 2,
+            Ended::Failed(Outer::Disk) => 4,
+            Ended::Failed(Outer::Key | Outer::Script) => 5,
+            Ended::Failed(Outer::Sink) => 6,
             Ended::Memory => 7,
         }
     }
@@ -66,15 +56,9 @@ impl Ended {
             (O.held out.old) (O.held out.new)) }
     {
         match self {
-            Ended::Words => put_all(out, b"fault words\n"),
-            Ended::Key(refusal) => put_all(out, key_line(*refusal)),
-            Ended::Line { number, refusal } => put_line_fault(out, *number, refusal),
-            Ended::Length => put_all(out, b"fault script long\n"),
-            Ended::Image(fault) => put_image_fault(out, *fault),
-            Ended::Disk => put_all(out, b"fault disk\n"),
-            Ended::KeySource => put_all(out, b"fault key\n"),
-            Ended::Script => put_all(out, b"fault script\n"),
-            Ended::Sink => Ok(()),
+            Ended::Refused(refusal) => put_refusal(out, refusal),
+            Ended::Failed(Outer::Sink) => Ok(()),
+            Ended::Failed(outer) => put_all(out, failed_line(*outer)),
             Ended::Memory => put_all(out, b"fault memory\n"),
         }
     }
@@ -91,12 +75,42 @@ pub fn end_without_memory<O: Sink>(out: &mut O) -> u8
     Ended::Memory.status()
 }
 
+/// Writes the last line of a command that is refused.
+///
+/// # Errors
+///
+/// - `Failed`: the sink failed. It has taken some of the line from the front, or none, and not all.
+fn put_refusal<O: Sink>(out: &mut O, refusal: &Refusal) -> Result<(), Failed>
+    ensures line { Puts (refusal_line (refusal_of refusal.now)) (O.held out.old) (O.held out.new) result }
+    ensures cause { HasCause (O.faults out.old) (O.faults out.new) result }
+{
+    match refusal {
+        Refusal::Words => put_pieces(out, &[b"fault words\n"]),
+        Refusal::Key(refusal) => put_pieces(out, &[key_line(*refusal)]),
+        Refusal::Image(fault) => put_image_fault(out, *fault),
+        Refusal::Line { number, refusal } => put_line_fault(out, *number, refusal),
+        Refusal::Length => put_pieces(out, &[b"fault script long\n"]),
+    }
+}
+
 /// The last line of a command whose key file holds no key.
 fn key_line(refusal: KeyRefusal) -> &'static [u8]
-    ensures { result.now ≡ fault_text (RefusedKey (key_refusal_of refusal)) }
+    ensures { result.now ≡ refusal_line (ByKey refusal) }
 {
     match refusal {
         KeyRefusal::Empty => b"fault key empty\n",
         KeyRefusal::Long => b"fault key long\n",
+    }
+}
+
+/// The last line of a command whose outside failed, and no bytes where it was the sink.
+fn failed_line(outer: Outer) -> &'static [u8]
+    ensures { result.now ≡ failed_line outer }
+{
+    match outer {
+        Outer::Disk => b"fault disk\n",
+        Outer::Key => b"fault key\n",
+        Outer::Script => b"fault script\n",
+        Outer::Sink => b"",
     }
 }

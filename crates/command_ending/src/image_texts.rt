@@ -2,7 +2,7 @@
 ghost use Rattle.std.specs.Prelude.{◌≡◌, ◌++◌, codes};
 ghost use Rattle.std.specs.Fmt.{decimal};
 ghost use Rattle.disk_model.specs.Causes.{HasCause};
-ghost use Rattle.device_model.specs.Ending.{ByGeometry, ByJournal, BySuperblock, hexadecimal};
+ghost use Rattle.device_model.specs.Refusals.{ByGeometry, ByJournal, BySuperblock, hexadecimal};
 ghost use Rattle.image_model.specs.Openable.{JournalBlock, JournalTag, Scan};
 ghost use Rattle.journal_reading.specs.Faults.{as_fault};
 ghost use Rattle.command_ending.specs.Ended.{Puts, image_fault_of, image_line, image_line_of};

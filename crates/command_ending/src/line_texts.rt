@@ -5,7 +5,7 @@ ghost use Rattle.disk_model.specs.Causes.{HasCause};
 ghost use Rattle.device_model.specs.LineFault.{words_fault_text};
 ghost use Rattle.device_model.specs.Script.{meaning_text};
 ghost use Rattle.script_session.specs.Meaning.{meaning_of};
-ghost use Rattle.command_ending.specs.Ended.{Puts, form_of, numbered_line, refusal_of, script_line_of};
+ghost use Rattle.command_ending.specs.Ended.{Puts, form_of, numbered_line, line_fault_of, script_line_of};
 
 use crate::pieces::put_pieces;
 use crate::{FormFault, LineRefusal};
@@ -24,7 +24,7 @@ pub(crate) fn put_line_fault<O: Sink>(
     number: u64,
     refusal: &LineRefusal,
 ) -> Result<(), Failed>
-    ensures line { Puts (script_line_of number (refusal_of refusal.now))
+    ensures line { Puts (script_line_of number (line_fault_of refusal.now))
         (O.held out.old) (O.held out.new) result }
     ensures cause { HasCause (O.faults out.old) (O.faults out.new) result }
 {

@@ -1,5 +1,7 @@
 //! Each ending by its status and its last line.
-use command_ending::{Ended, FormFault, ImageFault, KeyRefusal, LineRefusal, end_without_memory};
+use command_ending::{
+    Ended, FormFault, ImageFault, KeyRefusal, LineRefusal, Outer, Refusal, end_without_memory,
+};
 use hmac_tag::Tag;
 use journal_reading::JournalFault;
 use script_text::LineFault;
@@ -31,7 +33,7 @@ fn judge_line(
     text: &str,
 ) -> Result<(), Fail> {
     let line = format!(in alloc; "fault line {text}\n")?;
-    let ended = Ended::Line { number, refusal };
+    let ended = Ended::Refused(Refusal::Line { number, refusal });
     judge(rt, alloc, &ended, 2, line.as_str())
 }
 
@@ -39,14 +41,22 @@ fn judge_line(
 #[test]
 fn each_ending_has_its_status_and_its_last_line(rt: HostRuntime) -> Result<(), Fail> {
     for (ended, status, line) in [
-        (Ended::Words, 2, "fault words\n"),
-        (Ended::Key(KeyRefusal::Empty), 2, "fault key empty\n"),
-        (Ended::Key(KeyRefusal::Long), 2, "fault key long\n"),
-        (Ended::Length, 2, "fault script long\n"),
-        (Ended::Disk, 4, "fault disk\n"),
-        (Ended::KeySource, 5, "fault key\n"),
-        (Ended::Script, 5, "fault script\n"),
-        (Ended::Sink, 6, ""),
+        (Ended::Refused(Refusal::Words), 2, "fault words\n"),
+        (
+            Ended::Refused(Refusal::Key(KeyRefusal::Empty)),
+            2,
+            "fault key empty\n",
+        ),
+        (
+            Ended::Refused(Refusal::Key(KeyRefusal::Long)),
+            2,
+            "fault key long\n",
+        ),
+        (Ended::Refused(Refusal::Length), 2, "fault script long\n"),
+        (Ended::Failed(Outer::Disk), 4, "fault disk\n"),
+        (Ended::Failed(Outer::Key), 5, "fault key\n"),
+        (Ended::Failed(Outer::Script), 5, "fault script\n"),
+        (Ended::Failed(Outer::Sink), 6, ""),
         (Ended::Memory, 7, "fault memory\n"),
     ] {
         judge(&rt, rt.alloc(), &ended, status, line)?;
@@ -63,7 +73,7 @@ fn the_longest_tag_is_told_whole(rt: HostRuntime) -> Result<(), Fail> {
         stored: Tag::from_bytes(&[0x5a; 32]),
         computed: Tag::from_bytes(&[0; 32]),
     };
-    let ended = Ended::Image(ImageFault::Journal(fault));
+    let ended = Ended::Refused(Refusal::Image(ImageFault::Journal(fault)));
     let mut out = MemSink::new(rt.alloc(), 200)?;
     ended.put_last_line(&mut out)?;
     assert_eq!(rt;

@@ -9,9 +9,9 @@ use Rattle.command_words.specs.declared.command.Command.TheVariants as command
 use Rattle.command_words.specs.declared.values.Consent.TheVariants.{Given, Withheld}
 use Rattle.command_words.specs.declared.values.HashChoice.TheVariants.{Sha256, HmacSha256}
 use Rattle.command_words.specs.declared.values.BlockSize.TheVariants.{Bytes512}
-use Rattle.command_words.specs.declared.values.ImageMode.TheVariants as images
-use Rattle.command_words.specs.declared.values.Padding.TheVariants.{Fixed}
-use Rattle.command_words.specs.declared.values.Wipe.TheVariants.{Recalculated, Zeros}
+use Rattle.image_model.specs.declared.new_image.ImageMode.TheVariants as images
+use Rattle.image_model.specs.declared.new_image.Padding.TheVariants.{Fixed}
+use Rattle.image_model.specs.declared.new_image.Wipe.TheVariants.{Recalculated, Wiped}
 use Rattle.command_words.specs.declared.values.Mode.TheVariants.{Bitmap, Direct, Journal, Recovery}
 use Rattle.command_words.specs.declared.values.NbdMode.TheVariants as sessions
 
@@ -109,7 +109,7 @@ command_of-format_bitmap : command_of (codes "integrity" ∷ codes "format" ∷ 
       salt = None;
       padding = Fixed;
       mode = images.Bitmap;
-      wipe = Zeros;
+      wipe = Wiped;
     }))
 unfolding clap_on_literals
 command_of-format_bitmap = refl

@@ -12,22 +12,22 @@ use Rattle.command_words.specs.declared.command.Command.{Command}
 use Rattle.command_words.specs.declared.command.Command.TheVariants as command
 use Rattle.command_words.specs.declared.values.BlockSize.{BlockSize}
 use Rattle.command_words.specs.declared.values.BlockSize.TheVariants.{Bytes512, Bytes1024, Bytes2048, Bytes4096}
-use Rattle.command_words.specs.declared.values.Checked.{Checked}
-use Rattle.command_words.specs.declared.values.Checked.TheVariants.{Cells, Placed}
+use Rattle.image_model.specs.declared.judged.What.{What}
+use Rattle.image_model.specs.declared.judged.What.TheVariants.{Cells, Placed}
 use Rattle.command_words.specs.declared.values.Consent.{Consent}
 use Rattle.command_words.specs.declared.values.Consent.TheVariants as consents
 use Rattle.command_words.specs.declared.values.HashChoice.{HashChoice}
 use Rattle.command_words.specs.declared.values.HashChoice.TheVariants.{Sha256, HmacSha256}
-use Rattle.command_words.specs.declared.values.ImageMode.{ImageMode}
-use Rattle.command_words.specs.declared.values.ImageMode.TheVariants as images
+use Rattle.image_model.specs.declared.new_image.ImageMode.{ImageMode}
+use Rattle.image_model.specs.declared.new_image.ImageMode.TheVariants as images
 use Rattle.command_words.specs.declared.values.Mode.{Mode}
 use Rattle.command_words.specs.declared.values.Mode.TheVariants.{Journal, Direct, Bitmap, Recovery}
 use Rattle.command_words.specs.declared.values.NbdMode.{NbdMode}
 use Rattle.command_words.specs.declared.values.NbdMode.TheVariants as sessions
-use Rattle.command_words.specs.declared.values.Padding.{Padding}
-use Rattle.command_words.specs.declared.values.Padding.TheVariants.{Fixed, Legacy}
-use Rattle.command_words.specs.declared.values.Wipe.{Wipe}
-use Rattle.command_words.specs.declared.values.Wipe.TheVariants as wipe
+use Rattle.image_model.specs.declared.new_image.Padding.{Padding}
+use Rattle.image_model.specs.declared.new_image.Padding.TheVariants.{Fixed, Legacy}
+use Rattle.image_model.specs.declared.new_image.Wipe.{Wipe}
+use Rattle.image_model.specs.declared.new_image.Wipe.TheVariants as wipe
 
 -- The hash that needs no key, where no key is given.
 abbrev pub keyless_hash : Option Text → Option HashChoice
@@ -100,9 +100,9 @@ padding_of given = if has given (codes "integrity-legacy-padding") then Legacy e
 abbrev pub wipe_of : Given → Wipe
 wipe_of given =
     if has given (codes "recalculate") then wipe.Recalculated else
-    if has given (codes "no-wipe") then wipe.Nothing else wipe.Zeros
+    if has given (codes "no-wipe") then wipe.Kept else wipe.Wiped
 
-abbrev pub checked_of : Given → Checked
+abbrev pub checked_of : Given → What
 checked_of given = if has given (codes "placed") then Placed else Cells
 
 abbrev pub tag_size_of : Given → Option ℕ

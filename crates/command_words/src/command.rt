@@ -1,9 +1,10 @@
 //! A command, with its options.
 
 use crate::values::{
-    BlockSize, Checked, Consent, FileName, HashChoice, ImageMode, Interleave, Log2BlocksPerBit,
-    Mode, NbdMode, Padding, RequestCount, SectionCount, TagSize, Wipe,
+    BlockSize, Consent, FileName, HashChoice, Interleave, Log2BlocksPerBit, Mode, NbdMode,
+    RequestCount, SectionCount, TagSize,
 };
+use image_model::{ImageMode, Padding, What, Wipe};
 
 /// A command that the words of a program give.
 #[derive(Debug, Drop)]
@@ -94,7 +95,7 @@ pub struct Check {
     /// The hash of its tags.
     pub hash: HashChoice,
     /// What is checked.
-    pub checked: Checked,
+    pub checked: What,
 }
 
 /// `salvage IMAGE`.

@@ -12,12 +12,10 @@ use crate::table::{
     LEGACY_RECALCULATE, MODE, NO_WIPE, PLACED, RECALCULATE, SALT, SECTIONS, SECTOR_SIZE, SEED,
     TAG_SIZE,
 };
-use crate::values::{
-    BlockSize, Checked, Consent, FileName, HashChoice, ImageMode, Interleave, Mode, NbdMode,
-    Padding, Wipe,
-};
+use crate::values::{BlockSize, Consent, FileName, HashChoice, Interleave, Mode, NbdMode};
 use crate::words_fault::WordsFault;
 use hex::FromHex;
+use image_model::{ImageMode, Padding, What, Wipe};
 use std::alloc::Global;
 
 /// The command of this name, with what the words give it.
@@ -285,19 +283,19 @@ fn wipe(given: &Given<'_>) -> Wipe
     if given.has(RECALCULATE) {
         Wipe::Recalculated
     } else if given.has(NO_WIPE) {
-        Wipe::Nothing
+        Wipe::Kept
     } else {
-        Wipe::Zeros
+        Wipe::Wiped
     }
 }
 
 /// What is checked.
-fn checked(given: &Given<'_>) -> Checked
+fn checked(given: &Given<'_>) -> What
     ensures { result ≡ Judging.checked_of (given_in given.now) }
 {
     if given.has(PLACED) {
-        Checked::Placed
+        What::Placed
     } else {
-        Checked::Cells
+        What::Cells
     }
 }

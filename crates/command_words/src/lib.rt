@@ -21,7 +21,7 @@ pub use command::{Check, Command, Dump, Exercise, Format, Nbd, Resize, Run, Salv
 pub use parsing::parse;
 pub use plain_law::plain_words_are_their_command;
 pub use values::{
-    BlockSize, Checked, Consent, FileName, HashChoice, ImageMode, Interleave, Log2BlocksPerBit,
-    Mode, NbdMode, Padding, RequestCount, SectionCount, TagSize, Wipe, Within,
+    BlockSize, Consent, FileName, HashChoice, Interleave, Log2BlocksPerBit, Mode, NbdMode,
+    RequestCount, SectionCount, TagSize, Within,
 };
 pub use words_fault::WordsFault;

@@ -199,15 +199,6 @@ pub enum NbdMode {
     Bitmap,
 }
 
-/// The mode that a new image is made for.
-#[derive(Clone, Copy, Debug, PartialEq, Eq)]
-pub enum ImageMode {
-    /// Journal mode, and direct mode: it has a journal.
-    Journal,
-    /// Bitmap mode: it has a bitmap of its regions in the journal's place.
-    Bitmap,
-}
-
 /// Whether tags under a key may be made anew of blocks whose bytes no tag vouches for.
 #[derive(Clone, Copy, Debug, PartialEq, Eq)]
 pub enum Consent {
@@ -215,33 +206,4 @@ pub enum Consent {
     Given,
     /// They may not.
     Withheld,
-}
-
-/// How many sectors the tags of an area take.
-#[derive(Clone, Copy, Debug, PartialEq, Eq)]
-pub enum Padding {
-    /// A multiple of 4096 bytes.
-    Fixed,
-    /// As many as the tags need with the padding of old.
-    Legacy,
-}
-
-/// What a new image does to the blocks.
-#[derive(Clone, Copy, Debug, PartialEq, Eq)]
-pub enum Wipe {
-    /// Each block is written with zeros, and with its tag.
-    Zeros,
-    /// Nothing.
-    Nothing,
-    /// Nothing, and the tags of all blocks are to be recalculated.
-    Recalculated,
-}
-
-/// Which content of an image is checked.
-#[derive(Clone, Copy, Debug, PartialEq, Eq)]
-pub enum Checked {
-    /// What its blocks read as, the journal and the bitmap looked at.
-    Cells,
-    /// What stands in the places, whatever stands in the journal.
-    Placed,
 }

@@ -3,15 +3,12 @@ ghost use Rattle.std.specs.Prelude.{◌≡◌, ◌↔◌, ℕ, ◌^◌, ◌<◌,
 ghost use Rattle.image_model.specs.CommitId.{commit_id, number_of};
 ghost use Rattle.commit_id.specs.Ids.{IsIdOfOne};
 
+use image_model::COMMIT_NUMBERS;
+
 /// The bits that stand for commit number 0, and by which those of each further number go up.
 ///
 /// Source: Linux, `drivers/md/dm-integrity.c`, `create_journal`.
 const PATTERN: u64 = 0x1111_1111_1111_1111;
-
-/// How many commit numbers there are.
-///
-/// Source: Linux, `drivers/md/dm-integrity.c`, `N_COMMIT_IDS`.
-const NUMBERS: u8 = 4;
 
 /// The commit id of sector `sector` of section `section` under commit number `number`.
 ///
@@ -37,7 +34,7 @@ pub fn number_of(section: u64, sector: u64, found: u64) -> Option<u8>
     ensures some { (number : ℕ) → (result ≡ Some number)
         ↔ ((number < 4) × (commit_id section sector number ≡ found)) }
 {
-    for number in 0..NUMBERS {
+    for number in 0..COMMIT_NUMBERS {
         if id(section, sector, number) == found {
             return Some(number);
         }

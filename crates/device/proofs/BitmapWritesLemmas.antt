@@ -16,8 +16,8 @@ use Rattle.tag_store.specs.Store.{HoldsTag, IsMarkedTags, Store}
 use Rattle.request_slots.specs.Flight.{turn_of}
 use Rattle.request_slots.specs.declared.turn.Turn.{Turn}
 use Rattle.request_slots.specs.declared.turn.Turn.TheVariants as Turns
-use Rattle.device_parts.specs.declared.answers.Actor.{Actor}
-use Rattle.device_parts.specs.declared.answers.Actor.TheVariants as Actors
+use Rattle.device_model.specs.declared.actor.Actor.{Actor}
+use Rattle.device_model.specs.declared.actor.Actor.TheVariants as Actors
 use Rattle.device_parts.specs.declared.parts.Parts.{Parts}
 use Rattle.device_model.specs.Regions.{with_region}
 use Rattle.dirty_bitmap.specs.Bits.{bits_of}

@@ -2,17 +2,18 @@
 use Rattle.std.proofs.Common.{◌≡◌, ◌↔◌, List, [], ◌∷◌, ◌++◌, Result, Ok, Err, refl, sym, ◌∙◌, ap, subst, append-nil, append_assoc}
 use Rattle.disk_model.specs.Disk.{Content}
 use Rattle.disk_model.specs.Identity.{DiskIdentity}
+use Rattle.device_model.specs.Actors.{actor_of}
 use Rattle.device_model.specs.Progress as Progress
 use Rattle.device_model.specs.Progress.{DeviceState, Event, FailedStep, Step, after_event, after_events}
 use Rattle.device_model.specs.Script.{IsOfJournal, idle_events, room_events}
 use Rattle.device_model.proofs.IdleLemmas.{after_events-append, idle_events-journal}
-use Rattle.device_parts.specs.declared.answers.Actor.{Actor}
+use Rattle.device_model.specs.declared.actor.Actor.{Actor}
 use Rattle.device_parts.specs.declared.answers.Moved.{Moved}
 use Rattle.device_parts.specs.declared.answers.StepFault.{StepFault}
 use Rattle.device_parts.specs.declared.answers.StepFault.TheVariants as Faults
 use Rattle.device_parts.specs.declared.condition.Condition.{Condition}
 use Rattle.device_parts.specs.declared.condition.Condition.TheVariants as Conditions
-use Rattle.device_parts.specs.Answers.{actor_of, condition_by}
+use Rattle.device_parts.specs.Answers.{condition_by}
 use Rattle.device.specs.declared.mode.DeviceParts.{DeviceParts}
 use Rattle.device.specs.Answers.{KeepsClearTags, WritesInStep}
 use Rattle.device_parts.specs.Answers.{HasStepped}

@@ -6,6 +6,7 @@ use Rattle.disk_model.proofs.MomentsLemmas.{EachMoment-kept, adds_wider}
 use Rattle.image_model.specs.declared.flags.TheConstants.{RECALCULATING}
 use Rattle.image_model.specs.Geometry.{Geometry, regions}
 use Rattle.image_model.specs.Superblock.{Superblock, has_flag}
+use Rattle.device_model.specs.Actors.{actor_of}
 use Rattle.device_model.specs.History.{Change, IsWrittenIn}
 use Rattle.device_model.specs.Mode as Model
 use Rattle.device_model.specs.Progress.{Event, Serve, Step, changes_of, event_result}
@@ -22,11 +23,10 @@ use Rattle.recalculation.specs.Recalculation.{IsOfTagsOrHead, WritesRegion, next
 use Rattle.recalculation.proofs.KeptLemmas.{next_is}
 use Rattle.tag_store.specs.Store.{HoldsTag}
 use Rattle.request_slots.specs.Flight.{is_in_flight, turn_of}
-use Rattle.device_parts.specs.declared.answers.Actor.{Actor}
-use Rattle.device_parts.specs.declared.answers.Actor.TheVariants as Actors
+use Rattle.device_model.specs.declared.actor.Actor.{Actor}
+use Rattle.device_model.specs.declared.actor.Actor.TheVariants as Actors
 use Rattle.device_parts.specs.declared.condition.Condition.TheVariants as Conditions
 use Rattle.device_parts.specs.declared.parts.Parts.{Parts}
-use Rattle.device_parts.specs.Answers.{actor_of}
 use Rattle.device_parts.specs.Device.{Standing}
 use Rattle.direct_device.specs.Answers.{IsWrittenNext, WritesAs, WritesClose}
 use Rattle.direct_device.specs.Device.{kept as direct_kept}

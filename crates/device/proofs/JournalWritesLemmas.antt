@@ -38,8 +38,8 @@ use Rattle.journal_device.specs.Commits.{WritesBatches, after_batch_of}
 use Rattle.journal_device.specs.Journal.{PlacedRing, after_put, sections_of}
 use Rattle.request_slots.specs.declared.turn.Turn.{Turn}
 use Rattle.request_slots.specs.declared.turn.Turn.TheVariants as Turns
-use Rattle.device_parts.specs.declared.answers.Actor.{Actor}
-use Rattle.device_parts.specs.declared.answers.Actor.TheVariants as Actors
+use Rattle.device_model.specs.declared.actor.Actor.{Actor}
+use Rattle.device_model.specs.declared.actor.Actor.TheVariants as Actors
 use Rattle.device_parts.specs.declared.condition.Condition.TheVariants as Conditions
 use Rattle.device_parts.specs.declared.parts.Parts.{Parts}
 use Rattle.device_parts.specs.Device.{Standing}

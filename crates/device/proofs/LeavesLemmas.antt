@@ -4,6 +4,7 @@ use Rattle.std.specs.List.{Any}
 use Rattle.disk_model.specs.Disk.{Content}
 use Rattle.disk_model.specs.Moments.{EachMoment}
 use Rattle.disk_model.proofs.MomentsLemmas.{EachMoment-weaker}
+use Rattle.device_model.specs.Actors.{actor_of}
 use Rattle.device_model.specs.History.{Change, Flushed}
 use Rattle.device_model.specs.Mode as Model
 use Rattle.device_model.specs.Mode.{is_recovery}
@@ -11,10 +12,9 @@ use Rattle.device_model.specs.Progress.{Close, Event, EventResult, FailedServe, 
 use Rattle.device_model.proofs.HistoryLemmas.{Any-append_left, Any-cons, Any-nil}
 use Rattle.device_model.proofs.SubmissionLemmas.{result-working}
 use Rattle.request_slots.specs.Flight.{is_in_flight}
-use Rattle.device_parts.specs.declared.answers.Actor.{Actor}
+use Rattle.device_model.specs.declared.actor.Actor.{Actor}
 use Rattle.device_parts.specs.declared.condition.Condition.TheVariants as Conditions
 use Rattle.device_parts.specs.declared.parts.Parts.{Parts}
-use Rattle.device_parts.specs.Answers.{actor_of}
 use Rattle.device_parts.specs.Device.{Standing}
 use Rattle.bitmap_device.specs.Device.{IsUnwritten, kept as bitmap_kept}
 use Rattle.device.specs.declared.mode.Mode.{Mode}

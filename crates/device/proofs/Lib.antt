@@ -8,6 +8,7 @@ pub mod MovingLemmas
 pub mod JudgedLemmas
 mod RestLemmas
 pub mod StepLemmas
+pub mod TellingLemmas
 pub mod RequestLemmas
 pub mod OpeningLemmas
 pub mod WritesLemmas

@@ -16,7 +16,8 @@ use Rattle.place_model.proofs.KindLemmas.{judged_image-changed, judged_image-sam
 use Rattle.place_model.proofs.FormatLemmas.{format_on-read, reads_on, reads_tells}
 use Rattle.direct_laws.specs.CallLaws.{ReadsImage}
 use Rattle.recalculate_laws.specs.Formats.{under_fields}
-use Rattle.image_judging.specs.declared.opening_fault.OpeningFault.{OpeningFault}
+use Rattle.image_refusal.specs.declared.call_fault.CallFault.{CallFault}
+use Rattle.image_refusal.specs.declared.open_fault.OpenFault.{OpenFault}
 use Rattle.image_judging.proofs.FaultsLemmas.{fault_in-err}
 use Rattle.device_parts.specs.declared.parts.Parts.{Parts}
 use Rattle.direct_device.specs.declared.parts.DirectParts.{DirectParts}
@@ -46,7 +47,7 @@ use Rattle.device.proofs.ModeLemmas.{in_direct_mode, in_journal_mode}
 
 -- ---- an image that is refused
 
-pub refused : (T : Type 0) (mode : OpenMode) (key : Option (List ℕ)) (disk : DiskIdentity) (a b : List Content) (fault : OpeningFault)
+pub refused : (T : Type 0) (mode : OpenMode) (key : Option (List ℕ)) (disk : DiskIdentity) (a b : List Content) (fault : CallFault OpenFault)
     → Refuses {T = T} (fault_in_mode mode key disk.sectors) a b (Err fault) → IsRefused mode key disk a b fault
 refused T mode key disk a b fault is = record {
   told = λ not_disk not_memory c now.

@@ -1,21 +1,23 @@
 -- A step and a close of a device in recovery mode, which do nothing, and what a step that goes on leaves in the others.
 use Rattle.std.proofs.Common.{◌≡◌, ◌<◌, List, IfOk, Result, Ok, Err, refl, sym, subst, arith}
 use Rattle.disk_model.specs.Disk.{Content}
+use Rattle.device_model.specs.Actors.{actor_of}
 use Rattle.device_model.specs.Progress as Model
 use Rattle.recalculation.specs.declared.recalculating.Recalculation.{Recalculation}
 use Rattle.recalculation.specs.Recalculation.{fields_then}
-use Rattle.device_parts.specs.declared.answers.Actor.{Actor}
-use Rattle.device_parts.specs.declared.answers.Actor.TheVariants as Actors
+use Rattle.device_model.specs.declared.actor.Actor.{Actor}
+use Rattle.device_model.specs.declared.actor.Actor.TheVariants as Actors
 use Rattle.device_parts.specs.declared.parts.Parts.{Parts}
 use Rattle.device_parts.specs.declared.answers.Moved.{Moved}
 use Rattle.device_parts.specs.declared.answers.Moved.TheVariants as Moves
 use Rattle.device_parts.specs.declared.condition.Condition.TheVariants.{Working}
-use Rattle.device_parts.specs.Answers.{StepsNext, actor_of, moved_answer}
+use Rattle.device_parts.specs.Answers.{StepsNext, moved_answer}
 use Rattle.device_parts.specs.Device.{Ends, IsDone, Standing}
 use Rattle.direct_device.specs.Answers as InDirect
 use Rattle.journal_device.specs.Answers as InJournal
 use Rattle.journal_device.specs.declared.parts.JournalState.{JournalState}
 use Rattle.journal_device.specs.Answers.{AdvancesAs}
+use Rattle.journal_device.specs.Telling.{LeavesDue, MovesAs}
 use Rattle.journal_device.specs.Journal.{PlacedRing}
 use Rattle.bitmap_mode.specs.States.{States}
 use Rattle.bitmap_device.specs.Answers as InBitmap
@@ -25,7 +27,8 @@ use Rattle.device_model.specs.Mode as Modes
 use Rattle.device.specs.declared.mode.DeviceParts.{DeviceParts}
 use Rattle.device.specs.declared.mode.Mode.{Mode}
 use Rattle.device.specs.declared.mode.Mode.TheVariants.{Bitmap, Direct, Journal, Recovery}
-use Rattle.device.specs.Answers.{GoesOn}
+use Rattle.device.specs.Answers.{FindsNothing, GoesOn}
+use Rattle.device.specs.Telling.{IsDoneIn, IsDueIn}
 use Rattle.device.specs.Device.{IsDevice, IsDeviceIn, any_mode}
 use Rattle.device.proofs.ModeLemmas.{ended_plain, in_recovery_mode, only_done, plain_recovery}
 
@@ -62,25 +65,50 @@ direct_advances Actors.Recalc old new fewer fields = fields
 pub direct_goes_on : {E : Type 0} (actor : Actor) (common later : Parts) (old new : Recalculation) (result : Result Moved E)
     → IfOk result (λ moved. moved ≡ Moves.Did → InDirect.steps_left actor new < InDirect.steps_left actor old) → IfOk result (λ moved. moved ≡ Moves.Did → new.position ≡ fields_then old new)
     → IfOk result (λ moved. moved ≡ Moves.Did → GoesOn actor (Direct old) (Direct new))
-direct_goes_on actor common later old new (Ok moved) fewer fields = λ did. record { fewer = fewer did; advances = direct_advances actor old new (fewer did) (fields did) }
+direct_goes_on actor common later old new (Ok moved) fewer fields = λ did. record {
+  fewer = fewer did;
+  advances = direct_advances actor old new (fewer did) (fields did);
+  due = λ due. tt;
+}
 direct_goes_on actor common later old new (Err fault) fewer fields = tt
 
 -- In journal mode it is told of each actor.
 pub journal_goes_on : {E : Type 0} (actor : Actor) (old new : JournalState) (result : Result Moved E)
     → IfOk result (λ moved. moved ≡ Moves.Did → InJournal.steps_left actor new < InJournal.steps_left actor old)
-    → IfOk result (λ moved. AdvancesAs actor moved old.recalculation new.recalculation)
+    → IfOk result (λ moved. MovesAs actor moved old new)
     → IfOk result (λ moved. moved ≡ Moves.Did → GoesOn actor (Journal old) (Journal new))
-journal_goes_on actor old new (Ok moved) fewer advances = λ did. record {
+journal_goes_on actor old new (Ok moved) fewer moves = λ did. record {
   fewer = fewer did;
-  advances = subst (λ (m : Moved). AdvancesAs actor m old.recalculation new.recalculation) did advances;
+  advances = subst (λ (m : Moved). AdvancesAs actor m old.recalculation new.recalculation) did moves.advances;
+  due = subst (λ (m : Moved). LeavesDue actor m old.journal new.journal) did moves.due;
 }
-journal_goes_on actor old new (Err fault) fewer advances = tt
+journal_goes_on actor old new (Err fault) fewer moves = tt
 
 pub bitmap_goes_on : {E : Type 0} (actor : Actor) (old new : States) (result : Result Moved E)
     → IfOk result (λ moved. moved ≡ Moves.Did → InBitmap.steps_left actor new < InBitmap.steps_left actor old)
     → IfOk result (λ moved. moved ≡ Moves.Did → GoesOn actor (Bitmap old) (Bitmap new))
-bitmap_goes_on actor old new (Ok moved) fewer = λ did. record { fewer = fewer did; advances = tt }
+bitmap_goes_on actor old new (Ok moved) fewer = λ did. record { fewer = fewer did; advances = tt; due = λ due. tt }
 bitmap_goes_on actor old new (Err fault) fewer = tt
+
+-- One that finds nothing to do has all done: in journal mode it is told so.
+pub finds_nothing : {D E : Type 0} (actor : Actor) (old new : DeviceParts) (first last : D) (result : Result Moved E)
+    → IfOk result (λ moved. moved ≡ Moves.Idle → (new ≡ old) × (last ≡ first))
+    → IfOk result (λ moved. moved ≡ Moves.Idle → IsDueIn actor new.mode → IsDoneIn actor new.mode)
+    → IfOk result (λ moved. moved ≡ Moves.Idle → FindsNothing actor old new first last)
+finds_nothing actor old new first last (Ok moved) idle done = λ none. record { parts = (idle none).0; disk = (idle none).1; done = done none }
+finds_nothing actor old new first last (Err fault) idle done = tt
+
+pub always_done : {E : Type 0} (result : Result Moved E) (due done : Type 0) → done → IfOk result (λ moved. moved ≡ Moves.Idle → due → done)
+always_done (Ok moved) due done is = λ none was. is
+always_done (Err fault) due done is = tt
+
+pub journal_done : {E : Type 0} (actor : Actor) (old new : JournalState) (result : Result Moved E)
+    → IfOk result (λ moved. moved ≡ Moves.Idle → new ≡ old) → IfOk result (λ moved. MovesAs actor moved old new)
+    → IfOk result (λ moved. moved ≡ Moves.Idle → IsDueIn actor (Journal new) → IsDoneIn actor (Journal new))
+journal_done actor old new (Ok moved) idle moves = λ none due.
+    subst (λ (m : Moved). LeavesDue actor m old.journal new.journal) none moves.due
+    (subst (λ (s : JournalState). IsDueIn actor (Journal s)) (idle none) due)
+journal_done actor old new (Err fault) idle moves = tt
 
 -- ---- a close
 

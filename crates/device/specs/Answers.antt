@@ -9,7 +9,7 @@ use Rattle.device_model.specs.Progress as Model
 use Rattle.request_slots.specs.declared.request.Request.{Request}
 use Rattle.request_slots.specs.declared.submit_fault.SubmitFault.{SubmitFault}
 use Rattle.request_slots.specs.Flight.{Flight, turn_of}
-use Rattle.device_parts.specs.declared.answers.Actor.{Actor}
+use Rattle.device_model.specs.declared.actor.Actor.{Actor}
 use Rattle.device_parts.specs.declared.answers.Moved.TheVariants.{Did}
 use Rattle.device_parts.specs.declared.condition.Condition.{Condition}
 use Rattle.device_parts.specs.declared.condition.Condition.TheVariants.{Working}
@@ -24,6 +24,7 @@ use Rattle.recovery_device.specs.Answers.{refusal_of}
 use Rattle.journal_device.specs.Answers as InJournal
 use Rattle.journal_device.specs.Answers.{AdvancesAs, WritesFor}
 use Rattle.journal_device.specs.Device.{kept}
+use Rattle.device.specs.declared.mode.DeviceParts.{DeviceParts}
 use Rattle.device.specs.declared.mode.Mode.{Mode}
 use Rattle.bitmap_mode.specs.Closing.{IsOfClose}
 use Rattle.bitmap_mode.specs.States.{States}
@@ -31,6 +32,7 @@ use Rattle.bitmap_device.specs.Answers as InBitmap
 use Rattle.bitmap_device.specs.Device.{KeepsTagsBy, kept as bitmap_kept}
 use Rattle.device.specs.Awaiting.{HasNoMoreIn, fields_of}
 use Rattle.device.specs.Device.{IsEmptied, IsInJournalMode}
+use Rattle.device.specs.Telling.{IsDoneIn, IsDueIn}
 use Rattle.device.specs.declared.mode.Mode.TheVariants.{Bitmap, Direct, Journal, Recovery}
 
 -- The regions are those of the blocks whose tags are kept.
@@ -100,10 +102,17 @@ Advances actor (Bitmap old) (Bitmap new) = Unit {0}
 Advances actor Recovery Recovery = Unit {0}
 Advances actor old new = ⊥
 
--- It leaves fewer steps of its actor.
+-- It leaves fewer steps of its actor, and what the actors before it have left.
 pub record GoesOn (actor : Actor) (old new : Mode) : Type 0 where
   pub fewer : steps_left actor new < steps_left actor old
   pub advances : Advances actor old new
+  pub due : IsDueIn actor old → IsDueIn actor new
+
+-- One that finds nothing to do changes nothing, and its actor has all done.
+pub record FindsNothing {D : Type 0} (actor : Actor) (old new : DeviceParts) (first last : D) : Type 0 where
+  pub parts : new ≡ old
+  pub disk : last ≡ first
+  pub done : IsDueIn actor new.mode → IsDoneIn actor new.mode
 
 -- The actor has nothing to do in the mode: in recovery mode none has.
 abbrev pub HasNoWork : Modes.Mode → Model.Actor → Type 0

@@ -2,6 +2,7 @@
 use Rattle.std.specs.Prelude.{◌≡◌, ◌<◌, ℕ, suc, List, Option, Some, Result, IfOk, OnErr, OnOk}
 use Rattle.disk_model.specs.Disk.{Content}
 use Rattle.disk_model.specs.Identity.{DiskIdentity}
+use Rattle.device_model.specs.Actors.{actor_of}
 use Rattle.device_model.specs.Progress.{Answer, Close, Event, FailedClose, IsClosed, Submit, answers}
 use Rattle.device_model.specs.Script.{last_answer}
 use Rattle.request_slots.specs.declared.reply.Reply.{Reply}
@@ -9,13 +10,13 @@ use Rattle.request_slots.specs.declared.request.Request.{Request}
 use Rattle.request_slots.specs.declared.submit_fault.SubmitFault.{SubmitFault}
 use Rattle.request_slots.specs.InFlight.{as_submission, submit_answer}
 use Rattle.request_slots.specs.Submitting.{after_submit}
-use Rattle.device_parts.specs.declared.answers.Actor.{Actor}
+use Rattle.device_model.specs.declared.actor.Actor.{Actor}
 use Rattle.device_parts.specs.declared.answers.Moved.{Moved}
 use Rattle.device_parts.specs.declared.answers.Served.{Served}
 use Rattle.device_parts.specs.declared.answers.StepFault.{StepFault}
 use Rattle.device_parts.specs.declared.condition.Condition.{Condition}
 use Rattle.device_parts.specs.declared.condition.Condition.TheVariants.{Working}
-use Rattle.device_parts.specs.Answers.{HasServed, HasStepped, HasTaken, IsSerial, actor_of, answer_by, condition_by}
+use Rattle.device_parts.specs.Answers.{HasServed, HasStepped, HasTaken, IsSerial, answer_by, condition_by}
 use Rattle.device_parts.specs.Answers.{event_by, turns_left}
 use Rattle.device_parts.specs.Device.{Answers, HasEnded, IsDone, KeepsParts, Standing}
 use Rattle.device.specs.declared.mode.DeviceParts.{DeviceParts}

@@ -14,4 +14,5 @@ pub mod Device
 pub mod Opening
 pub mod Run
 pub mod Tags
+pub mod Telling
 pub mod Writes

@@ -1,12 +1,12 @@
 -- What an opening leaves, in the mode that is asked for.
-use Rattle.std.specs.Prelude.{◌≡◌, ◌≢◌, ℕ, ◌≤◌, Option, None, List, Err}
-use Rattle.disk_model.specs.Causes.{Rose}
+use Rattle.std.specs.Prelude.{◌≡◌, ◌≢◌, ℕ, Option, None, List, Err}
 use Rattle.disk_model.specs.Disk.{Content, HasNothingPending, Image, last_image}
 use Rattle.disk_model.specs.Identity.{DiskIdentity}
 use Rattle.disk_model.specs.Moments.{HasNow}
 use Rattle.device_model.specs.Mode as Model
-use Rattle.image_judging.specs.declared.opening_fault.OpeningFault.{OpeningFault}
-use Rattle.image_judging.specs.declared.opening_fault.OpeningFault.TheVariants as Faults
+use Rattle.image_refusal.specs.declared.call_fault.CallFault.{CallFault}
+use Rattle.image_refusal.specs.declared.call_fault.CallFault.TheVariants as Faults
+use Rattle.image_refusal.specs.declared.open_fault.OpenFault.{OpenFault}
 use Rattle.image_judging.specs.Faults.{ImageFault, fault_in, fault_of}
 use Rattle.device_parts.specs.Device.{HasOpened}
 use Rattle.device_opening.specs.Changing.{WritesBitmap}
@@ -52,7 +52,7 @@ IsSettledIn Recovery moments = Unit {0}
 -- The disk is not opened in this mode. The image tells why, where the disk did not fail and there was memory; and
 -- unless the disk failed it is as it was, not even synced.
 pub record IsRefused (mode : OpenMode) (key : Option (List ℕ)) (disk : DiskIdentity) (before after : List Content)
-    (fault : OpeningFault) : Type 0 where
+    (fault : CallFault OpenFault) : Type 0 where
   pub told : fault ≢ Faults.Disk → fault ≢ Faults.Memory
       → HasNow (λ c. fault_in {T = DeviceParts} (Err fault) ≡ fault_in_mode mode key disk.sectors (last_image c)) before
   pub untouched : fault ≢ Faults.Disk → after ≡ before
@@ -75,9 +75,3 @@ pub record LeavesOpening (mode : OpenMode) (key : Option (List ℕ)) (disk now :
   pub left : LeavesOpenable (asked_mode mode) key disk.sectors before after
   pub refused : KeepsRefused (fault_in_mode mode key disk.sectors) before after
   pub writes : WritesInOpening mode key disk.sectors before after
-
--- The count of faults never falls; `Disk` comes only where it rose, and else it is as it was.
-pub record HasRefusalCause (before after : ℕ) (fault : OpeningFault) : Type 0 where
-  pub later : before ≤ after
-  pub failed : fault ≡ Faults.Disk → Rose before after
-  pub passed : fault ≢ Faults.Disk → after ≡ before

@@ -2,14 +2,14 @@
 use Rattle.std.specs.Prelude.{◌≡◌, ℕ, List, [], ◌∷◌, ◌++◌, take, Option, Some, None}
 use Rattle.disk_model.specs.Disk.{Content, EachImage, Image}
 use Rattle.disk_model.specs.Moments.{EachMoment, HasNow}
+use Rattle.device_model.specs.Actors.{actor_of}
 use Rattle.device_model.specs.Device.{DeviceKind}
 use Rattle.device_model.specs.History.{Change, History, with_changes}
 use Rattle.device_model.specs.Progress.{Event, Submit, Serve, Step, Take, Close, FailedServe, FailedStep, FailedClose}
 use Rattle.device_model.specs.Progress.{after_events, changes_of}
 use Rattle.device_parts.specs.declared.condition.Condition.TheVariants as Conditions
 use Rattle.device_model.specs.Script.{idle_events, room_events, turn_events, whole_finish}
-use Rattle.device_parts.specs.declared.answers.Actor.{Actor}
-use Rattle.device_parts.specs.Answers.{actor_of}
+use Rattle.device_model.specs.declared.actor.Actor.{Actor}
 use Rattle.device.specs.declared.mode.DeviceParts.{DeviceParts}
 use Rattle.device_parts.specs.Device.{Standing}
 use Rattle.device.specs.Device.{IsDevice, kind_of}

@@ -1,19 +1,22 @@
 //! The device.
-ghost use Rattle.std.specs.Prelude.{◌≡◌, ◌↔◌, ◌+◌, ◌<◌, ◌^◌, suc, Err, IfErr, IfOk, IsTrue, Ok, true};
+ghost use Rattle.std.specs.Prelude.{◌≡◌, ◌↔◌, ◌+◌, ◌<◌, ◌^◌, suc, false, Err, IfErr, IfOk, IsTrue, Ok, true};
 ghost use Rattle.disk_model.specs.Identity.{IsBound};
 ghost use Rattle.hmac_tag.specs.TagMaker.{key_of};
 ghost use Rattle.request_slots.specs.Flight.{is_in_flight, slot_of};
 ghost use Rattle.request_slots.specs.Taking.{after_take, taken_by};
 ghost use Rattle.request_slots.specs.Submitting.{answer_by};
-ghost use Rattle.device_parts.specs.Answers.{HasStepCause, TurnsBroken, actor_of};
+ghost use Rattle.device_parts.specs.Answers.{HasStepCause, TurnsBroken};
 ghost use Rattle.device_parts.specs.declared.answers.Served.TheVariants.{Did, NoRoom};
+ghost use Rattle.device_model.specs.Actors.{actor_of};
 ghost use Rattle.device_model.specs.Progress.{Close, FailedServe, Step};
-ghost use Rattle.device.specs.Answers.{GoesOn, HasNoWork, KeepsClearTags};
+ghost use Rattle.device.specs.Answers.{FindsNothing, GoesOn, HasNoWork, KeepsClearTags};
 ghost use Rattle.device.specs.Calls.{Closes, GivesSerial, HasFewerTurns, Keeps, LeavesAtRest, Serves, StaysReady};
 ghost use Rattle.device.specs.Calls.{Steps, Submits, Takes, WritesClosing, WritesServing, WritesStepping, refusal_to};
 ghost use Rattle.device.specs.Calls.{with_submitted};
 ghost use Rattle.device.specs.Device.{IsReady, mode_of, with_slots};
-ghost use Rattle.device.specs.Opening.{HasNoFault, HasOpenedIn, HasRefusalCause, IsRefused, IsSettledIn, LeavesOpening};
+ghost use Rattle.device.specs.Opening.{HasNoFault, HasOpenedIn, IsRefused, IsSettledIn, LeavesOpening};
+ghost use Rattle.device.specs.Telling.{Tells, has_room_in};
+ghost use Rattle.image_refusal.specs.Calls.{HasRefusalCause};
 
 use crate::{DeviceParts, OpenMode, Refused, closing, opening, serving, stepping, submitting};
 use device_parts::{Actor, Condition, Moved, Served, StepFault};
@@ -48,8 +51,7 @@ impl<'d, 'p, D: Disk> Device<'d, 'p, D> {
     ///
     /// - `Memory`: there is none for what the device keeps, or for what the journal's sectors bear. Nothing was done.
     /// - `Disk`: the disk failed.
-    /// - `Super`: the superblock is refused. A disk without a sector has no magic. Nothing was done.
-    /// - `Geom`: the disk has no room for what the superblock tells. Nothing was done.
+    /// - `Head`: the first sector is refused. A disk without a sector has no magic. Nothing was done.
     /// - `Consent`: a bit of a bitmap is set, or without one some block is to be recalculated, there is a key, and
     ///   consent is withheld; in recovery mode it is not asked for. Nothing was done.
     /// - `Journal`: the journal is refused, which is not read in recovery mode, nor where there is a bitmap. Nothing
@@ -167,6 +169,8 @@ impl<'d, 'p, D: Disk> Device<'d, 'p, D> {
         ensures goes_on { result ≡ Ok Did → HasFewerTurns ticket.now self.old.parts self.new.parts }
         ensures no_room { result ≡ Ok NoRoom → (self.new.parts ≡ self.old.parts)
             × (D.moments self.new.disk.now ≡ D.moments self.old.disk.now) }
+        ensures tells { Tells ticket.now self.old.parts self.new.parts
+            (has_room_in self.old.parts.mode ≡ false) result }
 
         ensures cause { HasStepCause (D.faults self.old.disk.now) (D.faults self.new.disk.now) result }
         ensures condition { TurnsBroken self.old.condition self.new.condition result
@@ -233,7 +237,7 @@ impl<'d, 'p, D: Disk> Device<'d, 'p, D> {
             (D.identity self.old.disk.now) (D.identity self.new.disk.now) (D.moments self.new.disk.now) }
         ensures slots { self.new.parts.common.slots ≡ self.old.parts.common.slots }
         ensures idle { result ≡ Ok Moved.Idle
-            → (self.new.parts ≡ self.old.parts) × (self.new.disk.now ≡ self.old.disk.now) }
+            → FindsNothing actor self.old.parts self.new.parts self.old.disk.now self.new.disk.now }
         ensures tags { KeepsClearTags self.old.parts.mode self.old.parts.common (Step (actor_of actor))
             (D.moments self.old.disk.now) (D.moments self.new.disk.now) }
         ensures writes { WritesStepping self.old.condition actor self.old.parts

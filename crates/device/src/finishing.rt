@@ -1,11 +1,12 @@
 //! Serving a request: once, with room made for it, and to its end.
-ghost use Rattle.std.specs.Prelude.{◌≡◌, IfOk, true};
+ghost use Rattle.std.specs.Prelude.{◌≡◌, IfOk, false, true};
 ghost use Rattle.disk_model.specs.Causes.{HasCause};
 ghost use Rattle.device_model.specs.Progress.{Serve};
 ghost use Rattle.request_slots.specs.Flight.{is_in_flight};
 ghost use Rattle.device_parts.specs.Answers.{condition_by, served_answer};
 ghost use Rattle.device.specs.Calls.{AnswersEvent, AnswersLast, HasFewerTurns, Runs, Works};
 ghost use Rattle.device.specs.Run.{all_turns, one_serve, one_turn};
+ghost use Rattle.device.specs.Telling.{Finishes, Tells, has_room_in};
 
 use crate::{Device, make_room};
 use device_parts::Served;
@@ -32,6 +33,8 @@ pub fn serve<'d, 'p, D: Disk>(
     ensures goes_on { IfOk result (λ served. served ≡ Served.Did
         → HasFewerTurns ticket.now device.old.parts device.new.parts) }
     ensures no_room { IfOk result (λ served. served ≡ Served.NoRoom → device.new.parts ≡ device.old.parts) }
+    ensures tells { Tells ticket.now device.old.parts device.new.parts
+        (has_room_in device.old.parts.mode ≡ false) result }
 
     ensures cause { HasCause (D.faults device.old.disk.now) (D.faults device.new.disk.now) result }
     ensures same_disk { device.new.disk.ghost_name ≡ device.old.disk.ghost_name }
@@ -61,6 +64,7 @@ pub fn serve_with_room<'d, 'p, D: Disk>(
         (D.moments device.old.disk.now) result }
     ensures goes_on { IfOk result (λ served. served ≡ Served.Did
         → HasFewerTurns ticket.now device.old.parts device.new.parts) }
+    ensures tells { Tells ticket.now device.old.parts device.new.parts ⊥ result }
 
     ensures cause { HasCause (D.faults device.old.disk.now) (D.faults device.new.disk.now) result }
     ensures same_disk { device.new.disk.ghost_name ≡ device.old.disk.ghost_name }
@@ -89,6 +93,7 @@ pub fn finish<'d, 'p, D: Disk>(
     ensures runs { Runs D.identity D.moments (all_turns ticket.now) device.old.parts device.new.parts
         device.old.disk.now device.new.disk.now result }
     ensures turn { device.new.condition ≡ condition_by result }
+    ensures finishes { Finishes ticket.now device.old.parts device.new.parts result }
 
     ensures cause { HasCause (D.faults device.old.disk.now) (D.faults device.new.disk.now) result }
     ensures same_disk { device.new.disk.ghost_name ≡ device.old.disk.ghost_name }

@@ -1,13 +1,15 @@
 //! Steps of the actors of a device: one, as many as there are, and those that make room in its journal.
-ghost use Rattle.std.specs.Prelude.{◌≡◌, IfOk};
+ghost use Rattle.std.specs.Prelude.{◌≡◌, IfOk, OnOk, true};
 ghost use Rattle.disk_model.specs.Causes.{HasCause};
+ghost use Rattle.device_model.specs.Actors.{actor_of};
 ghost use Rattle.device_model.specs.Progress.{Step};
 ghost use Rattle.device_model.specs.Script.{IsOfJournal};
-ghost use Rattle.device_parts.specs.Answers.{actor_of, condition_by, moved_answer};
-ghost use Rattle.device.specs.Answers.{GoesOn, HasNoWork};
+ghost use Rattle.device_parts.specs.Answers.{condition_by, moved_answer};
+ghost use Rattle.device.specs.Answers.{FindsNothing, GoesOn, HasNoWork};
 ghost use Rattle.device.specs.Calls.{AnswersEvent, Runs, Works};
 ghost use Rattle.device.specs.Device.{mode_of};
 ghost use Rattle.device.specs.Run.{all_steps, one_step, room_steps};
+ghost use Rattle.device.specs.Telling.{IsDoneIn, IsDueIn, has_room_in};
 
 use crate::Device;
 use device_parts::{Actor, Moved};
@@ -29,6 +31,8 @@ pub fn step<'d, 'p, D: Disk>(device: &mut Device<'d, 'p, D>, actor: Actor) -> Re
         (D.moments device.old.disk.now) result }
     ensures goes_on { IfOk result (λ moved. moved ≡ Moved.Did
         → GoesOn actor device.old.parts.mode device.new.parts.mode) }
+    ensures idle { IfOk result (λ moved. moved ≡ Moved.Idle
+        → FindsNothing actor device.old.parts device.new.parts device.old.disk.now device.new.disk.now) }
     ensures quiet { HasNoWork (mode_of device.old.parts.mode) (actor_of actor)
         → device.new.disk.now ≡ device.old.disk.now }
 
@@ -57,6 +61,7 @@ pub fn step_until_idle<'d, 'p, D: Disk>(
     ensures runs { Runs D.identity D.moments (all_steps actor) device.old.parts device.new.parts
         device.old.disk.now device.new.disk.now result }
     ensures turn { device.new.condition ≡ condition_by result }
+    ensures due { OnOk result (IsDueIn actor device.old.parts.mode → IsDoneIn actor device.new.parts.mode) }
 
     ensures cause { HasCause (D.faults device.old.disk.now) (D.faults device.new.disk.now) result }
     ensures same_disk { device.new.disk.ghost_name ≡ device.old.disk.ghost_name }
@@ -81,6 +86,7 @@ pub fn make_room<'d, 'p, D: Disk>(device: &mut Device<'d, 'p, D>) -> Result<(), 
     ensures runs { Runs D.identity D.moments room_steps device.old.parts device.new.parts
         device.old.disk.now device.new.disk.now result }
     ensures turn { device.new.condition ≡ condition_by result }
+    ensures room { OnOk result (has_room_in device.new.parts.mode ≡ true) }
 
     ensures cause { HasCause (D.faults device.old.disk.now) (D.faults device.new.disk.now) result }
     ensures same_disk { device.new.disk.ghost_name ≡ device.old.disk.ghost_name }

@@ -2,13 +2,14 @@
 ghost use Rattle.std.specs.Prelude.{IfErr, IfOk};
 ghost use Rattle.disk_model.specs.Identity.{IsBound};
 ghost use Rattle.hmac_tag.specs.TagMaker.{key_of};
-ghost use Rattle.image_judging.specs.Faults.{HasOpenCause};
+ghost use Rattle.image_refusal.specs.Calls.{HasCallCause};
 ghost use Rattle.device.specs.Opening.{HasNoFault, HasOpenedIn, IsRefused, IsSettledIn, LeavesOpening};
 
 use crate::{DeviceParts, Mode};
 use device_opening::{open_bitmap, open_direct, open_journal, open_recovery};
 use hmac_tag::Hash;
-use image_judging::{Consent, OpeningFault};
+use image_judging::Consent;
+use image_refusal::{CallFault, OpenFault};
 use sector_disk::Disk;
 use sector_pool::Region;
 use std::alloc::Global;
@@ -42,8 +43,7 @@ pub enum OpenMode {
 ///
 /// - `Memory`: there is none for what the device keeps, or for what the journal's sectors bear. Nothing was done.
 /// - `Disk`: the disk failed.
-/// - `Super`: the superblock is refused. A disk without a sector has no magic. Nothing was done.
-/// - `Geom`: the disk has no room for what the superblock tells. Nothing was done.
+/// - `Head`: the first sector is refused. A disk without a sector has no magic. Nothing was done.
 /// - `Consent`: a bit of a bitmap is set, or without one some block is to be recalculated, there is a key, and consent
 ///   is withheld; in recovery mode it is not asked for. Nothing was done.
 /// - `Journal`: the journal is refused, which is not read in recovery mode, nor where there is a bitmap. Nothing was
@@ -54,7 +54,7 @@ pub(crate) fn open<'p, D: Disk>(
     pool: &'p mut Region,
     hash: Hash,
     mode: OpenMode,
-) -> Result<DeviceParts<'p>, OpeningFault>
+) -> Result<DeviceParts<'p>, CallFault<OpenFault>>
     requires { IsBound (D.identity disk.old).name }
 
     ensures opened { IfOk result (HasOpenedIn mode (key_of hash) (D.identity disk.old)
@@ -64,7 +64,7 @@ pub(crate) fn open<'p, D: Disk>(
         (D.moments disk.old)) }
     ensures refused { IfErr result (IsRefused mode (key_of hash) (D.identity disk.old)
         (D.moments disk.old) (D.moments disk.new)) }
-    ensures cause { HasOpenCause (D.faults disk.old) (D.faults disk.new) result }
+    ensures cause { HasCallCause (D.faults disk.old) (D.faults disk.new) result }
     ensures leaves { LeavesOpening mode (key_of hash) (D.identity disk.old) (D.identity disk.new)
         (D.moments disk.old) (D.moments disk.new) }
 {
@@ -87,7 +87,7 @@ fn open_in_direct<'p, D: Disk>(
     pool: &mut Region,
     hash: Hash,
     consent: Consent,
-) -> Result<DeviceParts<'p>, OpeningFault>
+) -> Result<DeviceParts<'p>, CallFault<OpenFault>>
     requires { IsBound (D.identity disk.old).name }
 
     ensures opened { IfOk result (HasOpenedIn (OpenMode.Direct consent) (key_of hash) (D.identity disk.old)
@@ -97,7 +97,7 @@ fn open_in_direct<'p, D: Disk>(
         (D.identity disk.old).sectors (D.moments disk.old)) }
     ensures refused { IfErr result (IsRefused (OpenMode.Direct consent) (key_of hash) (D.identity disk.old)
         (D.moments disk.old) (D.moments disk.new)) }
-    ensures cause { HasOpenCause (D.faults disk.old) (D.faults disk.new) result }
+    ensures cause { HasCallCause (D.faults disk.old) (D.faults disk.new) result }
     ensures leaves { LeavesOpening (OpenMode.Direct consent) (key_of hash) (D.identity disk.old) (D.identity disk.new)
         (D.moments disk.old) (D.moments disk.new) }
 {
@@ -119,7 +119,7 @@ fn open_in_journal<'p, D: Disk>(
     pool: &'p mut Region,
     hash: Hash,
     consent: Consent,
-) -> Result<DeviceParts<'p>, OpeningFault>
+) -> Result<DeviceParts<'p>, CallFault<OpenFault>>
     requires { IsBound (D.identity disk.old).name }
 
     ensures opened { IfOk result (HasOpenedIn (OpenMode.Journal consent) (key_of hash) (D.identity disk.old)
@@ -128,7 +128,7 @@ fn open_in_journal<'p, D: Disk>(
         (D.identity disk.old).sectors (D.moments disk.old)) }
     ensures refused { IfErr result (IsRefused (OpenMode.Journal consent) (key_of hash) (D.identity disk.old)
         (D.moments disk.old) (D.moments disk.new)) }
-    ensures cause { HasOpenCause (D.faults disk.old) (D.faults disk.new) result }
+    ensures cause { HasCallCause (D.faults disk.old) (D.faults disk.new) result }
     ensures leaves { LeavesOpening (OpenMode.Journal consent) (key_of hash) (D.identity disk.old) (D.identity disk.new)
         (D.moments disk.old) (D.moments disk.new) }
 {
@@ -150,7 +150,7 @@ fn open_in_bitmap<'p, D: Disk>(
     pool: &mut Region,
     hash: Hash,
     consent: Consent,
-) -> Result<DeviceParts<'p>, OpeningFault>
+) -> Result<DeviceParts<'p>, CallFault<OpenFault>>
     requires { IsBound (D.identity disk.old).name }
 
     ensures opened { IfOk result (HasOpenedIn (OpenMode.Bitmap consent) (key_of hash) (D.identity disk.old)
@@ -159,7 +159,7 @@ fn open_in_bitmap<'p, D: Disk>(
         (D.identity disk.old).sectors (D.moments disk.old)) }
     ensures refused { IfErr result (IsRefused (OpenMode.Bitmap consent) (key_of hash) (D.identity disk.old)
         (D.moments disk.old) (D.moments disk.new)) }
-    ensures cause { HasOpenCause (D.faults disk.old) (D.faults disk.new) result }
+    ensures cause { HasCallCause (D.faults disk.old) (D.faults disk.new) result }
     ensures leaves { LeavesOpening (OpenMode.Bitmap consent) (key_of hash) (D.identity disk.old) (D.identity disk.new)
         (D.moments disk.old) (D.moments disk.new) }
 {
@@ -179,7 +179,7 @@ fn open_in_recovery<'p, D: Disk>(
     alloc: Global,
     disk: &mut D,
     hash: Hash,
-) -> Result<DeviceParts<'p>, OpeningFault>
+) -> Result<DeviceParts<'p>, CallFault<OpenFault>>
     requires { IsBound (D.identity disk.old).name }
 
     ensures opened { IfOk result (HasOpenedIn OpenMode.Recovery (key_of hash) (D.identity disk.old)
@@ -188,7 +188,7 @@ fn open_in_recovery<'p, D: Disk>(
         (D.moments disk.old)) }
     ensures refused { IfErr result (IsRefused OpenMode.Recovery (key_of hash) (D.identity disk.old)
         (D.moments disk.old) (D.moments disk.new)) }
-    ensures cause { HasOpenCause (D.faults disk.old) (D.faults disk.new) result }
+    ensures cause { HasCallCause (D.faults disk.old) (D.faults disk.new) result }
     ensures leaves { LeavesOpening OpenMode.Recovery (key_of hash) (D.identity disk.old) (D.identity disk.new)
         (D.moments disk.old) (D.moments disk.new) }
 {

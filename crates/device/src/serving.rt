@@ -1,5 +1,5 @@
 //! Serving a request, in the device's mode.
-ghost use Rattle.std.specs.Prelude.{◌≡◌, Ok, true};
+ghost use Rattle.std.specs.Prelude.{◌≡◌, Ok, false, true};
 ghost use Rattle.disk_model.specs.Causes.{HasCause};
 ghost use Rattle.request_slots.specs.Flight.{is_in_flight};
 ghost use Rattle.device_parts.specs.Answers.{HasStepCause, ServesNext, TurnsBroken};
@@ -9,6 +9,7 @@ ghost use Rattle.device_model.specs.Progress.{FailedServe};
 ghost use Rattle.device.specs.Answers.{KeepsClearTags, WritesInServe};
 ghost use Rattle.device.specs.Calls.{HasFewerTurns, Keeps, Serves, WritesServing};
 ghost use Rattle.device.specs.Device.{IsReady, any_mode};
+ghost use Rattle.device.specs.Telling.{Tells, has_room_in};
 
 use crate::{DeviceParts, Mode};
 use device_parts::{Condition, Served, StepFault};
@@ -35,6 +36,7 @@ pub(crate) fn serve<D: Disk>(
     ensures goes_on { result ≡ Ok Did → HasFewerTurns ticket.now parts.old parts.new }
     ensures no_room { result ≡ Ok NoRoom
         → (parts.new ≡ parts.old) × (D.moments disk.new ≡ D.moments disk.old) }
+    ensures tells { Tells ticket.now parts.old parts.new (has_room_in parts.old.mode ≡ false) result }
 
     ensures cause { HasStepCause (D.faults disk.old) (D.faults disk.new) result }
     ensures condition { TurnsBroken condition.old condition.new result disk.old disk.new }
@@ -73,6 +75,7 @@ fn serve_next<D: Disk>(
 
     ensures next { ServesNext any_mode ticket.now parts.old parts.new
         (D.moments disk.old) (D.moments disk.new) result }
+    ensures tells { Tells ticket.now parts.old parts.new (has_room_in parts.old.mode ≡ false) result }
 
     ensures cause { HasCause (D.faults disk.old) (D.faults disk.new) result }
 

@@ -1,10 +1,11 @@
 //! What is done in the background, in the device's mode.
 ghost use Rattle.std.specs.Prelude.{◌≡◌, IfOk, Ok};
 ghost use Rattle.disk_model.specs.Causes.{HasCause};
-ghost use Rattle.device_parts.specs.Answers.{HasStepCause, StepsNext, TurnsBroken, actor_of};
+ghost use Rattle.device_parts.specs.Answers.{HasStepCause, StepsNext, TurnsBroken};
 ghost use Rattle.device_parts.specs.declared.condition.Condition.TheVariants.{Working};
+ghost use Rattle.device_model.specs.Actors.{actor_of};
 ghost use Rattle.device_model.specs.Progress.{Step};
-ghost use Rattle.device.specs.Answers.{GoesOn, HasNoWork, KeepsClearTags, WritesInStep};
+ghost use Rattle.device.specs.Answers.{FindsNothing, GoesOn, HasNoWork, KeepsClearTags, WritesInStep};
 ghost use Rattle.device.specs.Calls.{Keeps, Steps, WritesStepping};
 ghost use Rattle.device.specs.Device.{IsReady, any_mode, mode_of};
 
@@ -35,7 +36,7 @@ pub(crate) fn step<D: Disk>(
     ensures keeps { Keeps result parts.old parts.new
         (D.identity disk.old) (D.identity disk.new) (D.moments disk.new) }
     ensures slots { parts.new.common.slots ≡ parts.old.common.slots }
-    ensures idle { result ≡ Ok Moved.Idle → (parts.new ≡ parts.old) × (disk.new ≡ disk.old) }
+    ensures idle { result ≡ Ok Moved.Idle → FindsNothing actor parts.old parts.new disk.old disk.new }
     ensures tags { KeepsClearTags parts.old.mode parts.old.common (Step (actor_of actor))
         (D.moments disk.old) (D.moments disk.new) }
     ensures writes { WritesStepping condition.old actor parts.old (D.moments disk.old) (D.moments disk.new) }
@@ -68,7 +69,7 @@ fn step_next<D: Disk>(
     ensures next { StepsNext any_mode actor parts.old parts.new (D.moments disk.old) (D.moments disk.new) result }
     ensures goes_on { IfOk result (λ moved. moved ≡ Moved.Did → GoesOn actor parts.old.mode parts.new.mode) }
     ensures idle { IfOk result (λ moved. moved ≡ Moved.Idle
-        → (parts.new ≡ parts.old) × (disk.new ≡ disk.old)) }
+        → FindsNothing actor parts.old parts.new disk.old disk.new) }
 
     ensures cause { HasCause (D.faults disk.old) (D.faults disk.new) result }
 

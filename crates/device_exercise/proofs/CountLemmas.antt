@@ -3,7 +3,7 @@ use Rattle.std.proofs.Common.{◌≡◌, List, [], ◌∷◌, ◌++◌, Option, 
 use Rattle.std.proofs.Common.{append_assoc}
 use Rattle.device_model.specs.Progress.{Answer, Replied}
 use Rattle.device_model.specs.Script.{Ask, told_fault}
-use Rattle.command_model.specs.Exercise.{Tally, bytes_read, tally_of}
+use Rattle.workload_model.specs.Exercise.{Tally, bytes_read, tally_of}
 use Rattle.request_slots.specs.InFlight.{as_reply, returned_in}
 use Rattle.request_slots.specs.declared.reply.Reply.{Reply}
 use Rattle.script_session.specs.Told.{IsReplied}

@@ -10,9 +10,9 @@ use Rattle.device_model.specs.Mode.{DeviceFormat, Direct}
 use Rattle.device_model.specs.Progress.{Answer, DeviceState, Event}
 use Rattle.device_model.specs.Script.{Ask, AskLine, Read, ask_fault, line_outcome}
 use Rattle.device_model.specs.Script as script
-use Rattle.command_model.specs.Exercise.{Tally, asking_line, line_answers, read_all, script_events, tally_of}
-use Rattle.command_model.specs.Workload.{next_number, workload_ask, workload_asks}
-use Rattle.command_model.proofs.ExerciseLemmas.{after_events-script, line_answers-append, script_events-append}
+use Rattle.workload_model.specs.Exercise.{Tally, asking_line, line_answers, read_all, script_events, tally_of}
+use Rattle.workload_model.specs.Workload.{next_number, workload_ask, workload_asks}
+use Rattle.workload_model.proofs.ExerciseLemmas.{after_events-script, line_answers-append, script_events-append}
 use Rattle.request_slots.specs.declared.reply.Reply.{Reply}
 use Rattle.workload.specs.Tally.{no_tally, with_ask}
 use Rattle.workload.specs.Workload.{WorkloadState, asks_ahead}

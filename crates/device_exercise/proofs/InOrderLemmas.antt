@@ -10,8 +10,8 @@ use Rattle.device_model.specs.Mode.{DeviceFormat}
 use Rattle.device_model.specs.Progress.{DeviceState, changes_of}
 use Rattle.device_model.specs.Script.{Ask, AskLine, ScriptLine, after_script, line_events, line_outcome}
 use Rattle.device_model.proofs.ScriptLemmas.{history-after}
-use Rattle.command_model.specs.Exercise.{asking_line}
-use Rattle.command_model.proofs.ExerciseLemmas.{after_events-script}
+use Rattle.workload_model.specs.Exercise.{asking_line}
+use Rattle.workload_model.proofs.ExerciseLemmas.{after_events-script}
 use Rattle.device.specs.Device.{kind_of}
 use Rattle.device.specs.Run.{HasRun, IsCutOff, IsLeftWithin, standing_behind}
 use Rattle.device.specs.declared.mode.DeviceParts.{DeviceParts}

@@ -3,8 +3,8 @@ use Rattle.std.specs.Prelude.{◌≡◌, ℕ, List, [], ◌∷◌, Result, IfErr
 use Rattle.disk_model.specs.Disk.{Content}
 use Rattle.disk_model.specs.Identity.{DiskIdentity}
 use Rattle.device_model.specs.Script.{Ask}
-use Rattle.command_model.specs.Exercise.{Tally}
-use Rattle.command_model.specs.Workload.{workload_asks}
+use Rattle.workload_model.specs.Exercise.{Tally}
+use Rattle.workload_model.specs.Workload.{workload_asks}
 use Rattle.workload.specs.Tally.{no_tally}
 use Rattle.device_parts.specs.declared.condition.Condition.{Condition}
 use Rattle.device_parts.specs.declared.condition.Condition.TheVariants.{Working}

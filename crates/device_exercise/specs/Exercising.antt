@@ -1,11 +1,11 @@
--- What an exercise of a device does, as `command_model` has it: the events that it runs, and what it counts.
+-- What an exercise of a device does, as `workload_model` has it: the events that it runs, and what it counts.
 use Rattle.std.specs.Prelude.{◌≡◌, ℕ, ◌+◌, ◌≤◌, List, ◌++◌, map, Option, Some, None}
 use Rattle.disk_model.specs.Disk.{Content}
 use Rattle.disk_model.specs.Identity.{DiskIdentity}
 use Rattle.device_model.specs.Progress.{Answer, Event}
 use Rattle.device_model.specs.Script.{Ask}
-use Rattle.command_model.specs.Exercise.{Tally, asking_line, exercise_lines, exercise_tally, line_answers}
-use Rattle.command_model.specs.Exercise.{script_events, tally_of}
+use Rattle.workload_model.specs.Exercise.{Tally, asking_line, exercise_lines, exercise_tally, line_answers}
+use Rattle.workload_model.specs.Exercise.{script_events, tally_of}
 use Rattle.request_slots.specs.InFlight.{as_reply}
 use Rattle.request_slots.specs.declared.reply.Reply.{Reply}
 use Rattle.workload.specs.Tally.{with_reply}

@@ -8,7 +8,7 @@ use Rattle.device_model.specs.History.{Change, History, with_changes}
 use Rattle.device_model.specs.Mode.{DeviceFormat}
 use Rattle.device_model.specs.Progress.{DeviceState}
 use Rattle.device_model.specs.Script.{Ask, ScriptLine, line_outcome}
-use Rattle.command_model.specs.Exercise.{asking_line, exercise_lines}
+use Rattle.workload_model.specs.Exercise.{asking_line, exercise_lines}
 use Rattle.device.specs.Device.{kind_of}
 use Rattle.device.specs.Run.{IsLeftWithin}
 use Rattle.device_parts.specs.Device.{Standing}

@@ -1,7 +1,7 @@
 //! Runs the requests of an exercise, one by one, and counts what they are answered.
 ghost use Rattle.std.specs.Prelude.{◌≡◌, ◌+◌, ◌<◌, ◌≤◌, ◌^◌, [], Err, IfOk, None, false};
-ghost use Rattle.command_model.specs.Exercise.{read_all};
-ghost use Rattle.command_model.specs.Workload.{workload_asks};
+ghost use Rattle.workload_model.specs.Exercise.{read_all};
+ghost use Rattle.workload_model.specs.Workload.{workload_asks};
 ghost use Rattle.device_model.specs.Script.{AskLine};
 ghost use Rattle.device.specs.Calls.{Works};
 ghost use Rattle.script_text.specs.Line.{ask_of};

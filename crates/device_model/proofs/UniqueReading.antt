@@ -1,7 +1,7 @@
 -- That bytes are read in one way: as one line, or with one fault.
 use Rattle.std.proofs.Common.{◌≡◌, ◌≢◌, ◌⊎◌, ℕ, ◌+◌, ◌/◌, ◌%◌, ◌==◌, ◌<◌, ◌≤◌, Bool, true, false, if◌then◌else◌, List, [], ◌∷◌, length, take, drop, map, sym, ◌∙◌, ap, subst, arith, refl, All, true≢false, ne_eqb, codes, bytes_eq, slice_index, Option, Some, None, inl, inr}
 use Rattle.std.specs.Fmt.{decimal}
-use Rattle.std.specs.List.{AllZip, join_with_byte, slice_split}
+use Rattle.std.specs.List.{join_with_byte, slice_split}
 use Rattle.hex.specs.Hex.{encode_with, encode_lower, decode_of, lower_digits, hex_digit_value}
 use Rattle.hex.proofs.HexLemmas.{decode_of-encode_lower, IsDigits-lower_digits}
 use Rattle.std.proofs.lemmas.Fmt.{decimal_injective}
@@ -10,12 +10,9 @@ use Rattle.std.proofs.lemmas.List.Splits.{slice_split_none, slice_split_at}
 use Rattle.std.proofs.lemmas.Option.{same_Some}
 use Rattle.device_model.specs.Grammar.{most_line, words_in, stretches_word, actor_word, fua_words, ask_words, IsNumber, AreStretches, HasValues, IsWritable, IsText, IsSkipped, Says, IsLine, WordPlace, NumberPlace, BytePlace, StretchesPlace, ActorPlace, FuaPlace, Fits, IsFaultAt, Verb, FillVerb, WriteVerb, ReadVerb, FlushVerb, ServeVerb, TakeVerb, StepVerb, verb_word, places_of, is_asking, IsFirstWord, IsFaultOfStart, IsFaultOfWords, IsFaultOf, ReadLine, Means, Refused, IsReadAs}
 use Rattle.device_model.specs.LineFault.{WordsFault, TooLong, NotText}
-use Rattle.device_model.specs.Progress.{DeviceState, Actor, Commit, Place, Settle, Clean, Recalc}
+use Rattle.device_model.specs.Progress.{Actor, Commit, Place, Settle, Clean, Recalc}
 use Rattle.device_model.specs.Stretches.{Stretch, stretch_text}
 use Rattle.device_model.specs.Script.{Ask, Fill, Write, Read, Flush, ScriptLine, Skip, AskLine, ServeLine, TakeLine, StepLine}
-use Rattle.device_model.specs.Mode.{DeviceFormat}
-use Rattle.device_model.specs.ScriptBytes.{lines_of, is_too_long}
-use Rattle.device_model.specs.ScriptRun.{ScriptRun, IsRunOf, run_from}
 use Rattle.device_model.proofs.GrammarLemmas.{All-decimal, one_byte, differ}
 
 -- ---- bytes, stretches and actors are told by their words
@@ -472,18 +469,3 @@ read_once bytes (Means line) (Means other) is is' = ap Means (same_reading bytes
 read_once bytes (Means line) (Refused fault) is bad = absurd (line_or_fault bytes line fault is (has_fault bytes fault bad))
 read_once bytes (Refused fault) (Means line) bad is = absurd (line_or_fault bytes line fault is (has_fault bytes fault bad))
 read_once bytes (Refused fault) (Refused other) bad bad' = ap Refused (one_fault_of bytes fault other (has_fault bytes fault bad) (has_fault bytes other bad'))
-
-read_all_once : (lines : List (List ℕ)) (ones others : List ReadLine) → AllZip IsReadAs lines ones → AllZip IsReadAs lines others → ones ≡ others
-read_all_once [] [] [] each each' = refl
-read_all_once [] [] (other ∷ others) each each' = absurd each'
-read_all_once [] (one ∷ ones) others each each' = absurd each
-read_all_once (line ∷ lines) [] others each each' = absurd each
-read_all_once (line ∷ lines) (one ∷ ones) [] each each' = absurd each'
-read_all_once (line ∷ lines) (one ∷ ones) (other ∷ others) each each' =
-    let first = read_once line one other each.0 each'.0 in
-    let rest = read_all_once lines ones others each.1 each'.1 in
-    cc
-
-pub one_run : (f : DeviceFormat) (s : DeviceState) (script : List ℕ) (one other : ScriptRun) → IsRunOf f s script one → IsRunOf f s script other → one ≡ other
-one_run f s script one other is is' =
-    is.is ∙ ap (run_from f (is_too_long script) 1 s false) (read_all_once (lines_of script) is.lines is'.lines is.read is'.read) ∙ sym is'.is

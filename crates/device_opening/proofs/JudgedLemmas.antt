@@ -25,8 +25,10 @@ use Rattle.place_model.proofs.FormatLemmas.{opens_from, reads_tells}
 use Rattle.image_format.specs.declared.reading.ImageFormat.{ImageFormat}
 use Rattle.image_format.specs.Format.{IsFormat, IsReadNow, disk_format, format_of}
 use Rattle.image_judging.specs.declared.consent.Consent.{Consent}
-use Rattle.image_judging.specs.declared.opening_fault.OpeningFault.{OpeningFault}
-use Rattle.image_judging.specs.Faults.{ByConsent, ByJournal, HasOpenCause, fault_of, lacks_consent}
+use Rattle.image_refusal.specs.declared.call_fault.CallFault.{CallFault}
+use Rattle.image_refusal.specs.declared.open_fault.OpenFault.{OpenFault}
+use Rattle.image_refusal.specs.Calls.{HasCallCause}
+use Rattle.image_judging.specs.Faults.{ByConsent, ByJournal, fault_of, lacks_consent}
 use Rattle.image_judging.proofs.FaultsLemmas.{fault_of-format, fault_of-lacking}
 use Rattle.recalculation.specs.declared.recalculating.Recalculation.{Recalculation}
 use Rattle.request_slots.specs.Flight.{Flight, no_requests}
@@ -125,10 +127,10 @@ module _ (key : Option (List ℕ)) (disk : DiskIdentity) (image : JudgedImage) (
       }
 
 -- The cause of a call behind the judging is that of the opening.
-pub done_cause : {A B C E : Type 0} (before mid after : ℕ) (image : A) (made : B) (opened : C) → HasOpenCause before mid (let r : Result A OpeningFault = Ok image in r)
-    → HasCause mid after (let r : Result B E = Ok made in r) → HasOpenCause before after (let r : Result C OpeningFault = Ok opened in r)
+pub done_cause : {A B C E : Type 0} (before mid after : ℕ) (image : A) (made : B) (opened : C) → HasCallCause before mid (let r : Result A (CallFault OpenFault) = Ok image in r)
+    → HasCause mid after (let r : Result B E = Ok made in r) → HasCallCause before after (let r : Result C (CallFault OpenFault) = Ok opened in r)
 done_cause {A} {B} {C} {E} before mid after image made opened judged is =
-    subst (λ (n : ℕ). HasOpenCause n after (let r : Result C OpeningFault = Ok opened in r)) (judged.passed (λ e. cc))
+    subst (λ (n : ℕ). HasCallCause n after (let r : Result C (CallFault OpenFault) = Ok opened in r)) (judged.passed (λ e. cc))
     (record { later = is.later; failed = λ e. absurd (cc); passed = λ _. is.passed })
 
 -- ---- what is kept

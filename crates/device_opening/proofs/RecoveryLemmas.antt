@@ -1,7 +1,7 @@
--- A device that has just been opened in recovery mode, and why an image is not.
-use Rattle.std.proofs.Common.{◌≡◌, ◌≢◌, ℕ, ◌*◌, List, None, Option, Err, length, refl, sym, ◌∙◌, ap, subst}
+-- A device that has just been opened in recovery mode.
+use Rattle.std.proofs.Common.{◌≡◌, ℕ, ◌*◌, List, None, Option, length, refl, sym, ◌∙◌, ap, subst}
 use Rattle.std.proofs.lemmas.Option.{none-some}
-use Rattle.disk_model.specs.Disk.{Content, Image, last_image}
+use Rattle.disk_model.specs.Disk.{Content, last_image}
 use Rattle.disk_model.specs.Identity.{DiskIdentity, IsBound}
 use Rattle.disk_model.specs.Moments.{HasNow, content_now}
 use Rattle.image_model.specs.Geometry.{Geometry}
@@ -9,11 +9,8 @@ use Rattle.device_model.specs.Mode.{Recovery}
 use Rattle.place_model.specs.Format.{DiskFormat, format_on}
 use Rattle.recovery_laws.proofs.EventLemmas.{opening_law}
 use Rattle.hmac_tag.specs.TagMaker.{TagRule}
-use Rattle.image_format.specs.declared.open_fault.OpenFault.{OpenFault}
-use Rattle.image_format.specs.declared.open_fault.OpenFault.TheVariants as FormatFaults
 use Rattle.image_format.specs.declared.reading.ImageFormat.{ImageFormat}
-use Rattle.image_format.specs.Format.{IsFormat, IsReadNow, format_of}
-use Rattle.image_judging.specs.Faults.{fault_by, fault_in, of_format}
+use Rattle.image_format.specs.Format.{IsFormat, IsReadNow}
 use Rattle.buffer_cache.specs.HeldSectors.{no_sectors}
 use Rattle.tag_store.specs.Store.{IsStore, Store}
 use Rattle.tag_store.proofs.StoreLawsLemmas.{fresh_law}
@@ -22,21 +19,6 @@ use Rattle.device_parts.specs.declared.parts.Parts.{Parts}
 use Rattle.device_parts.specs.Device.{HasOpened}
 use Rattle.recovery_device.specs.Device.{HasNoWrite, in_recovery}
 use Rattle.device_opening.specs.Judged.{rule_of}
-use Rattle.device_opening.specs.RecoveryOpening.{format_fault_of}
-
--- ---- an image that is not opened
-
--- The fault of reading its format is its fault.
-pub format_told : (T : Type 0) (sectors : ℕ) (image : Image) (fault : OpenFault) → fault ≢ FormatFaults.Memory → fault ≢ FormatFaults.Disk
-    → Err fault ≡ format_of sectors image → fault_in {T = T} (Err (of_format fault)) ≡ format_fault_of sectors image
-format_told T sectors image fault memory disk told = by fault memory disk ∙ ap (fault_by (λ format. None)) told
-  where
-    by : (fault : OpenFault) → fault ≢ FormatFaults.Memory → fault ≢ FormatFaults.Disk
-        → fault_in {T = T} (Err (of_format fault)) ≡ fault_by (λ format. None) (Err fault)
-    by FormatFaults.Memory memory disk = absurd (memory refl)
-    by FormatFaults.Disk memory disk = absurd (disk refl)
-    by (FormatFaults.Super fault) memory disk = refl
-    by (FormatFaults.Geom fault) memory disk = refl
 
 -- ---- a device that is open
 

@@ -1,12 +1,17 @@
 -- What an opening tells of a disk that it refuses, by what judging told.
-use Rattle.std.proofs.Common.{◌≡◌, ◌≢◌, None, Option, Result, Ok, Err, List, refl, ◌∙◌, ap}
+use Rattle.std.proofs.Common.{◌≡◌, ◌≢◌, ℕ, None, Option, Some, Result, Ok, Err, List, refl, ◌∙◌, ap}
 use Rattle.std.proofs.lemmas.Option.{none-some}
 use Rattle.disk_model.specs.Disk.{Content, Image, last_image}
 use Rattle.disk_model.specs.Moments.{HasNow}
 use Rattle.disk_model.proofs.MomentsLemmas.{EachMoment-kept}
-use Rattle.image_judging.specs.declared.opening_fault.OpeningFault.{OpeningFault}
-use Rattle.image_judging.specs.declared.opening_fault.OpeningFault.TheVariants as Faults
-use Rattle.image_judging.specs.Faults.{ImageFault, fault_in}
+use Rattle.image_refusal.specs.declared.call_fault.CallFault.{CallFault}
+use Rattle.image_refusal.specs.declared.call_fault.CallFault.TheVariants as Faults
+use Rattle.image_refusal.specs.declared.open_fault.HeadFault.{HeadFault}
+use Rattle.image_refusal.specs.declared.open_fault.OpenFault.{OpenFault}
+use Rattle.image_refusal.specs.declared.open_fault.OpenFault.TheVariants.{Head}
+use Rattle.image_refusal.specs.Calls.{TellsCause, with_cause}
+use Rattle.image_format.specs.Format.{format_of}
+use Rattle.image_judging.specs.Faults.{ByHead, ImageFault, fault_in}
 use Rattle.image_judging.proofs.FaultsLemmas.{fault_in-err}
 use Rattle.device_opening.specs.Opening.{KeepsRefused, Refuses}
 
@@ -28,12 +33,31 @@ module _ (fault_of : Image → Option ImageFault) (a b : List Content) where
   none_refused none start told fault is = absurd (none-some fault (none start told ∙ is))
 
   -- What judging refuses is refused by the opening.
-  pub judging_refuses : (T U : Type 0) (fault : OpeningFault)
-      → (◌≢◌ {A = Result T OpeningFault} (Err fault) (Err Faults.Memory) → ◌≢◌ {A = Result T OpeningFault} (Err fault) (Err Faults.Disk)
+  pub judging_refuses : (T U : Type 0) (fault : CallFault OpenFault)
+      → (◌≢◌ {A = Result T (CallFault OpenFault)} (Err fault) (Err Faults.Memory) → ◌≢◌ {A = Result T (CallFault OpenFault)} (Err fault) (Err Faults.Disk)
       → HasNow (λ c. fault_in {T = T} (Err fault) ≡ fault_of (last_image c)) a)
       → b ≡ a → Refuses {T = U} fault_of a b (Err fault)
   judging_refuses T U fault told kept = record {
     told = λ not_memory not_disk c now. fault_in-err U T fault ∙ told (λ e. not_memory (same_fault e)) (λ e. not_disk (same_fault e)) c now;
+    untouched = λ not_disk err. kept;
+    judged = λ start told fault is. EachMoment-kept _ kept;
+  }
+
+  -- What the first sector refuses is, too.
+  pub head_refuses : (U : Type 0) (sectors : ℕ) (fault : CallFault HeadFault) → ((image : Image) (cause : HeadFault) → Err cause ≡ format_of sectors image → Some (ByHead cause) ≡ fault_of image)
+      → TellsCause (format_of sectors) a fault → b ≡ a → Refuses {T = U} fault_of a b (Err (with_cause Head fault))
+  head_refuses U sectors Faults.Memory by told kept = record {
+    told = λ not_memory not_disk. absurd (not_memory refl);
+    untouched = λ not_disk err. kept;
+    judged = λ start told fault is. EachMoment-kept _ kept;
+  }
+  head_refuses U sectors Faults.Disk by told kept = record {
+    told = λ not_memory not_disk. absurd (not_disk refl);
+    untouched = λ not_disk err. kept;
+    judged = λ start told fault is. EachMoment-kept _ kept;
+  }
+  head_refuses U sectors (Faults.Refused cause) by told kept = record {
+    told = λ not_memory not_disk c now. by (last_image c) cause (told cause refl c now);
     untouched = λ not_disk err. kept;
     judged = λ start told fault is. EachMoment-kept _ kept;
   }

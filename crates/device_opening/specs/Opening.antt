@@ -11,8 +11,9 @@ use Rattle.place_model.specs.Format.{DiskFormat, HasCells, OpensAs, cells_on}
 use Rattle.place_model.specs.Kind.{kind_in}
 use Rattle.place_model.specs.Opened.{next_on}
 use Rattle.image_format.specs.declared.reading.ImageFormat.{ImageFormat}
-use Rattle.image_judging.specs.declared.opening_fault.OpeningFault.{OpeningFault}
-use Rattle.image_judging.specs.declared.opening_fault.OpeningFault.TheVariants as Faults
+use Rattle.image_refusal.specs.declared.call_fault.CallFault.{CallFault}
+use Rattle.image_refusal.specs.declared.call_fault.CallFault.TheVariants as Faults
+use Rattle.image_refusal.specs.declared.open_fault.OpenFault.{OpenFault}
 use Rattle.image_judging.specs.Faults.{ImageFault, fault_in}
 use Rattle.journal_model.specs.Opening.{opened_disk}
 use Rattle.buffer_cache.specs.Cache.{sectors_of}
@@ -64,7 +65,7 @@ KeepsRefused {F} fault_of before after =
 
 -- Where the disk did not fail and there was memory, an answer tells the fault that the image has which reads gave, if
 -- any.
-abbrev pub TellsFault : {T : Type 0} → (fault_of : Image → Option ImageFault) → List Content → Result T OpeningFault
+abbrev pub TellsFault : {T : Type 0} → (fault_of : Image → Option ImageFault) → List Content → Result T (CallFault OpenFault)
     → Type 0
 TellsFault fault_of before result = result ≢ Err Faults.Memory → result ≢ Err Faults.Disk
     → HasNow (λ c. fault_in result ≡ fault_of (last_image c)) before
@@ -72,7 +73,7 @@ TellsFault fault_of before result = result ≢ Err Faults.Memory → result ≢ 
 -- An opening tells the fault that the image has. A disk on which nothing is open then is as it was, not even synced,
 -- unless it failed.
 pub record Refuses {T : Type 0} (fault_of : Image → Option ImageFault) (before after : List Content)
-    (result : Result T OpeningFault) : Type 0 where
+    (result : Result T (CallFault OpenFault)) : Type 0 where
   pub told : TellsFault fault_of before result
   pub untouched : result ≢ Err Faults.Disk → IsErr result → after ≡ before
   pub judged : KeepsRefused fault_of before after

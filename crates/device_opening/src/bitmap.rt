@@ -5,7 +5,8 @@ ghost use Rattle.disk_model.specs.Causes.{HasCause};
 ghost use Rattle.disk_model.specs.Identity.{IsBound};
 ghost use Rattle.device_model.specs.Mode as Model;
 ghost use Rattle.hmac_tag.specs.TagMaker.{key_of};
-ghost use Rattle.image_judging.specs.Faults.{HasOpenCause, fault_of};
+ghost use Rattle.image_refusal.specs.Calls.{HasCallCause};
+ghost use Rattle.image_judging.specs.Faults.{fault_of};
 ghost use Rattle.device_parts.specs.Device.{HasOpened};
 ghost use Rattle.bitmap_device.specs.Device.{in_bitmap};
 ghost use Rattle.device_opening.specs.BitmapOpening.{HasJudgedBitmap};
@@ -21,7 +22,8 @@ use bitmap_device::BitmapParts;
 use device_parts::Parts;
 use hmac_tag::Hash;
 use image_format::{ImageFormat, read_format};
-use image_judging::{Consent, OpeningFault};
+use image_judging::Consent;
+use image_refusal::{CallFault, OpenFault};
 use sector_disk::{Disk, Failed};
 use sector_pool::Region;
 use std::alloc::Global;
@@ -45,7 +47,7 @@ use std::alloc::Global;
 /// - `Memory`: there is none for what the device needs. Nothing was done.
 /// - `Disk`: the disk failed. Every image has the blocks and the cells of the image at the entry, where that can be
 ///   opened, by its own first sector.
-/// - `Super`, `Geom`: as `read_format` tells them. Nothing was done.
+/// - `Head`: as `read_format` tells it. Nothing was done.
 /// - `Consent`: some block awaits its tag, there is a key, and consent is withheld. Nothing was done.
 /// - `Journal`: the journal is refused, by its scan or for the first entry in the order of the replay. Nothing was
 ///   done.
@@ -55,7 +57,7 @@ pub fn open_bitmap<D: Disk>(
     hash: Hash,
     consent: Consent,
     pool: &mut Region,
-) -> Result<BitmapParts, OpeningFault>
+) -> Result<BitmapParts, CallFault<OpenFault>>
     requires bound { IsBound (D.identity disk.old).name }
 
     ensures opened { IfOk result (λ kept. HasOpened in_bitmap Model.Bitmap (key_of hash) (D.identity disk.old)
@@ -63,7 +65,7 @@ pub fn open_bitmap<D: Disk>(
 
     ensures refused { Refuses (fault_of (key_of hash) consent (D.identity disk.old).sectors)
         (D.moments disk.old) (D.moments disk.new) result }
-    ensures cause { HasOpenCause (D.faults disk.old) (D.faults disk.new) result }
+    ensures cause { HasCallCause (D.faults disk.old) (D.faults disk.new) result }
 
     ensures identity { D.identity disk.new ≡ D.identity disk.old }
 
@@ -95,7 +97,7 @@ fn open_found<D: Disk>(
     format: ImageFormat,
     hash: Hash,
     consent: Consent,
-) -> Result<BitmapParts, OpeningFault>
+) -> Result<BitmapParts, CallFault<OpenFault>>
     requires bound { IsBound (D.identity disk.old).name }
     requires found { HasBitmapFormat (D.identity disk.old).sectors format (D.moments disk.old) }
 
@@ -104,7 +106,7 @@ fn open_found<D: Disk>(
 
     ensures refused { Refuses (fault_of (key_of hash) consent (D.identity disk.old).sectors)
         (D.moments disk.old) (D.moments disk.new) result }
-    ensures cause { HasOpenCause (D.faults disk.old) (D.faults disk.new) result }
+    ensures cause { HasCallCause (D.faults disk.old) (D.faults disk.new) result }
 
     ensures identity { D.identity disk.new ≡ D.identity disk.old }
 

@@ -3,7 +3,8 @@ ghost use Rattle.std.specs.Prelude.{◌≡◌, ◌⊎◌, Err, IfOk, IsErr};
 ghost use Rattle.disk_model.specs.Identity.{IsBound};
 ghost use Rattle.hmac_tag.specs.TagMaker.{key_of};
 ghost use Rattle.image_format.specs.Format.{IsBitmapFormat};
-ghost use Rattle.image_judging.specs.Faults.{HasOpenCause, fault_of};
+ghost use Rattle.image_refusal.specs.Calls.{HasCallCause};
+ghost use Rattle.image_judging.specs.Faults.{fault_of};
 ghost use Rattle.device_opening.specs.BitmapOpening.{AreRegionsOf, HasJudgedBitmap};
 ghost use Rattle.device_opening.specs.Judged.{HasBitmapFormat};
 ghost use Rattle.device_opening.specs.Opening.{TellsFault};
@@ -13,7 +14,8 @@ use bitmap_mode::RegionStates;
 use dirty_bitmap::BitsFault;
 use hmac_tag::{Hash, TagMaker};
 use image_format::ImageFormat;
-use image_judging::{Consent, OpeningFault, lacks_consent};
+use image_judging::{Consent, lacks_consent};
+use image_refusal::{CallFault, OpenFault};
 use layout::Geometry;
 use sector_disk::Disk;
 use std::alloc::Global;
@@ -54,7 +56,7 @@ pub(crate) fn judge_bitmap<D: Disk>(
     format: ImageFormat,
     hash: Hash,
     consent: Consent,
-) -> Result<JudgedBitmap, OpeningFault>
+) -> Result<JudgedBitmap, CallFault<OpenFault>>
     requires bound { IsBound (D.identity disk.old).name }
     requires found { HasBitmapFormat (D.identity disk.old).sectors format (D.moments disk.old) }
 
@@ -64,7 +66,7 @@ pub(crate) fn judge_bitmap<D: Disk>(
 
     ensures refused { TellsFault (fault_of (key_of hash) consent (D.identity disk.old).sectors)
         (D.moments disk.old) result }
-    ensures cause { HasOpenCause (D.faults disk.old) (D.faults disk.new) result }
+    ensures cause { HasCallCause (D.faults disk.old) (D.faults disk.new) result }
 
     ensures identity { D.identity disk.new ≡ D.identity disk.old }
     ensures kept { D.moments disk.new ≡ D.moments disk.old }
@@ -72,7 +74,7 @@ pub(crate) fn judge_bitmap<D: Disk>(
     let regions = load_regions(alloc, disk, &format)?;
     if lacks_consent(&hash, consent, regions.some_await()) {
         let flags = format.fields.flags;
-        return Err(OpeningFault::Consent { flags });
+        return Err(CallFault::Refused(OpenFault::Consent { flags }));
     }
     let maker = maker_of(hash, &format);
     Ok(JudgedBitmap {
@@ -92,20 +94,20 @@ fn load_regions<D: Disk>(
     alloc: Global,
     disk: &mut D,
     format: &ImageFormat,
-) -> Result<RegionStates, OpeningFault>
+) -> Result<RegionStates, CallFault<OpenFault>>
     requires bound { IsBound (D.identity disk.old).name }
     requires format { IsBitmapFormat (D.identity disk.old).sectors format.now }
 
     ensures loaded { IfOk result (λ regions. AreRegionsOf format.now regions (D.moments disk.old)) }
-    ensures err { IsErr result → (result ≡ Err OpeningFault.Memory) ⊎ (result ≡ Err OpeningFault.Disk) }
-    ensures cause { HasOpenCause (D.faults disk.old) (D.faults disk.new) result }
+    ensures err { IsErr result → (result ≡ Err CallFault.Memory) ⊎ (result ≡ Err CallFault.Disk) }
+    ensures cause { HasCallCause (D.faults disk.old) (D.faults disk.new) result }
 
     ensures identity { D.identity disk.new ≡ D.identity disk.old }
     ensures kept { D.moments disk.new ≡ D.moments disk.old }
 {
     match RegionStates::load(alloc, disk, &format.fields, format.geometry) {
         Ok(regions) => Ok(regions),
-        Err(BitsFault::Memory) => Err(OpeningFault::Memory),
-        Err(BitsFault::Disk) => Err(OpeningFault::Disk),
+        Err(BitsFault::Memory) => Err(CallFault::Memory),
+        Err(BitsFault::Disk) => Err(CallFault::Disk),
     }
 }

@@ -9,7 +9,8 @@ ghost use Rattle.buffer_cache.specs.HeldSectors.{no_sectors};
 ghost use Rattle.device_model.specs.Mode as Model;
 ghost use Rattle.hmac_tag.specs.TagMaker.{key_of};
 ghost use Rattle.image_format.specs.Format.{IsDirectFormat};
-ghost use Rattle.image_judging.specs.Faults.{HasOpenCause, fault_of};
+ghost use Rattle.image_refusal.specs.Calls.{HasCallCause};
+ghost use Rattle.image_judging.specs.Faults.{fault_of};
 ghost use Rattle.bitmap_device.specs.Device.{IsReady, in_bitmap};
 ghost use Rattle.device_parts.specs.Device.{HasOpened};
 ghost use Rattle.mode_change.specs.ToBitmap.{bitmap_format};
@@ -30,7 +31,8 @@ use buffer_cache::Cache;
 use device_parts::Parts;
 use hmac_tag::Hash;
 use image_format::ImageFormat;
-use image_judging::{Consent, OpeningFault};
+use image_judging::Consent;
+use image_refusal::{CallFault, OpenFault};
 use mode_change::{bitmap_format, change_to_bitmap};
 use recalculation::{Recalculation, recalculate_all};
 use sector_disk::{Disk, Failed, Memory};
@@ -90,7 +92,7 @@ pub(crate) fn open_made<D: Disk>(
     hash: Hash,
     consent: Consent,
     pool: &mut Region,
-) -> Result<BitmapParts, OpeningFault>
+) -> Result<BitmapParts, CallFault<OpenFault>>
     requires bound { IsBound (D.identity disk.old).name }
     requires found { HasJournalFormat (D.identity disk.old).sectors format (D.moments disk.old) }
 
@@ -99,7 +101,7 @@ pub(crate) fn open_made<D: Disk>(
 
     ensures refused { Refuses (fault_of (key_of hash) consent (D.identity disk.old).sectors)
         (D.moments disk.old) (D.moments disk.new) result }
-    ensures cause { HasOpenCause (D.faults disk.old) (D.faults disk.new) result }
+    ensures cause { HasCallCause (D.faults disk.old) (D.faults disk.new) result }
 
     ensures identity { D.identity disk.new ≡ D.identity disk.old }
 

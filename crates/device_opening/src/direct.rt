@@ -7,7 +7,8 @@ ghost use Rattle.disk_model.specs.Moments.{EachSince};
 ghost use Rattle.image_model.specs.SuperblockLaws.{FitsBytes};
 ghost use Rattle.device_model.specs.Mode as Model;
 ghost use Rattle.hmac_tag.specs.TagMaker.{key_of};
-ghost use Rattle.image_judging.specs.Faults.{HasOpenCause, fault_of};
+ghost use Rattle.image_refusal.specs.Calls.{HasCallCause};
+ghost use Rattle.image_judging.specs.Faults.{fault_of};
 ghost use Rattle.mode_change.specs.ToJournal.{journal_format};
 ghost use Rattle.device_parts.specs.Device.{HasOpened};
 ghost use Rattle.direct_device.specs.Device.{in_direct};
@@ -27,7 +28,8 @@ use device_parts::Parts;
 use direct_device::DirectParts;
 use hmac_tag::Hash;
 use image_format::{ImageFormat, read_format};
-use image_judging::{Consent, OpeningFault};
+use image_judging::Consent;
+use image_refusal::{CallFault, OpenFault};
 use mode_change::journal_format;
 use sector_disk::{Disk, Failed};
 use sector_pool::Region;
@@ -55,7 +57,7 @@ use std::alloc::Global;
 /// - `Memory`: there is none for what is kept of the journal, or for what the device needs. Nothing was done.
 /// - `Disk`: the disk failed. Every image has the blocks and the cells of the image at the entry, where that can be
 ///   opened, by its own first sector.
-/// - `Super`, `Geom`: as `read_format` tells them. Nothing was done.
+/// - `Head`: as `read_format` tells it. Nothing was done.
 /// - `Consent`: some block awaits its tag, there is a key, and consent is withheld. Nothing was done.
 /// - `Journal`: the journal is refused, by its scan or for the first entry in the order of the replay. Nothing was
 ///   done.
@@ -65,7 +67,7 @@ pub fn open_direct<D: Disk>(
     hash: Hash,
     consent: Consent,
     pool: &mut Region,
-) -> Result<DirectParts, OpeningFault>
+) -> Result<DirectParts, CallFault<OpenFault>>
     requires bound { IsBound (D.identity disk.old).name }
 
     ensures opened { IfOk result (λ kept. HasOpened in_direct Model.Direct (key_of hash) (D.identity disk.old)
@@ -75,7 +77,7 @@ pub fn open_direct<D: Disk>(
 
     ensures refused { Refuses (fault_of (key_of hash) consent (D.identity disk.old).sectors)
         (D.moments disk.old) (D.moments disk.new) result }
-    ensures cause { HasOpenCause (D.faults disk.old) (D.faults disk.new) result }
+    ensures cause { HasCallCause (D.faults disk.old) (D.faults disk.new) result }
 
     ensures identity { D.identity disk.new ≡ D.identity disk.old }
 
@@ -104,7 +106,7 @@ fn open_found<D: Disk>(
     hash: Hash,
     consent: Consent,
     pool: &mut Region,
-) -> Result<DirectParts, OpeningFault>
+) -> Result<DirectParts, CallFault<OpenFault>>
     requires bound { IsBound (D.identity disk.old).name }
     requires found { HasJournalFormat (D.identity disk.old).sectors format (D.moments disk.old) }
 
@@ -115,7 +117,7 @@ fn open_found<D: Disk>(
 
     ensures refused { Refuses (fault_of (key_of hash) consent (D.identity disk.old).sectors)
         (D.moments disk.old) (D.moments disk.new) result }
-    ensures cause { HasOpenCause (D.faults disk.old) (D.faults disk.new) result }
+    ensures cause { HasCallCause (D.faults disk.old) (D.faults disk.new) result }
 
     ensures identity { D.identity disk.new ≡ D.identity disk.old }
 
@@ -199,7 +201,7 @@ fn open_made<D: Disk>(
     hash: Hash,
     consent: Consent,
     pool: &mut Region,
-) -> Result<DirectParts, OpeningFault>
+) -> Result<DirectParts, CallFault<OpenFault>>
     requires bound { IsBound (D.identity disk.old).name }
     requires found { HasBitmapFormat (D.identity disk.old).sectors format (D.moments disk.old) }
 
@@ -210,7 +212,7 @@ fn open_made<D: Disk>(
 
     ensures refused { Refuses (fault_of (key_of hash) consent (D.identity disk.old).sectors)
         (D.moments disk.old) (D.moments disk.new) result }
-    ensures cause { HasOpenCause (D.faults disk.old) (D.faults disk.new) result }
+    ensures cause { HasCallCause (D.faults disk.old) (D.faults disk.new) result }
 
     ensures identity { D.identity disk.new ≡ D.identity disk.old }
 

@@ -3,14 +3,16 @@ ghost use Rattle.std.specs.Prelude.{◌≡◌, IfOk};
 ghost use Rattle.disk_model.specs.Identity.{IsBound};
 ghost use Rattle.image_model.specs.Cells.{salt_of};
 ghost use Rattle.hmac_tag.specs.TagMaker.{key_of};
-ghost use Rattle.image_judging.specs.Faults.{HasOpenCause, fault_of};
+ghost use Rattle.image_refusal.specs.Calls.{HasCallCause};
+ghost use Rattle.image_judging.specs.Faults.{fault_of};
 ghost use Rattle.device_opening.specs.Judged.{HasJournalFormat, HasJudged, rule_of};
 ghost use Rattle.device_opening.specs.Opening.{TellsFault};
 
 use hmac_tag::{Hash, TagMaker};
 use image_format::ImageFormat;
-use image_judging::{Consent, OpeningFault, judge_consent};
+use image_judging::{Consent, judge_consent};
 use image_model::FIXED_HMAC;
+use image_refusal::{CallFault, OpenFault};
 use journal_reading::{JudgedJournal, judge_journal};
 use layout::Geometry;
 use sector_disk::Disk;
@@ -54,7 +56,7 @@ pub(crate) fn judge_found<D: Disk>(
     format: ImageFormat,
     hash: Hash,
     consent: Consent,
-) -> Result<JudgedImage, OpeningFault>
+) -> Result<JudgedImage, CallFault<OpenFault>>
     requires bound { IsBound (D.identity disk.old).name }
     requires found { HasJournalFormat (D.identity disk.old).sectors format (D.moments disk.old) }
 
@@ -64,7 +66,7 @@ pub(crate) fn judge_found<D: Disk>(
 
     ensures refused { TellsFault (fault_of (key_of hash) consent (D.identity disk.old).sectors)
         (D.moments disk.old) result }
-    ensures cause { HasOpenCause (D.faults disk.old) (D.faults disk.new) result }
+    ensures cause { HasCallCause (D.faults disk.old) (D.faults disk.new) result }
 
     ensures identity { D.identity disk.new ≡ D.identity disk.old }
     ensures kept { D.moments disk.new ≡ D.moments disk.old }

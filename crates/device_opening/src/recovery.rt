@@ -3,7 +3,7 @@ ghost use Rattle.std.specs.Prelude.{◌≡◌, IfOk};
 ghost use Rattle.disk_model.specs.Identity.{IsBound};
 ghost use Rattle.device_model.specs.Mode as Model;
 ghost use Rattle.hmac_tag.specs.TagMaker.{key_of};
-ghost use Rattle.image_judging.specs.Faults.{HasOpenCause};
+ghost use Rattle.image_refusal.specs.Calls.{HasCallCause};
 ghost use Rattle.device_parts.specs.Device.{HasOpened};
 ghost use Rattle.recovery_device.specs.Device.{in_recovery};
 ghost use Rattle.device_opening.specs.Opening.{Refuses};
@@ -14,7 +14,7 @@ use crate::room::DeviceRoom;
 use device_parts::Parts;
 use hmac_tag::Hash;
 use image_format::read_format;
-use image_judging::OpeningFault;
+use image_refusal::{CallFault, OpenFault};
 use sector_disk::Disk;
 use std::alloc::Global;
 use tag_store::Tags;
@@ -28,13 +28,12 @@ use tag_store::Tags;
 ///
 /// - `Memory`: there is none for what the device needs.
 /// - `Disk`: the disk failed at the read.
-/// - `Super`: the superblock is refused. A disk without a sector has no magic.
-/// - `Geom`: the disk has no room for what the superblock tells.
+/// - `Head`: the first sector is refused. A disk without a sector has no magic.
 pub fn open_recovery<D: Disk>(
     alloc: Global,
     disk: &mut D,
     hash: Hash,
-) -> Result<Parts, OpeningFault>
+) -> Result<Parts, CallFault<OpenFault>>
     requires bound { IsBound (D.identity disk.old).name }
 
     ensures opened { IfOk result (λ p. HasOpened in_recovery Model.Recovery (key_of hash) (D.identity disk.old)
@@ -42,7 +41,7 @@ pub fn open_recovery<D: Disk>(
 
     ensures refused { Refuses (format_fault_of (D.identity disk.old).sectors)
         (D.moments disk.old) (D.moments disk.new) result }
-    ensures cause { HasOpenCause (D.faults disk.old) (D.faults disk.new) result }
+    ensures cause { HasCallCause (D.faults disk.old) (D.faults disk.new) result }
 
     ensures identity { D.identity disk.new ≡ D.identity disk.old }
     ensures kept { D.moments disk.new ≡ D.moments disk.old }

@@ -5,7 +5,7 @@ ghost use Rattle.device_opening.specs.Opening.{IsRecalculationFor, IsRecoveryRoo
 
 use buffer_cache::Cache;
 use image_format::ImageFormat;
-use journal_reading::JOURNAL_AT;
+use image_model::{SECTOR_SIZE, SUPERBLOCK_SECTORS};
 use layout::Geometry;
 use recalculation::{Awaiting, Position, Recalculation};
 use request_slots::Slots;
@@ -38,13 +38,9 @@ impl DeviceRoom {
     pub(crate) fn new(alloc: Global, geometry: Geometry) -> Result<DeviceRoom, Memory>
         ensures { IfOk result (IsRoomFor geometry) }
     {
-        let size = 512 * geometry.shape().spb as usize;
-        let Ok(slots) = Slots::new(alloc, geometry.blocks(), size) else {
-            return Err(Memory);
-        };
-        let Ok(buffer) = vec![in alloc; 0; size] else {
-            return Err(Memory);
-        };
+        let size = SECTOR_SIZE * geometry.shape().spb as usize;
+        let slots = Slots::new(alloc, geometry.blocks(), size)?;
+        let buffer = vec![in alloc; 0; size]?;
         let cache = Cache::new(alloc, HELD_SECTORS)?;
         Ok(DeviceRoom {
             cache,
@@ -83,9 +79,7 @@ impl<'p> RecoveryRoom<'p> {
     {
         let device = DeviceRoom::new(alloc, format.geometry)?;
         let recalculation = recalculation_of(alloc, format)?;
-        let Ok(()) = pool.reserve(alloc, format.geometry.initial() - JOURNAL_AT) else {
-            return Err(Memory);
-        };
+        pool.reserve(alloc, format.geometry.initial() - SUPERBLOCK_SECTORS)?;
         Ok(RecoveryRoom {
             device,
             pool: pool.whole(),

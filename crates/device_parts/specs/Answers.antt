@@ -4,6 +4,7 @@ use Rattle.std.specs.Str.{bytes_eq}
 use Rattle.disk_model.specs.Causes.{Rose}
 use Rattle.disk_model.specs.Disk.{Content}
 use Rattle.image_model.specs.Tag.{tag_of}
+use Rattle.device_model.specs.Actors.{actor_of}
 use Rattle.device_model.specs.Progress as Model
 use Rattle.device_model.specs.Request as Asks
 use Rattle.device_model.specs.RequestLaws.{IsSerialReply}
@@ -16,12 +17,11 @@ use Rattle.request_slots.specs.declared.submit_fault.SubmitFault.{SubmitFault}
 use Rattle.request_slots.specs.declared.submit_fault.SubmitFault.TheVariants as SubmitFaults
 use Rattle.request_slots.specs.declared.slot.Slot.{Slot}
 use Rattle.request_slots.specs.Flight.{Flight, count_in, is_unfinished, slot_of}
-use Rattle.request_slots.specs.InFlight.{as_reply, as_submission, returned_in, submit_answer}
+use Rattle.request_slots.specs.InFlight.{as_reply, returned_in}
 use Rattle.request_slots.specs.Submitting as Submitting
 use Rattle.request_slots.specs.Submitting.{after_submit, fault_of}
 use Rattle.request_slots.specs.Serving.{with_block_read, with_change, with_fault}
-use Rattle.device_parts.specs.declared.answers.Actor.{Actor}
-use Rattle.device_parts.specs.declared.answers.Actor.TheVariants as Actors
+use Rattle.device_model.specs.declared.actor.Actor.{Actor}
 use Rattle.device_parts.specs.declared.answers.Moved.{Moved}
 use Rattle.device_parts.specs.declared.answers.Moved.TheVariants as Moves
 use Rattle.device_parts.specs.declared.answers.Served.{Served}
@@ -89,13 +89,6 @@ pub record ServesNext {Kept E : Type 0} (mode : DeviceMode Kept) (ticket : ℕ) 
   pub flight : KeepsFlight (mode.parts old).slots (mode.parts new).slots
 
 -- ---- a step
-
-abbrev pub actor_of : Actor → Model.Actor
-actor_of Actors.Commit = Model.Commit
-actor_of Actors.Place = Model.Place
-actor_of Actors.Settle = Model.Settle
-actor_of Actors.Clean = Model.Clean
-actor_of Actors.Recalc = Model.Recalc
 
 abbrev pub moved_answer : Moved → Model.Answer
 moved_answer Moves.Did = Model.Did
@@ -172,14 +165,6 @@ abbrev pub IsTaken : Result Reply ℕ → Model.Answer → Type 0
 IsTaken (Ok reply) answer = (request : Asks.Request)
     × (answer ≡ Model.Replied request (as_reply reply) (returned_in reply))
 IsTaken (Err ticket) answer = answer ≡ Model.NotDone
-
--- A submission is answered so, and no disk is called.
-abbrev pub HasSubmitted : {Kept : Type 0} → DeviceMode Kept → Standing → Request → Condition → (old new : Kept)
-    → List Content → Type 0
-HasSubmitted mode w request condition old new moments =
-    IsDone mode w (Model.Submit (as_submission request))
-    (submit_answer (submit_fault condition (mode.parts old).slots request) (suc (mode.parts old).slots.submitted))
-    condition new moments moments
 
 -- A reply is taken, or the request is not done, and no disk is called.
 pub record HasTaken {Kept : Type 0} (mode : DeviceMode Kept) (w : Standing) (ticket : ℕ) (result : Result Reply ℕ)

@@ -16,21 +16,6 @@ pub enum Served {
     NoRoom,
 }
 
-/// Who works in the background.
-#[derive(Clone, Copy, Debug, PartialEq, Eq)]
-pub enum Actor {
-    /// Writes open sections of the journal.
-    Commit,
-    /// Writes committed entries to their places.
-    Place,
-    /// Frees sections of the journal.
-    Settle,
-    /// Clears bits of the bitmap.
-    Clean,
-    /// Recalculates the tags of a region.
-    Recalc,
-}
-
 /// What a step did.
 #[derive(Clone, Copy, Debug, PartialEq, Eq)]
 pub enum Moved {

@@ -10,7 +10,8 @@ mod condition;
 mod parts;
 mod submitting;
 
-pub use answers::{Actor, Moved, Served, StepFault};
+pub use answers::{Moved, Served, StepFault};
 pub use condition::Condition;
+pub use device_model::Actor;
 pub use parts::Parts;
 pub use submitting::{submit, take};

@@ -12,8 +12,8 @@ use device_opening::{open_bitmap, open_direct, open_journal};
 use device_parts::{Actor, Moved};
 use hmac_tag::{Hash, Key};
 use image_formatting::{NewImage, format};
-use image_judging::OpeningFault;
 use image_model::{DIRTY_BITMAP, FIXED_PADDING};
+use image_refusal::{CallFault, OpenFault};
 use request_slots::Reply;
 use sector_disk::{Disk, Failed, MemDisk};
 use sector_pool::Region;
@@ -155,7 +155,12 @@ fn a_set_bit_under_a_key_wants_consent(rt: HostRuntime) -> Result<(), Fail> {
     let key = under_key(alloc)?;
     let mut region = Region::new();
     let fault = open_bitmap(alloc, &mut disk, key, Consent::Withheld, &mut region).err();
-    assert!(rt; matches!(fault, Some(OpeningFault::Consent { flags: 0xc })));
+    assert!(rt;
+        matches!(
+            fault,
+            Some(CallFault::Refused(OpenFault::Consent { flags: 0xc }))
+        )
+    );
     assert_eq!(rt; byte_at(&mut disk, BITMAP_AT)?, 0x20);
     assert_eq!(rt; byte_at(&mut disk, BLOCK_AT)?, 0xbb);
     let given = OpenMode::Bitmap(Consent::Given);
@@ -237,10 +242,20 @@ fn a_set_bit_under_a_key_wants_consent_in_each_mode(rt: HostRuntime) -> Result<(
     let mut region = Region::new();
     let key = under_key(alloc)?;
     let fault = open_journal(alloc, &mut disk, key, Consent::Withheld, &mut region).err();
-    assert!(rt; matches!(fault, Some(OpeningFault::Consent { flags: 0xc })));
+    assert!(rt;
+        matches!(
+            fault,
+            Some(CallFault::Refused(OpenFault::Consent { flags: 0xc }))
+        )
+    );
     let key = under_key(alloc)?;
     let fault = open_direct(alloc, &mut disk, key, Consent::Withheld, &mut region).err();
-    assert!(rt; matches!(fault, Some(OpeningFault::Consent { flags: 0xc })));
+    assert!(rt;
+        matches!(
+            fault,
+            Some(CallFault::Refused(OpenFault::Consent { flags: 0xc }))
+        )
+    );
     assert_eq!(rt; flags_of(&mut disk)?, 0xc);
     assert_eq!(rt; byte_at(&mut disk, BITMAP_AT)?, 0x20);
     let given = OpenMode::Journal(Consent::Given);

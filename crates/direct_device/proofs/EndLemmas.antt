@@ -1,12 +1,13 @@
 -- A step and the end of a device in direct mode, whatever the calls answer.
 use Rattle.std.proofs.Common.{ℕ, List, OnOk, Result, Ok, Err, ap}
 use Rattle.disk_model.specs.Disk.{Content}
+use Rattle.device_model.specs.Actors.{actor_of}
 use Rattle.device_model.specs.Progress as Model
-use Rattle.device_parts.specs.declared.answers.Actor.{Actor}
+use Rattle.device_model.specs.declared.actor.Actor.{Actor}
 use Rattle.device_parts.specs.declared.answers.Moved.TheVariants as Moves
 use Rattle.device_parts.specs.declared.condition.Condition.TheVariants as Conditions
 use Rattle.device_parts.specs.declared.parts.Parts.{Parts}
-use Rattle.device_parts.specs.Answers.{StepsNext, actor_of}
+use Rattle.device_parts.specs.Answers.{StepsNext}
 use Rattle.device_parts.specs.Device.{Ends, Standing}
 use Rattle.tag_store.specs.Store.{given_tags}
 use Rattle.recalculation.specs.declared.recalculating.Recalculation.{Recalculation}

@@ -1,8 +1,8 @@
 //! What is done in the background: regions are recalculated.
 ghost use Rattle.std.specs.Prelude.{◌≡◌, ◌<◌, IfOk};
 ghost use Rattle.disk_model.specs.Causes.{HasCause};
-ghost use Rattle.device_parts.specs.Answers.{actor_of};
-ghost use Rattle.device_parts.specs.declared.answers.Actor.TheVariants.{Recalc};
+ghost use Rattle.device_model.specs.Actors.{actor_of};
+ghost use Rattle.device_model.specs.declared.actor.Actor.TheVariants.{Recalc};
 ghost use Rattle.recalculation.specs.Recalculation.{fields_next, fields_then};
 ghost use Rattle.direct_device.specs.Answers.{HasNoWork, MovesFieldsTo, Steps, WritesAs, steps_left};
 ghost use Rattle.direct_device.specs.Device.{IsReady, kept};

@@ -22,10 +22,6 @@ pub record IsOfWritten (g : Geometry) (IsWritten : ℕ → Type 0) (sector : ℕ
 abbrev pub IsOfPlaces : Geometry → (IsWritten : ℕ → Type 0) → (sector : ℕ) → List ℕ → Type 0
 IsOfPlaces g IsWritten sector x = HoldsTag g sector ⊎ IsOfWritten g IsWritten sector
 
--- No block is written.
-abbrev pub IsNoBlock : ℕ → Type 0
-IsNoBlock block = ⊥
-
 -- The places are as before a call. In it nothing was written but sectors of tags, and those of the data of
 -- these blocks.
 pub record WritesPlaces (IsWritten : ℕ → Type 0) (old new : Geometry) (before after : List Content)

@@ -16,8 +16,9 @@ ghost use Rattle.dirty_bitmap.specs.Faults.{HasBitsCause};
 ghost use Rattle.dirty_bitmap.specs.declared.faults.BitsFault.TheVariants.{Memory as NoMemory};
 
 use crate::region_set::zero_bitmap;
-use crate::writing::{BITMAP_AT, write_bit, write_bit_and_sync};
+use crate::writing::{write_bit, write_bit_and_sync};
 use crate::{BitsFault, RegionSet};
+use image_model::SUPERBLOCK_SECTORS;
 use layout::Geometry;
 use sector_disk::{Disk, Failed, Memory};
 use std::alloc::Global;
@@ -71,7 +72,7 @@ impl Bits {
     {
         let size = geometry.regions();
         let mut bytes = zero_bitmap(alloc, size)?;
-        disk.read_run(BITMAP_AT, bytes.as_mut_slice())?;
+        disk.read_run(SUPERBLOCK_SECTORS, bytes.as_mut_slice())?;
         let set = RegionSet::from_bitmap(size, bytes);
         Ok(Bits { geometry, set })
     }

@@ -5,15 +5,10 @@ ghost use Rattle.device_model.specs.Regions.{with_region};
 ghost use Rattle.dirty_bitmap.specs.Regions.{IsSectorOf, count_in, has_region, next_in, sector_of, set_sectors};
 
 use crate::words::{clear_from, count_bits, next_bit, set_from};
-use image_model::SECTOR_SIZE;
+use image_model::{GROUP_BITS, SECTOR_SIZE};
 use sector_disk::Memory;
 use std::alloc::Global;
 use std::marker::Model;
-
-/// How many regions have their bits in a group of eight sectors.
-///
-/// Source: Linux, `drivers/md/dm-integrity.c`, `BITMAP_BLOCK_SIZE`.
-const GROUP_BITS: u64 = 32768;
 
 /// The bytes of such a group.
 const GROUP_SIZE: u64 = 4096;
@@ -90,9 +85,7 @@ impl RegionSet {
     pub fn copy(&self, alloc: Global) -> Result<RegionSet, Memory>
         ensures { IfOk result (λ set. set ≡ self.now) }
     {
-        let Ok(bytes) = self.bytes.as_slice().to_vec(alloc) else {
-            return Err(Memory);
-        };
+        let bytes = self.bytes.as_slice().to_vec(alloc)?;
         let size = self.size;
         Ok(RegionSet { size, bytes })
     }
@@ -175,8 +168,6 @@ pub(crate) fn zero_bitmap(alloc: Global, size: u64) -> Result<Vec<u8>, Memory>
     ensures clear { IfOk result (λ bytes. (region : ℕ) → is_bit_set bytes.items region ≡ false) }
 {
     let groups = size.div_ceil(GROUP_BITS);
-    let Ok(bytes) = Vec::from_elem(alloc, 0, (GROUP_SIZE * groups) as usize) else {
-        return Err(Memory);
-    };
+    let bytes = Vec::from_elem(alloc, 0, (GROUP_SIZE * groups) as usize)?;
     Ok(bytes)
 }

@@ -8,15 +8,8 @@ ghost use Rattle.bitmap_model.specs.BitmapDisk.{bit_sector};
 ghost use Rattle.dirty_bitmap.specs.Regions.{IsSectorOf, KeepsBut, sector_of};
 
 use crate::RegionSet;
+use image_model::{SECTOR_BITS, SUPERBLOCK_SECTORS};
 use sector_disk::{Disk, Failed};
-
-/// The first sector of the bitmap on every disk. The superblock has those before it.
-///
-/// Source: Linux, `drivers/md/dm-integrity.c`, `SB_SECTORS`.
-pub(crate) const BITMAP_AT: u64 = 8;
-
-/// How many regions have their bits in a sector.
-const SECTOR_BITS: u64 = 4096;
 
 /// Writes the sector of a region's bit.
 ///
@@ -41,7 +34,7 @@ pub(crate) fn write_bit<D: Disk>(disk: &mut D, set: &RegionSet, region: u64) -> 
         (D.moments disk.old) (D.moments disk.new) }
 {
     let sector = region / SECTOR_BITS;
-    disk.write_run(BITMAP_AT + sector, set.sector(sector))
+    disk.write_run(SUPERBLOCK_SECTORS + sector, set.sector(sector))
 }
 
 /// Writes it, and syncs.

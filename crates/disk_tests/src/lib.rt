@@ -7,5 +7,3 @@ mod sector_disk_tests;
 mod sector_window_tests;
 #[cfg(test)]
 mod stream_io_tests;
-#[cfg(test)]
-mod two_writes_tests;

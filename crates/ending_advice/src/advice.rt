@@ -159,8 +159,8 @@ pub fn advice_on(line: &[u8], error: Option<ErrorKind>) -> Option<&'static str> 
 pub fn advice_on_session(status: u8, error: Option<ErrorKind>) -> Option<&'static str> {
     match status {
         2 => Some(
-            "the stream has a wrong magic in a request's place, or more than 1099511627776 bytes. The requests before it \
-                were answered; the device was not closed, and its next opening recovers it",
+            "the stream has a wrong magic in a request's place, or more than 1099511627776 bytes. The requests before \
+                it were answered; the device was not closed, and its next opening recovers it",
         ),
         4 => advice_on(b"fault disk", error),
         5 => Some(

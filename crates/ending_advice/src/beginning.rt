@@ -6,8 +6,8 @@ use arrayvec::ArrayVec;
 use file_disk::FileFault;
 use file_stream::OutputFile;
 
-/// An output that keeps the first bytes that it was given. Where its text is one line, these are the line's; where it has
-/// none, as a session of requests, they are no line.
+/// An output that keeps the first bytes that it was given. Where its text is one line, these are the line's; where it
+/// has none, as a session of requests, they are no line.
 #[derive(Drop)]
 pub struct Beginning<O: OutputFile + Drop> {
     output: O,

@@ -1,8 +1,8 @@
 //! A sentence for the standard error: what the last line of a command means, and what can be done.
 //!
 //! `LastLine` is an output that keeps the beginning of the last line, and `Beginning` one that keeps the first bytes of
-//! all; `advice_on` and `advice_on_session` have the sentences. A contract sees of such an output the one under it. Of the
-//! sentences no clause speaks.
+//! all; `advice_on` and `advice_on_session` have the sentences. A contract sees of such an output the one under it. Of
+//! the sentences no clause speaks.
 #![tactic(auto)]
 
 mod advice;

@@ -10,7 +10,7 @@ ghost use Rattle.file_disk.specs.Files.{BindsAgain, HasCauseOf, IsForWrites, Ser
 
 use crate::transfer::{open_file, read_all, sync_all, write_all};
 use crate::{Access, Folder, SectorFile};
-use sector_disk::{Counted, Disk, Failed, Named};
+use sector_disk::{Counted, Disk, Failed, Named, SECTOR_SIZE};
 
 /// The whole sectors of a file. It has none until it is bound to the file's name, and then it is bound to no other: a
 /// `bind` to the same name changes nothing, and one to another name is a fault. So is a `bind` of one that is bound for
@@ -160,7 +160,7 @@ impl<O: Folder + Drop> Disk for FileDisk<O> {
         ensures kept { of_file [] O.File.moments self.new.file ≡ of_file [] O.File.moments self.old.file }
     {
         match &mut self.file {
-            Some(file) => read_all(file, 512 * at, buffer),
+            Some(file) => read_all(file, SECTOR_SIZE as u64 * at, buffer),
             None => unreachable!(),
         }
     }
@@ -188,7 +188,7 @@ impl<O: Folder + Drop> Disk for FileDisk<O> {
             (of_file [] O.File.moments self.old.file) (of_file [] O.File.moments self.new.file) }
     {
         match &mut self.file {
-            Some(file) => write_all(file, 512 * at, bytes),
+            Some(file) => write_all(file, SECTOR_SIZE as u64 * at, bytes),
             None => unreachable!(),
         }
     }

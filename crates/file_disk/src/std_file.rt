@@ -9,6 +9,7 @@ ghost use Rattle.file_disk.specs.Files.{of_file};
 
 use crate::opening::{open_for_reads, open_for_writes};
 use crate::{Access, Calls, FileDisk, FileFault, Folder, SectorFile};
+use sector_disk::SECTOR_SIZE;
 use std::fs::File;
 use std::io;
 use std::io::{ErrorKind, Seek, SeekFrom};
@@ -19,9 +20,6 @@ use std::rt::Files;
 ///
 /// Source: Linux, `include/uapi/linux/limits.h`, `PATH_MAX`.
 const LONGEST_NAME: usize = 4096;
-
-/// The size of a sector in bytes.
-const SECTOR_SIZE: usize = 512;
 
 /// How many whole sectors a file has.
 #[derive(Drop)]
@@ -215,6 +213,6 @@ where
         Access::Read => open_for_reads(rt, name)?,
         Access::Write => open_for_writes(rt, name)?,
     };
-    let sectors = file.seek(SeekFrom::End(0))? / 512;
+    let sectors = file.seek(SeekFrom::End(0))? / SECTOR_SIZE as u64;
     Ok((file, kept, sectors))
 }

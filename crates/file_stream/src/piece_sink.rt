@@ -6,7 +6,8 @@ use crate::transfer::write_next;
 use sector_disk::{Counted, Failed};
 use stream_io::Sink;
 
-/// Writes to a file what it takes, and holds nothing back: who waits for a reply reads it before the next request comes.
+/// Writes to a file what it takes, and holds nothing back: who waits for a reply reads it before the next request
+/// comes.
 #[derive(Drop)]
 pub struct PieceSink<F: OutputFile + Drop> {
     file: F,

@@ -8,7 +8,7 @@ use thiserror::Error;
 /// How many bytes a key has at most.
 ///
 /// Source: integritysetup(8), `--integrity-key-size`.
-const LONGEST_KEY: usize = 4096;
+pub const LONGEST_KEY: usize = 4096;
 
 /// Why some bytes are no key. The first that holds is told.
 #[derive(Clone, Copy, Debug, PartialEq, Eq, Error)]

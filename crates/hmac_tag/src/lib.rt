@@ -11,6 +11,6 @@ mod padding;
 mod tag;
 mod tag_maker;
 
-pub use key::{Hash, Key, KeyFault};
+pub use key::{Hash, Key, KeyFault, LONGEST_KEY};
 pub use tag::Tag;
 pub use tag_maker::TagMaker;

@@ -1,20 +1,28 @@
 -- The index of a journal that was judged, and its fault.
-use Rattle.std.proofs.Common.{◌≡◌, ℕ, true, false, refl, sym, ap, ◌∙◌, Option, None, List}
-use Rattle.disk_model.specs.Disk.{Image}
+use Rattle.std.proofs.Common.{◌≡◌, ℕ, true, false, refl, sym, ap, ◌∙◌, Option, None, Err, List}
+use Rattle.disk_model.specs.Disk.{Content, Image, last_image}
 use Rattle.image_model.specs.declared.flags.TheConstants.{DIRTY_BITMAP}
 use Rattle.image_model.specs.Cells.{salt_of}
 use Rattle.image_model.specs.Geometry.{Geometry}
 use Rattle.image_model.specs.Openable.{journal_fault_of}
 use Rattle.image_model.specs.Superblock.{has_flag}
 use Rattle.image_model.proofs.OpenableLemmas.{journal_fault_law}
+use Rattle.image_refusal.specs.declared.call_fault.CallFault.{CallFault}
+use Rattle.image_refusal.specs.declared.call_fault.CallFault.TheVariants.{Memory, Disk, Refused}
+use Rattle.image_refusal.specs.declared.open_fault.HeadFault.{HeadFault}
+use Rattle.image_refusal.specs.declared.open_fault.OpenFault.TheVariants.{Head}
+use Rattle.image_refusal.specs.Calls.{TellsCause, with_cause}
 use Rattle.image_format.specs.declared.reading.ImageFormat.{ImageFormat}
+use Rattle.image_format.specs.Format.{format_of}
 use Rattle.hmac_tag.specs.TagMaker.{TagRule}
 use Rattle.journal_reading.specs.declared.reading.JudgedJournal.{JudgedJournal}
 use Rattle.journal_reading.specs.Journal.{IsJudgedOn}
 use Rattle.journal_reading.specs.Newest.{newest_in}
 use Rattle.journal_reading.proofs.IndexLemmas.{index-some}
-use Rattle.image_check.specs.declared.bad.What.TheVariants.{Cells}
-use Rattle.image_check.specs.Faults.{journal_fault_for}
+use Rattle.image_judging.specs.Faults.{fault_by}
+use Rattle.image_model.specs.declared.judged.What.{What}
+use Rattle.image_model.specs.declared.judged.What.TheVariants.{Cells}
+use Rattle.image_check.specs.Faults.{TellsFault, fault_for, journal_fault_for}
 use Rattle.image_check.specs.Index.{IsIndexOn}
 
 -- The newest entries of a journal in which nothing is refused are its index.
@@ -34,3 +42,11 @@ pub own_fault : (key salt : Option (List ℕ)) (format : ImageFormat) (image : I
 own_fault key salt format image same clear =
     let own : journal_fault_for Cells key format image ≡ journal_fault_of key (salt_of format.fields) format.geometry image = rw clear refl in
     own ∙ ap (λ (x : Option (List ℕ)). journal_fault_of key x format.geometry image) (sym same)
+
+-- The fault of reading a format is the one that the image has.
+pub head_told : (T : Type 0) (what : What) (key : Option (List ℕ)) (sectors : ℕ) (moments : List Content) (fault : CallFault HeadFault) → TellsCause (format_of sectors) moments fault
+    → TellsFault {T = T} (Err (with_cause Head fault)) (fault_for what key sectors) moments
+head_told T what key sectors moments Memory told some well = absurd (some refl)
+head_told T what key sectors moments Disk told some well = absurd (well refl)
+head_told T what key sectors moments (Refused cause) told some well = λ x now.
+    ap (fault_by (λ format. journal_fault_for what key format (last_image x))) (told cause refl x now)

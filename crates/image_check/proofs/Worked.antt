@@ -17,7 +17,7 @@ use Rattle.sha2.specs.Sha256.{sha256, first_words, schedule, rounds, compress, h
 use Rattle.place_model.specs.Format.{DiskFormat}
 use Rattle.image_check.specs.Bad.{bad_blocks}
 use Rattle.image_check.specs.declared.bad.Bad.{Bad}
-use Rattle.image_check.specs.declared.bad.What.TheVariants.{Cells, Placed}
+use Rattle.image_model.specs.declared.judged.What.TheVariants.{Cells, Placed}
 use Rattle.image_check.specs.Report.{awaiting_in}
 
 -- Blocks of one sector, tags of 32 bytes, and a journal of one section, in the sectors 8 to 95. Sector 96 has the tags,

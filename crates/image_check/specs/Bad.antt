@@ -7,8 +7,8 @@ use Rattle.image_model.specs.Cells.{Cell, block_tag, placed_cells_of, salt_of}
 use Rattle.image_model.specs.Geometry.{Geometry}
 use Rattle.place_model.specs.Format.{DiskFormat, cells_on}
 use Rattle.image_check.specs.declared.bad.Bad.{Bad}
-use Rattle.image_check.specs.declared.bad.What.{What}
-use Rattle.image_check.specs.declared.bad.What.TheVariants.{Cells, Placed}
+use Rattle.image_model.specs.declared.judged.What.{What}
+use Rattle.image_model.specs.declared.judged.What.TheVariants.{Cells, Placed}
 
 -- The block with both tags, where they differ.
 abbrev pub bad_by : (block : ℕ) → (stored computed : List ℕ) → Option Bad

@@ -15,8 +15,8 @@ use Rattle.place_model.specs.Format.{DiskFormat, format_on}
 use Rattle.sector_window.specs.Window.{HasRoom, Window}
 use Rattle.image_check.specs.Bad.{bad_block, bad_blocks, bad_placed, first_bad_from}
 use Rattle.image_check.specs.declared.bad.Bad.{Bad}
-use Rattle.image_check.specs.declared.bad.What.{What}
-use Rattle.image_check.specs.declared.bad.What.TheVariants.{Cells, Placed}
+use Rattle.image_model.specs.declared.judged.What.{What}
+use Rattle.image_model.specs.declared.judged.What.TheVariants.{Cells, Placed}
 use Rattle.image_check.specs.Index.{IsIndexOn}
 use Rattle.image_check.specs.Report.{awaiting_in}
 

@@ -9,11 +9,12 @@ use Rattle.image_model.specs.Superblock.{has_flag}
 use Rattle.image_model.specs.Openable.{JournalFault}
 use Rattle.image_format.specs.declared.reading.ImageFormat.{ImageFormat}
 use Rattle.image_format.specs.Format.{format_of}
-use Rattle.image_judging.specs.declared.opening_fault.OpeningFault.{OpeningFault}
-use Rattle.image_judging.specs.declared.opening_fault.OpeningFault.TheVariants.{Memory, Disk}
+use Rattle.image_refusal.specs.declared.call_fault.CallFault.{CallFault}
+use Rattle.image_refusal.specs.declared.call_fault.CallFault.TheVariants.{Memory, Disk}
+use Rattle.image_refusal.specs.declared.open_fault.OpenFault.{OpenFault}
 use Rattle.image_judging.specs.Faults.{ByJournal, ImageFault, fault_by, fault_in, fault_in_format}
-use Rattle.image_check.specs.declared.bad.What.{What}
-use Rattle.image_check.specs.declared.bad.What.TheVariants.{Cells, Placed}
+use Rattle.image_model.specs.declared.judged.What.{What}
+use Rattle.image_model.specs.declared.judged.What.TheVariants.{Cells, Placed}
 
 -- The fault of the journal of an image in this format, under a key, if it has one and is looked at,
 abbrev pub journal_fault_for : What → (key : Option (List ℕ)) → ImageFormat → Image → Option JournalFault
@@ -27,12 +28,12 @@ fault_for what key sectors image =
     fault_by (λ format. journal_fault_for what key format image) (format_of sectors image)
 
 -- Where neither memory nor the disk failed, an answer tells the fault that the image has, if it has one,
-abbrev pub TellsFault : {T : Type 0} → Result T OpeningFault → (Image → Option ImageFault) → List Content → Type 0
+abbrev pub TellsFault : {T : Type 0} → Result T (CallFault OpenFault) → (Image → Option ImageFault) → List Content → Type 0
 TellsFault result fault moments = result ≢ Err Memory → result ≢ Err Disk
     → HasNow (λ c. fault_in result ≡ fault (last_image c)) moments
 
 -- and that of its journal.
-abbrev pub TellsJournalFault : {T : Type 0} → Result T OpeningFault → (Image → Option JournalFault) → List Content
+abbrev pub TellsJournalFault : {T : Type 0} → Result T (CallFault OpenFault) → (Image → Option JournalFault) → List Content
     → Type 0
 TellsJournalFault result fault moments = result ≢ Err Memory → result ≢ Err Disk
     → HasNow (λ c. fault_in result ≡ option_map ByJournal (fault (last_image c))) moments

@@ -8,7 +8,7 @@ use Rattle.image_model.specs.Superblock.{Superblock}
 use Rattle.place_model.specs.Format.{DiskFormat, format_on}
 use Rattle.image_check.specs.Bad.{bad_blocks}
 use Rattle.image_check.specs.declared.bad.Bad.{Bad}
-use Rattle.image_check.specs.declared.bad.What.{What}
+use Rattle.image_model.specs.declared.judged.What.{What}
 use Rattle.image_check.specs.declared.report.Report.{Report}
 
 -- How many of the first blocks of an image await their tags, of so many,

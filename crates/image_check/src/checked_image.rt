@@ -6,7 +6,7 @@ ghost use Rattle.disk_model.specs.Identity.{IsBound};
 ghost use Rattle.disk_model.specs.Moments.{HasNow};
 ghost use Rattle.hmac_tag.specs.TagMaker.{key_of};
 ghost use Rattle.image_format.specs.Format.{IsFormat, IsReadNow};
-ghost use Rattle.image_judging.specs.Faults.{HasOpenCause};
+ghost use Rattle.image_refusal.specs.Calls.{HasCallCause};
 ghost use Rattle.image_check.specs.Checked.{IsCheckOf, IsSameCheck, awaiting_at, bad_at, bad_behind};
 ghost use Rattle.image_check.specs.Faults.{TellsFault, TellsJournalFault, fault_for, journal_fault_for};
 
@@ -16,7 +16,7 @@ use crate::passing::{count_awaiting, is_passed};
 use crate::{Bad, What};
 use hmac_tag::{Hash, TagMaker};
 use image_format::{ImageFormat, read_format};
-use image_judging::OpeningFault;
+use image_refusal::{CallFault, OpenFault};
 use journal_reading::NewestEntries;
 use sector_disk::{Disk, Failed};
 use sector_window::SectorWindow;
@@ -76,7 +76,7 @@ impl CheckedImage {
     ///
     /// The first that holds:
     ///
-    /// - `Super`, `Geom`: the first sector is refused.
+    /// - `Head`: the first sector is refused.
     /// - `Journal`: the journal is refused, where it is looked at.
     /// - `Disk`: the disk failed at a read.
     /// - `Memory`: there is none for the journal, or for what is read.
@@ -85,7 +85,7 @@ impl CheckedImage {
         disk: &mut D,
         hash: Hash,
         what: What,
-    ) -> Result<CheckedImage, OpeningFault>
+    ) -> Result<CheckedImage, CallFault<OpenFault>>
         requires { IsBound (D.identity disk.old).name }
 
         ensures image { IfOk result (λ image. IsCheckOf image (D.identity disk.new) (D.moments disk.new)) }
@@ -94,7 +94,7 @@ impl CheckedImage {
 
         ensures refused { TellsFault result (fault_for what (key_of hash) (D.identity disk.old).sectors)
             (D.moments disk.old) }
-        ensures cause { HasOpenCause (D.faults disk.old) (D.faults disk.new) result }
+        ensures cause { HasCallCause (D.faults disk.old) (D.faults disk.new) result }
 
         ensures identity { D.identity disk.new ≡ D.identity disk.old }
         ensures kept { D.moments disk.new ≡ D.moments disk.old }
@@ -114,7 +114,7 @@ impl CheckedImage {
         format: ImageFormat,
         hash: Hash,
         what: What,
-    ) -> Result<CheckedImage, OpeningFault>
+    ) -> Result<CheckedImage, CallFault<OpenFault>>
         requires bound { IsBound (D.identity disk.old).name }
         requires format { IsFormat (D.identity disk.old).sectors format }
         requires reads { HasNow (IsReadNow (key_of hash) (D.identity disk.old).sectors format) (D.moments disk.old) }
@@ -124,7 +124,7 @@ impl CheckedImage {
         ensures key { IfOk result (λ image. image.rule.key ≡ key_of hash) }
 
         ensures refused { TellsJournalFault result (journal_fault_for what (key_of hash) format) (D.moments disk.old) }
-        ensures cause { HasOpenCause (D.faults disk.old) (D.faults disk.new) result }
+        ensures cause { HasCallCause (D.faults disk.old) (D.faults disk.new) result }
 
         ensures identity { D.identity disk.new ≡ D.identity disk.old }
         ensures kept { D.moments disk.new ≡ D.moments disk.old }

@@ -5,12 +5,12 @@ ghost use Rattle.disk_model.specs.Identity.{IsBound};
 ghost use Rattle.disk_model.specs.Moments.{HasNow};
 ghost use Rattle.image_model.specs.Geometry.{IsGeometry};
 ghost use Rattle.image_model.specs.Openable.{journal_fault_of};
-ghost use Rattle.image_judging.specs.Faults.{HasOpenCause};
+ghost use Rattle.image_refusal.specs.Calls.{HasCallCause};
 ghost use Rattle.image_check.specs.Faults.{TellsJournalFault};
 ghost use Rattle.image_check.specs.Index.{IsIndexOn};
 
 use hmac_tag::TagMaker;
-use image_judging::OpeningFault;
+use image_refusal::{CallFault, OpenFault};
 use journal_reading::{NewestEntries, judge_journal};
 use layout::Geometry;
 use sector_disk::Disk;
@@ -31,7 +31,7 @@ pub(crate) fn read_index<D: Disk>(
     disk: &mut D,
     geometry: &Geometry,
     maker: &TagMaker,
-) -> Result<NewestEntries, OpeningFault>
+) -> Result<NewestEntries, CallFault<OpenFault>>
     requires bound { IsBound (D.identity disk.old).name }
     requires geometry { IsGeometry geometry.now (D.identity disk.old).sectors }
     requires maker { maker.now.size ≡ geometry.now.shape.tag_size }
@@ -41,7 +41,7 @@ pub(crate) fn read_index<D: Disk>(
 
     ensures refused { TellsJournalFault result (journal_fault_of maker.now.key maker.now.salt geometry.now)
         (D.moments disk.old) }
-    ensures cause { HasOpenCause (D.faults disk.old) (D.faults disk.new) result }
+    ensures cause { HasCallCause (D.faults disk.old) (D.faults disk.new) result }
 
     ensures identity { D.identity disk.new ≡ D.identity disk.old }
     ensures kept { D.moments disk.new ≡ D.moments disk.old }

@@ -13,6 +13,7 @@ mod opening;
 mod passing;
 mod report;
 
-pub use bad::{Bad, What};
+pub use bad::Bad;
 pub use checked_image::CheckedImage;
+pub use image_model::What;
 pub use report::{Report, check};

@@ -8,15 +8,15 @@ ghost use Rattle.image_model.specs.Superblock.{has_flag};
 ghost use Rattle.hmac_tag.specs.TagMaker.{key_of};
 ghost use Rattle.image_format.specs.Format.{IsFormat};
 ghost use Rattle.image_check.specs.Checked.{IsJournalOf};
-ghost use Rattle.image_judging.specs.Faults.{HasOpenCause};
+ghost use Rattle.image_refusal.specs.Calls.{HasCallCause};
 ghost use Rattle.image_check.specs.Faults.{TellsJournalFault, journal_fault_for};
 
 use crate::What;
 use crate::index::read_index;
 use hmac_tag::{Hash, TagMaker};
 use image_format::ImageFormat;
-use image_judging::OpeningFault;
 use image_model::{DIRTY_BITMAP, FIXED_HMAC};
+use image_refusal::{CallFault, OpenFault};
 use journal_reading::NewestEntries;
 use sector_disk::Disk;
 use std::alloc::Global;
@@ -57,7 +57,7 @@ pub(crate) fn read_journal<D: Disk>(
     format: &ImageFormat,
     maker: &TagMaker,
     what: What,
-) -> Result<Option<NewestEntries>, OpeningFault>
+) -> Result<Option<NewestEntries>, CallFault<OpenFault>>
     requires bound { IsBound (D.identity disk.old).name }
     requires format { IsFormat (D.identity disk.old).sectors format.now }
     requires salt { maker.now.salt ≡ salt_of format.now.fields }
@@ -67,7 +67,7 @@ pub(crate) fn read_journal<D: Disk>(
         (D.moments disk.old)) }
 
     ensures refused { TellsJournalFault result (journal_fault_for what maker.now.key format.now) (D.moments disk.old) }
-    ensures cause { HasOpenCause (D.faults disk.old) (D.faults disk.new) result }
+    ensures cause { HasCallCause (D.faults disk.old) (D.faults disk.new) result }
 
     ensures identity { D.identity disk.new ≡ D.identity disk.old }
     ensures kept { D.moments disk.new ≡ D.moments disk.old }
@@ -88,7 +88,7 @@ fn read_own_journal<D: Disk>(
     disk: &mut D,
     format: &ImageFormat,
     maker: &TagMaker,
-) -> Result<Option<NewestEntries>, OpeningFault>
+) -> Result<Option<NewestEntries>, CallFault<OpenFault>>
     requires bound { IsBound (D.identity disk.old).name }
     requires format { IsFormat (D.identity disk.old).sectors format.now }
     requires salt { maker.now.salt ≡ salt_of format.now.fields }
@@ -99,7 +99,7 @@ fn read_own_journal<D: Disk>(
 
     ensures refused { TellsJournalFault result (journal_fault_for What.Cells maker.now.key format.now)
         (D.moments disk.old) }
-    ensures cause { HasOpenCause (D.faults disk.old) (D.faults disk.new) result }
+    ensures cause { HasCallCause (D.faults disk.old) (D.faults disk.new) result }
 
     ensures identity { D.identity disk.new ≡ D.identity disk.old }
     ensures kept { D.moments disk.new ≡ D.moments disk.old }

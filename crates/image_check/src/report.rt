@@ -4,14 +4,15 @@ ghost use Rattle.disk_model.specs.Disk.{last_image};
 ghost use Rattle.disk_model.specs.Identity.{IsBound};
 ghost use Rattle.disk_model.specs.Moments.{HasNow};
 ghost use Rattle.hmac_tag.specs.TagMaker.{key_of};
-ghost use Rattle.image_judging.specs.Faults.{HasOpenCause, fault_in};
+ghost use Rattle.image_refusal.specs.Calls.{HasCallCause};
+ghost use Rattle.image_judging.specs.Faults.{fault_in};
 ghost use Rattle.image_check.specs.Checked.{IsCheckOf, IsSameCheck, bad_in};
 ghost use Rattle.image_check.specs.Faults.{TellsFault, fault_for};
 ghost use Rattle.image_check.specs.Report.{IsReportOn, with_found};
 
 use crate::{Bad, CheckedImage, What};
 use hmac_tag::Hash;
-use image_judging::OpeningFault;
+use image_refusal::{CallFault, OpenFault};
 use sector_disk::{Disk, Memory};
 use std::alloc::Global;
 
@@ -32,7 +33,7 @@ pub struct Report {
 ///
 /// # Errors
 ///
-/// - `Super`, `Geom`, `Journal`, `Disk`, `Memory`: as `CheckedImage::open` tells them.
+/// - `Head`, `Journal`, `Disk`, `Memory`: as `CheckedImage::open` tells them.
 /// - `Disk`: the disk failed at a read of tags, blocks or the bitmap.
 /// - `Memory`: there is none for the list.
 pub fn check<D: Disk>(
@@ -40,7 +41,7 @@ pub fn check<D: Disk>(
     disk: &mut D,
     hash: Hash,
     what: What,
-) -> Result<Report, OpeningFault>
+) -> Result<Report, CallFault<OpenFault>>
     requires { IsBound (D.identity disk.old).name }
 
     ensures report { IfOk result (λ report. HasNow (λ c. IsReportOn what (key_of hash)
@@ -48,7 +49,7 @@ pub fn check<D: Disk>(
 
     ensures refused { TellsFault result (fault_for what (key_of hash) (D.identity disk.old).sectors)
         (D.moments disk.old) }
-    ensures cause { HasOpenCause (D.faults disk.old) (D.faults disk.new) result }
+    ensures cause { HasCallCause (D.faults disk.old) (D.faults disk.new) result }
 
     ensures identity { D.identity disk.new ≡ D.identity disk.old }
     ensures kept { D.moments disk.new ≡ D.moments disk.old }
@@ -73,14 +74,14 @@ fn list_bad<D: Disk>(
     alloc: Global,
     disk: &mut D,
     image: &mut CheckedImage,
-) -> Result<Vec<Bad>, OpeningFault>
+) -> Result<Vec<Bad>, CallFault<OpenFault>>
     requires image { IsCheckOf image.old (D.identity disk.old) (D.moments disk.old) }
 
     ensures bad { IfOk result (λ bad. HasNow (λ c. bad.items
         ≡ bad_in image.old (D.identity disk.old).sectors (last_image c)) (D.moments disk.old)) }
 
     ensures refused { fault_in result ≡ None }
-    ensures cause { HasOpenCause (D.faults disk.old) (D.faults disk.new) result }
+    ensures cause { HasCallCause (D.faults disk.old) (D.faults disk.new) result }
 
     ensures image { IsCheckOf image.new (D.identity disk.new) (D.moments disk.new) }
     ensures same { IsSameCheck image.old image.new }

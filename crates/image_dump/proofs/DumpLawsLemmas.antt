@@ -8,7 +8,7 @@ use Rattle.image_model.specs.declared.scan_fault.ScanFault.{ScanFault}
 use Rattle.image_model.specs.Grid.{walk_of}
 use Rattle.image_model.specs.Openable.{IsReadable}
 use Rattle.image_model.specs.Superblock.{has_flag}
-use Rattle.image_format.specs.declared.open_fault.OpenFault.{OpenFault}
+use Rattle.image_refusal.specs.declared.open_fault.HeadFault.{HeadFault}
 use Rattle.image_format.specs.declared.reading.ImageFormat.{ImageFormat}
 use Rattle.image_format.specs.Format.{format_by, format_of, format_with, told_fields}
 use Rattle.image_format.specs.FormatLaws.{ReadLaw}
@@ -17,7 +17,7 @@ use Rattle.image_dump.specs.DumpLaws.{ShownLaw}
 
 -- ---- by the parts
 
-format_shown : (image : Image) (r : Result ImageFormat OpenFault) → IsOk (dump_by image r) → IsOk r
+format_shown : (image : Image) (r : Result ImageFormat HeadFault) → IsOk (dump_by image r) → IsOk r
 format_shown image (Ok format) ok = refl
 format_shown image (Err fault) ok = absurd (true≢false (sym ok))
 

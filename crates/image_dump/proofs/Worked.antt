@@ -17,7 +17,8 @@ use Rattle.image_model.specs.declared.geom_fault.GeomFault.TheVariants.{TooSmall
 use Rattle.image_model.specs.declared.journal_plan.State.TheVariants.{Rest, Mixed, Erasing, Blank}
 use Rattle.image_model.specs.declared.scan_fault.ScanFault.TheVariants.{NoNumber}
 use Rattle.image_model.specs.declared.super_fields.SuperFault.TheVariants.{Magic}
-use Rattle.image_dump.specs.declared.dump_fault.DumpFault.TheVariants.{Super, Geom, Scan}
+use Rattle.image_refusal.specs.declared.dump_fault.DumpFault.TheVariants.{Head, Scan}
+use Rattle.image_refusal.specs.declared.open_fault.HeadFault.TheVariants.{Super, Geom}
 use Rattle.image_dump.specs.declared.shown.Dump.{Dump}
 use Rattle.image_dump.specs.declared.shown.DumpJournal.TheVariants.{State, Bitmap}
 use Rattle.image_dump.specs.Dump.{dump_of}
@@ -124,12 +125,12 @@ dump_of-dirty = refl
 
 -- ---- why they are not shown
 
-dump_of-zeros : (dump_of 256 (λ sector. replicate 512 0) ≡ Err (Super Magic))
-    × (dump_of 0 (image_with 0x8 0 0) ≡ Err (Super Magic))
+dump_of-zeros : (dump_of 256 (λ sector. replicate 512 0) ≡ Err (Head (Super Magic)))
+    × (dump_of 0 (image_with 0x8 0 0) ≡ Err (Head (Super Magic)))
 unfolding superblock_of fields_in
 dump_of-zeros = (refl, refl)
 
-dump_of-too_small : dump_of 255 (image_with 0x8 0 0) ≡ Err (Geom (TooSmall 255 256))
+dump_of-too_small : dump_of 255 (image_with 0x8 0 0) ≡ Err (Head (Geom (TooSmall 255 256)))
 unfolding superblock_of fields_in geometry_of sector_at tag_run_of entry_size entries_per_sector section_entries section_sectors
 dump_of-too_small = refl
 

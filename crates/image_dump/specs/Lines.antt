@@ -3,7 +3,7 @@
 use Rattle.std.specs.Prelude.{ℕ, ◌*◌, ◌^◌, List, [], ◌∷◌, ◌++◌, codes, flat_map}
 use Rattle.std.specs.Fmt.{decimal}
 use Rattle.hex.specs.Hex.{encode_lower}
-use Rattle.device_model.specs.Ending.{hexadecimal}
+use Rattle.device_model.specs.Refusals.{hexadecimal}
 use Rattle.image_model.specs.declared.journal_plan.State.{State}
 use Rattle.image_model.specs.declared.journal_plan.State.TheVariants.{Rest, Mixed, Erasing, Blank}
 use Rattle.image_model.specs.Geometry.{Geometry, initial, section_entries, section_sectors}

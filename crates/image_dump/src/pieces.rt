@@ -2,7 +2,7 @@
 ghost use Rattle.std.specs.Prelude.{◌≡◌, ◌++◌, codes, OnOk};
 ghost use Rattle.std.specs.Fmt.{decimal};
 ghost use Rattle.hex.specs.Hex.{encode_lower};
-ghost use Rattle.device_model.specs.Ending.{hexadecimal};
+ghost use Rattle.device_model.specs.Refusals.{hexadecimal};
 
 use itoa::Buffer;
 use sector_disk::Memory;

@@ -26,9 +26,7 @@ pub fn dump_text(alloc: Global, dump: &Dump) -> Result<Vec<u8>, Memory>
 
     ensures text { IfOk result (λ text. text.items ≡ joined_lines (dump_lines dump.now)) }
 {
-    let Ok(mut text) = Vec::with_capacity(alloc, ROOM) else {
-        return Err(Memory);
-    };
+    let mut text = Vec::with_capacity(alloc, ROOM)?;
     put_superblock(alloc, &mut text, &dump.format.fields)?;
     put_layout(&mut text, &dump.format.geometry)?;
     put_journal(&mut text, dump.journal)?;

@@ -1,7 +1,6 @@
 -- What an image tells an opening: the fields of its superblock and its geometry, or the first fault.
 -- Own: the superblock is judged before the geometry.
-use Rattle.std.specs.Prelude.{◌≡◌, ◌≢◌, ℕ, ◌≤◌, true, false, Option, List, Result, Ok, Err}
-use Rattle.disk_model.specs.Causes.{Rose}
+use Rattle.std.specs.Prelude.{◌≡◌, ℕ, true, false, Option, List, Result, Ok, Err}
 use Rattle.disk_model.specs.Disk.{Content, Image, last_image}
 use Rattle.image_model.specs.declared.flags.TheConstants.{DIRTY_BITMAP}
 use Rattle.image_model.specs.declared.geom_fault.GeomFault.{GeomFault}
@@ -10,33 +9,33 @@ use Rattle.image_model.specs.Geometry.{Geometry, IsGeometry, geometry_of}
 use Rattle.image_model.specs.Openable.{IsOpenable, first_sector}
 use Rattle.image_model.specs.Superblock.{Superblock, IsAccepted, has_flag, superblock_of}
 use Rattle.place_model.specs.Format.{DiskFormat, HasWholeSectors, IsReadAs, format_on}
-use Rattle.image_format.specs.declared.open_fault.OpenFault.{OpenFault}
-use Rattle.image_format.specs.declared.open_fault.OpenFault.TheVariants.{Disk, Super, Geom}
+use Rattle.image_refusal.specs.declared.open_fault.HeadFault.{HeadFault}
+use Rattle.image_refusal.specs.declared.open_fault.HeadFault.TheVariants.{Super, Geom}
 use Rattle.image_format.specs.declared.reading.ImageFormat.{ImageFormat}
 
 -- ---- what an image tells
 
 -- What the superblock tells.
-abbrev pub told_fields : Result Superblock SuperFault → Result Superblock OpenFault
+abbrev pub told_fields : Result Superblock SuperFault → Result Superblock HeadFault
 told_fields (Ok fields) = Ok fields
 told_fields (Err fault) = Err (Super fault)
 
 -- What fields tell whose geometry is judged.
-abbrev pub format_with : Superblock → Result Geometry GeomFault → Result ImageFormat OpenFault
+abbrev pub format_with : Superblock → Result Geometry GeomFault → Result ImageFormat HeadFault
 format_with fields (Ok geometry) = Ok (record { fields = fields; geometry = geometry })
 format_with fields (Err fault) = Err (Geom fault)
 
 -- What the fields that are told tell further, on a disk of so many sectors.
-abbrev pub format_by : (sectors : ℕ) → Result Superblock OpenFault → Result ImageFormat OpenFault
+abbrev pub format_by : (sectors : ℕ) → Result Superblock HeadFault → Result ImageFormat HeadFault
 format_by sectors (Ok fields) = format_with fields (geometry_of fields sectors)
 format_by sectors (Err fault) = Err fault
 
 -- The fields that the first sector of an image tells, or why it is refused. A disk without a sector has no magic.
-abbrev pub fields_of : (sectors : ℕ) → Image → Result Superblock OpenFault
+abbrev pub fields_of : (sectors : ℕ) → Image → Result Superblock HeadFault
 fields_of sectors image = told_fields (superblock_of (first_sector sectors image))
 
 -- What an image tells of a disk of so many sectors.
-abbrev pub format_of : (sectors : ℕ) → Image → Result ImageFormat OpenFault
+abbrev pub format_of : (sectors : ℕ) → Image → Result ImageFormat HeadFault
 format_of sectors image = format_by sectors (fields_of sectors image)
 
 -- ---- what is told
@@ -76,11 +75,3 @@ pub record IsReadNow (key : Option (List ℕ)) (sectors : ℕ) (format : ImageFo
 pub record IsOpenableNow (key : Option (List ℕ)) (sectors : ℕ) (format : ImageFormat) (c : Content) : Type 0 where
   pub read : IsReadNow key sectors format c
   pub opens : IsOpenable key sectors (last_image c)
-
--- ---- why
-
--- The count of faults never falls; `Disk` comes only where it rose, and else it is as it was.
-pub record HasDiskCause {T : Type 0} (before after : ℕ) (result : Result T OpenFault) : Type 0 where
-  pub later : before ≤ after
-  pub failed : result ≡ Err Disk → Rose before after
-  pub passed : result ≢ Err Disk → after ≡ before

@@ -9,8 +9,8 @@ use Rattle.image_model.specs.Geometry.{Geometry, IsGeometry, initial, journal_se
 use Rattle.image_model.proofs.GeometryLemmas.{data_at-inside, section_at-lt}
 use Rattle.journal_section.specs.Entries.{IsWithin}
 use Rattle.place_model.proofs.TagsLemmas.{tag_byte-behind}
-use Rattle.image_formatting.specs.declared.new_image.Wipe.{Wipe}
-use Rattle.image_formatting.specs.declared.new_image.Wipe.TheVariants.{Wiped, Kept, Recalculated}
+use Rattle.image_model.specs.declared.new_image.Wipe.{Wipe}
+use Rattle.image_model.specs.declared.new_image.Wipe.TheVariants.{Wiped, Kept, Recalculated}
 use Rattle.image_formatting.specs.Formatted.{HasBlocks, HasFilled, IsBlocksByte, IsBlocksSector, IsFillSector, IsImageByte}
 use Rattle.image_formatting.specs.Stays.{ReadsKeep}
 use Rattle.image_formatting.proofs.StaysLemmas.{keep_changes, keep_then, keep_wider}

@@ -37,13 +37,13 @@ use Rattle.place_model.proofs.JournalLemmas.{replayed_entries-plan, walk-same, w
 use Rattle.place_model.proofs.PlacedLemmas.{cells_of-none, placed_bytes, placed_tag, recalculated-bytes, recalculated-computed, recalculated-tag, same_cell}
 use Rattle.place_model.proofs.ReplayLemmas.{placed_opens_law}
 use Rattle.device_model.specs.Mode.{Bitmap as InBitmap}
-use Rattle.image_formatting.specs.declared.new_image.ImageMode.{ImageMode}
-use Rattle.image_formatting.specs.declared.new_image.ImageMode.TheVariants.{Journal, Bitmap}
+use Rattle.image_model.specs.declared.new_image.ImageMode.{ImageMode}
+use Rattle.image_model.specs.declared.new_image.ImageMode.TheVariants.{Journal, Bitmap}
 use Rattle.image_formatting.specs.declared.new_image.NewImage.{NewImage}
-use Rattle.image_formatting.specs.declared.new_image.Padding.{Padding}
-use Rattle.image_formatting.specs.declared.new_image.Padding.TheVariants.{Fixed, Legacy}
-use Rattle.image_formatting.specs.declared.new_image.Wipe.{Wipe}
-use Rattle.image_formatting.specs.declared.new_image.Wipe.TheVariants.{Wiped, Kept, Recalculated}
+use Rattle.image_model.specs.declared.new_image.Padding.{Padding}
+use Rattle.image_model.specs.declared.new_image.Padding.TheVariants.{Fixed, Legacy}
+use Rattle.image_model.specs.declared.new_image.Wipe.{Wipe}
+use Rattle.image_model.specs.declared.new_image.Wipe.TheVariants.{Wiped, Kept, Recalculated}
 use Rattle.image_formatting.specs.Bits.{HasBits}
 use Rattle.image_formatting.specs.Blocks.{HasZeroBlocks, IsBlockOf, zero_tag}
 use Rattle.image_formatting.specs.Formatted.{HasBlocks, IsOfImage, format_with, rule_with}

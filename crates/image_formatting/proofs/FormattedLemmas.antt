@@ -17,8 +17,8 @@ use Rattle.image_model.proofs.SectorLemmas.{bytes_at-same}
 use Rattle.image_format.specs.declared.reading.ImageFormat.{ImageFormat}
 use Rattle.place_model.specs.Tags.{tag_byte_at}
 use Rattle.place_model.proofs.TagsLemmas.{tag_byte-behind}
-use Rattle.image_formatting.specs.declared.new_image.Wipe.{Wipe}
-use Rattle.image_formatting.specs.declared.new_image.Wipe.TheVariants.{Wiped, Kept, Recalculated}
+use Rattle.image_model.specs.declared.new_image.Wipe.{Wipe}
+use Rattle.image_model.specs.declared.new_image.Wipe.TheVariants.{Wiped, Kept, Recalculated}
 use Rattle.image_formatting.specs.FirstSector.{zero_sector, head_of, forgotten, founded, HasZeroHead, HasHead, IsAmidFounding}
 use Rattle.image_formatting.specs.Stays.{KeepsBytes, ReadsKeep}
 use Rattle.image_formatting.specs.Formatted.{HasBlocks, HasFilled, IsImageByte, IsFillSector, IsFormatted, IsAmidWriting, IsNewContent, IsWritten, IsWrittenBehindSync, IsWrittenInOrder}

@@ -10,13 +10,13 @@ use Rattle.image_model.proofs.BestProvided.{best_provided_is, best_provided-Fits
 use Rattle.image_model.proofs.GeometryOf.{geometry_apart, geometry_given}
 use Rattle.image_model.proofs.Regions.{fitting_log2_region_is}
 use Rattle.image_model.proofs.SuperblockLemmas.{version_for-accepted}
-use Rattle.image_formatting.specs.declared.new_image.ImageMode.{ImageMode}
-use Rattle.image_formatting.specs.declared.new_image.ImageMode.TheVariants.{Journal, Bitmap}
+use Rattle.image_model.specs.declared.new_image.ImageMode.{ImageMode}
+use Rattle.image_model.specs.declared.new_image.ImageMode.TheVariants.{Journal, Bitmap}
 use Rattle.image_formatting.specs.declared.new_image.NewImage.{NewImage}
-use Rattle.image_formatting.specs.declared.new_image.Padding.{Padding}
-use Rattle.image_formatting.specs.declared.new_image.Padding.TheVariants.{Fixed, Legacy}
-use Rattle.image_formatting.specs.declared.new_image.Wipe.{Wipe}
-use Rattle.image_formatting.specs.declared.new_image.Wipe.TheVariants.{Wiped, Kept, Recalculated}
+use Rattle.image_model.specs.declared.new_image.Padding.{Padding}
+use Rattle.image_model.specs.declared.new_image.Padding.TheVariants.{Fixed, Legacy}
+use Rattle.image_model.specs.declared.new_image.Wipe.{Wipe}
+use Rattle.image_model.specs.declared.new_image.Wipe.TheVariants.{Wiped, Kept, Recalculated}
 use Rattle.image_formatting.specs.NewImage.{IsNewImage, asked_fields, mode_flag, padding_flag, recalculating_flag, salt_flag, flags_of, fields_of, fields_with, provided_of}
 
 -- ---- the flags

@@ -4,10 +4,10 @@ use Rattle.std.proofs.Common.{◌≡◌, ◌∷◌, replicate, true, false, Some
 use Rattle.image_model.specs.declared.geom_fault.GeomFault.TheVariants.{JournalTooLarge, TooSmall}
 use Rattle.image_model.specs.Geometry.{best_provided, best_provided_of, bitmap_sectors_for, entries_per_sector, entry_size, fitting_log2_region, journal_sectors, layout_of, regions_for, section_entries, section_sectors, tag_run_of}
 use Rattle.image_model.specs.Superblock.{superblock_bytes}
-use Rattle.image_formatting.specs.declared.new_image.ImageMode.TheVariants.{Journal, Bitmap}
+use Rattle.image_model.specs.declared.new_image.ImageMode.TheVariants.{Journal, Bitmap}
 use Rattle.image_formatting.specs.declared.new_image.NewImage.{NewImage}
-use Rattle.image_formatting.specs.declared.new_image.Padding.TheVariants.{Fixed, Legacy}
-use Rattle.image_formatting.specs.declared.new_image.Wipe.TheVariants.{Wiped, Recalculated}
+use Rattle.image_model.specs.declared.new_image.Padding.TheVariants.{Fixed, Legacy}
+use Rattle.image_model.specs.declared.new_image.Wipe.TheVariants.{Wiped, Recalculated}
 use Rattle.image_formatting.specs.Bits.{bits_byte}
 use Rattle.image_formatting.specs.FirstSector.{head_of}
 use Rattle.image_formatting.specs.Journal.{bitmap_taken}

@@ -1,7 +1,6 @@
--- A new image, what a formatting leaves at each moment, and why it fails.
+-- A new image, and what a formatting leaves at each moment.
 -- Own: the order of the writes.
-use Rattle.std.specs.Prelude.{◌≡◌, ◌≢◌, ◌⊎◌, ℕ, ◌≤◌, ◌<◌, Result, Ok, Err, Option, List}
-use Rattle.disk_model.specs.Causes.{Rose}
+use Rattle.std.specs.Prelude.{◌≡◌, ◌⊎◌, ℕ, ◌≤◌, ◌<◌, Ok, Err, Option, List}
 use Rattle.disk_model.specs.Disk.{Content, Image, IsImage, EachImage, HasNothingPending, last_image}
 use Rattle.disk_model.specs.Moments.{HasNow}
 use Rattle.hmac_tag.specs.TagMaker.{TagRule}
@@ -10,11 +9,9 @@ use Rattle.image_model.specs.Geometry.{Geometry, initial, layout_of}
 use Rattle.image_model.specs.Openable.{first_sector}
 use Rattle.image_model.specs.Superblock.{superblock_of}
 use Rattle.image_format.specs.declared.reading.ImageFormat.{ImageFormat}
-use Rattle.image_formatting.specs.declared.format_fault.FormatFault.{FormatFault}
-use Rattle.image_formatting.specs.declared.format_fault.FormatFault.TheVariants.{Disk}
 use Rattle.image_formatting.specs.declared.new_image.NewImage.{NewImage}
-use Rattle.image_formatting.specs.declared.new_image.Wipe.{Wipe}
-use Rattle.image_formatting.specs.declared.new_image.Wipe.TheVariants.{Wiped, Kept, Recalculated}
+use Rattle.image_model.specs.declared.new_image.Wipe.{Wipe}
+use Rattle.image_model.specs.declared.new_image.Wipe.TheVariants.{Wiped, Kept, Recalculated}
 use Rattle.image_formatting.specs.Blocks.{HasZeroBlocks, IsSectorOf}
 use Rattle.image_formatting.specs.FirstSector.{HasZeroHead, head_of}
 use Rattle.image_formatting.specs.Journal.{HasJournalPlace}
@@ -150,10 +147,3 @@ IsLeftInOrder key sectors new = IsInOrder (IsLeftUnsynced sectors) (IsLeftSynced
 abbrev pub IsLeftByFormat : Option (List ℕ) → (sectors : ℕ) → NewImage → (start later : Content) → Type 0
 IsLeftByFormat key sectors new start = EachImage (λ image. IsImage start image
     ⊎ (HasNoMagic sectors image ⊎ IsNewOf key sectors new (last_image start) image))
-
--- The count of faults never falls; `Disk` comes only where it rose, and where another answer comes
--- it is as it was.
-pub record HasFormatCause {T : Type 0} (before after : ℕ) (result : Result T FormatFault) : Type 0 where
-  pub later : before ≤ after
-  pub failed : result ≡ Err Disk → Rose before after
-  pub passed : result ≢ Err Disk → after ≡ before

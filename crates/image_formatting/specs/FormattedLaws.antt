@@ -10,10 +10,10 @@ use Rattle.place_model.specs.Format.{DiskFormat, HasCells, HasPlaced, HasWholeSe
 use Rattle.place_model.specs.Journal.{HasNothingToReplay}
 use Rattle.place_model.specs.Kind.{CanOpenIn, CanOpenPlaced}
 use Rattle.device_model.specs.Mode.{Bitmap as InBitmap}
-use Rattle.image_formatting.specs.declared.new_image.ImageMode.TheVariants.{Journal, Bitmap}
+use Rattle.image_model.specs.declared.new_image.ImageMode.TheVariants.{Journal, Bitmap}
 use Rattle.image_formatting.specs.declared.new_image.NewImage.{NewImage}
-use Rattle.image_formatting.specs.declared.new_image.Wipe.{Wipe}
-use Rattle.image_formatting.specs.declared.new_image.Wipe.TheVariants.{Wiped, Kept, Recalculated}
+use Rattle.image_model.specs.declared.new_image.Wipe.{Wipe}
+use Rattle.image_model.specs.declared.new_image.Wipe.TheVariants.{Wiped, Kept, Recalculated}
 use Rattle.image_formatting.specs.Formatted.{IsFormatted, format_with, rule_with}
 use Rattle.image_formatting.specs.NewImage.{IsNewImage, provided_of}
 

@@ -7,13 +7,13 @@ use Rattle.image_model.specs.declared.geom_fault.GeomFault.{GeomFault}
 use Rattle.image_model.specs.Geometry.{layout_of, fitting_log2_region, best_provided_of}
 use Rattle.image_model.specs.Sectors.{zero_bytes}
 use Rattle.image_model.specs.Superblock.{Superblock, version_for}
-use Rattle.image_formatting.specs.declared.new_image.ImageMode.{ImageMode}
-use Rattle.image_formatting.specs.declared.new_image.ImageMode.TheVariants.{Journal, Bitmap}
+use Rattle.image_model.specs.declared.new_image.ImageMode.{ImageMode}
+use Rattle.image_model.specs.declared.new_image.ImageMode.TheVariants.{Journal, Bitmap}
 use Rattle.image_formatting.specs.declared.new_image.NewImage.{NewImage}
-use Rattle.image_formatting.specs.declared.new_image.Padding.{Padding}
-use Rattle.image_formatting.specs.declared.new_image.Padding.TheVariants.{Fixed, Legacy}
-use Rattle.image_formatting.specs.declared.new_image.Wipe.{Wipe}
-use Rattle.image_formatting.specs.declared.new_image.Wipe.TheVariants.{Wiped, Kept, Recalculated}
+use Rattle.image_model.specs.declared.new_image.Padding.{Padding}
+use Rattle.image_model.specs.declared.new_image.Padding.TheVariants.{Fixed, Legacy}
+use Rattle.image_model.specs.declared.new_image.Wipe.{Wipe}
+use Rattle.image_model.specs.declared.new_image.Wipe.TheVariants.{Wiped, Kept, Recalculated}
 
 -- The fields are in their ranges.
 pub record IsNewImage (new : NewImage) : Type 0 where

@@ -8,8 +8,8 @@ use Rattle.image_format.specs.declared.reading.ImageFormat.{ImageFormat}
 use Rattle.journal_section.specs.Entries.{IsWithin}
 use Rattle.place_model.specs.Tags.{tag_byte_at}
 use Rattle.image_formatting.specs.declared.new_image.NewImage.{NewImage}
-use Rattle.image_formatting.specs.declared.new_image.Wipe.{Wipe}
-use Rattle.image_formatting.specs.declared.new_image.Wipe.TheVariants.{Wiped, Kept, Recalculated}
+use Rattle.image_model.specs.declared.new_image.Wipe.{Wipe}
+use Rattle.image_model.specs.declared.new_image.Wipe.TheVariants.{Wiped, Kept, Recalculated}
 use Rattle.image_formatting.specs.Blocks.{IsBlockOf}
 use Rattle.image_formatting.specs.FirstSector.{head_of, zero_sector}
 use Rattle.image_formatting.specs.Formatted.{format_with}

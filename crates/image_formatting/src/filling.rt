@@ -16,13 +16,12 @@ ghost use Rattle.image_formatting.specs.Written.{IsOfFormat, IsOfWipe, OnlyWrite
 
 use crate::emptying::empty;
 use crate::marking::write_bits;
-use crate::new_image::Wipe;
 use crate::room::Room;
 use crate::wiping::wipe_blocks;
 use crate::zeroing::write_zeros;
 use hmac_tag::TagMaker;
 use image_format::ImageFormat;
-use image_model::{DIRTY_BITMAP, RECALCULATING};
+use image_model::{DIRTY_BITMAP, RECALCULATING, Wipe};
 use sector_disk::{Disk, Failed};
 
 /// Writes zeros to the other sectors of the superblock, an empty journal or a bitmap, and what comes to the

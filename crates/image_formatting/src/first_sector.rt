@@ -11,6 +11,7 @@ ghost use Rattle.image_model.specs.Superblock.{IsAccepted, superblock_of};
 ghost use Rattle.image_formatting.specs.FirstSector.{HasZeroHead, IsAmidFounding, IsFirst, forgotten, founded, head_of, zero_sector};
 ghost use Rattle.image_formatting.specs.Order.{IsForgotten, IsInOrder, IsUnsettled, SyncsFirst};
 
+use image_model::SECTOR_SIZE;
 use sector_disk::{Disk, Failed};
 use superblock::{Super, write};
 
@@ -35,7 +36,7 @@ pub(crate) fn forget<D: Disk>(disk: &mut D) -> Result<(), Failed>
         (D.moments disk.old) (D.moments disk.new) }
     ensures writes { EachSince (OnlyAdds (IsFirst zero_sector)) (D.moments disk.old) (D.moments disk.new) }
 {
-    disk.write_run(0, &[0; 512])?;
+    disk.write_run(0, &[0; SECTOR_SIZE])?;
     disk.sync()
 }
 
@@ -62,7 +63,7 @@ pub(crate) fn found<D: Disk>(disk: &mut D, fields: &Super) -> Result<(), Failed>
     ensures moments { EachSince (IsAmidFounding fields.now) (D.moments disk.old) (D.moments disk.new) }
     ensures writes { EachSince (OnlyAdds (IsFirst (head_of fields.now))) (D.moments disk.old) (D.moments disk.new) }
 {
-    let mut bytes = [0; 512];
+    let mut bytes = [0; SECTOR_SIZE];
     write(fields, &mut bytes);
     disk.sync()?;
     disk.write_run(0, &bytes)?;

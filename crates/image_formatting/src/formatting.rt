@@ -4,21 +4,23 @@ ghost use Rattle.disk_model.specs.Causes.{HasCause};
 ghost use Rattle.disk_model.specs.Identity.{IsBound};
 ghost use Rattle.disk_model.specs.Moments.{HasNow};
 ghost use Rattle.hmac_tag.specs.TagMaker.{key_of};
+ghost use Rattle.image_refusal.specs.Calls.{HasCallCause};
 ghost use Rattle.image_format.specs.Format.{IsFormat};
 ghost use Rattle.image_model.specs.declared.geom_fault.GeomFault.{GeomFault};
-ghost use Rattle.image_formatting.specs.Formatted.{HasFormatCause, HasMade, IsLeftInOrder, IsWritten, IsWrittenBehindSync, IsWrittenInOrder, SyncsNew};
+ghost use Rattle.image_formatting.specs.Formatted.{HasMade, IsLeftInOrder, IsWritten, IsWrittenBehindSync, IsWrittenInOrder, SyncsNew};
 ghost use Rattle.image_formatting.specs.NewImage.{IsNewImage, provided_of};
 ghost use Rattle.image_formatting.specs.Room.{HasRoom};
 ghost use Rattle.image_formatting.specs.Written.{IsOfFormat, OnlyWrites, OnlyWritesNew};
 
 use crate::filling::fill;
 use crate::first_sector::{forget, found};
-use crate::format_fault::FormatFault;
-use crate::new_image::{NewImage, Wipe};
+use crate::new_image::NewImage;
 use crate::planning::plan;
 use crate::room::Room;
 use hmac_tag::{Hash, TagMaker};
 use image_format::ImageFormat;
+use image_model::{GeomFault, Wipe};
+use image_refusal::CallFault;
 use sector_disk::{Disk, Failed};
 use std::alloc::Global;
 
@@ -28,7 +30,7 @@ use std::alloc::Global;
 ///
 /// The first that holds:
 ///
-/// - `Geom`: the disk has no room for the image, as `best_provided` tells it. Nothing was written.
+/// - `Refused`: the disk has no room for the image, as `best_provided` tells it. Nothing was written.
 /// - `Memory`: there is none for what is written at once. Nothing was written.
 /// - `Disk`: the disk failed.
 ///
@@ -39,7 +41,7 @@ pub fn format<D: Disk>(
     disk: &mut D,
     hash: Hash,
     new: NewImage,
-) -> Result<u64, FormatFault>
+) -> Result<u64, CallFault<GeomFault>>
     requires bound { IsBound (D.identity disk.old).name }
     requires new { IsNewImage new }
 
@@ -48,10 +50,10 @@ pub fn format<D: Disk>(
     ensures synced { OnOk result (SyncsNew (key_of hash) (D.identity disk.old).sectors new
         (D.moments disk.old) (D.moments disk.new)) }
 
-    ensures geom { (fault : GeomFault) → (result ≡ Err (FormatFault.Geom fault))
+    ensures geom { (fault : GeomFault) → (result ≡ Err (CallFault.Refused fault))
         ↔ (provided_of new (D.identity disk.old).sectors ≡ Err fault) }
-    ensures cause { HasFormatCause (D.faults disk.old) (D.faults disk.new) result }
-    ensures untouched { IfErr result (λ fault. fault ≢ FormatFault.Disk
+    ensures cause { HasCallCause (D.faults disk.old) (D.faults disk.new) result }
+    ensures untouched { IfErr result (λ fault. fault ≢ CallFault.Disk
         → D.moments disk.new ≡ D.moments disk.old) }
 
     ensures identity { D.identity disk.new ≡ D.identity disk.old }

@@ -1,7 +1,7 @@
 //! Makes a new image on a disk: an erased journal, or a bitmap; zeros with their tags in all blocks, or tags
 //! that are to be recalculated; and a superblock that comes last.
 //!
-//! A contract sees a `NewImage` and a `FormatFault` as they are. What the image has stands in
+//! A contract sees a `NewImage` as it is. What the image has stands in
 //! `specs/Formatted.antt`, the file to read first. Zeros come to the first sector before all else,
 //! and are synced; the superblock comes behind a sync of all else. So a cut leaves the disk as it
 //! was, which it can only before the first sync has succeeded (`specs/Order.antt`), or without a
@@ -12,7 +12,6 @@
 mod emptying;
 mod filling;
 mod first_sector;
-mod format_fault;
 mod formatting;
 mod laws;
 mod marking;
@@ -23,8 +22,9 @@ mod tagging;
 mod wiping;
 mod zeroing;
 
-pub use format_fault::FormatFault;
 pub use formatting::format;
+pub use image_model::{ImageMode, Padding, Wipe};
+pub use image_refusal::CallFault;
 pub use laws::new_image_opens;
-pub use new_image::{ImageMode, NewImage, Padding, Wipe};
+pub use new_image::NewImage;
 pub use tagging::{put_tags, read_behind};

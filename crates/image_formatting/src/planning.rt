@@ -5,9 +5,11 @@ ghost use Rattle.image_model.specs.Superblock.{HasLayout};
 ghost use Rattle.image_format.specs.Format.{IsFormat};
 ghost use Rattle.image_formatting.specs.NewImage.{IsNewImage, asked_fields, fields_of, fields_with, flags_of, provided_of};
 
-use crate::new_image::{ImageMode, NewImage, Padding, Wipe};
+use crate::new_image::NewImage;
 use image_format::ImageFormat;
-use image_model::{DIRTY_BITMAP, FIXED_HMAC, FIXED_PADDING, GeomFault, RECALCULATING};
+use image_model::{
+    DIRTY_BITMAP, FIXED_HMAC, FIXED_PADDING, GeomFault, ImageMode, Padding, RECALCULATING, Wipe,
+};
 use layout::{Geometry, best_provided};
 use superblock::{Super, version_for};
 

@@ -51,8 +51,6 @@ fn zeros_of(alloc: Global, sectors: u64) -> Result<Vec<u8>, Memory>
 
     ensures { IfOk result (λ zeros. zeros.items ≡ zero_bytes (512 * sectors)) }
 {
-    let Ok(zeros) = Vec::from_elem(alloc, 0, SECTOR_SIZE * sectors as usize) else {
-        return Err(Memory);
-    };
+    let zeros = Vec::from_elem(alloc, 0, SECTOR_SIZE * sectors as usize)?;
     Ok(zeros)
 }

@@ -14,20 +14,20 @@ use Rattle.image_model.specs.Superblock.{Superblock, has_flag}
 use Rattle.image_model.proofs.OpenableLemmas.{IsOpenable-from, IsOpenable-journal, IsReadable-same}
 use Rattle.place_model.specs.Format.{format_on}
 use Rattle.place_model.proofs.FormatLemmas.{reads_on}
-use Rattle.image_format.specs.declared.open_fault.OpenFault.{OpenFault}
+use Rattle.image_refusal.specs.declared.open_fault.HeadFault.{HeadFault}
 use Rattle.image_format.specs.declared.reading.ImageFormat.{ImageFormat}
 use Rattle.image_format.proofs.FormatLawsLemmas.{bitmap_openable, format_of-readable}
 use Rattle.image_format.specs.Format.{format_of}
 use Rattle.image_format.specs.FormatLaws.{ReadLaw}
 use Rattle.image_judging.specs.declared.consent.Consent.{Consent}
 use Rattle.image_judging.specs.FaultLaws.{OpensLaw, some_await_on}
-use Rattle.image_judging.specs.Faults.{ByConsent, ByFormat, ByJournal, fault_by_format, fault_of, has_dirty_region, lacks_consent}
+use Rattle.image_judging.specs.Faults.{ByConsent, ByHead, ByJournal, fault_by_format, fault_of, has_dirty_region, lacks_consent}
 use Rattle.image_judging.proofs.FaultsLemmas.{fault_of-bitmap, fault_of-format, fault_of-journal}
 
 -- An image without a fault tells a format.
-told-ok : (key : Option (List ℕ)) (consent : Consent) (image : Image) (r : Result ImageFormat OpenFault) → fault_by_format key consent image r ≡ None → IsOk r
+told-ok : (key : Option (List ℕ)) (consent : Consent) (image : Image) (r : Result ImageFormat HeadFault) → fault_by_format key consent image r ≡ None → IsOk r
 told-ok key consent image (Ok format) e = refl
-told-ok key consent image (Err fault) e = absurd (none-some (ByFormat fault) (sym e))
+told-ok key consent image (Err fault) e = absurd (none-some (ByHead fault) (sym e))
 
 -- With a bitmap it has none where nothing lacks,
 no_lack : (flags : ℕ) (b : Bool) → (if b then Some (ByConsent flags) else None) ≡ None → b ≡ false

@@ -7,14 +7,15 @@ use Rattle.image_model.specs.Bitmap.{some_await}
 use Rattle.image_model.specs.Superblock.{has_flag}
 use Rattle.image_format.specs.declared.reading.ImageFormat.{ImageFormat}
 use Rattle.image_format.specs.Format.{format_of}
-use Rattle.journal_reading.specs.declared.faults.ReplayFault.{ReplayFault}
-use Rattle.journal_reading.specs.declared.faults.ReplayFault.TheVariants as ReplayFaults
+use Rattle.image_refusal.specs.declared.call_fault.CallFault.{CallFault}
+use Rattle.image_refusal.specs.declared.call_fault.CallFault.TheVariants.{Memory, Disk, Refused}
+use Rattle.image_refusal.specs.declared.journal_fault.JournalFault.{JournalFault}
+use Rattle.image_refusal.specs.declared.open_fault.OpenFault.{OpenFault}
+use Rattle.image_refusal.specs.declared.open_fault.OpenFault.TheVariants.{Journal}
+use Rattle.image_refusal.specs.Calls.{with_cause}
 use Rattle.journal_reading.specs.Faults.{refusal_in}
 use Rattle.image_judging.specs.declared.consent.Consent.{Consent}
-use Rattle.image_judging.specs.declared.opening_fault.OpeningFault.{OpeningFault}
-use Rattle.image_judging.specs.declared.opening_fault.OpeningFault.TheVariants.{Memory, Disk, Super, Geom, Journal}
-use Rattle.image_judging.specs.declared.opening_fault.OpeningFault.TheVariants as Refusals
-use Rattle.image_judging.specs.Faults.{ImageFault, ByConsent, ByJournal, dirty_fault, fault_by_format, fault_in, fault_in_format, fault_of, journal_fault, lacks_consent, of_replay}
+use Rattle.image_judging.specs.Faults.{ImageFault, ByConsent, ByJournal, dirty_fault, fault_by_format, fault_in, fault_in_format, fault_of, journal_fault, lacks_consent}
 
 -- ---- the fault of an image
 
@@ -44,25 +45,23 @@ module _ (key : Option (List ℕ)) (consent : Consent) (sectors : ℕ) (format :
 
 -- ---- the fault of an answer
 
-abbrev replay_fault_told : {A B : Type 0} → Result A ReplayFault → Result B OpeningFault
-replay_fault_told (Ok answer) = Err Memory
-replay_fault_told (Err fault) = Err (of_replay fault)
+abbrev journal_fault_told : {A B : Type 0} → Result A (CallFault JournalFault) → Result B (CallFault OpenFault)
+journal_fault_told (Ok answer) = Err Memory
+journal_fault_told (Err fault) = Err (with_cause Journal fault)
 
 -- Faults that are the same are told as the same.
-pub same_replay : {A B : Type 0} {x y : ReplayFault} → ◌≡◌ {A = Result A ReplayFault} (Err x) (Err y) → ◌≡◌ {A = Result B OpeningFault} (Err (of_replay x)) (Err (of_replay y))
-same_replay {A} {B} {x} {y} e = ap (replay_fault_told {A = A} {B = B}) e
+pub same_journal : {A B : Type 0} {x y : CallFault JournalFault} → ◌≡◌ {A = Result A (CallFault JournalFault)} (Err x) (Err y)
+    → ◌≡◌ {A = Result B (CallFault OpenFault)} (Err (with_cause Journal x)) (Err (with_cause Journal y))
+same_journal {A} {B} {x} {y} e = ap (journal_fault_told {A = A} {B = B}) e
 
 -- The fault of a journal is told.
-pub told_journal : (A B : Type 0) (fault : ReplayFault) → fault_in {T = B} (Err (of_replay fault)) ≡ option_map ByJournal (refusal_in {T = A} (Err fault))
-told_journal A B ReplayFaults.Memory = refl
-told_journal A B ReplayFaults.Disk = refl
-told_journal A B (ReplayFaults.Journal fault) = refl
+pub told_journal : (A B : Type 0) (fault : CallFault JournalFault) → fault_in {T = B} (Err (with_cause Journal fault)) ≡ option_map ByJournal (refusal_in {T = A} (Err fault))
+told_journal A B Memory = refl
+told_journal A B Disk = refl
+told_journal A B (Refused fault) = refl
 
 -- A fault says the same in each kind of answer.
-pub fault_in-err : (T U : Type 0) (fault : OpeningFault) → fault_in {T = T} (Err fault) ≡ fault_in {T = U} (Err fault)
+pub fault_in-err : (T U : Type 0) (fault : CallFault OpenFault) → fault_in {T = T} (Err fault) ≡ fault_in {T = U} (Err fault)
 fault_in-err T U Memory = refl
 fault_in-err T U Disk = refl
-fault_in-err T U (Super fault) = refl
-fault_in-err T U (Geom fault) = refl
-fault_in-err T U (Journal fault) = refl
-fault_in-err T U (Refusals.Consent flags) = refl
+fault_in-err T U (Refused cause) = refl

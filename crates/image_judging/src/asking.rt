@@ -5,23 +5,27 @@ ghost use Rattle.hmac_tag.specs.TagMaker.{key_of};
 ghost use Rattle.image_judging.specs.Faults.{lacks_consent};
 
 use crate::consent::Consent;
-use crate::opening_fault::OpeningFault;
 use hmac_tag::Hash;
 use image_model::{RECALCULATING, Super};
+use image_refusal::{CallFault, OpenFault};
 
 /// Judges whether tags of an image without a bitmap may be made anew, by its fields alone.
 ///
 /// # Errors
 ///
 /// - `Consent`: some block is to be recalculated, there is a key, and consent is withheld.
-pub fn judge_consent(fields: &Super, hash: &Hash, consent: Consent) -> Result<(), OpeningFault>
+pub fn judge_consent(
+    fields: &Super,
+    hash: &Hash,
+    consent: Consent,
+) -> Result<(), CallFault<OpenFault>>
     ensures given { IsOk result ↔ (lacks_consent (key_of hash.now) consent (some_await fields.now) ≡ false) }
     ensures lacking { IfErr result (λ fault. lacks_consent (key_of hash.now) consent (some_await fields.now) ≡ true) }
-    ensures fault { IfErr result (λ fault. fault ≡ OpeningFault.Consent fields.now.flags) }
+    ensures fault { IfErr result (λ fault. fault ≡ CallFault.Refused (OpenFault.Consent fields.now.flags)) }
 {
     if lacks_consent(hash, consent, some_await(fields)) {
         let flags = fields.flags;
-        return Err(OpeningFault::Consent { flags });
+        return Err(CallFault::Refused(OpenFault::Consent { flags }));
     }
     Ok(())
 }

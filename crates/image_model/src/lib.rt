@@ -7,6 +7,8 @@ mod flags;
 mod geom_fault;
 mod geometry_laws;
 mod journal_plan;
+mod judged;
+mod new_image;
 mod scan_fault;
 mod sector_cell;
 mod sizes;
@@ -14,6 +16,7 @@ mod super_fields;
 mod superblock_laws;
 mod walk_laws;
 
+pub use disk_model::SECTOR_SIZE;
 pub use flags::{
     DIRTY_BITMAP, FIXED_HMAC, FIXED_PADDING, HAVE_JOURNAL_MAC, INLINE, KNOWN_FLAGS, RECALCULATING,
 };
@@ -22,9 +25,15 @@ pub use geometry_laws::{
     best_provided_is_greatest, fitting_log2_region_is_least, geometry_is_given, parts_lie_apart,
 };
 pub use journal_plan::{Plan, State};
+pub use judged::What;
+pub use new_image::{ImageMode, Padding, Wipe};
 pub use scan_fault::ScanFault;
 pub use sector_cell::Cell;
-pub use sizes::{ID_FROM, ID_SIZE, META_SECTORS, MOST_JOURNAL_SECTORS, MOST_SECTORS, SECTOR_SIZE};
+pub use sizes::{
+    COMMIT_NUMBERS, GROUP_BITS, HIGH_HALF, ID_FROM, ID_SIZE, LARGEST_BLOCK, LEAST_LOG2_INTERLEAVE,
+    LONGEST_TAG, META_SECTORS, MOST_JOURNAL_SECTORS, MOST_LOG2_INTERLEAVE, MOST_LOG2_SPB,
+    MOST_SECTORS, NEWEST_VERSION, SECTOR_BITS, SUPERBLOCK_SECTORS, UNUSED,
+};
 pub use super_fields::{Super, SuperFault};
 pub use superblock_laws::{superblock_is_told, superblock_reads_back};
 pub use walk_laws::{

@@ -14,12 +14,16 @@ use Rattle.image_model.specs.Openable.{IsReplayable, journal_fault_of}
 use Rattle.image_model.specs.Superblock.{Superblock, has_flag}
 use Rattle.image_model.proofs.CellsLemmas.{counted_entries-bitmap, counted_entries-journal}
 use Rattle.image_model.proofs.OpenableLemmas.{journal_fault_law}
-use Rattle.device_model.specs.Ending.{ByJournal, ImageFault}
+use Rattle.device_model.specs.Refusals.{ByJournal, ImageFault}
 use Rattle.hmac_tag.specs.TagMaker.{TagRule}
 use Rattle.image_format.specs.Format.{IsReadNow, disk_format}
-use Rattle.journal_reading.specs.declared.faults.ReplayFault.{ReplayFault}
-use Rattle.journal_reading.specs.declared.faults.ReplayFault.TheVariants as ReplayFaults
-use Rattle.journal_reading.specs.Faults.{HasReplayCause, refusal_in}
+use Rattle.image_refusal.specs.declared.call_fault.CallFault.{CallFault}
+use Rattle.image_refusal.specs.declared.call_fault.CallFault.TheVariants.{Disk, Memory, Refused}
+use Rattle.image_refusal.specs.declared.journal_fault.JournalFault.{JournalFault}
+use Rattle.image_refusal.specs.declared.resize_fault.ResizeFault.{ResizeFault}
+use Rattle.image_refusal.specs.declared.resize_fault.ResizeFault.TheVariants.{Journal}
+use Rattle.image_refusal.specs.Calls.{HasCallCause, with_cause}
+use Rattle.journal_reading.specs.Faults.{refusal_in}
 use Rattle.sector_disk.specs.declared.disk.Failed.{Failed}
 use Rattle.place_model.specs.Format.{DiskFormat, HasCells, OpensAs, cells_on, format_on}
 use Rattle.place_model.proofs.FormatLemmas.{opens_from, opens_on, reads_tells}
@@ -30,9 +34,7 @@ use Rattle.resize_model.specs.Resized.{resized_provided}
 use Rattle.resize_model.specs.Written.{IsWrittenByResize}
 use Rattle.resize_model.proofs.LeftLemmas.{order_law}
 use Rattle.image_resizing.specs.declared.planning.Plan.{Plan}
-use Rattle.image_resizing.specs.declared.resize_fault.ResizeFault.{ResizeFault}
-use Rattle.image_resizing.specs.declared.resize_fault.ResizeFault.TheVariants.{Disk, Memory}
-use Rattle.image_resizing.specs.Faults.{HasResizeCause, fault_told, of_replay}
+use Rattle.image_resizing.specs.Faults.{fault_told}
 use Rattle.image_resizing.specs.Grown.{IsResizedFrom}
 use Rattle.image_resizing.specs.Plan.{IsPlan, present_format}
 use Rattle.image_resizing.specs.Writing.{IsOfRecovering, IsWrittenBy}
@@ -87,23 +89,23 @@ module _ (sectors : ℕ) (plan : Plan) (is : IsPlan sectors plan) (c : Content) 
         })
 
 -- What is told of a journal is the fault that it has.
-pub refusal_told : (T : Type 0) (refused : ReplayFault) → fault_told (of_replay refused) ≡ option_map ByJournal (refusal_in {T = T} (Err refused))
-refusal_told T ReplayFaults.Memory = refl
-refusal_told T ReplayFaults.Disk = refl
-refusal_told T (ReplayFaults.Journal fault) = refl
+pub refusal_told : (T : Type 0) (refused : CallFault JournalFault) → fault_told (with_cause Journal refused) ≡ option_map ByJournal (refusal_in {T = T} (Err refused))
+refusal_told T Memory = refl
+refusal_told T Disk = refl
+refusal_told T (Refused fault) = refl
 
 -- A refusal of a journal as an answer of a resize.
-abbrev pub as_resize : (T U : Type 0) → Result T ReplayFault → Result U ResizeFault
+abbrev pub as_resize : (T U : Type 0) → Result T (CallFault JournalFault) → Result U (CallFault ResizeFault)
 as_resize T U (Ok answer) = Err Memory
-as_resize T U (Err refused) = Err (of_replay refused)
+as_resize T U (Err refused) = Err (with_cause Journal refused)
 
-disk_back : (T U : Type 0) (refused : ReplayFault) → as_resize T U (Err refused) ≡ Err Disk → (let r : Result T ReplayFault = Err refused in r) ≡ Err ReplayFaults.Disk
-disk_back T U ReplayFaults.Memory e = absurd (cc)
-disk_back T U ReplayFaults.Disk e = refl
-disk_back T U (ReplayFaults.Journal fault) e = absurd (cc)
+disk_back : (T U : Type 0) (refused : CallFault JournalFault) → as_resize T U (Err refused) ≡ Err Disk → (let r : Result T (CallFault JournalFault) = Err refused in r) ≡ Err Disk
+disk_back T U Memory e = absurd (cc)
+disk_back T U Disk e = refl
+disk_back T U (Refused fault) e = absurd (cc)
 
 -- Its cause,
-pub refused_cause : (T U : Type 0) (before after : ℕ) (refused : ReplayFault) → HasReplayCause before after (let r : Result T ReplayFault = Err refused in r) → HasResizeCause before after (as_resize T U (Err refused))
+pub refused_cause : (T U : Type 0) (before after : ℕ) (refused : CallFault JournalFault) → HasCallCause before after (let r : Result T (CallFault JournalFault) = Err refused in r) → HasCallCause before after (as_resize T U (Err refused))
 refused_cause T U before after refused is = record {
   later = is.later;
   failed = λ e. is.failed (disk_back T U refused e);
@@ -111,8 +113,8 @@ refused_cause T U before after refused is = record {
 }
 
 -- that of a disk which fails behind the judging,
-pub failed_cause : (T U V : Type 0) (before mid after : ℕ) (judged : T) (failed : Failed) → HasReplayCause before mid (let r : Result T ReplayFault = Ok judged in r)
-    → HasCause mid after (let r : Result U Failed = Err failed in r) → HasResizeCause before after (let r : Result V ResizeFault = Err Disk in r)
+pub failed_cause : (T U V : Type 0) (before mid after : ℕ) (judged : T) (failed : Failed) → HasCallCause before mid (let r : Result T (CallFault JournalFault) = Ok judged in r)
+    → HasCause mid after (let r : Result U Failed = Err failed in r) → HasCallCause before after (let r : Result V (CallFault ResizeFault) = Err Disk in r)
 failed_cause T U V before mid after judged failed first is =
     let same = first.passed (λ e. cc) in
     let later = is.later in
@@ -123,8 +125,8 @@ failed_cause T U V before mid after judged failed first is =
     }
 
 -- and that of a resize which is done.
-pub done_cause : (T U V : Type 0) (before mid after : ℕ) (judged : T) (done : U) (answer : V) → HasReplayCause before mid (let r : Result T ReplayFault = Ok judged in r)
-    → HasCause mid after (let r : Result U Failed = Ok done in r) → HasResizeCause before after (let r : Result V ResizeFault = Ok answer in r)
+pub done_cause : (T U V : Type 0) (before mid after : ℕ) (judged : T) (done : U) (answer : V) → HasCallCause before mid (let r : Result T (CallFault JournalFault) = Ok judged in r)
+    → HasCause mid after (let r : Result U Failed = Ok done in r) → HasCallCause before after (let r : Result V (CallFault ResizeFault) = Ok answer in r)
 done_cause T U V before mid after judged done answer first is =
     let same = first.passed (λ e. cc) in
     let later = is.later in
@@ -231,6 +233,6 @@ unread_order key sectors a b same = record {
 }
 
 -- A fault as that of another answer.
-abbrev pub as_answer : (T U : Type 0) → Result T ResizeFault → Result U ResizeFault
+abbrev pub as_answer : (T U : Type 0) → Result T (CallFault ResizeFault) → Result U (CallFault ResizeFault)
 as_answer T U (Ok answer) = Err Memory
 as_answer T U (Err fault) = Err fault

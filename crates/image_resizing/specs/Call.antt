@@ -8,8 +8,9 @@ use Rattle.resize_model.specs.Left.{IsResizedInOrder, IsResizedTo}
 use Rattle.resize_model.specs.Refusals.{CanResize, resize_fault_of}
 use Rattle.resize_model.specs.Resized.{resized_provided}
 use Rattle.resize_model.specs.Written.{IsWrittenByResize}
-use Rattle.image_resizing.specs.declared.resize_fault.ResizeFault.{ResizeFault}
-use Rattle.image_resizing.specs.declared.resize_fault.ResizeFault.TheVariants.{Disk, Memory}
+use Rattle.image_refusal.specs.declared.call_fault.CallFault.{CallFault}
+use Rattle.image_refusal.specs.declared.call_fault.CallFault.TheVariants.{Disk, Memory}
+use Rattle.image_refusal.specs.declared.resize_fault.ResizeFault.{ResizeFault}
 use Rattle.image_resizing.specs.Faults.{fault_in}
 use Rattle.image_resizing.specs.Writing.{IsOfRecovering}
 
@@ -24,7 +25,7 @@ abbrev pub LeavesResized : Option (List ℕ) → (sectors : ℕ) → (before aft
 LeavesResized key sectors before after = HasNow (λ start. HasNow (IsResizedTo key sectors start) after) before
 
 -- Where neither memory nor the disk failed, an answer tells why the image is refused, if it is.
-abbrev pub TellsRefusal : {T : Type 0} → Option (List ℕ) → (sectors : ℕ) → List Content → Result T ResizeFault → Type 0
+abbrev pub TellsRefusal : {T : Type 0} → Option (List ℕ) → (sectors : ℕ) → List Content → Result T (CallFault ResizeFault) → Type 0
 TellsRefusal key sectors before result = result ≢ Err Memory → result ≢ Err Disk
     → HasNow (λ c. fault_in result ≡ resize_fault_of key sectors (last_image c)) before
 

@@ -3,7 +3,7 @@ use Rattle.std.specs.Prelude.{ℕ, ◌+◌, ◌/◌, ◌<◌, ◌≤◌, List}
 use Rattle.disk_model.specs.Disk.{Content, Image}
 use Rattle.image_model.specs.Geometry.{quotient_up, regions}
 use Rattle.resize_model.specs.CallLaws.{StandsThrough}
-use Rattle.image_resizing.specs.declared.clearing.TheConstants.{SECTOR_BITS}
+use Rattle.image_model.specs.declared.sizes.TheConstants.{SECTOR_BITS}
 use Rattle.image_resizing.specs.declared.room.TheConstants.{RUN_SECTORS}
 use Rattle.image_resizing.specs.declared.planning.Plan.{Plan}
 use Rattle.image_resizing.specs.Filled.{HasFilledOn}

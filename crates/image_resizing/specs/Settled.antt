@@ -2,7 +2,7 @@
 use Rattle.std.specs.Prelude.{◌≡◌, ◌≢◌, ℕ, Option, Some, List, Result, Err}
 use Rattle.disk_model.specs.Disk.{Content, EachImage, last_image, newest_only}
 use Rattle.disk_model.specs.Moments.{EachMoment, EachSince, FromStart, HasNow}
-use Rattle.device_model.specs.Ending.{ImageFault}
+use Rattle.device_model.specs.Refusals.{ImageFault}
 use Rattle.place_model.specs.Format.{HasCells, OpensAs, cells_on}
 use Rattle.image_format.specs.Format.{IsReadNow}
 use Rattle.journal_reading.specs.declared.reading.JudgedJournal.{JudgedJournal}
@@ -10,8 +10,9 @@ use Rattle.journal_reading.specs.Journal.{FitsJournal, IsJournalOn}
 use Rattle.resize_model.specs.Left.{IsResizedOrNot, IsSyncedAtMost}
 use Rattle.resize_model.specs.Refusals.{fault_by_journal}
 use Rattle.image_resizing.specs.declared.planning.Plan.{Plan}
-use Rattle.image_resizing.specs.declared.resize_fault.ResizeFault.{ResizeFault}
-use Rattle.image_resizing.specs.declared.resize_fault.ResizeFault.TheVariants.{Disk, Memory}
+use Rattle.image_refusal.specs.declared.call_fault.CallFault.{CallFault}
+use Rattle.image_refusal.specs.declared.call_fault.CallFault.TheVariants.{Disk, Memory}
+use Rattle.image_refusal.specs.declared.resize_fault.ResizeFault.{ResizeFault}
 use Rattle.image_resizing.specs.Faults.{fault_in}
 use Rattle.image_resizing.specs.Grown.{IsResizedFrom}
 use Rattle.image_resizing.specs.Plan.{present_format}
@@ -78,7 +79,7 @@ abbrev pub journal_fault : Plan → Content → Option ImageFault
 journal_fault plan c = fault_by_journal plan.maker.key (last_image c) plan.present.fields plan.present.geometry
 
 -- Where neither memory nor the disk failed, an answer tells it, if there is one.
-abbrev pub TellsJournal : Plan → List Content → Result Unit ResizeFault → Type 0
+abbrev pub TellsJournal : Plan → List Content → Result Unit (CallFault ResizeFault) → Type 0
 TellsJournal plan before result = result ≢ Err Memory → result ≢ Err Disk
     → HasNow (λ c. fault_in result ≡ journal_fault plan c) before
 

@@ -12,16 +12,8 @@ ghost use Rattle.image_resizing.specs.Room.{zeros_at_once};
 use crate::planning::Plan;
 use crate::room::RUN_SECTORS;
 use dirty_bitmap::clear_from;
-use image_model::{DIRTY_BITMAP, SECTOR_SIZE};
+use image_model::{DIRTY_BITMAP, SECTOR_BITS, SECTOR_SIZE, SUPERBLOCK_SECTORS};
 use sector_disk::{Disk, Failed};
-
-/// The first sector of the bitmap on every disk. The superblock has those before it.
-///
-/// Source: Linux, `drivers/md/dm-integrity.c`, `SB_SECTORS`.
-const BITMAP_AT: u64 = 8;
-
-/// How many regions have their bits in a sector.
-const SECTOR_BITS: u64 = 4096;
 
 /// Clears the bits of new regions, where there is a bitmap. Bits of no region are cleared in the sectors that have
 /// one of these, and no other sector is written. Nothing is synced.
@@ -75,8 +67,9 @@ fn clear_first<D: Disk>(disk: &mut D, plan: &Plan) -> Result<(), Failed>
         (D.moments disk.old) (D.moments disk.new) }
 {
     let first = plan.present.geometry.regions();
-    let at = BITMAP_AT + first / SECTOR_BITS;
-    let mut bytes = [0; 512];
+    // The bitmap stands in the place of the journal.
+    let at = SUPERBLOCK_SECTORS + first / SECTOR_BITS;
+    let mut bytes = [0; SECTOR_SIZE];
     disk.read_run(at, &mut bytes)?;
     clear_from(&mut bytes, (first % SECTOR_BITS) as usize);
     disk.write_run(at, &bytes)
@@ -143,5 +136,8 @@ fn clear_run<D: Disk>(
     ensures stands { StandsClearing (D.identity disk.old).sectors plan.now next
         (D.moments disk.old) (D.moments disk.new) }
 {
-    disk.write_run(BITMAP_AT + next, &zeros[..SECTOR_SIZE * count as usize])
+    disk.write_run(
+        SUPERBLOCK_SECTORS + next,
+        &zeros[..SECTOR_SIZE * count as usize],
+    )
 }

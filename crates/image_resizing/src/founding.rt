@@ -7,6 +7,7 @@ ghost use Rattle.image_resizing.specs.Plan.{IsPlan};
 ghost use Rattle.image_resizing.specs.Writing.{WritesHead};
 
 use crate::planning::Plan;
+use image_model::SECTOR_SIZE;
 use sector_disk::{Disk, Failed};
 use superblock::write;
 
@@ -29,7 +30,7 @@ pub(crate) fn found<D: Disk>(disk: &mut D, plan: &Plan) -> Result<(), Failed>
     ensures moments { LeavesCuts (D.identity disk.old).sectors plan.now (D.moments disk.old) (D.moments disk.new) }
     ensures writes { WritesHead plan.now (D.moments disk.old) (D.moments disk.new) }
 {
-    let mut head = [0; 512];
+    let mut head = [0; SECTOR_SIZE];
     disk.read_run(0, &mut head)?;
     write(&plan.grown.fields, &mut head);
     disk.write_run(0, &head)?;

@@ -16,10 +16,9 @@ mod founding;
 mod growing;
 mod planning;
 mod recovering;
-mod resize_fault;
 mod resizing;
 mod room;
 mod tagging;
 
-pub use resize_fault::ResizeFault;
+pub use image_refusal::{CallFault, ResizeFault};
 pub use resizing::resize;

@@ -4,16 +4,17 @@ ghost use Rattle.disk_model.specs.Identity.{IsBound};
 ghost use Rattle.disk_model.specs.Moments.{HasNow};
 ghost use Rattle.hmac_tag.specs.TagMaker.{key_of};
 ghost use Rattle.image_format.specs.Format.{IsFormat, IsReadNow};
+ghost use Rattle.image_refusal.specs.Calls.{HasCallCause};
 ghost use Rattle.image_model.specs.Geometry.{geometry_of};
 ghost use Rattle.image_model.specs.Superblock.{IsAccepted};
 ghost use Rattle.resize_model.specs.Resized.{resized_fields, resized_provided, with_provided};
-ghost use Rattle.image_resizing.specs.Faults.{HasResizeCause, LeavesJournal, TellsFault};
+ghost use Rattle.image_resizing.specs.Faults.{LeavesJournal, TellsFault};
 ghost use Rattle.image_resizing.specs.Plan.{IsPlan, added, rule_of};
 
-use crate::ResizeFault;
 use hmac_tag::{Hash, TagMaker};
 use image_format::{ImageFormat, read_format};
 use image_model::{FIXED_HMAC, GeomFault};
+use image_refusal::{CallFault, ResizeFault};
 use layout::{Geometry, best_provided};
 use sector_disk::Disk;
 use superblock::Super;
@@ -48,10 +49,9 @@ impl Plan {
 /// The first that holds:
 ///
 /// - `Disk`: the disk failed at the read.
-/// - `Super`: the superblock is refused. A disk without a sector has no magic.
-/// - `Geom`: the disk has no room for what the superblock tells, or the journal has none for the bitmap of all that the
-///   disk can provide.
-pub(crate) fn plan_resize<D: Disk>(disk: &mut D, hash: Hash) -> Result<Plan, ResizeFault>
+/// - `Head`: the first sector is refused. A disk without a sector has no magic.
+/// - `Growth`: the journal has no room for the bitmap of all that the disk can provide.
+pub(crate) fn plan_resize<D: Disk>(disk: &mut D, hash: Hash) -> Result<Plan, CallFault<ResizeFault>>
     requires { IsBound (D.identity disk.old).name }
 
     ensures plan { IfOk result (IsPlan (D.identity disk.old).sectors) }
@@ -63,7 +63,7 @@ pub(crate) fn plan_resize<D: Disk>(disk: &mut D, hash: Hash) -> Result<Plan, Res
         → TellsFault key (D.identity disk.old).sectors (D.moments disk.old) fault) }
     ensures journal { IfOk result (λ plan. (key : Option (List ℕ))
         → LeavesJournal key (D.identity disk.old).sectors plan.present (D.moments disk.old)) }
-    ensures cause { HasResizeCause (D.faults disk.old) (D.faults disk.new) result }
+    ensures cause { HasCallCause (D.faults disk.old) (D.faults disk.new) result }
 
     ensures identity { D.identity disk.new ≡ D.identity disk.old }
     ensures kept { D.moments disk.new ≡ D.moments disk.old }

@@ -5,22 +5,22 @@ ghost use Rattle.disk_model.specs.Identity.{IsBound};
 ghost use Rattle.hmac_tag.specs.TagMaker.{key_of};
 ghost use Rattle.image_model.specs.declared.flags.TheConstants.{DIRTY_BITMAP as BITMAP};
 ghost use Rattle.image_model.specs.Superblock.{has_flag};
+ghost use Rattle.image_refusal.specs.Calls.{HasCallCause};
 ghost use Rattle.resize_model.specs.Left.{KeepsRefused};
 ghost use Rattle.image_resizing.specs.Call.{LeavesResized, MovesInOrder, TellsProvided, TellsRefusal, WritesInOrder};
-ghost use Rattle.image_resizing.specs.Faults.{HasResizeCause};
 ghost use Rattle.image_resizing.specs.Plan.{IsPlan};
 ghost use Rattle.image_resizing.specs.Room.{HasGrowthRoom, HasRecoveryRoom};
 ghost use Rattle.image_resizing.specs.Settled.{IsPlanned, KeepsJournal, KnowsJournal, OpensPlanned, ResizesImage};
 ghost use Rattle.image_resizing.specs.Settled.{ResizesNow, ResizesOpenable, TellsJournal};
 ghost use Rattle.image_resizing.specs.Writing.{WritesOpenable, WritesResize};
 
-use crate::ResizeFault;
 use crate::growing::grow_settled;
 use crate::planning::{Plan, plan_resize};
 use crate::recovering::recover_image;
 use crate::room::{GrowthRoom, RecoveryRoom};
 use hmac_tag::Hash;
 use image_model::DIRTY_BITMAP;
+use image_refusal::{CallFault, ResizeFault};
 use journal_reading::{JudgedJournal, judge_journal};
 use sector_disk::{Disk, Failed};
 use std::alloc::Global;
@@ -43,12 +43,15 @@ use std::alloc::Global;
 ///
 /// - `Memory`: there is none for what is kept of the journal, or for what is written at once. Nothing was done.
 /// - `Disk`: the disk failed. From its first sync on each image can be opened, as it was or resized.
-/// - `Super`: the superblock is refused. Nothing was done.
-/// - `Geom`: the disk has no room for what the superblock tells, or the journal has none for the bitmap of all that the
-///   disk can provide. Nothing was done.
+/// - `Head`: the first sector is refused. Nothing was done.
+/// - `Growth`: the journal has no room for the bitmap of all that the disk can provide. Nothing was done.
 /// - `Journal`: there is no bitmap, and the journal is refused, by its scan or for the first entry in the order of the
 ///   replay. Nothing was done.
-pub fn resize<D: Disk>(alloc: Global, disk: &mut D, hash: Hash) -> Result<(u64, u64), ResizeFault>
+pub fn resize<D: Disk>(
+    alloc: Global,
+    disk: &mut D,
+    hash: Hash,
+) -> Result<(u64, u64), CallFault<ResizeFault>>
     requires { IsBound (D.identity disk.old).name }
 
     ensures told { IfOk result (TellsProvided (key_of hash) (D.identity disk.old).sectors (D.moments disk.old)) }
@@ -56,11 +59,11 @@ pub fn resize<D: Disk>(alloc: Global, disk: &mut D, hash: Hash) -> Result<(u64, 
         (D.moments disk.old) (D.moments disk.new)) }
 
     ensures refused { TellsRefusal (key_of hash) (D.identity disk.old).sectors (D.moments disk.old) result }
-    ensures untouched { IsErr result → result ≢ Err ResizeFault.Disk → D.moments disk.new ≡ D.moments disk.old }
+    ensures untouched { IsErr result → result ≢ Err CallFault.Disk → D.moments disk.new ≡ D.moments disk.old }
     // An image that is refused is synced at most, also where the disk fails.
     ensures judged { KeepsRefused (key_of hash) (D.identity disk.old).sectors
         (D.moments disk.old) (D.moments disk.new) }
-    ensures cause { HasResizeCause (D.faults disk.old) (D.faults disk.new) result }
+    ensures cause { HasCallCause (D.faults disk.old) (D.faults disk.new) result }
 
     ensures identity { D.identity disk.new ≡ D.identity disk.old }
 
@@ -82,7 +85,11 @@ pub fn resize<D: Disk>(alloc: Global, disk: &mut D, hash: Hash) -> Result<(u64, 
 /// # Errors
 ///
 /// - `Memory`, `Disk`, `Journal`: as `resize` tells them.
-fn resize_planned<D: Disk>(alloc: Global, disk: &mut D, plan: &Plan) -> Result<(), ResizeFault>
+fn resize_planned<D: Disk>(
+    alloc: Global,
+    disk: &mut D,
+    plan: &Plan,
+) -> Result<(), CallFault<ResizeFault>>
     requires bound { IsBound (D.identity disk.old).name }
     requires plan { IsPlan (D.identity disk.old).sectors plan.now }
     requires reads { IsPlanned (D.identity disk.old).sectors plan.now (D.moments disk.old) }
@@ -91,9 +98,9 @@ fn resize_planned<D: Disk>(alloc: Global, disk: &mut D, plan: &Plan) -> Result<(
         (D.moments disk.old) (D.moments disk.new)) }
 
     ensures refused { TellsJournal plan.now (D.moments disk.old) result }
-    ensures untouched { IsErr result → result ≢ Err ResizeFault.Disk → D.moments disk.new ≡ D.moments disk.old }
+    ensures untouched { IsErr result → result ≢ Err CallFault.Disk → D.moments disk.new ≡ D.moments disk.old }
     ensures judged { KeepsJournal plan.now (D.moments disk.old) (D.moments disk.new) }
-    ensures cause { HasResizeCause (D.faults disk.old) (D.faults disk.new) result }
+    ensures cause { HasCallCause (D.faults disk.old) (D.faults disk.new) result }
 
     ensures identity { D.identity disk.new ≡ D.identity disk.old }
 
@@ -112,7 +119,11 @@ fn resize_planned<D: Disk>(alloc: Global, disk: &mut D, plan: &Plan) -> Result<(
 /// # Errors
 ///
 /// - `Memory`, `Disk`, `Journal`: as `resize` tells them.
-fn resize_recovered<D: Disk>(alloc: Global, disk: &mut D, plan: &Plan) -> Result<(), ResizeFault>
+fn resize_recovered<D: Disk>(
+    alloc: Global,
+    disk: &mut D,
+    plan: &Plan,
+) -> Result<(), CallFault<ResizeFault>>
     requires bound { IsBound (D.identity disk.old).name }
     requires plan { IsPlan (D.identity disk.old).sectors plan.now }
     requires reads { IsPlanned (D.identity disk.old).sectors plan.now (D.moments disk.old) }
@@ -122,9 +133,9 @@ fn resize_recovered<D: Disk>(alloc: Global, disk: &mut D, plan: &Plan) -> Result
         (D.moments disk.old) (D.moments disk.new)) }
 
     ensures refused { TellsJournal plan.now (D.moments disk.old) result }
-    ensures untouched { IsErr result → result ≢ Err ResizeFault.Disk → D.moments disk.new ≡ D.moments disk.old }
+    ensures untouched { IsErr result → result ≢ Err CallFault.Disk → D.moments disk.new ≡ D.moments disk.old }
     ensures judged { KeepsJournal plan.now (D.moments disk.old) (D.moments disk.new) }
-    ensures cause { HasResizeCause (D.faults disk.old) (D.faults disk.new) result }
+    ensures cause { HasCallCause (D.faults disk.old) (D.faults disk.new) result }
 
     ensures identity { D.identity disk.new ≡ D.identity disk.old }
 
@@ -177,7 +188,11 @@ fn recover_and_grow<D: Disk>(
 /// # Errors
 ///
 /// - `Memory`, `Disk`: as `resize` tells them.
-fn resize_synced<D: Disk>(alloc: Global, disk: &mut D, plan: &Plan) -> Result<(), ResizeFault>
+fn resize_synced<D: Disk>(
+    alloc: Global,
+    disk: &mut D,
+    plan: &Plan,
+) -> Result<(), CallFault<ResizeFault>>
     requires bound { IsBound (D.identity disk.old).name }
     requires plan { IsPlan (D.identity disk.old).sectors plan.now }
     requires reads { IsPlanned (D.identity disk.old).sectors plan.now (D.moments disk.old) }
@@ -187,9 +202,9 @@ fn resize_synced<D: Disk>(alloc: Global, disk: &mut D, plan: &Plan) -> Result<()
         (D.moments disk.old) (D.moments disk.new)) }
 
     ensures refused { TellsJournal plan.now (D.moments disk.old) result }
-    ensures untouched { IsErr result → result ≢ Err ResizeFault.Disk → D.moments disk.new ≡ D.moments disk.old }
+    ensures untouched { IsErr result → result ≢ Err CallFault.Disk → D.moments disk.new ≡ D.moments disk.old }
     ensures judged { KeepsJournal plan.now (D.moments disk.old) (D.moments disk.new) }
-    ensures cause { HasResizeCause (D.faults disk.old) (D.faults disk.new) result }
+    ensures cause { HasCallCause (D.faults disk.old) (D.faults disk.new) result }
 
     ensures identity { D.identity disk.new ≡ D.identity disk.old }
 

@@ -4,8 +4,7 @@ ghost use Rattle.image_model.specs.Sectors.{zero_bytes};
 ghost use Rattle.image_resizing.specs.Room.{HasGrowthRoom, HasRecoveryRoom};
 
 use buffer_cache::Cache;
-use image_model::SECTOR_SIZE;
-use journal_reading::JOURNAL_AT;
+use image_model::{SECTOR_SIZE, SUPERBLOCK_SECTORS};
 use layout::Geometry;
 use sector_disk::Memory;
 use sector_pool::Region;
@@ -65,9 +64,7 @@ impl RecoveryRoom {
     {
         let cache = Cache::new(alloc, HELD_SECTORS)?;
         let mut region = Region::new();
-        let Ok(()) = region.reserve(alloc, geometry.initial() - JOURNAL_AT) else {
-            return Err(Memory);
-        };
+        region.reserve(alloc, geometry.initial() - SUPERBLOCK_SECTORS)?;
         Ok(RecoveryRoom { cache, region })
     }
 }
@@ -82,8 +79,6 @@ fn zeros_of(alloc: Global, sectors: u64) -> Result<Vec<u8>, Memory>
 
     ensures { IfOk result (λ zeros. zeros.items ≡ zero_bytes (512 * sectors)) }
 {
-    let Ok(zeros) = Vec::from_elem(alloc, 0, SECTOR_SIZE * sectors as usize) else {
-        return Err(Memory);
-    };
+    let zeros = Vec::from_elem(alloc, 0, SECTOR_SIZE * sectors as usize)?;
     Ok(zeros)
 }

@@ -8,8 +8,9 @@ use Rattle.image_model.specs.Superblock.{fields_in, superblock_of}
 use Rattle.image_model.specs.Tag.{tag_message, tag_of}
 use Rattle.image_model.specs.declared.super_fields.SuperFault.TheVariants.{Magic}
 use Rattle.sha2.specs.Sha256.{compress, digest_bytes, first_words, hash_after, rounds, schedule, sha256}
-use Rattle.device_model.specs.Ending.{BySuperblock}
-use Rattle.image_format.specs.declared.open_fault.OpenFault.TheVariants.{Disk, Memory, Super}
+use Rattle.device_model.specs.Refusals.{BySuperblock}
+use Rattle.image_refusal.specs.declared.call_fault.CallFault.TheVariants.{Disk, Memory, Refused}
+use Rattle.image_refusal.specs.declared.open_fault.HeadFault.TheVariants.{Super}
 use Rattle.place_model.proofs.WorkedDisk.{zeros_journal}
 use Rattle.recovery_laws.specs.Refusals.{read_fault_of}
 use Rattle.salvage_model.specs.Verdicts.{is_good}
@@ -69,7 +70,7 @@ told_behind-both : (told_behind (Some bad) 7 ≡ 8) × (told_behind None 8 ≡ 8
 told_behind-both = (refl, refl)
 
 -- A disk without a magic is refused for that, and neither memory nor the disk is a fault of an image.
-refusal_of-magic : (read_fault_of 112 (λ (sector : ℕ). replicate 512 0) ≡ Some (BySuperblock Magic)) × (refusal_of (Super Magic) ≡ Some (BySuperblock Magic))
+refusal_of-magic : (read_fault_of 112 (λ (sector : ℕ). replicate 512 0) ≡ Some (BySuperblock Magic)) × (refusal_of (Refused (Super Magic)) ≡ Some (BySuperblock Magic))
 unfolding superblock_of
 refusal_of-magic = (refl, refl)
 

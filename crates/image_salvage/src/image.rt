@@ -3,7 +3,7 @@ ghost use Rattle.std.specs.Prelude.{◌≡◌, length, IfErr, IfOk, OnErr};
 ghost use Rattle.disk_model.specs.Causes.{HasCause};
 ghost use Rattle.disk_model.specs.Identity.{IsBound};
 ghost use Rattle.hmac_tag.specs.TagMaker.{key_of};
-ghost use Rattle.image_format.specs.Format.{HasDiskCause};
+ghost use Rattle.image_refusal.specs.Calls.{HasCallCause};
 ghost use Rattle.image_salvage.specs.Refusing.{HasNoFault, TellsFault};
 ghost use Rattle.image_salvage.specs.Salvaged.{IsSalvageOf, IsSameSalvage, block_size, blocks_of};
 ghost use Rattle.image_salvage.specs.Telling.{GivesBytes, TellsNext, told_behind};
@@ -11,8 +11,9 @@ ghost use Rattle.image_salvage.specs.Telling.{GivesBytes, TellsNext, told_behind
 use crate::Verdict;
 use crate::reading::{read_block, tag_maker};
 use hmac_tag::{Hash, TagMaker};
-use image_format::{ImageFormat, OpenFault, read_format};
+use image_format::{ImageFormat, read_format};
 use image_model::SECTOR_SIZE;
+use image_refusal::{CallFault, HeadFault};
 use sector_disk::{Disk, Failed};
 use sector_window::SectorWindow;
 use std::alloc::Global;
@@ -67,7 +68,7 @@ impl SalvagedImage {
         alloc: Global,
         disk: &mut D,
         hash: Hash,
-    ) -> Result<SalvagedImage, OpenFault>
+    ) -> Result<SalvagedImage, CallFault<HeadFault>>
         requires { IsBound (D.identity disk.old).name }
 
         ensures image { IfOk result (λ image. IsSalvageOf image (D.identity disk.new) (D.moments disk.new)) }
@@ -76,7 +77,7 @@ impl SalvagedImage {
         ensures accepted { IfOk result (λ image. HasNoFault (D.identity disk.old).sectors (D.moments disk.old)) }
 
         ensures refused { IfErr result (TellsFault (D.identity disk.old).sectors (D.moments disk.old)) }
-        ensures cause { HasDiskCause (D.faults disk.old) (D.faults disk.new) result }
+        ensures cause { HasCallCause (D.faults disk.old) (D.faults disk.new) result }
 
         ensures identity { D.identity disk.new ≡ D.identity disk.old }
         ensures kept { D.moments disk.new ≡ D.moments disk.old }

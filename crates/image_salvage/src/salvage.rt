@@ -3,7 +3,8 @@ ghost use Rattle.std.specs.Prelude.{◌≡◌, length, IfErr, IfOk, OnErr};
 ghost use Rattle.disk_model.specs.Causes.{HasCause};
 ghost use Rattle.disk_model.specs.Identity.{IsBound};
 ghost use Rattle.hmac_tag.specs.TagMaker.{key_of};
-ghost use Rattle.image_salvage.specs.Refusing.{HasNoFault, HasRefusalCause, TellsFault};
+ghost use Rattle.image_refusal.specs.Calls.{HasRefusalCause};
+ghost use Rattle.image_salvage.specs.Refusing.{HasNoFault, TellsFault};
 ghost use Rattle.image_salvage.specs.Salvaged.{IsSalvageOf, IsSameSalvage, LeavesDisk, block_size, blocks_of};
 ghost use Rattle.image_salvage.specs.Telling.{GivesBytes, TellsNext, told_behind};
 

@@ -1,9 +1,8 @@
 //! What the faults of the crates below are told as, and when consent is asked for.
 use commit_id::ScanFault;
 use hmac_tag::{Hash, Key};
-use image_format::OpenFault;
-use image_judging::{Consent, OpeningFault, judge_consent};
-use journal_reading::{JournalFault, ReplayFault};
+use image_judging::{Consent, judge_consent};
+use image_refusal::{CallFault, HeadFault, JournalFault, OpenFault};
 use layout::GeomFault;
 use sector_disk::{Failed, Memory};
 use std::test::Fail;
@@ -19,21 +18,42 @@ const UNNUMBERED: JournalFault = JournalFault::Scan(ScanFault::NoNumber {
 /// A disk of 7 sectors where 8 are wanted.
 const TOO_SMALL: GeomFault = GeomFault::TooSmall { have: 7, need: 8 };
 
+/// The fault of the first sector, as an opening tells it.
+fn opening(fault: CallFault<HeadFault>) -> CallFault<OpenFault> {
+    CallFault::from(fault)
+}
+
 #[test]
 fn a_fault_from_below_keeps_its_cause(rt: HostRuntime) -> Result<(), Fail> {
-    assert!(rt; matches!(OpeningFault::from(Memory), OpeningFault::Memory));
-    assert!(rt; matches!(OpeningFault::from(Failed), OpeningFault::Disk));
-    let told = OpeningFault::from(OpenFault::Super(SuperFault::Magic));
-    assert!(rt; matches!(told, OpeningFault::Super(SuperFault::Magic)));
-    let told = OpeningFault::from(OpenFault::Geom(TOO_SMALL));
+    let memory: CallFault<HeadFault> = CallFault::from(Memory);
+    let failed: CallFault<HeadFault> = CallFault::from(Failed);
+    let magic: CallFault<HeadFault> = CallFault::from(SuperFault::Magic);
+    let small: CallFault<HeadFault> = CallFault::from(TOO_SMALL);
+    assert!(rt; matches!(opening(memory), CallFault::Memory));
+    assert!(rt; matches!(opening(failed), CallFault::Disk));
+    assert!(rt;
+        matches!(
+            opening(magic),
+            CallFault::Refused(OpenFault::Head(HeadFault::Super(SuperFault::Magic)))
+        )
+    );
+    assert!(rt;
+        matches!(
+            opening(small),
+            CallFault::Refused(OpenFault::Head(HeadFault::Geom(GeomFault::TooSmall {
+                have: 7,
+                need: 8
+            })))
+        )
+    );
+    let refused: CallFault<JournalFault> = CallFault::from(UNNUMBERED);
+    let told: CallFault<OpenFault> = CallFault::from(refused);
     assert!(rt;
         matches!(
             told,
-            OpeningFault::Geom(GeomFault::TooSmall { have: 7, need: 8 })
+            CallFault::Refused(OpenFault::Journal(JournalFault::Scan(_)))
         )
     );
-    let told = OpeningFault::from(ReplayFault::Journal(UNNUMBERED));
-    assert!(rt; matches!(told, OpeningFault::Journal(JournalFault::Scan(_))));
     Ok(())
 }
 
@@ -64,7 +84,10 @@ fn consent_is_asked_where_a_block_is_to_be_recalculated_under_a_key(
         };
         let told = judge_consent(&fields, &keyed, Consent::Withheld);
         assert_eq!(rt;
-            matches!(told, Err(OpeningFault::Consent { flags: 0xa })),
+            matches!(
+                told,
+                Err(CallFault::Refused(OpenFault::Consent { flags: 0xa }))
+            ),
             asks,
             "from {recalc_sector}"
         );

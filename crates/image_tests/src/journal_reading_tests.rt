@@ -2,7 +2,8 @@
 
 use commit_id::{Plan, State, id};
 use hmac_tag::{Hash, TagMaker};
-use journal_reading::{JudgedJournal, ReplayFault, judge_journal};
+use image_refusal::{CallFault, JournalFault};
+use journal_reading::{JudgedJournal, judge_journal};
 use layout::Geometry;
 use sector_disk::{Disk, MemDisk};
 use std::alloc::Global;
@@ -116,7 +117,10 @@ fn blank_disk(
 }
 
 /// What a disk's journal is judged to be.
-fn judged(alloc: Global, disk: &mut MemDisk) -> Result<Result<JudgedJournal, ReplayFault>, Fail> {
+fn judged(
+    alloc: Global,
+    disk: &mut MemDisk,
+) -> Result<Result<JudgedJournal, CallFault<JournalFault>>, Fail> {
     judge(&FIELDS)?;
     let geometry = Geometry::new(&FIELDS, disk.sectors())?;
     let maker = TagMaker::new(Hash::Sha256, None, 32);

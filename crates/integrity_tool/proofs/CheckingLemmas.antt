@@ -7,29 +7,34 @@ use Rattle.std.proofs.lemmas.List.Concat.{flat_map-cons}
 use Rattle.disk_model.specs.Disk.{Content, Image, last_image}
 use Rattle.disk_model.specs.Identity.{DiskIdentity}
 use Rattle.disk_model.specs.Moments.{content_now, HasNow}
-use Rattle.device_model.specs.Ending.{Ending, Complete, DiskFailed, NoMemory, SinkFailed}
+use Rattle.run_model.specs.Ending.{Ending, Complete, Failed, NoMemory}
 use Rattle.stream_io.specs.Stream.{with_bytes, AddsPrefix}
 use Rattle.script_session.specs.LineRun.{held_with}
 use Rattle.image_check.specs.Bad.{bad_blocks_from}
 use Rattle.image_check.specs.Checked.{Checked, IsCheckOf, IsSameCheck, awaiting_at, bad_in, checked_format}
 use Rattle.image_check.specs.declared.bad.Bad.{Bad}
-use Rattle.image_check.specs.declared.bad.What.{What}
-use Rattle.image_judging.specs.declared.opening_fault.OpeningFault.{OpeningFault}
-use Rattle.image_judging.specs.declared.opening_fault.OpeningFault.TheVariants as OpeningFaults
+use Rattle.image_model.specs.declared.judged.What.{What}
+use Rattle.image_refusal.specs.declared.call_fault.CallFault.{CallFault}
+use Rattle.image_refusal.specs.declared.call_fault.CallFault.TheVariants as CallFaults
+use Rattle.image_refusal.specs.declared.open_fault.OpenFault.{OpenFault}
+use Rattle.image_refusal.specs.declared.open_fault.OpenFault.TheVariants as OpenFaults
+use Rattle.image_refusal.specs.declared.open_fault.HeadFault.TheVariants as HeadFaults
 use Rattle.image_check.specs.Faults.{fault_for}
 use Rattle.image_judging.specs.Faults.{ImageFault, fault_in}
 use Rattle.image_check.specs.Report.{with_found}
 use Rattle.image_check.proofs.CheckedLemmas.{blocks_are, judged_in, judged_now, kept-next, kept-nothing, kept-skip}
 use Rattle.place_model.specs.Format.{format_on}
 use Rattle.command_ending.specs.Ended.{ending_of}
-use Rattle.command_model.specs.CommandRun.{Outset, Prints, IsEndedShort, only_prints}
+use Rattle.run_model.specs.CommandRun.{Outset, Prints, IsEndedShort, only_prints}
 use Rattle.integrity_tool.specs.Checking.{IsListed, IsPrintedShort, bad_line, check_outset, counts_line, has_bad, last_line, lines_in, outset_by_check}
 use Rattle.integrity_tool.specs.Opening.{HasRunOn}
 use Rattle.integrity_tool.specs.Refusing.{ended_by_opening, ending_by_refusal}
 use Rattle.integrity_tool.proofs.PrintingLemmas.{all_printed, part_printed, same_now}
 use Rattle.integrity_tool.proofs.RunningLemmas.{told_further, told_nothing}
-use Rattle.integrity_tool.proofs.StartLemmas.{before_kept, counts_begin, fine_check, lines_begin, nothing_run, refused_run, untouched_kept}
+use Rattle.integrity_tool.proofs.OutsetLemmas.{counts_begin, fine_check, lines_begin}
+use Rattle.integrity_tool.proofs.UnbegunLemmas.{before_kept, nothing_run, refused_run, untouched_kept}
 use Rattle.integrity_tool.proofs.TextsLemmas.{none_short, text_short, texts_short, texts_whole}
+use Rattle.run_model.specs.declared.outer.Outer.TheVariants as outers
 
 -- ---- one block
 
@@ -154,11 +159,11 @@ module _ (old new : Checked) (disk now : DiskIdentity) (before after : List Cont
 
   -- The disk failed before a block is judged.
   pub cut_by_disk : (b count : ℕ) → IsListedTo old disk.sectors before b count held_before held
-      → HasNow (λ c. IsPrintedShort (lines_in old disk.sectors (last_image c)) DiskFailed held_before held) before
+      → HasNow (λ c. IsPrintedShort (lines_in old disk.sectors (last_image c)) (Failed outers.Disk) held_before held) before
   cut_by_disk b count to c told =
       let more = behind c b in
-      cut_at (last_image c) to.bad more count DiskFailed [] held (to.rest c told) to.listed
-      (λ found. none_short (lines_behind (last_image c) more) found DiskFailed (lines_begin more _ (counts_begin _ _ _)) tt)
+      cut_at (last_image c) to.bad more count (Failed outers.Disk) [] held (to.rest c told) to.listed
+      (λ found. none_short (lines_behind (last_image c) more) found (Failed outers.Disk) (lines_begin more _ (counts_begin _ _ _)) tt)
       (told_nothing held)
 
   -- The sink failed in the line of a bad block.
@@ -166,13 +171,13 @@ module _ (old new : Checked) (disk now : DiskIdentity) (before after : List Cont
       → HasNow (λ c. found ≡ judged_in new now.sectors (last_image c) b) after
       → IsListedTo old disk.sectors before b count held_before held
       → IsSomeAnd found (λ bad. AddsPrefix (bad_line bad) held held_after)
-      → HasNow (λ c. IsPrintedShort (lines_in old disk.sectors (last_image c)) SinkFailed held_before held_after) before
+      → HasNow (λ c. IsPrintedShort (lines_in old disk.sectors (last_image c)) (Failed outers.Sink) held_before held_after) before
   cut_by_sink b count None held_after low h to part c told = absurd part
   cut_by_sink b count (Some bad) held_after low h to part c told =
       let more = behind c (b + 1) in
-      cut_at (last_image c) to.bad (bad ∷ more) count SinkFailed _ held_after
+      cut_at (last_image c) to.bad (bad ∷ more) count (Failed outers.Sink) _ held_after
       (to.rest c told ∙ ap (λ (xs : List Bad). to.bad ++ xs) (behind_found b (Some bad) low h c told)) to.listed
-      (λ found. text_short (bad_line bad) (lines_behind (last_image c) more) found part.count SinkFailed part.short (λ other. absurd (other refl)) tt)
+      (λ found. text_short (bad_line bad) (lines_behind (last_image c) more) found part.count (Failed outers.Sink) part.short (λ other. absurd (other refl)) tt)
       part.held
 
 -- ---- a check
@@ -182,14 +187,14 @@ module _ (what : What) (key : Option (List ℕ)) (sectors : ℕ) (start : Conten
   outset = check_outset what key sectors (last_image start)
 
   -- There was no memory, or the disk failed before a line was printed: nothing is.
-  pub unchecked : (ending : Ending) (held : Option (List ℕ)) → (ending ≡ NoMemory) ⊎ (ending ≡ DiskFailed) → HasRunOn outset start script ending b held held
+  pub unchecked : (ending : Ending) (held : Option (List ℕ)) → (ending ≡ NoMemory) ⊎ (ending ≡ Failed outers.Disk) → HasRunOn outset start script ending b held held
   unchecked ending held early = elim early [
     | inl memory ↦
         subst (λ (e : Ending). HasRunOn outset start script e b held held) (sym memory)
         (nothing_run outset (fine_check what key sectors (last_image start)) start script NoMemory tt b (before_kept outset start told kept) held held refl)
     | inr disk ↦
         subst (λ (e : Ending). HasRunOn outset start script e b held held) (sym disk)
-        (nothing_run outset (fine_check what key sectors (last_image start)) start script DiskFailed tt b (before_kept outset start told kept) held held refl)
+        (nothing_run outset (fine_check what key sectors (last_image start)) start script (Failed outers.Disk) tt b (before_kept outset start told kept) held held refl)
   ]
 
   refused_as : (refusal : ImageFault) (held : Option (List ℕ)) → Some refusal ≡ fault_for what key sectors (last_image start)
@@ -200,16 +205,16 @@ module _ (what : What) (key : Option (List ℕ)) (sectors : ℕ) (start : Conten
       (untouched_kept start told kept) held held refl
 
   -- The image is not opened.
-  pub not_checked : (fault : OpeningFault) (held : Option (List ℕ))
-      → ((fault ≢ OpeningFaults.Memory) → (fault ≢ OpeningFaults.Disk)
+  pub not_checked : (fault : CallFault OpenFault) (held : Option (List ℕ))
+      → ((fault ≢ CallFaults.Memory) → (fault ≢ CallFaults.Disk)
       → fault_in {T = Unit {0}} (Err fault) ≡ fault_for what key sectors (last_image start))
       → HasRunOn outset start script (ending_of (ended_by_opening fault)) b held held
-  not_checked OpeningFaults.Memory held refused = unchecked NoMemory held (inl refl)
-  not_checked OpeningFaults.Disk held refused = unchecked DiskFailed held (inr refl)
-  not_checked (OpeningFaults.Super fault) held refused = refused_as _ held (refused (λ is. absurd (cc)) (λ is. absurd (cc)))
-  not_checked (OpeningFaults.Geom fault) held refused = refused_as _ held (refused (λ is. absurd (cc)) (λ is. absurd (cc)))
-  not_checked (OpeningFaults.Consent flags) held refused = refused_as _ held (refused (λ is. absurd (cc)) (λ is. absurd (cc)))
-  not_checked (OpeningFaults.Journal fault) held refused = refused_as _ held (refused (λ is. absurd (cc)) (λ is. absurd (cc)))
+  not_checked CallFaults.Memory held refused = unchecked NoMemory held (inl refl)
+  not_checked CallFaults.Disk held refused = unchecked (Failed outers.Disk) held (inr refl)
+  not_checked (CallFaults.Refused (OpenFaults.Head (HeadFaults.Super fault))) held refused = refused_as _ held (refused (λ is. absurd (cc)) (λ is. absurd (cc)))
+  not_checked (CallFaults.Refused (OpenFaults.Head (HeadFaults.Geom fault))) held refused = refused_as _ held (refused (λ is. absurd (cc)) (λ is. absurd (cc)))
+  not_checked (CallFaults.Refused (OpenFaults.Consent flags)) held refused = refused_as _ held (refused (λ is. absurd (cc)) (λ is. absurd (cc)))
+  not_checked (CallFaults.Refused (OpenFaults.Journal fault)) held refused = refused_as _ held (refused (λ is. absurd (cc)) (λ is. absurd (cc)))
 
   -- It is opened.
   module _ (checked : Checked) (what_is : checked.what ≡ what) (key_is : checked.rule.key ≡ key)
@@ -252,14 +257,14 @@ module _ (what : What) (key : Option (List ℕ)) (sectors : ℕ) (start : Conten
           (all ∙ sym (texts_whole bad_line bad (last ∷ []))) to (same_now start told kept)))
 
       -- or the sink failed in the last line.
-      pub check_untold : AddsPrefix (counts_line blocks count awaiting) mid held → HasRunOn outset start script SinkFailed b held_before held
+      pub check_untold : AddsPrefix (counts_line blocks count awaiting) mid held → HasRunOn outset start script (Failed outers.Sink) b held_before held
       check_untold put =
           let last = last_line (checked_format checked sectors (last_image start)) (last_image start) (length bad) in
           let part : AddsPrefix last mid held = subst (λ (l : List ℕ). AddsPrefix l mid held) counts put in
-          check_cut SinkFailed held_before held (record {
+          check_cut (Failed outers.Sink) held_before held (record {
             text = flat_map bad_line bad ++ _;
-            ended = λ found. texts_short bad_line bad (last ∷ []) found _ SinkFailed
-                (text_short last [] found part.count SinkFailed part.short (λ other. absurd (other refl)) tt);
+            ended = λ found. texts_short bad_line bad (last ∷ []) found _ (Failed outers.Sink)
+                (text_short last [] found part.count (Failed outers.Sink) part.short (λ other. absurd (other refl)) tt);
             told = part.held ∙ ap (held_with _) listed.told ∙ told_further (flat_map bad_line bad) _ held_before;
           })
 

@@ -6,20 +6,20 @@ use Rattle.disk_model.specs.Disk.{Content, Image, EachImage}
 use Rattle.disk_model.specs.Moments.{EachMoment}
 use Rattle.disk_model.proofs.MomentsLemmas.{EachMoment-weaker}
 use Rattle.device_model.specs.Device.{DeviceKind}
-use Rattle.device_model.specs.Ending.{Complete, DiskFailed, SinkFailed}
+use Rattle.run_model.specs.Ending.{Complete, Failed}
 use Rattle.device_model.specs.History.{Change, History, with_changes}
 use Rattle.device_model.specs.Mode.{DeviceFormat}
 use Rattle.device_model.specs.Progress as Model
 use Rattle.device_model.specs.Progress.{DeviceState, Event, Close, FailedClose, after_event, event_result}
 use Rattle.device_model.specs.Progress.{result_in}
-use Rattle.device_model.specs.ScriptRun.{ScriptStep, changes_in, close_step}
-use Rattle.device_model.specs.ScriptRun.{only_ends, texts_of}
+use Rattle.run_model.specs.ScriptRun.{ScriptStep, changes_in, close_step}
+use Rattle.run_model.specs.ScriptRun.{only_ends, texts_of}
 use Rattle.device_model.specs.Transcript.{closed_text}
 use Rattle.direct_laws.specs.MomentLaws.{IsLeftNow, IsLeftThrough}
 use Rattle.direct_laws.specs.Within.{IsWithin}
 use Rattle.stream_io.specs.Stream.{AddsPrefix}
-use Rattle.script_text.proofs.ScriptRunLemmas.{came_into}
-use Rattle.script_text.proofs.ScriptRunLemmas.{run_is_whole}
+use Rattle.run_laws.proofs.ScriptRunLemmas.{came_into}
+use Rattle.run_laws.proofs.ScriptRunLemmas.{run_is_whole}
 use Rattle.device_parts.specs.declared.condition.Condition.{Condition}
 use Rattle.device_parts.specs.declared.condition.Condition.TheVariants.{Working}
 use Rattle.device_parts.specs.Answers.{answer_by, event_by}
@@ -46,6 +46,7 @@ use Rattle.integrity_tool.specs.Running.{IsCounted, IsStopped, ending_by, only_c
 use Rattle.integrity_tool.specs.declared.closing.CloseFault.{CloseFault}
 use Rattle.integrity_tool.specs.declared.closing.CloseFault.TheVariants as CloseFaults
 use Rattle.integrity_tool.proofs.RunningLemmas.{told_nothing}
+use Rattle.run_model.specs.declared.outer.Outer.TheVariants as outers
 
 -- ---- what a close does
 
@@ -124,7 +125,7 @@ module _ (w : Standing) (found : TagsFound) (a b : List Content)
 
   -- It is closed, and the sink failed.
   pub stopped_in_closed : Closes Close
-      → AddsPrefix closed_text held_a held_b → IsStopped w (only_close w found) SinkFailed a b held_a held_b
+      → AddsPrefix closed_text held_a held_b → IsStopped w (only_close w found) (Failed outers.Sink) a b held_a held_b
   stopped_in_closed keeps told = record {
     text = take told.count closed_text;
     changes = closing.changes;
@@ -147,7 +148,7 @@ module _ (w : Standing) (found : TagsFound) (a b : List Content)
 
   -- The disk failed in the close, and nothing is printed.
   pub stopped_in_close : Closes FailedClose → held_b ≡ held_a
-      → IsStopped w (only_close w found) DiskFailed a b held_a held_b
+      → IsStopped w (only_close w found) (Failed outers.Disk) a b held_a held_b
   stopped_in_close keeps told = record {
     text = [];
     changes = [];
@@ -212,8 +213,8 @@ ends_at_close (Err CloseFaults.Sink) = tt
 module _ (disk disk_between disk_after script script_after sink sink_between sink_after : ℕ)
     (same_disk : disk_between ≡ disk) (same_script : script_after ≡ script) (same_sink : sink_between ≡ sink) where
   abbrev IsCountedAs : Result TagsFound Ended → Type 0
-  IsCountedAs result = IsCounted Endings.Disk disk disk_after result × IsCounted Endings.Script script script_after result
-      × IsCounted Endings.Sink sink sink_after result
+  IsCountedAs result = IsCounted outers.Disk disk disk_after result × IsCounted outers.Script script script_after result
+      × IsCounted outers.Sink sink sink_after result
 
   counted_at_close : (closed : Result TagsFound CloseFault)
       → HasCloseCounts disk_between disk_after sink_between sink_after closed → IsCountedAs (ended_close closed)

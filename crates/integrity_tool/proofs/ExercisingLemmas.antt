@@ -10,13 +10,14 @@ use Rattle.disk_model.specs.Moments.{content_now, EachMoment, HasNow}
 use Rattle.disk_model.proofs.DiskLemmas.{OnlyAdds-none}
 use Rattle.disk_model.proofs.MomentsLemmas.{EachMoment-kept, EachMoment-then, EachMoment-weaker, content_at_end, no_moment}
 use Rattle.device_model.specs.Device.{DeviceKind}
-use Rattle.device_model.specs.Ending.{Ending, Complete, DiskFailed, NoMemory, RefusedImage, ByGeometry, SinkFailed}
+use Rattle.device_model.specs.Refusals.{ByGeometry}
+use Rattle.run_model.specs.Ending.{Ending, Complete, Refused, Failed, NoMemory, ByImage}
 use Rattle.device_model.specs.History.{Change, History, with_change, with_changes}
 use Rattle.device_model.specs.Mode as Modes
 use Rattle.device_model.specs.Progress as Model
 use Rattle.device_model.specs.Progress.{DeviceState, Event, Close, FailedClose, changes_of, event_result}
 use Rattle.device_model.specs.Script.{ScriptLine, after_script}
-use Rattle.device_model.specs.ScriptRun.{ScriptRun, ScriptStep, changes_in, only_ends, texts_of}
+use Rattle.run_model.specs.ScriptRun.{ScriptRun, ScriptStep, changes_in, only_ends, texts_of}
 use Rattle.device_model.proofs.ScriptLemmas.{history-after}
 use Rattle.image_model.specs.declared.flags.TheConstants.{DIRTY_BITMAP}
 use Rattle.image_model.specs.Geometry.{Geometry}
@@ -27,18 +28,17 @@ use Rattle.place_model.specs.Format.{DiskFormat, format_on}
 use Rattle.place_model.specs.Kind.{kind_in}
 use Rattle.place_model.proofs.KindLemmas.{judged_image-same, opened_format-same}
 use Rattle.direct_laws.specs.MomentLaws.{IsLeftNow}
-use Rattle.image_formatting.specs.declared.format_fault.FormatFault.{FormatFault}
-use Rattle.image_formatting.specs.declared.format_fault.FormatFault.TheVariants as FormatFaults
 use Rattle.image_formatting.specs.Formatted.{HasMade, IsNewContent, format_with, rule_with}
 use Rattle.image_formatting.specs.FormattedLaws.{NewOpensLaw}
 use Rattle.image_formatting.specs.NewImage.{IsNewImage, provided_of}
-use Rattle.image_judging.specs.declared.opening_fault.OpeningFault.{OpeningFault}
-use Rattle.image_judging.specs.declared.opening_fault.OpeningFault.TheVariants as OpeningFaults
+use Rattle.image_refusal.specs.declared.call_fault.CallFault.{CallFault}
+use Rattle.image_refusal.specs.declared.call_fault.CallFault.TheVariants as CallFaults
+use Rattle.image_refusal.specs.declared.open_fault.OpenFault.{OpenFault}
 use Rattle.image_judging.specs.declared.consent.Consent.TheVariants.{Withheld}
 use Rattle.image_judging.specs.FaultLaws.{OpensLaw}
-use Rattle.image_judging.specs.Faults.{fault_in}
+use Rattle.image_judging.specs.Faults.{fault_in, image_fault}
 use Rattle.device_opening.proofs.MomentsLemmas.{each_from, now_told}
-use Rattle.script_text.proofs.ScriptRunLemmas.{came_into, run_is_whole}
+use Rattle.run_laws.proofs.ScriptRunLemmas.{came_into, run_is_whole}
 use Rattle.device.specs.Awaiting.{fields_of}
 use Rattle.device.specs.declared.mode.DeviceParts.{DeviceParts}
 use Rattle.device.specs.declared.opening.OpenMode.TheVariants as OpenModes
@@ -62,9 +62,10 @@ use Rattle.script_session.specs.LineRun.{held_with}
 use Rattle.command_ending.specs.Ended.{ending_of}
 use Rattle.command_ending.specs.declared.ended.Ended.{Ended}
 use Rattle.command_ending.specs.declared.ended.Ended.TheVariants as Endings
-use Rattle.command_model.specs.CommandRun.{Exercising, Exercises, IsEndedBy, IsEndedShort, IsExerciseOf, IsFromOutside, IsLeftAfter, IsLeftOfNew, IsLeftOfRun, IsUnmade, Outset}
-use Rattle.command_model.specs.Exercise.{Tally, exercise_lines, exercise_step, exercise_tally, exercise_text, finds_faults}
-use Rattle.command_model.proofs.ExerciseLemmas.{after_events-script, changes_of-script}
+use Rattle.run_model.specs.CommandRun.{Exercising, Exercises, IsEndedBy, IsEndedShort, IsExerciseOf, IsFromOutside, IsAtExit, IsOfExercise, IsOfScriptRun, IsUnmade, Outset}
+use Rattle.workload_model.specs.Exercise.{Tally, exercise_lines, exercise_tally, exercise_text, finds_faults}
+use Rattle.run_model.specs.ExerciseRun.{exercise_step}
+use Rattle.workload_model.proofs.ExerciseLemmas.{after_events-script, changes_of-script}
 use Rattle.integrity_tool.specs.declared.asked.Task.TheVariants.{Exercise}
 use Rattle.integrity_tool.specs.Exercised.{HasCounted, HasJournalToOpen, IsCountTold, IsExercised, IsExercisedOn, IsExercisedTo, IsMomentOfNew, IsTallyTold, ended_count, exercise_changes, new_run, new_standing}
 use Rattle.integrity_tool.specs.Closed.{IsClosedIn, IsClosedNew}
@@ -81,8 +82,10 @@ use Rattle.integrity_tool.proofs.MakingLemmas.{left_since}
 use Rattle.integrity_tool.proofs.JudgedLemmas.{fields_on, tags_opened}
 use Rattle.integrity_tool.proofs.OpeningLemmas.{at_told, written_in}
 use Rattle.integrity_tool.proofs.RunningLemmas.{now_of, told_nothing}
-use Rattle.integrity_tool.proofs.StartLemmas.{before_kept, fine_exercise, left_at_start, nothing_run, refused_run, untouched_kept}
+use Rattle.integrity_tool.proofs.OutsetLemmas.{fine_exercise, left_at_start}
+use Rattle.integrity_tool.proofs.UnbegunLemmas.{before_kept, nothing_run, refused_run, untouched_kept}
 use Rattle.integrity_tool.proofs.TopLemmas.{told_at_end}
+use Rattle.run_model.specs.declared.outer.Outer.TheVariants as outers
 
 -- ---- on a device
 
@@ -281,7 +284,7 @@ module _ (sectors count seed : ℕ) (made : Content) where
 
   -- The sink failed at its line.
   half_printed : (printed : ℕ) → printed < length new_step.text
-      → IsEndedShort (new_run sectors count seed made) (take printed new_step.text) (exercise_changes w_new count seed) SinkFailed
+      → IsEndedShort (new_run sectors count seed made) (take printed new_step.text) (exercise_changes w_new count seed) (Failed outers.Sink)
   half_printed printed less = record {
     came = (came_into new_step new_ending).text printed less;
     whole_steps = λ other. absurd (other refl);
@@ -332,13 +335,13 @@ module _ (law : OpensLaw) (disk now : DiskIdentity) (count seed : ℕ) (a b : Li
   pub opened_new : (c : Content) × (content_now b ≡ Some c)
   opened_new = now_told opening_each made told
 
-  opening_left : EachMoment a b (IsLeftOfRun kind image made [])
+  opening_left : EachMoment a b (IsOfScriptRun kind image made [])
   opening_left =
       let left = leaves.left (at_told _ a made told can.0) in
       EachMoment-weaker (λ c both. inr (record { opens = both.0; left = both.1 }))
       (EachMoment-both (each_from _ made told left.opens) (each_from _ made told left.left))
 
-  left_opening : HasNow (IsLeftOfRun kind image made []) b
+  left_opening : HasNow (IsOfScriptRun kind image made []) b
   left_opening = content_at_end opening_left (at_told _ a made told (inl (refl, inl refl)))
 
   -- No line is begun yet.
@@ -348,7 +351,7 @@ module _ (law : OpensLaw) (disk now : DiskIdentity) (count seed : ℕ) (a b : Li
       let w = new_standing disk.sectors made in
       lines_made_begun kind image w.state.history [] (changes_by_step w.format w.state count seed) b b refl
 
-  refused_as : (ended : Ended) → (ended ≡ Endings.Disk) ⊎ (ended ≡ Endings.Memory)
+  refused_as : (ended : Ended) → (ended ≡ Endings.Failed outers.Disk) ⊎ (ended ≡ Endings.Memory)
       → IsExercisedOn disk.sectors count seed made (Err ended) a b
   refused_as ended early = record {
     changes = [];
@@ -362,24 +365,18 @@ module _ (law : OpensLaw) (disk now : DiskIdentity) (count seed : ℕ) (a b : Li
     closed = tt;
   }
 
-  no_fault : (fault : OpeningFault) → IsRefused (OpenModes.Journal Withheld) None disk a b fault → fault ≢ OpeningFaults.Disk
-      → fault ≢ OpeningFaults.Memory → fault_in {T = DeviceParts} (Err fault) ≡ None
+  no_fault : (fault : CallFault OpenFault) → IsRefused (OpenModes.Journal Withheld) None disk a b fault → fault ≢ CallFaults.Disk
+      → fault ≢ CallFaults.Memory → fault_in {T = DeviceParts} (Err fault) ≡ None
   no_fault fault refused not_disk not_memory =
       refused.told not_disk not_memory made told ∙ (law None Withheld disk.sectors image).1 (can.0, refl)
 
   -- A new image is not refused: the disk failed, or there was no memory.
-  pub not_opened : (fault : OpeningFault) → IsRefused (OpenModes.Journal Withheld) None disk a b fault
+  pub not_opened : (fault : CallFault OpenFault) → IsRefused (OpenModes.Journal Withheld) None disk a b fault
       → IsExercisedOn disk.sectors count seed made (Err (ended_by_opening fault)) a b
-  not_opened OpeningFaults.Memory refused = refused_as Endings.Memory (inr refl)
-  not_opened OpeningFaults.Disk refused = refused_as Endings.Disk (inl refl)
-  not_opened (OpeningFaults.Super fault) refused =
-      let none = no_fault (OpeningFaults.Super fault) refused (λ is. absurd (cc)) (λ is. absurd (cc)) in absurd (cc)
-  not_opened (OpeningFaults.Geom fault) refused =
-      let none = no_fault (OpeningFaults.Geom fault) refused (λ is. absurd (cc)) (λ is. absurd (cc)) in absurd (cc)
-  not_opened (OpeningFaults.Consent flags) refused =
-      let none = no_fault (OpeningFaults.Consent flags) refused (λ is. absurd (cc)) (λ is. absurd (cc)) in absurd (cc)
-  not_opened (OpeningFaults.Journal fault) refused =
-      let none = no_fault (OpeningFaults.Journal fault) refused (λ is. absurd (cc)) (λ is. absurd (cc)) in absurd (cc)
+  not_opened CallFaults.Memory refused = refused_as Endings.Memory (inr refl)
+  not_opened CallFaults.Disk refused = refused_as (Endings.Failed outers.Disk) (inl refl)
+  not_opened (CallFaults.Refused cause) refused =
+      let none = no_fault (CallFaults.Refused cause) refused (λ is. absurd (cc)) (λ is. absurd (cc)) in absurd (none-some (image_fault cause) (sym none))
 
   -- It has a journal: the opening leaves its mode.
   stays : changes_mode Modes.Journal (fields_of image) ≡ false
@@ -457,7 +454,7 @@ module _ (law : OpensLaw) (disk now : DiskIdentity) (count seed : ℕ) (a b : Li
         counted_same (Err Stops.Disk) is = is
         counted_same (Err Stops.Memory) is = is
 
-        ends_same : (r : Result Tally Stop) → IfErr (ended_count r) (λ e. (e ≡ Endings.Disk) ⊎ (e ≡ Endings.Memory))
+        ends_same : (r : Result Tally Stop) → IfErr (ended_count r) (λ e. (e ≡ Endings.Failed outers.Disk) ⊎ (e ≡ Endings.Memory))
         ends_same (Ok tally) = tt
         ends_same (Err Stops.Disk) = inl refl
         ends_same (Err Stops.Memory) = inr refl
@@ -514,32 +511,32 @@ module _ (sectors count seed : ℕ) (start : Content) (script : List ℕ) where
         unmade_order : IsExercisedInOrder sectors count seed a m
         unmade_order = record { made = m; making = order; behind = no_moment m _; by_line = λ from told_from. inl refl }
 
-    pub not_made_for : (fault : FormatFault) (held : Option (List ℕ))
-        → ((f : GeomFault) → (fault ≡ FormatFaults.Geom f) ↔ (provided_of exercise_image sectors ≡ Err f))
-        → (fault ≢ FormatFaults.Disk → m ≡ a)
+    pub not_made_for : (fault : CallFault GeomFault) (held : Option (List ℕ))
+        → ((f : GeomFault) → (fault ≡ CallFaults.Refused f) ↔ (provided_of exercise_image sectors ≡ Err f))
+        → (fault ≢ CallFaults.Disk → m ≡ a)
         → HasRunOn outset start script (ending_of (ended_by_format fault)) m held held
         × EachMoment a m (IsMomentOf outset (geometry_on sectors (last_image start)) start script)
-    not_made_for (FormatFaults.Geom f) held geom untouched =
+    not_made_for (CallFaults.Refused f) held geom untouched =
         let same : m ≡ a = untouched (λ is. absurd (cc)) in (
-          refused_run outset start script (RefusedImage (ByGeometry f))
+          refused_run outset start script (Refused (ByImage (ByGeometry f)))
               (ap (outset_by_exercise sectors count seed) ((geom f).0 refl)) m (untouched_kept start told same) held held refl,
           EachMoment-kept _ same,
         )
-    not_made_for FormatFaults.Memory held geom untouched =
+    not_made_for CallFaults.Memory held geom untouched =
         let same : m ≡ a = untouched (λ is. absurd (cc)) in (
           nothing_run outset (fine_exercise sectors count seed) start script NoMemory tt m
               (before_kept outset start told same) held held refl,
           EachMoment-kept _ same,
         )
-    not_made_for FormatFaults.Disk held geom untouched = by (provided_of exercise_image sectors) refl
+    not_made_for CallFaults.Disk held geom untouched = by (provided_of exercise_image sectors) refl
       where
         by : (answer : Result ℕ GeomFault) → provided_of exercise_image sectors ≡ answer
-            → HasRunOn outset start script DiskFailed m held held
+            → HasRunOn outset start script (Failed outers.Disk) m held held
             × EachMoment a m (IsMomentOf outset (geometry_on sectors (last_image start)) start script)
         by (Ok provided) is = (
-          subst (λ (o : Outset). HasRunOn o start script DiskFailed m held held) (sym (exercises provided is)) (record {
-            run = only_ends DiskFailed;
-            is_run = inr (record { ending = DiskFailed; outside = tt; is = refl });
+          subst (λ (o : Outset). HasRunOn o start script (Failed outers.Disk) m held held) (sym (exercises provided is)) (record {
+            run = only_ends (Failed outers.Disk);
+            is_run = inr (record { ending = Failed outers.Disk; outside = tt; is = refl });
             text = [];
             changes = [];
             ended = inl (record { whole = record { is_text = refl; is_changes = refl }; is = refl });
@@ -553,7 +550,7 @@ module _ (sectors count seed : ℕ) (start : Content) (script : List ℕ) where
         )
         by (Err f) is = absurd (no_geom ((geom f).1 is))
           where
-            no_geom : FormatFaults.Disk ≡ FormatFaults.Geom f → ⊥
+            no_geom : CallFaults.Disk ≡ CallFaults.Refused f → ⊥
             no_geom same = cc
 
     -- ---- it is made
@@ -608,7 +605,7 @@ module _ (sectors count seed : ℕ) (start : Content) (script : List ℕ) where
                     left = inr (record {
                       made = made;
                       is_made = is_made;
-                      left = subst (λ (l : List Change). IsLeftOfRun e.kind (last_image made) made (take moment.done l) c)
+                      left = subst (λ (l : List Change). IsOfScriptRun e.kind (last_image made) made (take moment.done l) c)
                           (sym (changes_run sectors count seed made)) moment.left;
                     });
                   };
@@ -622,7 +619,7 @@ module _ (sectors count seed : ℕ) (start : Content) (script : List ℕ) where
         -- What the sink holds is a text behind that, and this ended it.
         ran_to : (text : List ℕ) (ending : Ending) (held_before held : Option (List ℕ))
             → IsEndedBy own_run text exercised.changes ending → held ≡ held_with text held_before
-            → ((c : Content) → IsLeftOfNew e start exercised.changes c → IsLeftAfter (Exercises e) start exercised.changes ending c)
+            → ((c : Content) → IsOfExercise e start exercised.changes c → IsAtExit (Exercises e) start exercised.changes ending c)
             → HasRunOn outset start script ending b held_before held
         ran_to text ending held_before held ended printed left =
             subst (λ (o : Outset). HasRunOn o start script ending b held_before held)
@@ -642,7 +639,7 @@ module _ (sectors count seed : ℕ) (start : Content) (script : List ℕ) where
         exercise_ended ended is held =
             let some = subst (λ (r : Result Tally Ended). HasCounted (new_standing sectors made) count seed r exercised.changes)
             is exercised.is_counted in
-            by some ended (subst (λ (r : Result Tally Ended). IfErr r (λ x. (x ≡ Endings.Disk) ⊎ (x ≡ Endings.Memory))) is exercised.ends)
+            by some ended (subst (λ (r : Result Tally Ended). IfErr r (λ x. (x ≡ Endings.Failed outers.Disk) ⊎ (x ≡ Endings.Memory))) is exercised.ends)
           where
             cut : (ending : Ending) → IsFromOutside ending
                 → ((n : ℕ) × (exercised.changes ≡ take n (exercise_changes (new_standing sectors made) count seed)))
@@ -652,11 +649,11 @@ module _ (sectors count seed : ℕ) (start : Content) (script : List ℕ) where
                 (unprinted sectors count seed made some.0 ending outside))
 
             by : ((n : ℕ) × (exercised.changes ≡ take n (exercise_changes (new_standing sectors made) count seed)))
-                → (x : Ended) → (x ≡ Endings.Disk) ⊎ (x ≡ Endings.Memory)
+                → (x : Ended) → (x ≡ Endings.Failed outers.Disk) ⊎ (x ≡ Endings.Memory)
                 → HasRunOn outset start script (ending_of x) b held held
             by some x (inl disk) =
                 subst (λ (y : Ended). HasRunOn outset start script (ending_of y) b held held) (sym disk)
-                (ran_to [] DiskFailed held held (cut DiskFailed tt some) (told_nothing held) (λ c left. inr left))
+                (ran_to [] (Failed outers.Disk) held held (cut (Failed outers.Disk) tt some) (told_nothing held) (λ c left. inr left))
             by some x (inr memory) =
                 subst (λ (y : Ended). HasRunOn outset start script (ending_of y) b held held) (sym memory)
                 (ran_to [] NoMemory held held (cut NoMemory tt some) (told_nothing held) (λ c left. inr left))
@@ -697,10 +694,10 @@ module _ (sectors count seed : ℕ) (start : Content) (script : List ℕ) where
                 (memory.1 ∙ told_nothing held_before) (λ c left. inr left))
             by (Err ended) (inr sink) =
                 subst (λ (y : Ended). HasRunOn outset start script (ending_of y) b held_before held) (sym sink.0)
-                (ran_to (take sink.1.count (exercise_text tally)) SinkFailed held_before held
-                (inr (subst (λ (l : List Change). IsEndedShort own_run (take sink.1.count (exercise_text tally)) l SinkFailed)
+                (ran_to (take sink.1.count (exercise_text tally)) (Failed outers.Sink) held_before held
+                (inr (subst (λ (l : List Change). IsEndedShort own_run (take sink.1.count (exercise_text tally)) l (Failed outers.Sink))
                 (sym full.1)
-                (subst (λ (t : List ℕ). IsEndedShort own_run (take sink.1.count t) (exercise_changes (new_standing sectors made) count seed) SinkFailed)
+                (subst (λ (t : List ℕ). IsEndedShort own_run (take sink.1.count t) (exercise_changes (new_standing sectors made) count seed) (Failed outers.Sink))
                 text_is (half_printed sectors count seed made sink.1.count
                 (subst (λ (t : List ℕ). sink.1.count < length t) (sym text_is) sink.1.short)))))
                 sink.1.held (λ c left. left))

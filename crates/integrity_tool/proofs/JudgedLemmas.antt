@@ -9,7 +9,7 @@ use Rattle.disk_model.proofs.DiskLemmas.{OnlyAdds-wider}
 use Rattle.device_model.specs.Cut.{all_writes}
 use Rattle.device_model.specs.History.{Change}
 use Rattle.device_model.specs.Mode.{Mode, Bitmap, Direct, Journal, Recovery}
-use Rattle.device_model.specs.ScriptRun.{ScriptRun}
+use Rattle.run_model.specs.ScriptRun.{ScriptRun}
 use Rattle.image_model.specs.declared.flags.TheConstants.{DIRTY_BITMAP, RECALCULATING}
 use Rattle.image_model.specs.Bitmap.{is_dirty}
 use Rattle.image_model.specs.Cells.{Cell, placed_cells_of}

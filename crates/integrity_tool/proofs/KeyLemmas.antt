@@ -2,7 +2,9 @@
 use Rattle.std.proofs.Common.{◌≡◌, ◌≢◌, ◌⊎◌, inl, inr, ℕ, ◌<◌, ◌≤◌, ◌==◌, Bool, true, false, if◌then◌else◌, List, length, take, ltb, refl, sym, ap, subst, ◌∙◌, arith, rules, Option, None, Some, Result, Ok, Err}
 use Rattle.std.proofs.lemmas.Bool.{lt-ltb, ne_eqb}
 use Rattle.std.proofs.lemmas.List.{length-take, take_all}
-use Rattle.device_model.specs.Ending.{KeyRefusal, EmptyKey, LongKey, status_of}
+use Rattle.run_model.specs.Ending.{status_of}
+use Rattle.run_model.specs.declared.key_refusal.KeyRefusal.{KeyRefusal}
+use Rattle.run_model.specs.declared.key_refusal.KeyRefusal.TheVariants.{Empty, Long}
 use Rattle.command_words.specs.declared.values.HashChoice.{HashChoice}
 use Rattle.command_words.specs.declared.values.HashChoice.TheVariants.{HmacSha256, Sha256}
 use Rattle.integrity_tool.specs.declared.asked.Asked.{Asked}
@@ -12,12 +14,14 @@ use Rattle.command_ending.specs.declared.ended.Ended.{Ended}
 use Rattle.command_ending.specs.declared.ended.Ended.TheVariants as Endings
 use Rattle.integrity_tool.specs.KeyFile.{HasFile, HasKeyRead, ReadsKey}
 use Rattle.integrity_tool.specs.Outset.{key_by, key_in, keyed}
+use Rattle.run_model.specs.declared.outer.Outer.TheVariants as outers
+use Rattle.command_ending.specs.declared.refusal.Refusal.TheVariants as refusals
 
 by_tests : (bytes : List ℕ) (empty long : Bool) → (length bytes == 0) ≡ empty → ltb 4096 (length bytes) ≡ long
-    → key_in bytes ≡ (if empty then Err EmptyKey else if long then Err LongKey else Ok bytes)
+    → key_in bytes ≡ (if empty then Err Empty else if long then Err Long else Ok bytes)
 by_tests bytes empty long is_empty is_long =
-    ap (λ (b : Bool). if b then Err EmptyKey else if ltb 4096 (length bytes) then Err LongKey else Ok bytes) is_empty
-    ∙ ap (λ (b : Bool). if empty then Err EmptyKey else if b then Err LongKey else Ok bytes) is_long
+    ap (λ (b : Bool). if b then Err Empty else if ltb 4096 (length bytes) then Err Long else Ok bytes) is_empty
+    ∙ ap (λ (b : Bool). if empty then Err Empty else if b then Err Long else Ok bytes) is_long
 
 -- Where no more than the bound was read and not all of it, the file is that.
 pub read_whole : (all : List ℕ) → length (take 4097 all) ≤ 4096 → take 4097 all ≡ all
@@ -28,7 +32,7 @@ key_is bytes all read some short =
     let is : all ≡ bytes = sym (read_whole all (omega (arith, short, ap length read))) ∙ sym read in
     ap key_in is ∙ by_tests bytes false false (search (rules, some)) (search (rules, short))
 
-pub is_empty : (bytes all : List ℕ) → bytes ≡ take 4097 all → length bytes ≡ 0 → key_in all ≡ Err EmptyKey
+pub is_empty : (bytes all : List ℕ) → bytes ≡ take 4097 all → length bytes ≡ 0 → key_in all ≡ Err Empty
 is_empty bytes all read none =
     let size : length all ≡ 0 = omega (arith, none, ap length read, length-take 4097 all) in
     by_tests all true (ltb 4096 (length all)) (ap (λ (n : ℕ). n == 0) size) refl
@@ -36,7 +40,7 @@ is_empty bytes all read none =
 not_zero : (n : ℕ) → 4096 < n → (n == 0) ≡ false
 not_zero n big = ne_eqb n 0 (λ is. absurd (omega (arith, big, is)))
 
-pub is_long : (bytes all : List ℕ) → bytes ≡ take 4097 all → 4096 < length bytes → key_in all ≡ Err LongKey
+pub is_long : (bytes all : List ℕ) → bytes ≡ take 4097 all → 4096 < length bytes → key_in all ≡ Err Long
 is_long bytes all read long =
     let size : 4096 < length all = omega (arith, long, ap length read, length-take 4097 all) in
     by_tests all false true (not_zero (length all) size) (lt-ltb 4096 (length all) size)
@@ -107,8 +111,8 @@ not_read (Some file) named left key used is_read same none = λ bytes has. (
 
 -- Where words are no command no key file is named, and where there is no memory for them none is read.
 pub words_unread : {K : Type 0} (words : List (List ℕ)) (named : K → List ℕ → Option (List ℕ))
-    (left : K → Option (List ℕ)) (key : K) (ended : Ended) → (ended ≡ Endings.Words) ⊎ (ended ≡ Endings.Memory)
-    → (ended ≡ Endings.Words → asked_of words ≡ None)
+    (left : K → Option (List ℕ)) (key : K) (ended : Ended) → (ended ≡ Endings.Refused refusals.Words) ⊎ (ended ≡ Endings.Memory)
+    → (ended ≡ Endings.Refused refusals.Words → asked_of words ≡ None)
     → ReadsKey (key_file_of_asked (asked_of words)) named left key key (HasKeyRead ended)
 words_unread words named left key ended (inl is) none =
     subst (λ (a : Option Asked). ReadsKey (key_file_of_asked a) named left key key (HasKeyRead ended)) (sym (none is)) refl
@@ -119,13 +123,9 @@ words_unread words named left key ended (inr is) none =
 -- Where neither status 5 nor 7 tells of it, the key file was read.
 pub was_read : (ended : Ended) → (status_of (ending_of ended) ≢ 5) × (status_of (ending_of ended) ≢ 7)
     → HasKeyRead ended
-was_read Endings.Words is = tt
-was_read (Endings.Key refusal) is = tt
-was_read (Endings.Line number refusal) is = tt
-was_read Endings.Length is = tt
-was_read (Endings.Image fault) is = tt
-was_read Endings.Disk is = tt
-was_read Endings.KeySource is = is.0 refl
-was_read Endings.Script is = tt
-was_read Endings.Sink is = tt
+was_read (Endings.Refused refusal) is = tt
+was_read (Endings.Failed outers.Disk) is = tt
+was_read (Endings.Failed outers.Key) is = is.0 refl
+was_read (Endings.Failed outers.Script) is = tt
+was_read (Endings.Failed outers.Sink) is = tt
 was_read Endings.Memory is = is.1 refl

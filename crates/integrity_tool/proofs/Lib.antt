@@ -10,6 +10,8 @@ pub mod ReopeningLemmas
 pub mod StoredTagsLemmas
 pub mod RunningLemmas
 pub mod ServingLemmas
+pub mod OutsetLemmas
+pub mod UnbegunLemmas
 pub mod StartLemmas
 pub mod TakenLemmas
 pub mod TopLemmas

@@ -11,14 +11,16 @@ use Rattle.std.proofs.lemmas.List.Elements.{All-head, All-tail}
 use Rattle.std.proofs.Math.Seq.{take-append_seam}
 use Rattle.disk_model.specs.Causes.{Rose}
 use Rattle.disk_model.specs.Disk.{Content}
-use Rattle.device_model.specs.Ending.{RefusedLine, RefusedLength, ScriptFailed, ByWords}
+use Rattle.device_model.specs.Refusals.{ByWords}
+use Rattle.run_model.specs.Ending.{Failed, ByLine, ByLength}
+use Rattle.run_model.specs.Ending as endings
 use Rattle.device_model.specs.Grammar.{ReadLine, Means, Refused, IsReadAs}
 use Rattle.device_model.specs.LineFault.{TooLong}
 use Rattle.device_model.specs.Script.{line_outcome}
 use Rattle.device_model.specs.ScriptBytes.{most_script}
-use Rattle.device_model.specs.ScriptRun.{IsRunOf, ScriptRun, ScriptStep, line_step, run_from, texts_of, with_step}
+use Rattle.run_model.specs.ScriptRun.{IsRunOf, ScriptRun, ScriptStep, line_step, run_from, texts_of, with_step}
 use Rattle.device_model.proofs.UniqueReading.{read_once}
-use Rattle.script_text.proofs.ScriptRunLemmas.{run_is_split}
+use Rattle.run_laws.proofs.ScriptRunLemmas.{run_is_split}
 use Rattle.script_reader.specs.Lines.{FindsEnd, FindsWholeLine}
 use Rattle.script_reader.specs.Reading.{BeginsLine, HasNoNewline, IsWithin, Reading, TakesLine, most_piece}
 use Rattle.script_reader.proofs.LinesLemmas.{is_too_long-script, lines_left-script}
@@ -45,6 +47,8 @@ use Rattle.integrity_tool.specs.Running.{newlines_in}
 use Rattle.integrity_tool.specs.Running.{lines_behind, only_close}
 use Rattle.integrity_tool.proofs.RunningLemmas.{stopped_at_lines, stopped_by_itself, stopped_further}
 use Rattle.integrity_tool.proofs.RunningLemmas.{told_further, told_nothing}
+use Rattle.run_model.specs.declared.outer.Outer.TheVariants as outers
+use Rattle.command_ending.specs.declared.refusal.Refusal.TheVariants as refusals
 
 -- ---- lines and steps
 
@@ -222,11 +226,11 @@ module _ (there : Standing) (run : ScriptRun) (start : List Content) (held_start
       → AllZip IsReadAs (bytes ∷ others) lines
       → Leads here (run_from here.format beyond number here.state (finds_fault found) lines) now held
       there run start held_start
-      → IsStopped there run (RefusedLine number (ByWords TooLong)) start now held_start held
+      → IsStopped there run (endings.Refused (ByLine number (ByWords TooLong))) start now held_start held
   long_line here parts now is beyond number found bytes others held long [] read leads = absurd read
   long_line here parts now is beyond number found bytes others held long (first ∷ lines) read leads =
-      leads (RefusedLine number (ByWords TooLong)) now held
-      (stopped_by_itself here Conditions.Working parts now is _ (RefusedLine number (ByWords TooLong)) held
+      leads (endings.Refused (ByLine number (ByWords TooLong))) now held
+      (stopped_by_itself here Conditions.Working parts now is _ (endings.Refused (ByLine number (ByWords TooLong))) held
       (ap (λ (r : ReadLine). run_from here.format beyond number here.state (finds_fault found) (r ∷ lines))
       (read_once bytes first (Refused TooLong) read.0 long)))
 
@@ -236,10 +240,10 @@ module _ (there : Standing) (run : ScriptRun) (start : List Content) (held_start
       → (beyond : Bool) → beyond ≡ true → (number : ℕ) (found : TagsFound) (held : Option (List ℕ))
       (lines : List ReadLine) → AllZip IsReadAs [] lines
       → Leads here (run_from here.format beyond number here.state (finds_fault found) lines) now held
-      there run start held_start → IsStopped there run RefusedLength start now held_start held
+      there run start held_start → IsStopped there run (endings.Refused ByLength) start now held_start held
   long_script here parts now is beyond long number found held [] read leads =
-      leads RefusedLength now held
-      (stopped_by_itself here Conditions.Working parts now is _ RefusedLength held
+      leads (endings.Refused ByLength) now held
+      (stopped_by_itself here Conditions.Working parts now is _ (endings.Refused ByLength) held
       (ap (λ (b : Bool). run_from here.format b number here.state (finds_fault found) []) long))
   long_script here parts now is beyond long number found held (first ∷ lines) read leads = absurd read
 
@@ -376,22 +380,19 @@ module _ (there : Standing) (run : ScriptRun) (start : List Content) (held_start
     pub none_read : (after : Option (List ℕ)) (failed : Type 0) (ended : Ended)
         → HasAdvanced number old new left later (Err ended)
         → TakesLine old new (old.unread ++ left) (new.unread ++ later) → IsWithin new → after ≡ Some later
-        → (ended ≢ Endings.Script → failed → ⊥) → HasReadTo run script after held_start held failed
-    none_read after failed (Endings.Line n refusal) advanced takes within told fine =
-        line_read after held failed (fine (λ (is : Endings.Line n refusal ≡ Endings.Script). absurd (cc))) takes
+        → (ended ≢ Endings.Failed outers.Script → failed → ⊥) → HasReadTo run script after held_start held failed
+    none_read after failed (Endings.Refused (refusals.Line n refusal)) advanced takes within told fine =
+        line_read after held failed (fine (λ (is : (Endings.Refused (refusals.Line n refusal)) ≡ Endings.Failed outers.Script). absurd (cc))) takes
         within told (holds_same refl)
-    none_read after failed Endings.Length advanced takes within told fine =
-        line_read after held failed (fine (λ (is : Endings.Length ≡ Endings.Script). absurd (cc))) takes within told
+    none_read after failed (Endings.Refused refusals.Length) advanced takes within told fine =
+        line_read after held failed (fine (λ (is : (Endings.Refused refusals.Length) ≡ Endings.Failed outers.Script). absurd (cc))) takes within told
         (holds_same refl)
-    none_read after failed Endings.Words (is, begins) takes within told fine = line_begun after failed begins told
-    none_read after failed (Endings.Key refusal) (is, begins) takes within told fine =
+    none_read after failed (Endings.Refused refusals.Words) (is, begins) takes within told fine = line_begun after failed begins told
+    none_read after failed (Endings.Refused (refusals.Key refusal)) (is, begins) takes within told fine =
         line_begun after failed begins told
-    none_read after failed (Endings.Image fault) (is, begins) takes within told fine =
+    none_read after failed (Endings.Refused (refusals.Image fault)) (is, begins) takes within told fine =
         line_begun after failed begins told
-    none_read after failed Endings.Disk (is, begins) takes within told fine = line_begun after failed begins told
-    none_read after failed Endings.KeySource (is, begins) takes within told fine = line_begun after failed begins told
-    none_read after failed Endings.Script (is, begins) takes within told fine = line_begun after failed begins told
-    none_read after failed Endings.Sink (is, begins) takes within told fine = line_begun after failed begins told
+    none_read after failed (Endings.Failed outer) (is, begins) takes within told fine = line_begun after failed begins told
     none_read after failed Endings.Memory (is, begins) takes within told fine = line_begun after failed begins told
 
     -- A line is found and stops the run.
@@ -434,40 +435,37 @@ module _ (there : Standing) (run : ScriptRun) (start : List Content) (held_start
         at_most_is : (n : ℕ) → n ≤ most_script → ltb most_script n ≡ false
         at_most_is n within = le-ltb most_script n within
 
-    source_failed : (ended : Ended) → ended ≡ Endings.Script
+    source_failed : (ended : Ended) → ended ≡ Endings.Failed outers.Script
         → IsStopped there run (ending_of ended) start now held_start held
     source_failed ended is =
         subst (λ (e : Ended). IsStopped there run (ending_of e) start now held_start held) (sym is)
-        (at.leads ScriptFailed now held
-        (stopped_at_lines at.here Conditions.Working parts now at.device ScriptFailed held tt
+        (at.leads (Failed outers.Script) now held
+        (stopped_at_lines at.here Conditions.Working parts now at.device (Failed outers.Script) held tt
         (is_beyond old left) number (finds_fault found) at.lines))
 
     -- What else is found stops the run.
     pub advance_stopped : (ended : Ended) → HasAdvanced number old new left later (Err ended)
         → IsStopped there run (ending_of ended) start now held_start held
-    advance_stopped (Endings.Line n refusal) (same, form, finds) =
-        subst (λ (m : ℕ). IsStopped there run (ending_of (Endings.Line m refusal)) start now held_start held)
+    advance_stopped (Endings.Refused (refusals.Line n refusal)) (same, form, finds) =
+        subst (λ (m : ℕ). IsStopped there run (ending_of (Endings.Refused (refusals.Line m refusal))) start now held_start held)
         (sym same)
         (subst (λ (r : LineRefusal). IsStopped there run
-        (ending_of (Endings.Line number r)) start now held_start held)
+        (ending_of (Endings.Refused (refusals.Line number r))) start now held_start held)
         (sym form)
         (long_line at.here parts now at.device
         (is_beyond old left) number found finds.bytes finds.others held finds.long
         at.lines (subst (λ (l : List (List ℕ)). AllZip IsReadAs l at.lines) finds.next at.read) at.leads))
-    advance_stopped Endings.Length finds =
+    advance_stopped (Endings.Refused refusals.Length) finds =
         long_script at.here parts now at.device (is_beyond old left)
         (beyond_is (old.taken + length (old.unread ++ left)) finds.beyond) number found held
         at.lines (subst (λ (l : List (List ℕ)). AllZip IsReadAs l at.lines) finds.none at.read) at.leads
       where
         beyond_is : (n : ℕ) → most_script < n → ltb most_script n ≡ true
         beyond_is n beyond = lt-ltb most_script n beyond
-    advance_stopped Endings.Words (is, begins) = source_failed Endings.Words is
-    advance_stopped (Endings.Key refusal) (is, begins) = source_failed (Endings.Key refusal) is
-    advance_stopped (Endings.Image fault) (is, begins) = source_failed (Endings.Image fault) is
-    advance_stopped Endings.Disk (is, begins) = source_failed Endings.Disk is
-    advance_stopped Endings.KeySource (is, begins) = source_failed Endings.KeySource is
-    advance_stopped Endings.Script (is, begins) = source_failed Endings.Script is
-    advance_stopped Endings.Sink (is, begins) = source_failed Endings.Sink is
+    advance_stopped (Endings.Refused refusals.Words) (is, begins) = source_failed (Endings.Refused refusals.Words) is
+    advance_stopped (Endings.Refused (refusals.Key refusal)) (is, begins) = source_failed (Endings.Refused (refusals.Key refusal)) is
+    advance_stopped (Endings.Refused (refusals.Image fault)) (is, begins) = source_failed (Endings.Refused (refusals.Image fault)) is
+    advance_stopped (Endings.Failed outer) (is, begins) = source_failed (Endings.Failed outer) is
     advance_stopped Endings.Memory (is, begins) = source_failed Endings.Memory is
 
 -- ---- causes
@@ -498,16 +496,12 @@ rose_since before between after later rose = omega arith
 -- What has its cause in a source has it in the source since its count was lower.
 pub source_cause : (before between after : ℕ) (disk sink : Type 0) (ended : Ended) → before ≤ between
     → HasEndCause ⊥ (Rose between after) ⊥ ended → HasEndCause disk (Rose before after) sink ended
-source_cause before between after disk sink Endings.Disk later cause = absurd cause
-source_cause before between after disk sink Endings.Script later cause =
+source_cause before between after disk sink (Endings.Refused refusal) later cause = tt
+source_cause before between after disk sink (Endings.Failed outers.Disk) later cause = absurd cause
+source_cause before between after disk sink (Endings.Failed outers.Key) later cause = tt
+source_cause before between after disk sink (Endings.Failed outers.Script) later cause =
     rose_since before between after later cause
-source_cause before between after disk sink Endings.Sink later cause = absurd cause
-source_cause before between after disk sink Endings.Words later cause = tt
-source_cause before between after disk sink (Endings.Key refusal) later cause = tt
-source_cause before between after disk sink (Endings.Line number refusal) later cause = tt
-source_cause before between after disk sink Endings.Length later cause = tt
-source_cause before between after disk sink (Endings.Image fault) later cause = tt
-source_cause before between after disk sink Endings.KeySource later cause = tt
+source_cause before between after disk sink (Endings.Failed outers.Sink) later cause = absurd cause
 source_cause before between after disk sink Endings.Memory later cause = tt
 
 -- ---- a turn of the loop
@@ -607,7 +601,7 @@ module _ (w : Standing) (run : ScriptRun) (script : List ℕ) (start : List Cont
   -- where none is found, whether the source has failed or not;
   pub turn_unread : (before after : Option (List ℕ)) (failed : Type 0) (ended : Ended) → StandsAt before
       → Advances before after (Err ended) → Takes before after → IsWithin new
-      → (ended ≢ Endings.Script → failed → ⊥) → HasReadTo run script after held_start held failed
+      → (ended ≢ Endings.Failed outers.Script → failed → ⊥) → HasReadTo run script after held_start held failed
   turn_unread None after failed ended at advanced takes within fine = absurd at
   turn_unread (Some left) None failed ended at advanced takes within fine = absurd (takes left refl)
   turn_unread (Some left) (Some later) failed ended at advanced takes within fine =

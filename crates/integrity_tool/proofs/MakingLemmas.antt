@@ -5,12 +5,13 @@ use Rattle.std.specs.Option.{IsSomeAnd, option_map}
 use Rattle.disk_model.specs.Disk.{Content, OnlyAdds}
 use Rattle.disk_model.specs.Moments.{content_now, EachMoment, FromStart}
 use Rattle.disk_model.proofs.MomentsLemmas.{EachMoment-kept, EachMoment-weaker, content_at_end}
-use Rattle.device_model.specs.Ending.{Complete, DiskFailed, NoMemory, RefusedImage, ByGeometry, SinkFailed}
+use Rattle.device_model.specs.Refusals.{ByGeometry}
+use Rattle.run_model.specs.Ending.{Complete, Refused, Failed, NoMemory, ByImage}
 use Rattle.stream_io.specs.Stream.{with_bytes, AddsPrefix}
 use Rattle.image_model.specs.Geometry.{Geometry}
 use Rattle.image_model.specs.declared.geom_fault.GeomFault.{GeomFault}
-use Rattle.image_formatting.specs.declared.format_fault.FormatFault.{FormatFault}
-use Rattle.image_formatting.specs.declared.format_fault.FormatFault.TheVariants as FormatFaults
+use Rattle.image_refusal.specs.declared.call_fault.CallFault.{CallFault}
+use Rattle.image_refusal.specs.declared.call_fault.CallFault.TheVariants as CallFaults
 use Rattle.image_formatting.specs.declared.new_image.NewImage.{NewImage}
 use Rattle.image_formatting.specs.Formatted.{HasMade, IsLeftByFormat}
 use Rattle.image_formatting.specs.NewImage.{provided_of}
@@ -18,13 +19,15 @@ use Rattle.image_formatting.specs.Written.{IsOfNewImage}
 use Rattle.image_formatting.proofs.WholeLemmas.{left_in_order}
 use Rattle.device_opening.proofs.MomentsLemmas.{EachMoment-both}
 use Rattle.command_ending.specs.Ended.{ending_of}
-use Rattle.command_model.specs.CommandRun.{Outset, Makes, only_prints}
+use Rattle.run_model.specs.CommandRun.{Outset, Makes, only_prints}
 use Rattle.integrity_tool.specs.Making.{IsLeftByMaking, IsMadeInOrder, ended_by_format, format_outset, formatted_text, making_of, outset_by_format}
 use Rattle.integrity_tool.specs.Opening.{HasRunOn, IsMomentOf}
 use Rattle.integrity_tool.proofs.RunningLemmas.{told_nothing}
-use Rattle.integrity_tool.proofs.StartLemmas.{before_kept, fine_format, left_at_start, made_prints, nothing_run, refused_run, untouched_kept}
+use Rattle.integrity_tool.proofs.OutsetLemmas.{fine_format, left_at_start, made_prints}
+use Rattle.integrity_tool.proofs.UnbegunLemmas.{before_kept, nothing_run, refused_run, untouched_kept}
 use Rattle.integrity_tool.proofs.TextsLemmas.{none_short}
 use Rattle.integrity_tool.proofs.PrintingLemmas.{one_cut, one_printed}
+use Rattle.run_model.specs.declared.outer.Outer.TheVariants as outers
 
 -- A formatting leaves what it may, and writes what it may.
 pub left_since : (key : Option (List ℕ)) (sectors : ℕ) (new : NewImage) (start : Content) {a b : List Content} → content_now a ≡ Some start
@@ -62,9 +65,9 @@ module _ (key : Option (List ℕ)) (sectors : ℕ) (new : NewImage) (start : Con
   -- or the sink failed at that.
   pub made_untold : (provided : ℕ) (held_before held : Option (List ℕ)) → HasMade key sectors new provided a b
       → AddsPrefix (formatted_text provided) held_before held
-      → HasRunOn (format_outset key sectors new) start script SinkFailed b held_before held
+      → HasRunOn (format_outset key sectors new) start script (Failed outers.Sink) b held_before held
   made_untold provided held_before held all put =
-      subst (λ (o : Outset). HasRunOn o start script SinkFailed b held_before held) (sym (makes key sectors new provided all.is_provided))
+      subst (λ (o : Outset). HasRunOn o start script (Failed outers.Sink) b held_before held) (sym (makes key sectors new provided all.is_provided))
       (one_cut (Makes (making_of key sectors new provided)) (formatted_text provided) start script b held_before held (λ s. refl) put
       (all.is_written start told))
 
@@ -82,14 +85,14 @@ module _ (key : Option (List ℕ)) (sectors : ℕ) (new : NewImage) (start : Con
 
     -- The disk failed, and what it may leave is left.
     cut : (held : Option (List ℕ)) (provided : ℕ) → provided_of new sectors ≡ Ok provided
-        → HasRunOn (format_outset key sectors new) start script DiskFailed b held held
+        → HasRunOn (format_outset key sectors new) start script (Failed outers.Disk) b held held
     cut held provided is =
-        subst (λ (o : Outset). HasRunOn o start script DiskFailed b held held) (sym (makes key sectors new provided is)) (record {
+        subst (λ (o : Outset). HasRunOn o start script (Failed outers.Disk) b held held) (sym (makes key sectors new provided is)) (record {
           run = only_prints (formatted_text provided ∷ []) false;
           is_run = refl;
           text = [];
           changes = [];
-          ended = inr (none_short (formatted_text provided ∷ []) false DiskFailed (made_prints provided) tt);
+          ended = inr (none_short (formatted_text provided ∷ []) false (Failed outers.Disk) (made_prints provided) tt);
           told = told_nothing held;
           left = content_at_end (left_since key sectors new start told order)
               (λ c here. subst (λ (o : Option Content). IsSomeAnd o (λ s. IsLeftByMaking key sectors new start s)) (sym told ∙ here)
@@ -97,29 +100,29 @@ module _ (key : Option (List ℕ)) (sectors : ℕ) (new : NewImage) (start : Con
         })
 
     -- Why it was not made.
-    pub not_made : (fault : FormatFault) (held : Option (List ℕ))
-        → ((f : GeomFault) → (fault ≡ FormatFaults.Geom f) ↔ (provided_of new sectors ≡ Err f)) → (fault ≢ FormatFaults.Disk → b ≡ a)
+    pub not_made : (fault : CallFault GeomFault) (held : Option (List ℕ))
+        → ((f : GeomFault) → (fault ≡ CallFaults.Refused f) ↔ (provided_of new sectors ≡ Err f)) → (fault ≢ CallFaults.Disk → b ≡ a)
         → HasRunOn (format_outset key sectors new) start script (ending_of (ended_by_format fault)) b held held
         × EachMoment a b (IsMomentOf (format_outset key sectors new) g start script)
-    not_made (FormatFaults.Geom f) held geom untouched =
+    not_made (CallFaults.Refused f) held geom untouched =
         let same : b ≡ a = untouched (λ is. absurd (cc)) in (
-          refused_run (format_outset key sectors new) start script (RefusedImage (ByGeometry f))
+          refused_run (format_outset key sectors new) start script (Refused (ByImage (ByGeometry f)))
               (ap (outset_by_format key sectors new) ((geom f).0 refl)) b (untouched_kept start told same) held held refl,
           EachMoment-kept (IsMomentOf (format_outset key sectors new) g start script) same,
         )
-    not_made FormatFaults.Memory held geom untouched =
+    not_made CallFaults.Memory held geom untouched =
         let same : b ≡ a = untouched (λ is. absurd (cc)) in (
           nothing_run (format_outset key sectors new) (fine_format key sectors new) start script NoMemory tt b
               (before_kept (format_outset key sectors new) start told same) held held refl,
           EachMoment-kept (IsMomentOf (format_outset key sectors new) g start script) same,
         )
-    not_made FormatFaults.Disk held geom untouched = by (provided_of new sectors) refl
+    not_made CallFaults.Disk held geom untouched = by (provided_of new sectors) refl
       where
         by : (answer : Result ℕ GeomFault) → provided_of new sectors ≡ answer
-            → HasRunOn (format_outset key sectors new) start script DiskFailed b held held
+            → HasRunOn (format_outset key sectors new) start script (Failed outers.Disk) b held held
             × EachMoment a b (IsMomentOf (format_outset key sectors new) g start script)
         by (Ok provided) is = (cut held provided is, amid provided is)
         by (Err f) is = absurd (no_geom ((geom f).1 is))
           where
-            no_geom : FormatFaults.Disk ≡ FormatFaults.Geom f → ⊥
+            no_geom : CallFaults.Disk ≡ CallFaults.Refused f → ⊥
             no_geom same = cc

@@ -9,18 +9,21 @@ use Rattle.disk_model.specs.Moments.{content_now, EachMoment, HasNow}
 use Rattle.disk_model.proofs.DiskLemmas.{OnlyAdds-none}
 use Rattle.disk_model.proofs.MomentsLemmas.{EachMoment-kept, EachMoment-then, EachMoment-weaker, content_at_end}
 use Rattle.device_model.specs.Device.{DeviceKind}
-use Rattle.device_model.specs.Ending.{Ending, DiskFailed, NoMemory}
+use Rattle.run_model.specs.Ending.{Ending, Failed, NoMemory}
 use Rattle.device_model.proofs.HistoryLemmas.{Any-nil}
 use Rattle.device_model.specs.Cut.{all_writes}
 use Rattle.device_model.specs.History.{BlockWrite, Change, History, with_changes}
-use Rattle.device_model.specs.ScriptRun.{ScriptRun, IsRunOf, changes_in}
+use Rattle.run_model.specs.ScriptRun.{ScriptRun, IsRunOf, changes_in}
 use Rattle.direct_laws.specs.MomentLaws.{IsLeftNow}
 use Rattle.image_model.specs.Geometry.{Geometry}
 use Rattle.image_model.specs.Openable.{IsReadable}
 use Rattle.place_model.specs.Format.{format_on}
 use Rattle.place_model.specs.Kind.{kind_in}
-use Rattle.image_judging.specs.declared.opening_fault.OpeningFault.{OpeningFault}
-use Rattle.image_judging.specs.declared.opening_fault.OpeningFault.TheVariants as OpeningFaults
+use Rattle.image_refusal.specs.declared.call_fault.CallFault.{CallFault}
+use Rattle.image_refusal.specs.declared.call_fault.CallFault.TheVariants as CallFaults
+use Rattle.image_refusal.specs.declared.open_fault.OpenFault.{OpenFault}
+use Rattle.image_refusal.specs.declared.open_fault.OpenFault.TheVariants as OpenFaults
+use Rattle.image_refusal.specs.declared.open_fault.HeadFault.TheVariants as HeadFaults
 use Rattle.image_judging.specs.FaultLaws.{OpensLaw}
 use Rattle.image_judging.specs.Faults.{ImageFault, fault_in}
 use Rattle.device_opening.proofs.MadeDeviceLemmas.{some_disk}
@@ -40,7 +43,7 @@ use Rattle.device.specs.Tags.{AreOfOthers, IsLeftOut, KeepsStill, KeepsTagsOf, L
 use Rattle.device.specs.Writes.{IsOfRun}
 use Rattle.device.proofs.TagsLemmas.{still_then, tags_fewer}
 use Rattle.command_ending.specs.Ended.{ending_of}
-use Rattle.command_model.specs.CommandRun.{Outset, RunsOn, ReadsOn, Serves, IsLeftAfter, IsLeftAt, IsLeftBy, IsLeftOfRun, IsRunAt, MayBeLeftAt}
+use Rattle.run_model.specs.CommandRun.{Outset, RunsOn, ReadsOn, Serves, IsAtExit, IsAtMoment, IsOfDevice, IsOfScriptRun, IsRunAt, MayStandAt}
 use Rattle.command_ending.specs.declared.ended.Ended.{Ended}
 use Rattle.command_ending.specs.declared.ended.Ended.TheVariants as Endings
 use Rattle.script_session.specs.declared.tags_found.TagsFound.{TagsFound}
@@ -51,13 +54,16 @@ use Rattle.integrity_tool.specs.Calls.{LeavesUnread}
 use Rattle.integrity_tool.specs.Closing.{ended_close}
 use Rattle.integrity_tool.specs.Ends.{IsBeforeScript}
 use Rattle.integrity_tool.specs.declared.telling.Telling.TheVariants.{Lines}
-use Rattle.integrity_tool.specs.Opening.{HasReadIn, HasRunIn, HasRunOn, IsMomentOf, IsMomentOn, IsOfOpeningIn, IsOpenedTo, IsWrittenByRun, KeepsTagsBehind, WritesOnlyBy, geometry_of_device}
-use Rattle.integrity_tool.specs.Outset.{begun_on, geometry_on, outset_by, outset_on}
+use Rattle.integrity_tool.specs.Opening.{EndsImage, HasReadIn, HasRunIn, HasRunOn, IsMomentOf, IsMomentOn, IsOfOpeningIn, IsOpenedTo, IsWrittenByRun, KeepsTagsBehind, WritesOnlyBy, geometry_of_device}
+use Rattle.integrity_tool.specs.Outset.{begun_on, geometry_on, judged_outset, run_outset}
 use Rattle.integrity_tool.specs.Refusing.{ended_by_opening, ending_by_refusal}
 use Rattle.integrity_tool.specs.Running.{EndsScript, HasReadTo, IsStopped}
 use Rattle.integrity_tool.specs.Words.{MayWrite}
 use Rattle.integrity_tool.proofs.JudgedLemmas.{bitmap_opening, direct_opening, fields_on, journal_opening, kind_opened, opened_writes, tags_found, tags_made, tags_opened, written_behind}
-use Rattle.integrity_tool.proofs.StartLemmas.{IsAsBefore, IsOfRun as IsRuns, IsSound, as_same, before_may_be_left, fine_begun, fine_on, nothing_begun, ran_in, read_in, refused_begun, some_run, sound_begun, sound_by, untouched_now, untouched_through}
+use Rattle.integrity_tool.proofs.OutsetLemmas.{IsOfRun as IsRuns, IsSound, fine_begun, fine_on, sound_begun, sound_by}
+use Rattle.integrity_tool.proofs.UnbegunLemmas.{IsAsBefore, as_same, before_may_be_left, nothing_begun, ran_in, read_in, refused_begun, some_run, untouched_now, untouched_through}
+use Rattle.run_model.specs.declared.outer.Outer.TheVariants as outers
+use Rattle.command_ending.specs.declared.refusal.Refusal.TheVariants as refusals
 
 -- ---- modes that take writes, and recovery mode
 
@@ -132,14 +138,14 @@ module _ {kind : DeviceKind} {image : Image} (start : Content) (begun : Outset) 
     | inr is ↦ subst P (sym is) serves
   ]
 
-  as_before_on : (c : Content) → IsLeftOfRun kind image start [] c → IsAsBefore begun start c
+  as_before_on : (c : Content) → IsOfScriptRun kind image start [] c → IsAsBefore begun start c
   as_before_on c left = by_both (λ (o : Outset). IsAsBefore o start c) left left
 
   writes_on : (g : Geometry) (run : ScriptRun) (c : Content) → IsWrittenByRun kind image g run start c → WritesOnlyBy begun g run start c
   writes_on g run c written = by_both (λ (o : Outset). WritesOnlyBy o g run start c) written written
 
-  left_on : (changes : List Change) (c : Content) → IsLeftOfRun kind image start changes c → IsLeftAt begun start changes c
-  left_on changes c left = by_both (λ (o : Outset). IsLeftAt o start changes c) left left
+  left_on : (changes : List Change) (c : Content) → IsOfScriptRun kind image start changes c → IsAtMoment begun start changes c
+  left_on changes c left = by_both (λ (o : Outset). IsAtMoment o start changes c) left left
 
 -- A run of the device is one of the command, in every mode.
 run_at : (mode : OpenMode) (kind : DeviceKind) (image : Image) (script : List ℕ) (run : ScriptRun)
@@ -188,7 +194,7 @@ module _ (law : OpensLaw) (mode : OpenMode) (key : Option (List ℕ)) (disk now 
     kind = kind_in (asked_mode mode) key disk.sectors
 
     abbrev outset : Outset
-    outset = outset_by begun (fault_in_mode mode key disk.sectors image)
+    outset = judged_outset begun (fault_in_mode mode key disk.sectors image)
 
     abbrev g : Geometry
     g = geometry_on disk.sectors image
@@ -202,7 +208,7 @@ module _ (law : OpensLaw) (mode : OpenMode) (key : Option (List ℕ)) (disk now 
     sound_on : IsSound outset
     sound_on = sound_by begun sound (fault_in_mode mode key disk.sectors image)
 
-    of_begun_by : (refusal : Option ImageFault) → IsRuns (outset_by begun refusal)
+    of_begun_by : (refusal : Option ImageFault) → IsRuns (judged_outset begun refusal)
     of_begun_by None = elim sort [
       | Writing writing on ↦ by_both start begun on IsRuns tt tt
       | Reading is on ↦ subst IsRuns (sym on) tt
@@ -225,7 +231,7 @@ module _ (law : OpensLaw) (mode : OpenMode) (key : Option (List ℕ)) (disk now 
       opening_still is = subst (λ (m : OpenMode). WritesInOpening m key disk.sectors a b) is leaves.writes
 
       left_by : (refusal : Option ImageFault) → fault_in_mode mode key disk.sectors image ≡ refusal
-          → EachMoment a b (IsAsBefore (outset_by begun refusal) start)
+          → EachMoment a b (IsAsBefore (judged_outset begun refusal) start)
       left_by None none = elim sort [
         | Writing writing on ↦
             let left = leaves.left (at_told _ a start told (writing.opens law key disk.sectors image none)) in
@@ -244,7 +250,7 @@ module _ (law : OpensLaw) (mode : OpenMode) (key : Option (List ℕ)) (disk now 
       left_now = content_at_end left_each (at_told (IsAsBefore outset start) a start told (as_same outset start start refl))
 
       writes_by : (run : ScriptRun) (refusal : Option ImageFault) → fault_in_mode mode key disk.sectors image ≡ refusal
-          → EachMoment a b (WritesOnlyBy (outset_by begun refusal) g run start)
+          → EachMoment a b (WritesOnlyBy (judged_outset begun refusal) g run start)
       writes_by run None none = elim sort [
         | Writing writing on ↦
             EachMoment-weaker (λ c of. writes_on start begun on g run c (record {
@@ -275,29 +281,29 @@ module _ (law : OpensLaw) (mode : OpenMode) (key : Option (List ℕ)) (disk now 
       -- ---- no device is open
 
       module _ (held : Option (List ℕ)) where
-        told_by : (refusal : ImageFault) (fault : OpeningFault) → IsRefused mode key disk a b fault → fault ≢ OpeningFaults.Disk
-            → fault ≢ OpeningFaults.Memory → fault_in {T = DeviceParts} (Err fault) ≡ Some refusal
+        told_by : (refusal : ImageFault) (fault : CallFault OpenFault) → IsRefused mode key disk a b fault → fault ≢ CallFaults.Disk
+            → fault ≢ CallFaults.Memory → fault_in {T = DeviceParts} (Err fault) ≡ Some refusal
             → HasRunIn outset Lines start script (ending_by_refusal refusal) b held held
         told_by refusal fault refused not_disk not_memory is =
             refused_begun outset start script (ending_by_refusal refusal)
-            (ap (outset_by begun) (sym (refused.told not_disk not_memory start told) ∙ is)) b
+            (ap (judged_outset begun) (sym (refused.told not_disk not_memory start told) ∙ is)) b
             (untouched_now start told (EachMoment-kept _ (refused.untouched not_disk))) held held refl
 
         -- What ended the run is that the image is refused, or comes from outside.
-        pub refused_in_opening : (fault : OpeningFault) → IsRefused mode key disk a b fault
+        pub refused_in_opening : (fault : CallFault OpenFault) → IsRefused mode key disk a b fault
             → HasRunIn outset Lines start script (ending_of (ended_by_opening fault)) b held held
-        refused_in_opening OpeningFaults.Memory refused =
+        refused_in_opening CallFaults.Memory refused =
             nothing_begun outset sound_on start script NoMemory tt b left_now held held refl
-        refused_in_opening OpeningFaults.Disk refused =
-            nothing_begun outset sound_on start script DiskFailed tt b left_now held held refl
-        refused_in_opening (OpeningFaults.Super fault) refused =
-            told_by _ (OpeningFaults.Super fault) refused (λ is. absurd (cc)) (λ is. absurd (cc)) refl
-        refused_in_opening (OpeningFaults.Geom fault) refused =
-            told_by _ (OpeningFaults.Geom fault) refused (λ is. absurd (cc)) (λ is. absurd (cc)) refl
-        refused_in_opening (OpeningFaults.Consent flags) refused =
-            told_by _ (OpeningFaults.Consent flags) refused (λ is. absurd (cc)) (λ is. absurd (cc)) refl
-        refused_in_opening (OpeningFaults.Journal fault) refused =
-            told_by _ (OpeningFaults.Journal fault) refused (λ is. absurd (cc)) (λ is. absurd (cc)) refl
+        refused_in_opening CallFaults.Disk refused =
+            nothing_begun outset sound_on start script (Failed outers.Disk) tt b left_now held held refl
+        refused_in_opening (CallFaults.Refused (OpenFaults.Head (HeadFaults.Super fault))) refused =
+            told_by _ (CallFaults.Refused (OpenFaults.Head (HeadFaults.Super fault))) refused (λ is. absurd (cc)) (λ is. absurd (cc)) refl
+        refused_in_opening (CallFaults.Refused (OpenFaults.Head (HeadFaults.Geom fault))) refused =
+            told_by _ (CallFaults.Refused (OpenFaults.Head (HeadFaults.Geom fault))) refused (λ is. absurd (cc)) (λ is. absurd (cc)) refl
+        refused_in_opening (CallFaults.Refused (OpenFaults.Consent flags)) refused =
+            told_by _ (CallFaults.Refused (OpenFaults.Consent flags)) refused (λ is. absurd (cc)) (λ is. absurd (cc)) refl
+        refused_in_opening (CallFaults.Refused (OpenFaults.Journal fault)) refused =
+            told_by _ (CallFaults.Refused (OpenFaults.Journal fault)) refused (λ is. absurd (cc)) (λ is. absurd (cc)) refl
 
       -- ---- a device is open, and what is done on it came so far
 
@@ -312,7 +318,7 @@ module _ (law : OpensLaw) (mode : OpenMode) (key : Option (List ℕ)) (disk now 
           EachMoment b after (IsLeftWithin (kind_of w) w.entry w.state.history (changes_in run.steps)))
           (others : Leaves (opened_standing (asked_mode mode) key disk.sectors image (last_image made)) (changes_in run.steps) b after) where
         begins : outset ≡ begun
-        begins = ap (outset_by begun) none
+        begins = ap (judged_outset begun) none
 
         -- In recovery mode the disk is as it was.
         as_it_was : mode ≡ Recovery → after ≡ b
@@ -361,7 +367,7 @@ module _ (law : OpensLaw) (mode : OpenMode) (key : Option (List ℕ)) (disk now 
               EachMoment-weaker (within_judged h (changes_in run.steps))
               (subst (λ (k : DeviceKind). EachMoment b after (IsLeftWithin k w.entry h (changes_in run.steps))) is_kind since)
 
-          left_through : EachMoment b after (MayBeLeftAt begun start script)
+          left_through : EachMoment b after (MayStandAt begun start script)
           left_through =
               EachMoment-weaker
               (λ c within. record {
@@ -438,7 +444,7 @@ module _ (law : OpensLaw) (mode : OpenMode) (key : Option (List ℕ)) (disk now 
         -- and where the device takes writes this is left of it.
         pub left_behind : (writing : TakesWrites mode) → (on : IsWriting kind image begun) → (changes : List Change)
             → let w = opened_standing (asked_mode mode) key disk.sectors image (last_image made) in
-            IsLeftNow (kind_of w) w.entry (with_changes changes w.state.history) after → HasNow (IsLeftBy kind image changes) after
+            IsLeftNow (kind_of w) w.entry (with_changes changes w.state.history) after → HasNow (IsOfDevice kind image changes) after
         left_behind writing on changes now =
             let left = left_then writing on changes now in
             λ c at. record { opens = left.opens c at; left = left.left c at }
@@ -447,13 +453,13 @@ module _ (law : OpensLaw) (mode : OpenMode) (key : Option (List ℕ)) (disk now 
 
         module _ (ending : Ending) (held_before held : Option (List ℕ))
             (stopped : IsStopped (opened_standing (asked_mode mode) key disk.sectors image (last_image made)) run ending b after held_before held) where
-          left_of_run : HasNow (IsLeftAfter begun start stopped.changes ending) after
+          left_of_run : HasNow (IsAtExit begun start stopped.changes ending) after
           left_of_run = elim sort [
             | Writing writing on ↦ λ c at.
                 let left = left_behind writing on stopped.changes stopped.now c at in
-                by_both start begun on (λ (o : Outset). IsLeftAfter o start stopped.changes ending c) (inr left) (inr left)
+                by_both start begun on (λ (o : Outset). IsAtExit o start stopped.changes ending c) (inr left) (inr left)
             | Reading reading on ↦
-                subst (λ (o : Outset). HasNow (IsLeftAfter o start stopped.changes ending) after) (sym on)
+                subst (λ (o : Outset). HasNow (IsAtExit o start stopped.changes ending) after) (sym on)
                 (λ c at. same_Some c start (sym at ∙ ap content_now (as_it_was reading ∙ opening_still reading) ∙ told))
           ]
 
@@ -490,10 +496,10 @@ module _ (law : OpensLaw) (mode : OpenMode) (key : Option (List ℕ)) (disk now 
   pub opened_content : (c : Content) × (content_now b ≡ Some c)
   opened_content = now_told opening_moments start told
 
-  pub refused_by_opening : (held : Option (List ℕ)) (fault : OpeningFault) → IsRefused mode key disk a b fault
-      → HasRunOn (outset_on mode key disk.sectors (last_image start)) start script (ending_of (ended_by_opening fault)) b held held
+  pub refused_by_opening : (held : Option (List ℕ)) (fault : CallFault OpenFault) → IsRefused mode key disk a b fault
+      → HasRunOn (run_outset mode key disk.sectors (last_image start)) start script (ending_of (ended_by_opening fault)) b held held
   refused_by_opening held fault refused =
-      ran_in (outset_on mode key disk.sectors (last_image start)) (fine_on mode key disk.sectors (last_image start)) start script
+      ran_in (run_outset mode key disk.sectors (last_image start)) (fine_on mode key disk.sectors (last_image start)) start script
       (ending_of (ended_by_opening fault)) b held held
       (refused_in_opening law mode key disk now a b start told script run_begun run_sort run_sound leaves held fault refused)
 
@@ -506,7 +512,7 @@ module _ (law : OpensLaw) (mode : OpenMode) (key : Option (List ℕ)) (disk now 
       → IsDevice (opened_standing (asked_mode mode) key disk.sectors (last_image start) (last_image made)) Working parts b
       → IsOfSameBlocks (asked_mode mode) key disk.sectors (last_image start) (last_image made)
       → IsStopped (opened_standing (asked_mode mode) key disk.sectors (last_image start) (last_image made)) run ending b after held_before held
-      → HasRunOn (outset_on mode key disk.sectors (last_image start)) start script ending after held_before held
+      → HasRunOn (run_outset mode key disk.sectors (last_image start)) start script ending after held_before held
       × EachMoment a after (IsMomentOn mode key disk.sectors start script) × KeepsStill (asked_mode mode) a after
   ran_on none run ending after held_before held is_run made told_made reads parts asked device same stopped =
       let at = run_at mode run_kind (last_image start) script run is_run in (
@@ -523,32 +529,32 @@ pub read_on_image : {failed : Type 0} (mode : OpenMode) (key : Option (List ℕ)
     → let kind = kind_in (asked_mode mode) key sectors in fault_in_mode mode key sectors image ≡ None
     → (run : ScriptRun) (left held_before held : Option (List ℕ))
     → IsRunOf (kind.format image) (kind.opened image) script run → HasReadTo run script left held_before held failed
-    → HasReadIn (outset_on mode key sectors image) script left held_before held failed
+    → HasReadIn (run_outset mode key sectors image) script left held_before held failed
 read_on_image {failed} mode key sectors image script none run left held_before held is_run read =
     let kind = kind_in (asked_mode mode) key sectors in
-    subst (λ (o : Outset). HasReadIn o script left held_before held failed) (sym (ap (outset_by (begun_on mode kind image)) none))
+    subst (λ (o : Outset). HasReadIn o script left held_before held failed) (sym (ap (judged_outset (begun_on mode kind image)) none))
     (read_in (begun_on mode kind image) (fine_begun mode kind image) script left held_before held
     (record { run = run; is_run = run_at mode kind image script run is_run; read = read }))
 
 -- The disk at the end is the one that was given back.
 pub given_back : (mode : OpenMode) (key : Option (List ℕ)) (sectors : ℕ) (start : Content) (script : List ℕ) (ending : Ending)
     (first : List Content) (held_before held : Option (List ℕ)) {a b : List Content}
-    → let outset = outset_on mode key sectors (last_image start) in
+    → let outset = run_outset mode key sectors (last_image start) in
     HasRunOn outset start script ending a held_before held
     × EachMoment first a (IsMomentOn mode key sectors start script) × KeepsStill (asked_mode mode) first a → b ≡ a
     → HasRunOn outset start script ending b held_before held
     × EachMoment first b (IsMomentOn mode key sectors start script) × KeepsStill (asked_mode mode) first b
 given_back mode key sectors start script ending first held_before held all same =
-    subst (λ (m : List Content). HasRunOn (outset_on mode key sectors (last_image start)) start script ending m held_before
+    subst (λ (m : List Content). HasRunOn (run_outset mode key sectors (last_image start)) start script ending m held_before
     held × EachMoment first m (IsMomentOn mode key sectors start script) × KeepsStill (asked_mode mode) first m) (sym same) all
 
 -- ---- what is left unread, and unopened
 
 -- What refused an opening for want of memory is no disk.
-pub refused_by_memory : (fault told : OpeningFault) (ended : Ended) → ended ≡ ended_by_opening told → told ≡ fault → ended ≡ Endings.Memory
-    → fault ≢ OpeningFaults.Disk
+pub refused_by_memory : (fault told : CallFault OpenFault) (ended : Ended) → ended ≡ ended_by_opening told → told ≡ fault → ended ≡ Endings.Memory
+    → fault ≢ CallFaults.Disk
 refused_by_memory fault told ended is same memory disk =
-    let other : Endings.Memory ≡ Endings.Disk = sym memory ∙ is ∙ ap ended_by_opening (same ∙ disk) in absurd (cc)
+    let other : Endings.Memory ≡ Endings.Failed outers.Disk = sym memory ∙ is ∙ ap ended_by_opening (same ∙ disk) in absurd (cc)
 
 -- A script is read, and a close takes no memory.
 pub read_at_close : (P : Type 0) (closed : Result TagsFound CloseFault) (ended : Result TagsFound Ended) → ended ≡ ended_close closed
@@ -567,16 +573,29 @@ no_memory_at_close (Err CloseFaults.Sink) ended is memory = absurd (cc)
 
 -- What ends the lines of a script comes behind its begin.
 pub read_at_lines : (ended : Ended) → EndsScript ended → IsBeforeScript ended → ⊥
-read_at_lines Endings.Words ends before = ends
-read_at_lines (Endings.Key refusal) ends before = ends
-read_at_lines (Endings.Line number refusal) ends before = before
-read_at_lines Endings.Length ends before = before
-read_at_lines (Endings.Image fault) ends before = ends
-read_at_lines Endings.Disk ends before = before
-read_at_lines Endings.KeySource ends before = ends
-read_at_lines Endings.Script ends before = before
-read_at_lines Endings.Sink ends before = before
+read_at_lines (Endings.Refused refusals.Words) ends before = ends
+read_at_lines (Endings.Refused (refusals.Key refusal)) ends before = ends
+read_at_lines (Endings.Refused (refusals.Line number refusal)) ends before = before
+read_at_lines (Endings.Refused refusals.Length) ends before = before
+read_at_lines (Endings.Refused (refusals.Image fault)) ends before = ends
+read_at_lines (Endings.Failed outers.Disk) ends before = before
+read_at_lines (Endings.Failed outers.Key) ends before = ends
+read_at_lines (Endings.Failed outers.Script) ends before = before
+read_at_lines (Endings.Failed outers.Sink) ends before = before
 read_at_lines Endings.Memory ends before = before
+
+-- What ends the lines of a script can end a run on an image.
+pub script_ends_image : (ended : Ended) → EndsScript ended → EndsImage ended
+script_ends_image (Endings.Refused refusals.Words) ends = ends
+script_ends_image (Endings.Refused (refusals.Key refusal)) ends = ends
+script_ends_image (Endings.Refused (refusals.Image fault)) ends = tt
+script_ends_image (Endings.Refused (refusals.Line number refusal)) ends = tt
+script_ends_image (Endings.Refused refusals.Length) ends = tt
+script_ends_image (Endings.Failed outers.Disk) ends = tt
+script_ends_image (Endings.Failed outers.Key) ends = ends
+script_ends_image (Endings.Failed outers.Script) ends = tt
+script_ends_image (Endings.Failed outers.Sink) ends = tt
+script_ends_image Endings.Memory ends = tt
 
 -- A script of which something was taken is not as it was.
 pub taken_is_less : (left : List ℕ) (later : Option (List ℕ)) → later ≡ Some left → IsSomeAnd later (λ more. length more < length left) → ⊥

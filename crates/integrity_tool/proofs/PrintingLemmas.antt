@@ -3,21 +3,26 @@ use Rattle.std.proofs.Common.{◌≡◌, ◌≢◌, ◌⊎◌, inl, inr, ℕ, Bo
 use Rattle.std.specs.Option.{option_map}
 use Rattle.disk_model.specs.Disk.{Content, last_image}
 use Rattle.disk_model.specs.Moments.{content_now, HasNow}
-use Rattle.device_model.specs.Ending.{Ending, Complete, DiskFailed, NoMemory, SinkFailed}
-use Rattle.device_model.specs.ScriptRun.{texts_of}
+use Rattle.run_model.specs.Ending.{Ending, Complete, Failed, NoMemory}
+use Rattle.run_model.specs.ScriptRun.{texts_of}
 use Rattle.stream_io.specs.Stream.{with_bytes, AddsPrefix}
 use Rattle.script_session.specs.LineRun.{held_with}
-use Rattle.image_dump.specs.declared.dump_fault.DumpFault.{DumpFault}
-use Rattle.image_dump.specs.declared.dump_fault.DumpFault.TheVariants as DumpFaults
+use Rattle.image_refusal.specs.declared.call_fault.CallFault.{CallFault}
+use Rattle.image_refusal.specs.declared.call_fault.CallFault.TheVariants as CallFaults
+use Rattle.image_refusal.specs.declared.dump_fault.DumpFault.{DumpFault}
+use Rattle.image_refusal.specs.declared.dump_fault.DumpFault.TheVariants as DumpFaults
+use Rattle.image_refusal.specs.declared.open_fault.HeadFault.TheVariants as HeadFaults
 use Rattle.image_dump.specs.declared.shown.Dump.{Dump}
 use Rattle.image_dump.specs.Dump.{dump_of}
 use Rattle.image_dump.specs.Lines.{dump_lines, joined_lines}
 use Rattle.command_ending.specs.Ended.{ending_of}
-use Rattle.command_model.specs.CommandRun.{Outset, Prints, IsEndedShort, IsLeftAfter, IsRunAt, only_prints, printing_step}
+use Rattle.run_model.specs.CommandRun.{Outset, Prints, IsEndedShort, IsAtExit, IsRunAt, only_prints, printing_step}
 use Rattle.integrity_tool.specs.Dumping.{dump_outset, ended_by_dump, ending_by_dump, outset_by_dump}
 use Rattle.integrity_tool.specs.Opening.{HasRunOn}
-use Rattle.integrity_tool.proofs.StartLemmas.{before_kept, fine_dump, nothing_run, refused_run, untouched_kept}
+use Rattle.integrity_tool.proofs.OutsetLemmas.{fine_dump}
+use Rattle.integrity_tool.proofs.UnbegunLemmas.{before_kept, nothing_run, refused_run, untouched_kept}
 use Rattle.integrity_tool.proofs.TextsLemmas.{text_short, texts_change_nothing}
+use Rattle.run_model.specs.declared.outer.Outer.TheVariants as outers
 
 -- The content now is that at the start, where the moments are as before.
 pub same_now : {a b : List Content} (start : Content) → content_now a ≡ Some start → b ≡ a → HasNow (λ c. c ≡ start) b
@@ -33,7 +38,7 @@ module _ (outset : Outset) (texts : List (List ℕ)) (found : Bool) (start : Con
     (held_before : Option (List ℕ)) (is : IsTold outset texts found) where
   -- All of them are printed, and this is left.
   pub all_printed : (text : List ℕ) (held : Option (List ℕ)) → text ≡ texts_of (map printing_step texts) → held ≡ held_with text held_before
-      → HasNow (IsLeftAfter outset start [] (Complete found)) after → HasRunOn outset start script (Complete found) after held_before held
+      → HasNow (IsAtExit outset start [] (Complete found)) after → HasRunOn outset start script (Complete found) after held_before held
   all_printed text held all told left = record {
     run = only_prints texts found;
     is_run = is script;
@@ -46,7 +51,7 @@ module _ (outset : Outset) (texts : List (List ℕ)) (found : Bool) (start : Con
 
   -- Something outside ended that.
   pub part_printed : (text : List ℕ) (ending : Ending) (held : Option (List ℕ)) → IsEndedShort (only_prints texts found) text [] ending
-      → held ≡ held_with text held_before → HasNow (IsLeftAfter outset start [] ending) after → HasRunOn outset start script ending after held_before held
+      → held ≡ held_with text held_before → HasNow (IsAtExit outset start [] ending) after → HasRunOn outset start script ending after held_before held
   part_printed text ending held short told left = record {
     run = only_prints texts found;
     is_run = is script;
@@ -59,18 +64,18 @@ module _ (outset : Outset) (texts : List (List ℕ)) (found : Bool) (start : Con
 
 -- The same of one text: all of it is printed,
 pub one_printed : (outset : Outset) (text : List ℕ) (start : Content) (script : List ℕ) (after : List Content) (held_before held : Option (List ℕ))
-    → IsTold outset (text ∷ []) false → held ≡ held_with text held_before → HasNow (IsLeftAfter outset start [] (Complete false)) after
+    → IsTold outset (text ∷ []) false → held ≡ held_with text held_before → HasNow (IsAtExit outset start [] (Complete false)) after
     → HasRunOn outset start script (Complete false) after held_before held
 one_printed outset text start script after held_before held is told left =
     all_printed outset (text ∷ []) false start script after held_before is text held (sym (append-nil text)) told left
 
 -- or the sink failed before its end.
 pub one_cut : (outset : Outset) (text : List ℕ) (start : Content) (script : List ℕ) (after : List Content) (held_before held : Option (List ℕ))
-    → IsTold outset (text ∷ []) false → AddsPrefix text held_before held → HasNow (IsLeftAfter outset start [] SinkFailed) after
-    → HasRunOn outset start script SinkFailed after held_before held
+    → IsTold outset (text ∷ []) false → AddsPrefix text held_before held → HasNow (IsAtExit outset start [] (Failed outers.Sink)) after
+    → HasRunOn outset start script (Failed outers.Sink) after held_before held
 one_cut outset text start script after held_before held is prefix left =
-    part_printed outset (text ∷ []) false start script after held_before is (take prefix.count text) SinkFailed held
-    (text_short text [] false prefix.count SinkFailed prefix.short (λ other. absurd (other refl)) tt) prefix.held left
+    part_printed outset (text ∷ []) false start script after held_before is (take prefix.count text) (Failed outers.Sink) held
+    (text_short text [] false prefix.count (Failed outers.Sink) prefix.short (λ other. absurd (other refl)) tt) prefix.held left
 
 -- ---- an image that is shown
 
@@ -88,14 +93,14 @@ module _ (sectors : ℕ) (start : Content) (script : List ℕ) {a b : List Conte
 
   pub printed_part : (dump : Dump) (held_before held : Option (List ℕ)) → dump_of sectors (last_image start) ≡ Ok dump
       → AddsPrefix (joined_lines (dump_lines dump)) held_before held
-      → HasRunOn (dump_outset sectors (last_image start)) start script SinkFailed b held_before held
+      → HasRunOn (dump_outset sectors (last_image start)) start script (Failed outers.Sink) b held_before held
   printed_part dump held_before held shown put =
       let text = joined_lines (dump_lines dump) in
-      subst (λ (o : Outset). HasRunOn o start script SinkFailed b held_before held) (sym (shown_as dump shown))
+      subst (λ (o : Outset). HasRunOn o start script (Failed outers.Sink) b held_before held) (sym (shown_as dump shown))
       (one_cut (Prints (text ∷ []) false) text start script b held_before held (λ s. refl) put (same_now start told kept))
 
   -- There was no memory, or the disk failed: nothing is printed.
-  pub unshown : (ending : Ending) (held : Option (List ℕ)) → (ending ≡ NoMemory) ⊎ (ending ≡ DiskFailed)
+  pub unshown : (ending : Ending) (held : Option (List ℕ)) → (ending ≡ NoMemory) ⊎ (ending ≡ Failed outers.Disk)
       → HasRunOn (dump_outset sectors (last_image start)) start script ending b held held
   unshown ending held early = elim early [
     | inl memory ↦
@@ -104,25 +109,24 @@ module _ (sectors : ℕ) (start : Content) (script : List ℕ) {a b : List Conte
         (before_kept (dump_outset sectors (last_image start)) start told kept) held held refl)
     | inr disk ↦
         subst (λ (e : Ending). HasRunOn (dump_outset sectors (last_image start)) start script e b held held) (sym disk)
-        (nothing_run (dump_outset sectors (last_image start)) (fine_dump sectors (last_image start)) start script DiskFailed tt b
+        (nothing_run (dump_outset sectors (last_image start)) (fine_dump sectors (last_image start)) start script (Failed outers.Disk) tt b
         (before_kept (dump_outset sectors (last_image start)) start told kept) held held refl)
   ]
 
   -- The image is refused.
-  unshown_by : (fault : DumpFault) (held : Option (List ℕ)) → dump_of sectors (last_image start) ≡ Err fault
-      → HasRunOn (dump_outset sectors (last_image start)) start script (ending_by_dump fault) b held held
-  unshown_by fault held refused =
-      refused_run (dump_outset sectors (last_image start)) start script (ending_by_dump fault) (ap outset_by_dump refused) b
+  unshown_by : (cause : DumpFault) (held : Option (List ℕ)) → dump_of sectors (last_image start) ≡ Err cause
+      → HasRunOn (dump_outset sectors (last_image start)) start script (ending_by_dump cause) b held held
+  unshown_by cause held refused =
+      refused_run (dump_outset sectors (last_image start)) start script (ending_by_dump cause) (ap outset_by_dump refused) b
       (untouched_kept start told kept) held held refl
 
-  pub not_shown : (fault : DumpFault) (held : Option (List ℕ))
-      → ((fault ≢ DumpFaults.Memory) → (fault ≢ DumpFaults.Disk) → dump_of sectors (last_image start) ≡ Err fault)
+  pub not_shown : (fault : CallFault DumpFault) (held : Option (List ℕ))
+      → ((cause : DumpFault) → fault ≡ CallFaults.Refused cause → dump_of sectors (last_image start) ≡ Err cause)
       → HasRunOn (dump_outset sectors (last_image start)) start script (ending_of (ended_by_dump fault)) b held held
-  not_shown DumpFaults.Memory held refused = unshown NoMemory held (inl refl)
-  not_shown DumpFaults.Disk held refused = unshown DiskFailed held (inr refl)
-  not_shown (DumpFaults.Super fault) held refused =
-      unshown_by (DumpFaults.Super fault) held (refused (λ is. absurd (cc)) (λ is. absurd (cc)))
-  not_shown (DumpFaults.Geom fault) held refused =
-      unshown_by (DumpFaults.Geom fault) held (refused (λ is. absurd (cc)) (λ is. absurd (cc)))
-  not_shown (DumpFaults.Scan fault) held refused =
-      unshown_by (DumpFaults.Scan fault) held (refused (λ is. absurd (cc)) (λ is. absurd (cc)))
+  not_shown CallFaults.Memory held refused = unshown NoMemory held (inl refl)
+  not_shown CallFaults.Disk held refused = unshown (Failed outers.Disk) held (inr refl)
+  not_shown (CallFaults.Refused (DumpFaults.Head (HeadFaults.Super fault))) held refused =
+      unshown_by (DumpFaults.Head (HeadFaults.Super fault)) held (refused _ refl)
+  not_shown (CallFaults.Refused (DumpFaults.Head (HeadFaults.Geom fault))) held refused =
+      unshown_by (DumpFaults.Head (HeadFaults.Geom fault)) held (refused _ refl)
+  not_shown (CallFaults.Refused (DumpFaults.Scan fault)) held refused = unshown_by (DumpFaults.Scan fault) held (refused _ refl)

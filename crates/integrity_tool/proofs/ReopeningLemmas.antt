@@ -15,9 +15,9 @@ use Rattle.place_model.specs.Opened.{blocks_of, opened_on}
 use Rattle.place_model.proofs.BlocksLemmas.{cells_after-base}
 use Rattle.image_judging.specs.FaultLaws.{OpensLaw}
 use Rattle.device.specs.declared.opening.OpenMode.TheVariants as Modes
-use Rattle.command_model.specs.CommandRun.{Outset, RunsOn, IsRunAt}
+use Rattle.run_model.specs.CommandRun.{Outset, RunsOn, IsRunAt}
 use Rattle.integrity_tool.specs.Reopening.{HoldsFlushed, IsLeftBehind, ReopeningLaw, history_on}
-use Rattle.integrity_tool.specs.Outset.{outset_by}
+use Rattle.integrity_tool.specs.Outset.{judged_outset}
 
 -- Whether the mode is changed or not, the device begins with the cells of the image.
 by_base : (t : Bool) (d : DiskFormat) (image : Image)
@@ -90,7 +90,7 @@ reopening_law law key sectors entry changes later left by image =
     record {
       starts = λ consent script run given is_run.
           subst (λ (o : Outset). IsRunAt o script run)
-          (sym (ap (outset_by (RunsOn (kind_in Journal key sectors) left)) ((law key consent sectors left).1 (by.opens left image, given)))) is_run;
+          (sym (ap (judged_outset (RunsOn (kind_in Journal key sectors) left)) ((law key consent sectors left).1 (by.opens left image, given)))) is_run;
       blocks = is.blocks;
       kept = own.kept;
       flushed = own.flushed;

@@ -4,30 +4,36 @@ use Rattle.std.specs.Option.{IsSomeAnd, option_map}
 use Rattle.disk_model.specs.Disk.{Content, last_image}
 use Rattle.disk_model.specs.Moments.{content_now, EachMoment, HasNow}
 use Rattle.disk_model.proofs.MomentsLemmas.{EachMoment-weaker, content_at_end}
-use Rattle.device_model.specs.Ending.{Ending, Complete, DiskFailed, ImageFault, NoMemory, RefusedImage, SinkFailed}
-use Rattle.device_model.specs.ScriptRun.{only_ends}
+use Rattle.device_model.specs.Refusals.{ImageFault}
+use Rattle.run_model.specs.Ending.{Ending, Complete, Refused, Failed, NoMemory, ByImage}
+use Rattle.run_model.specs.ScriptRun.{only_ends}
 use Rattle.device_opening.proofs.MomentsLemmas.{EachMoment-both}
 use Rattle.stream_io.specs.Stream.{with_bytes, AddsPrefix}
 use Rattle.image_model.specs.Geometry.{Geometry}
 use Rattle.place_model.specs.Format.{DiskFormat, format_on}
-use Rattle.image_resizing.specs.declared.resize_fault.ResizeFault.{ResizeFault}
-use Rattle.image_resizing.specs.declared.resize_fault.ResizeFault.TheVariants as ResizeFaults
+use Rattle.image_refusal.specs.declared.call_fault.CallFault.{CallFault}
+use Rattle.image_refusal.specs.declared.call_fault.CallFault.TheVariants as CallFaults
+use Rattle.image_refusal.specs.declared.open_fault.HeadFault.TheVariants as HeadFaults
+use Rattle.image_refusal.specs.declared.resize_fault.ResizeFault.{ResizeFault}
+use Rattle.image_refusal.specs.declared.resize_fault.ResizeFault.TheVariants as ResizeFaults
 use Rattle.image_resizing.specs.Call.{MovesInOrder, TellsRefusal, WritesInOrder}
 use Rattle.image_resizing.specs.Faults.{fault_in, fault_told}
 use Rattle.resize_model.specs.Left.{IsInResizeOrder, IsLeftByResize, IsResizedTo, IsSyncedAtMost, KeepsRefused}
 use Rattle.resize_model.specs.Refusals.{CanResize, resize_fault_of}
 use Rattle.resize_model.specs.Resized.{resized_provided, resized_text}
-use Rattle.resize_model.specs.Resizing.{outset_by_resize, resizing_of}
+use Rattle.integrity_tool.specs.Resizing.{outset_by_resize, resizing_of}
 use Rattle.resize_model.proofs.LeftLemmas.{each_law, in_order_law}
 use Rattle.resize_model.proofs.RefusalLemmas.{resizes_law}
 use Rattle.command_ending.specs.Ended.{ending_of}
-use Rattle.command_model.specs.CommandRun.{Outset, Changes, only_prints}
+use Rattle.run_model.specs.CommandRun.{Outset, Changes, only_prints}
 use Rattle.integrity_tool.specs.Opening.{HasRunOn, IsMomentOf}
 use Rattle.integrity_tool.specs.Resizing.{Recovers, ended_by_resize, resizing_outset}
 use Rattle.integrity_tool.proofs.RunningLemmas.{told_nothing}
-use Rattle.integrity_tool.proofs.StartLemmas.{before_kept, fine_resize, nothing_run, refused_run, resized_prints, untouched_kept, untouched_now, untouched_through}
+use Rattle.integrity_tool.proofs.OutsetLemmas.{fine_resize, resized_prints}
+use Rattle.integrity_tool.proofs.UnbegunLemmas.{before_kept, nothing_run, refused_run, untouched_kept, untouched_now, untouched_through}
 use Rattle.integrity_tool.proofs.TextsLemmas.{none_short}
 use Rattle.integrity_tool.proofs.PrintingLemmas.{one_cut, one_printed}
+use Rattle.run_model.specs.declared.outer.Outer.TheVariants as outers
 
 -- What a call does, whatever it answers.
 pub record IsResizing (key : Option (List ℕ)) (sectors : ℕ) (before after : List Content) : Type 0 where
@@ -81,8 +87,8 @@ module _ (key : Option (List ℕ)) (sectors : ℕ) (start : Content) (script : L
         subst (λ (o : Outset). EachMoment a b (IsMomentOf o g start script))
         (sym (ap (outset_by_resize (Recovers key sectors (last_image start)) key sectors (last_image start)) is))
         (EachMoment-weaker (λ c left. record {
-          left = record { run = only_ends (RefusedImage fault); is_run = refl; made = 0; left = left };
-          only = record { run = only_ends (RefusedImage fault); is_run = refl; only = left };
+          left = record { run = only_ends (Refused (ByImage fault)); is_run = refl; made = 0; left = left };
+          only = record { run = only_ends (Refused (ByImage fault)); is_run = refl; only = left };
         }) (untouched_through start told (synced fault is)))
 
     pub moments : EachMoment a b (IsMomentOf outset g start script)
@@ -90,19 +96,19 @@ module _ (key : Option (List ℕ)) (sectors : ℕ) (start : Content) (script : L
 
   -- ---- the answer
 
-  module _ {T : Type 0} (result : Result T ResizeFault)
+  module _ {T : Type 0} (result : Result T (CallFault ResizeFault))
       (refused : TellsRefusal key sectors a result) where
     -- An image is resized that is not refused,
     pub unrefused : (answer : T) → result ≡ Ok answer → resize_fault_of key sectors (last_image start) ≡ None
     unrefused answer is =
         sym (refused (λ other. absurd (cc (is, other))) (λ other. absurd (cc (is, other))) start told)
-        ∙ ap (λ (r : Result T ResizeFault). fault_in r) is
+        ∙ ap (λ (r : Result T (CallFault ResizeFault)). fault_in r) is
 
     -- and one that is refused is so by what is told.
-    pub refused_as : (fault : ResizeFault) → result ≡ Err fault → fault ≢ ResizeFaults.Memory → fault ≢ ResizeFaults.Disk
+    pub refused_as : (fault : CallFault ResizeFault) → result ≡ Err fault → fault ≢ CallFaults.Memory → fault ≢ CallFaults.Disk
         → fault_told fault ≡ resize_fault_of key sectors (last_image start)
     refused_as fault is not_memory not_disk =
-        sym (ap (λ (r : Result T ResizeFault). fault_in r) is)
+        sym (ap (λ (r : Result T (CallFault ResizeFault)). fault_in r) is)
         ∙ refused (λ other. not_memory (cc (is, other))) (λ other. not_disk (cc (is, other))) start told
 
   -- ---- the end
@@ -123,52 +129,54 @@ module _ (key : Option (List ℕ)) (sectors : ℕ) (start : Content) (script : L
 
     -- or the sink failed at that.
     pub untold_resized : HasNow (IsResizedTo key sectors start) b → AddsPrefix (resized_text provided resized) held_before held
-        → HasRunOn outset start script SinkFailed b held_before held
+        → HasRunOn outset start script (Failed outers.Sink) b held_before held
     untold_resized is put =
-        subst (λ (o : Outset). HasRunOn o start script SinkFailed b held_before held) (sym (fine none))
+        subst (λ (o : Outset). HasRunOn o start script (Failed outers.Sink) b held_before held) (sym (fine none))
         (one_cut changed line start script b held_before held (λ s. refl)
         (subst (λ (text : List ℕ). AddsPrefix text held_before held) same_line put) is)
 
   module _ (held : Option (List ℕ)) where
     -- The disk failed, and what it may leave is left.
     cut_by : (refusal : Option ImageFault) → resize_fault_of key sectors (last_image start) ≡ refusal
-        → HasRunOn outset start script DiskFailed b held held
+        → HasRunOn outset start script (Failed outers.Disk) b held held
     cut_by None none =
-        subst (λ (o : Outset). HasRunOn o start script DiskFailed b held held) (sym (fine none)) (record {
+        subst (λ (o : Outset). HasRunOn o start script (Failed outers.Disk) b held held) (sym (fine none)) (record {
           run = only_prints (line ∷ []) false;
           is_run = refl;
           text = [];
           changes = [];
-          ended = inr (none_short (line ∷ []) false DiskFailed (resized_prints _ _) tt);
+          ended = inr (none_short (line ∷ []) false (Failed outers.Disk) (resized_prints _ _) tt);
           told = told_nothing held;
           left = content_at_end (left_each none)
               (λ c here. subst (λ (o : Option Content). IsSomeAnd o (λ s. IsLeftByResize key sectors start s)) (sym told ∙ here) (inl refl));
         })
     cut_by (Some fault) is =
         let refused = ap (outset_by_resize (Recovers key sectors (last_image start)) key sectors (last_image start)) is in
-        subst (λ (o : Outset). HasRunOn o start script DiskFailed b held held) (sym refused)
-        (nothing_run _ (λ found ends. absurd (cc)) start script DiskFailed tt b (untouched_now start told (synced fault is)) held held refl)
+        subst (λ (o : Outset). HasRunOn o start script (Failed outers.Disk) b held held) (sym refused)
+        (nothing_run _ (λ found ends. absurd (cc)) start script (Failed outers.Disk) tt b (untouched_now start told (synced fault is)) held held refl)
 
-    refused_by : (ending : Ending) (fault : ImageFault) → ending ≡ RefusedImage fault → resize_fault_of key sectors (last_image start) ≡ Some fault
+    refused_by : (ending : Ending) (fault : ImageFault) → ending ≡ Refused (ByImage fault) → resize_fault_of key sectors (last_image start) ≡ Some fault
         → b ≡ a → HasRunOn outset start script ending b held held
     refused_by ending fault ends is same =
         subst (λ (e : Ending). HasRunOn outset start script e b held held) (sym ends)
-        (refused_run outset start script (RefusedImage fault)
+        (refused_run outset start script (Refused (ByImage fault))
         (ap (outset_by_resize (Recovers key sectors (last_image start)) key sectors (last_image start)) is) b
         (untouched_kept start told same) held held refl)
 
     -- Why it was not resized.
-    pub not_resized : (fault : ResizeFault)
-        → (fault ≢ ResizeFaults.Memory → fault ≢ ResizeFaults.Disk → fault_told fault ≡ resize_fault_of key sectors (last_image start))
-        → (fault ≢ ResizeFaults.Disk → b ≡ a)
+    pub not_resized : (fault : CallFault ResizeFault)
+        → (fault ≢ CallFaults.Memory → fault ≢ CallFaults.Disk → fault_told fault ≡ resize_fault_of key sectors (last_image start))
+        → (fault ≢ CallFaults.Disk → b ≡ a)
         → HasRunOn outset start script (ending_of (ended_by_resize fault)) b held held
-    not_resized ResizeFaults.Memory refused untouched =
+    not_resized CallFaults.Memory refused untouched =
         nothing_run outset (fine_resize key sectors (last_image start)) start script NoMemory tt b
         (before_kept outset start told (untouched (λ is. absurd (cc)))) held held refl
-    not_resized ResizeFaults.Disk refused untouched = cut_by (resize_fault_of key sectors (last_image start)) refl
-    not_resized (ResizeFaults.Super fault) refused untouched =
+    not_resized CallFaults.Disk refused untouched = cut_by (resize_fault_of key sectors (last_image start)) refl
+    not_resized (CallFaults.Refused (ResizeFaults.Head (HeadFaults.Super fault))) refused untouched =
         refused_by _ _ refl (sym (refused (λ is. absurd (cc)) (λ is. absurd (cc)))) (untouched (λ is. absurd (cc)))
-    not_resized (ResizeFaults.Geom fault) refused untouched =
+    not_resized (CallFaults.Refused (ResizeFaults.Head (HeadFaults.Geom fault))) refused untouched =
         refused_by _ _ refl (sym (refused (λ is. absurd (cc)) (λ is. absurd (cc)))) (untouched (λ is. absurd (cc)))
-    not_resized (ResizeFaults.Journal fault) refused untouched =
+    not_resized (CallFaults.Refused (ResizeFaults.Growth fault)) refused untouched =
+        refused_by _ _ refl (sym (refused (λ is. absurd (cc)) (λ is. absurd (cc)))) (untouched (λ is. absurd (cc)))
+    not_resized (CallFaults.Refused (ResizeFaults.Journal fault)) refused untouched =
         refused_by _ _ refl (sym (refused (λ is. absurd (cc)) (λ is. absurd (cc)))) (untouched (λ is. absurd (cc)))

@@ -10,21 +10,23 @@ use Rattle.std.proofs.lemmas.Option.{none-some, same_Some}
 use Rattle.disk_model.specs.Disk.{Content}
 use Rattle.disk_model.specs.Moments.{EachMoment, HasNow, content_now}
 use Rattle.disk_model.proofs.MomentsLemmas.{EachMoment-then, EachMoment-weaker, no_moment}
-use Rattle.device_model.specs.Ending.{Ending, Complete, RefusedLine, DiskFailed, SinkFailed, NoMemory, ByWords}
-use Rattle.device_model.specs.Ending.{ByMeaning}
+use Rattle.device_model.specs.Refusals.{ByWords}
+use Rattle.run_model.specs.Ending.{Ending, Complete, Failed, NoMemory, ByLine}
+use Rattle.run_model.specs.Ending as endings
+use Rattle.device_model.specs.Refusals.{ByMeaning}
 use Rattle.device_model.specs.Grammar.{ReadLine, Means, Refused}
 use Rattle.device_model.specs.LineFault.{WordsFault}
 use Rattle.device_model.specs.History.{Change, History, with_change, with_changes}
 use Rattle.device_model.specs.Mode.{DeviceFormat}
 use Rattle.device_model.specs.Progress.{DeviceState}
 use Rattle.device_model.specs.Script.{MeaningFault, ScriptLine, line_outcome, meaning_fault}
-use Rattle.device_model.specs.ScriptRun.{IsCameTo, ScriptRun, ScriptStep, changes_in, close_step, line_step}
-use Rattle.device_model.specs.ScriptRun.{only_ends, run_from, texts_of, with_step}
+use Rattle.run_model.specs.ScriptRun.{IsRunUpTo, ScriptRun, ScriptStep, changes_in, close_step, line_step}
+use Rattle.run_model.specs.ScriptRun.{only_ends, run_from, texts_of, with_step}
 use Rattle.device_model.specs.Transcript.{closed_text}
 use Rattle.device_model.proofs.ScriptLemmas.{history-after}
 use Rattle.direct_laws.specs.MomentLaws.{IsLeftNow}
-use Rattle.script_text.proofs.ScriptRunLemmas.{came_further, came_into, came_into_line, came_to_nothing}
-use Rattle.script_text.proofs.ScriptRunLemmas.{run_is_split, run_is_whole}
+use Rattle.run_laws.proofs.ScriptRunLemmas.{came_further, came_into, came_into_line, came_to_nothing}
+use Rattle.run_laws.proofs.ScriptRunLemmas.{run_is_split, run_is_whole}
 use Rattle.device_parts.specs.declared.condition.Condition.{Condition}
 use Rattle.device_parts.specs.declared.condition.Condition.TheVariants.{Working}
 use Rattle.device.specs.declared.mode.DeviceParts.{DeviceParts}
@@ -44,9 +46,10 @@ use Rattle.command_ending.specs.Ended.{ending_of}
 use Rattle.command_ending.specs.declared.ended.Ended.{Ended}
 use Rattle.script_session.specs.LineRun.{HasEnded, HasRunLine, IsCutLine, IsHalfTold, events_of, held_with}
 use Rattle.script_session.proofs.LineLemmas.{line_cut_begun, line_cut_failed}
-use Rattle.command_model.specs.CommandRun.{IsComplete, IsEndedBy, IsEndedShort, IsFromOutside}
+use Rattle.run_model.specs.CommandRun.{IsComplete, IsEndedBy, IsEndedShort, IsFromOutside}
 use Rattle.integrity_tool.specs.Lines.{ended_by}
 use Rattle.integrity_tool.specs.Running.{IsStopped}
+use Rattle.run_model.specs.declared.outer.Outer.TheVariants as outers
 
 -- What follows, of a value that is there.
 pub and_weaker : {X : Type 0} (P Q : X → Type 0) (o : Option X) → ((x : X) → P x → Q x) → IsSomeAnd o P
@@ -179,7 +182,7 @@ complete_prints f too_long number s found (Means line ∷ lines) complete =
         → 0 < length (texts_of (run_from f too_long number s found (Means line ∷ lines)).steps)
     by (Some fault) is prints =
         let ended : (run_from f too_long number s found (Means line ∷ lines)).ending
-        ≡ RefusedLine number (ByMeaning fault) =
+        ≡ endings.Refused (ByLine number (ByMeaning fault)) =
         ap (λ (run : ScriptRun). run.ending)
         ((run_is_split f number s found).by_meaning too_long line fault lines is) in
         let own = complete.1 in
@@ -201,7 +204,7 @@ complete_prints f too_long number s found (Means line ∷ lines) complete =
 -- Something outside stops the rest of a run before any of it is done.
 pub stopped_before : (w : Standing) (condition : Condition) (parts : DeviceParts) (a : List Content)
     → IsDevice w condition parts a → (rest : ScriptRun) (ending : Ending) (held : Option (List ℕ))
-    → IsCameTo rest [] [] → (IsComplete rest → 0 < length (texts_of rest.steps)) → IsFromOutside ending
+    → IsRunUpTo rest [] [] → (IsComplete rest → 0 < length (texts_of rest.steps)) → IsFromOutside ending
     → IsStopped w rest ending a a held held
 stopped_before w condition parts a is rest ending held came prints outside = record {
   text = [];
@@ -316,12 +319,12 @@ module _ (w : Standing) (condition : Condition) (parts : DeviceParts) (a : List 
 
   -- So does one that is half told.
   pub stopped_in_text : IsHalfTold w line parts_b a b held_a held_b
-      → IsStopped w run SinkFailed a b held_a held_b
+      → IsStopped w run (Failed outers.Sink) a b held_a held_b
   stopped_in_text half = record {
     text = take half.told.count step.text;
     changes = step.changes;
     ended = inr (record {
-      came = subst (λ (r : ScriptRun). IsCameTo r (take half.told.count step.text) step.changes)
+      came = subst (λ (r : ScriptRun). IsRunUpTo r (take half.told.count step.text) step.changes)
           (sym (split half.runnable)) ((came_into step behind).text half.told.count half.told.short);
       whole_steps = λ other. absurd (other refl);
       short = λ complete.
@@ -348,14 +351,14 @@ module _ (w : Standing) (condition : Condition) (parts : DeviceParts) (a : List 
   stopped_by_end (Ends.Refused fault) refused kept =
       let same = kept fault refl in
       subst (λ (x : List Content). IsStopped w run
-      (RefusedLine number (ByMeaning (meaning_of fault))) a x held_a held_b)
+      (endings.Refused (ByLine number (ByMeaning (meaning_of fault)))) a x held_a held_b)
       (sym same.0)
       (subst (λ (x : Option (List ℕ)).
-      IsStopped w run (RefusedLine number (ByMeaning (meaning_of fault))) a a held_a x) (sym same.1)
-      (stopped_by_itself w condition parts a is run (RefusedLine number (ByMeaning (meaning_of fault))) held_a
+      IsStopped w run (endings.Refused (ByLine number (ByMeaning (meaning_of fault)))) a a held_a x) (sym same.1)
+      (stopped_by_itself w condition parts a is run (endings.Refused (ByLine number (ByMeaning (meaning_of fault)))) held_a
       ((run_is_split w.format number w.state found).by_meaning too_long line (meaning_of fault) lines refused)))
   stopped_by_end Ends.Disk failed kept =
-      stopped_in_line DiskFailed tt (line_cut_failed w line parts_b a b held_a held_b failed)
+      stopped_in_line (Failed outers.Disk) tt (line_cut_failed w line parts_b a b held_a held_b failed)
   stopped_by_end Ends.Sink half kept = stopped_in_text half
   stopped_by_end Ends.Memory begun kept =
       stopped_in_line NoMemory tt (line_cut_begun w line parts_b a b held_a held_b begun)
@@ -377,10 +380,10 @@ pub stopped_by_words : (w : Standing) (condition : Condition) (parts : DevicePar
     → IsDevice w condition parts a → (held : Option (List ℕ)) (too_long : Bool) (number : ℕ) (found : Bool)
     (lines : List ReadLine) (read : ReadLine) (fault told : WordsFault) → read ≡ Refused fault → told ≡ fault
     → IsStopped w (run_from w.format too_long number w.state found (read ∷ lines))
-    (RefusedLine number (ByWords told))
+    (endings.Refused (ByLine number (ByWords told)))
     a a held held
 stopped_by_words w condition parts a is held too_long number found lines read fault told refused same =
     stopped_by_itself w condition parts a is (run_from w.format too_long number w.state found (read ∷ lines))
-    (RefusedLine number (ByWords told)) held
+    (endings.Refused (ByLine number (ByWords told))) held
     (ap (λ (r : ReadLine). run_from w.format too_long number w.state found (r ∷ lines)) refused
-    ∙ ap (λ (f : WordsFault). only_ends (RefusedLine number (ByWords f))) (sym same))
+    ∙ ap (λ (f : WordsFault). only_ends (endings.Refused (ByLine number (ByWords f)))) (sym same))

@@ -11,35 +11,41 @@ use Rattle.std.proofs.lemmas.List.FromFn.{filter_of_map_range_with_len_more}
 use Rattle.disk_model.specs.Disk.{Content, Image, last_image}
 use Rattle.disk_model.specs.Identity.{DiskIdentity}
 use Rattle.disk_model.specs.Moments.{content_now, HasNow}
-use Rattle.device_model.specs.Ending as Refusals
-use Rattle.device_model.specs.ScriptRun.{texts_of}
-use Rattle.device_model.specs.Ending.{Ending, Complete, DiskFailed, NoMemory, RefusedImage, SinkFailed}
+use Rattle.device_model.specs.Refusals as Refusals
+use Rattle.run_model.specs.ScriptRun.{texts_of}
+use Rattle.run_model.specs.Ending.{Ending, Complete, Refused, Failed, NoMemory, ByImage}
 use Rattle.stream_io.specs.Stream.{with_bytes, AddsPrefix}
 use Rattle.script_session.specs.LineRun.{held_with}
 use Rattle.place_model.specs.Format.{DiskFormat, format_on}
 use Rattle.recovery_laws.specs.Refusals.{read_fault_of}
-use Rattle.salvage_model.specs.Salvaging.{block_text, counts_text, has_bad, outset_by_salvage, salvage_outset, salvage_texts, verdict_text}
+use Rattle.salvage_model.specs.Salvaging.{block_text, counts_text, has_bad, salvage_texts, verdict_text}
+use Rattle.integrity_tool.specs.Salvaging.{outset_by_salvage, salvage_outset}
 use Rattle.salvage_model.specs.Verdicts as Model
 use Rattle.salvage_model.specs.Verdicts.{bad_count, is_good, next_verdict, salvaged_bytes, verdict_on}
 use Rattle.image_format.specs.declared.reading.ImageFormat.{ImageFormat}
-use Rattle.image_format.specs.declared.open_fault.OpenFault.{OpenFault}
-use Rattle.image_format.specs.declared.open_fault.OpenFault.TheVariants as OpenFaults
-use Rattle.image_judging.specs.Faults.{of_format}
+use Rattle.image_refusal.specs.declared.call_fault.CallFault.{CallFault}
+use Rattle.image_refusal.specs.declared.call_fault.CallFault.TheVariants as CallFaults
+use Rattle.image_refusal.specs.declared.open_fault.HeadFault.{HeadFault}
+use Rattle.image_refusal.specs.declared.open_fault.HeadFault.TheVariants as HeadFaults
+use Rattle.image_refusal.specs.declared.open_fault.OpenFault.TheVariants.{Head}
+use Rattle.image_refusal.specs.Calls.{with_cause}
 use Rattle.image_salvage.specs.declared.verdict.Verdict.{Verdict}
 use Rattle.image_salvage.specs.Refusing.{refusal_of}
 use Rattle.image_salvage.specs.Salvaged.{IsSalvageOf, IsSameSalvage, Salvaged, blocks_of, salvaged_format}
 use Rattle.image_salvage.specs.Telling.{GivesBytes, TellsNext, as_verdict}
 use Rattle.image_salvage.proofs.SalvagedLemmas.{blocks_are, format-same}
 use Rattle.command_ending.specs.Ended.{ending_of}
-use Rattle.command_model.specs.CommandRun.{Outset, IsEndedShort, only_prints, printing_step}
+use Rattle.run_model.specs.CommandRun.{Outset, IsEndedShort, only_prints, printing_step}
 use Rattle.integrity_tool.specs.Checking.{IsPrintedShort}
 use Rattle.integrity_tool.specs.Opening.{HasRunOn}
 use Rattle.integrity_tool.specs.Refusing.{ended_by_opening}
 use Rattle.integrity_tool.specs.Salvaging.{IsPrintedBy, IsToldTo}
 use Rattle.integrity_tool.proofs.PrintingLemmas.{same_now}
 use Rattle.integrity_tool.proofs.RunningLemmas.{told_further, told_nothing}
-use Rattle.integrity_tool.proofs.StartLemmas.{before_kept, blocks_begin, fine_salvage, nothing_run, refused_run, salvage_counts_begin, untouched_kept}
+use Rattle.integrity_tool.proofs.OutsetLemmas.{blocks_begin, fine_salvage, salvage_counts_begin}
+use Rattle.integrity_tool.proofs.UnbegunLemmas.{before_kept, nothing_run, refused_run, untouched_kept}
 use Rattle.integrity_tool.proofs.TextsLemmas.{none_short, text_short, texts_change_nothing, texts_short, texts_whole}
+use Rattle.run_model.specs.declared.outer.Outer.TheVariants as outers
 
 some_same : {X : Type 0} {x y : X} → Some x ≡ Some y → x ≡ y
 some_same {x = x} is = ap (λ (o : Option _). unwrap_or o x) is
@@ -140,29 +146,29 @@ module _ (d : DiskFormat) (image : Image) where
   }
 
   -- The disk failed, or there was no memory, before the line of a block is printed.
-  pub cut_between : (told bad : ℕ) (ending : Ending) (held_before held : Option (List ℕ)) → (ending ≡ NoMemory) ⊎ (ending ≡ DiskFailed)
+  pub cut_between : (told bad : ℕ) (ending : Ending) (held_before held : Option (List ℕ)) → (ending ≡ NoMemory) ⊎ (ending ≡ Failed outers.Disk)
       → told ≤ d.geometry.blocks → IsToldTo d image told bad held_before held
       → IsPrintedShort (salvage_texts d image) ending held_before held
   cut_between told bad ending held_before held early few to =
       let begins = blocks_begin d image (range_with_len told (d.geometry.blocks - told)) (counts_text d.geometry.blocks (bad_count d image)) (salvage_counts_begin _ _) in
       elim early [
         | inl memory ↦ rw memory (cut_at told bad NoMemory [] held_before held held few to (λ found. none_short (lines_behind told) found NoMemory begins tt) (told_nothing held))
-        | inr disk ↦ rw disk (cut_at told bad DiskFailed [] held_before held held few to (λ found. none_short (lines_behind told) found DiskFailed begins tt) (told_nothing held))
+        | inr disk ↦ rw disk (cut_at told bad (Failed outers.Disk) [] held_before held held few to (λ found. none_short (lines_behind told) found (Failed outers.Disk) begins tt) (told_nothing held))
       ]
 
   -- The sink failed in the line of a block.
   pub cut_in_line : (told bad : ℕ) (held_before mid held : Option (List ℕ)) → told < d.geometry.blocks
       → IsToldTo d image told bad held_before mid → AddsPrefix (block_text d image told) mid held
-      → IsPrintedShort (salvage_texts d image) SinkFailed held_before held
+      → IsPrintedShort (salvage_texts d image) (Failed outers.Sink) held_before held
   cut_in_line told bad held_before mid held low to part =
       let first : lines_behind told ≡ block_text d image told ∷ lines_behind (told + 1) =
       ap (λ (n : ℕ). map (block_text d image) (range_with_len told n) ++ counts_text d.geometry.blocks (bad_count d image) ∷ [])
       (let split : d.geometry.blocks - told ≡ suc (d.geometry.blocks - (told + 1)) = omega (arith, low) in split) in
       let put = take part.count (block_text d image told) in
-      cut_at told bad SinkFailed put held_before mid held (omega (arith, low)) to
+      cut_at told bad (Failed outers.Sink) put held_before mid held (omega (arith, low)) to
       (λ found.
-      subst (λ (texts : List (List ℕ)). IsEndedShort (only_prints texts found) put [] SinkFailed) (sym first)
-      (text_short (block_text d image told) (lines_behind (told + 1)) found part.count SinkFailed part.short (λ other. absurd (other refl)) tt))
+      subst (λ (texts : List (List ℕ)). IsEndedShort (only_prints texts found) put [] (Failed outers.Sink)) (sym first)
+      (text_short (block_text d image told) (lines_behind (told + 1)) found part.count (Failed outers.Sink) part.short (λ other. absurd (other refl)) tt))
       part.held
 
   -- ---- the last line
@@ -201,17 +207,17 @@ module _ (d : DiskFormat) (image : Image) where
 
     -- or the sink failed in it.
     pub last_cut : AddsPrefix (counts_text blocks bad) mid held
-        → IsPrintedBy (salvage_texts d image) (has_bad d image) SinkFailed held_before held
+        → IsPrintedBy (salvage_texts d image) (has_bad d image) (Failed outers.Sink) held_before held
     last_cut put =
         let last = counts_text d.geometry.blocks (bad_count d image) in
         let part : AddsPrefix last mid held = subst (λ (l : List ℕ). AddsPrefix l mid held) line_is put in
         let whole : lines_behind blocks ≡ last ∷ [] =
         ap (λ (n : ℕ). map (block_text d image) (range_with_len blocks n) ++ last ∷ []) (let none : d.geometry.blocks - blocks ≡ 0 = omega (arith, blocks_are) in none) in
         let text = take part.count last in
-        let short = cut_at blocks bad SinkFailed text held_before mid held (omega (arith, blocks_are)) to
+        let short = cut_at blocks bad (Failed outers.Sink) text held_before mid held (omega (arith, blocks_are)) to
         (λ found.
-        subst (λ (texts : List (List ℕ)). IsEndedShort (only_prints texts found) text [] SinkFailed) (sym whole)
-        (text_short last [] found part.count SinkFailed part.short (λ other. absurd (other refl)) tt))
+        subst (λ (texts : List (List ℕ)). IsEndedShort (only_prints texts found) text [] (Failed outers.Sink)) (sym whole)
+        (text_short last [] found part.count (Failed outers.Sink) part.short (λ other. absurd (other refl)) tt))
         part.held in
         printed_short (has_bad d image) short
 
@@ -291,14 +297,14 @@ module _ (old new : Salvaged) (disk now : DiskIdentity) (before after : List Con
     pub cut_in_block : (verdict : Verdict) (bytes_before bytes : List ℕ) (held : Option (List ℕ)) → TellsNext new now.sectors after (Some verdict)
         → GivesBytes new now.sectors after (Some verdict) bytes_before bytes
         → AddsPrefix (verdict_text (as_verdict verdict) bytes) mid held
-        → HasNow (λ c. IsPrintedShort (salvage_texts (own_at c) (last_image c)) SinkFailed held_before held) before
+        → HasNow (λ c. IsPrintedShort (salvage_texts (own_at c) (last_image c)) (Failed outers.Sink) held_before held) before
     cut_in_block verdict bytes_before bytes held tells gives put c told =
         let low = told_low verdict tells in
         cut_in_line (own_at c) (last_image c) new.told bad held_before mid held (omega (arith, low, own_blocks c told)) (to c told)
         (subst (λ (l : List ℕ). AddsPrefix l mid held) (line_is_next verdict bytes_before bytes tells gives c told) put)
 
     -- or something else ended it before,
-    pub cut_at_block : (ending : Ending) → (ending ≡ NoMemory) ⊎ (ending ≡ DiskFailed)
+    pub cut_at_block : (ending : Ending) → (ending ≡ NoMemory) ⊎ (ending ≡ Failed outers.Disk)
         → HasNow (λ c. IsPrintedShort (salvage_texts (own_at c) (last_image c)) ending held_before mid) before
     cut_at_block ending early c told =
         cut_between (own_at c) (last_image c) new.told bad ending held_before mid early (told_few c told) (to c told)
@@ -322,21 +328,21 @@ module _ (key : Option (List ℕ)) (sectors : ℕ) (start : Content) (script : L
   own = format_on key sectors (last_image start)
 
   refused_as : (refusal : Refusals.ImageFault) (held : Option (List ℕ)) → read_fault_of sectors (last_image start) ≡ Some refusal
-      → HasRunOn outset start script (RefusedImage refusal) b held held
+      → HasRunOn outset start script (Refused (ByImage refusal)) b held held
   refused_as refusal held refused =
-      refused_run outset start script (RefusedImage refusal) (ap (outset_by_salvage own (last_image start)) refused) b
+      refused_run outset start script (Refused (ByImage refusal)) (ap (outset_by_salvage own (last_image start)) refused) b
       (untouched_kept start told kept) held held refl
 
   -- The image is not opened.
-  pub not_salvaged : (fault : OpenFault) (held : Option (List ℕ))
-      → ((fault ≢ OpenFaults.Memory) → (fault ≢ OpenFaults.Disk) → read_fault_of sectors (last_image start) ≡ refusal_of fault)
-      → HasRunOn outset start script (ending_of (ended_by_opening (of_format fault))) b held held
-  not_salvaged OpenFaults.Memory held refused =
+  pub not_salvaged : (fault : CallFault HeadFault) (held : Option (List ℕ))
+      → ((fault ≢ CallFaults.Memory) → (fault ≢ CallFaults.Disk) → read_fault_of sectors (last_image start) ≡ refusal_of fault)
+      → HasRunOn outset start script (ending_of (ended_by_opening (with_cause Head fault))) b held held
+  not_salvaged CallFaults.Memory held refused =
       nothing_run outset (fine_salvage key sectors (last_image start)) start script NoMemory tt b (before_kept outset start told kept) held held refl
-  not_salvaged OpenFaults.Disk held refused =
-      nothing_run outset (fine_salvage key sectors (last_image start)) start script DiskFailed tt b (before_kept outset start told kept) held held refl
-  not_salvaged (OpenFaults.Super fault) held refused = refused_as _ held (refused (λ is. absurd (cc)) (λ is. absurd (cc)))
-  not_salvaged (OpenFaults.Geom fault) held refused = refused_as _ held (refused (λ is. absurd (cc)) (λ is. absurd (cc)))
+  not_salvaged CallFaults.Disk held refused =
+      nothing_run outset (fine_salvage key sectors (last_image start)) start script (Failed outers.Disk) tt b (before_kept outset start told kept) held held refl
+  not_salvaged (CallFaults.Refused (HeadFaults.Super fault)) held refused = refused_as _ held (refused (λ is. absurd (cc)) (λ is. absurd (cc)))
+  not_salvaged (CallFaults.Refused (HeadFaults.Geom fault)) held refused = refused_as _ held (refused (λ is. absurd (cc)) (λ is. absurd (cc)))
 
   -- It is opened, and its lines are printed so far.
   pub salvaged : (ending : Ending) (held_before held : Option (List ℕ)) → read_fault_of sectors (last_image start) ≡ None

@@ -8,18 +8,19 @@ use Rattle.disk_model.specs.Moments.{content_now, EachMoment, HasNow}
 use Rattle.image_model.specs.Cells.{Cell}
 use Rattle.image_model.specs.Openable.{IsReadable}
 use Rattle.device_model.specs.Device.{DeviceKind}
-use Rattle.device_model.specs.Ending as endings
+use Rattle.run_model.specs.Ending as endings
 use Rattle.device_model.specs.History.{Change}
 use Rattle.device_model.specs.Mode.{DeviceFormat, Mode, Bitmap, Direct, Journal, Recovery}
 use Rattle.device_model.specs.Progress.{DeviceState, opened_device}
-use Rattle.device_model.specs.ScriptRun.{ScriptRun, ScriptStep, changes_in}
+use Rattle.run_model.specs.ScriptRun.{ScriptRun, ScriptStep, changes_in}
 use Rattle.place_model.specs.Changed.{changed_device, changed_format, changes_mode, opened_format, opened_in}
 use Rattle.place_model.specs.Format.{DiskFormat, cells_on, format_on}
 use Rattle.place_model.specs.Kind.{kind_in}
 use Rattle.place_model.specs.Opened.{awaiting_on, base_on, next_on, opened_on, set_bits_on}
 use Rattle.place_model.proofs.FormatLemmas.{reads_on, reads_tells}
 use Rattle.image_judging.specs.FaultLaws.{OpensLaw}
-use Rattle.image_judging.specs.declared.opening_fault.OpeningFault.{OpeningFault}
+use Rattle.image_refusal.specs.declared.call_fault.CallFault.{CallFault}
+use Rattle.image_refusal.specs.declared.open_fault.OpenFault.{OpenFault}
 use Rattle.device_parts.specs.declared.condition.Condition.TheVariants.{Working}
 use Rattle.device_parts.specs.Device.{IsOfSameBlocks, Standing, opened_standing}
 use Rattle.device.specs.declared.mode.DeviceParts.{DeviceParts}
@@ -45,20 +46,21 @@ use Rattle.script_session.specs.declared.tags_found.TagsFound.{TagsFound}
 use Rattle.command_ending.specs.Ended.{ending_of}
 use Rattle.command_ending.specs.declared.ended.Ended.{Ended}
 use Rattle.command_ending.specs.declared.ended.Ended.TheVariants as Endings
-use Rattle.command_model.specs.CommandRun.{IsSessionRun, Outset, Serves}
+use Rattle.run_model.specs.CommandRun.{IsSessionRun, Outset, Serves}
 use Rattle.integrity_tool.specs.declared.asked.Task.TheVariants as Tasks
 use Rattle.integrity_tool.specs.declared.telling.Telling.TheVariants.{Lines, Replies}
 use Rattle.integrity_tool.specs.Closed.{IsClosedAt, IsClosedIn, state_served}
 use Rattle.integrity_tool.specs.Ends.{IsBeforeScript}
 use Rattle.integrity_tool.specs.Opening.{EndsImage, HasReadIn, HasRunIn, IsMomentAt}
 use Rattle.integrity_tool.specs.Order.{HasMomentsAt}
-use Rattle.integrity_tool.specs.Outset.{outset_at, outset_by}
+use Rattle.integrity_tool.specs.Outset.{task_outset, judged_outset}
 use Rattle.integrity_tool.specs.Refusing.{ended_by_opening}
 use Rattle.integrity_tool.specs.Running.{HasEndCause, IsCounted, ending_by}
 use Rattle.integrity_tool.specs.Serving.{HasReadStream, HasServedOn, ended_by_session, session_ending}
 use Rattle.integrity_tool.specs.Words.{MayWrite}
 use Rattle.integrity_tool.proofs.ClosedLemmas.{closed_here}
 use Rattle.integrity_tool.proofs.OpeningLemmas.{content_opened, left_behind, moments_behind, moments_in_opening, refused_in_opening, sort_of_serving, still_behind, writes_in}
+use Rattle.run_model.specs.declared.outer.Outer.TheVariants as outers
 
 -- ---- the device is one that has just been opened
 
@@ -163,8 +165,8 @@ module _ (disk between disk_now source source_now sink sink_now : ℕ) (same : b
       by (Err faults.Sink) told = told.sink_failed refl
 
   -- and each count rises only where that is what ended it.
-  pub counted_by_session : IsCounted Endings.Disk disk disk_now (ended_by_session served)
-      × IsCounted Endings.Script source source_now (ended_by_session served) × IsCounted Endings.Sink sink sink_now (ended_by_session served)
+  pub counted_by_session : IsCounted outers.Disk disk disk_now (ended_by_session served)
+      × IsCounted outers.Script source source_now (ended_by_session served) × IsCounted outers.Sink sink sink_now (ended_by_session served)
   counted_by_session = (
     record {
       later = subst (λ (n : ℕ). n ≤ disk_now) same causes.disk_later;
@@ -197,7 +199,7 @@ module _ (law : OpensLaw) (mode : OpenMode) (may : MayWrite mode) (key : Option 
   kind = kind_in (asked_mode mode) key disk.sectors
 
   abbrev outset : Outset
-  outset = outset_at (Tasks.Serve mode) key disk.sectors image
+  outset = task_outset (Tasks.Serve mode) key disk.sectors image
 
   pub serving_moments : EachMoment a b (IsMomentAt (Tasks.Serve mode) key disk.sectors start stream)
   serving_moments = moments_in_opening law mode key disk now a b start told stream (Serves kind image) (sort_of_serving mode may kind image) tt leaves
@@ -206,7 +208,7 @@ module _ (law : OpensLaw) (mode : OpenMode) (may : MayWrite mode) (key : Option 
   serving_content = content_opened law mode key disk now a b start told stream (Serves kind image) (sort_of_serving mode may kind image) tt leaves
 
   -- No device is open.
-  pub serving_refused : (held : Option (List ℕ)) (fault : OpeningFault) → IsRefused mode key disk a b fault
+  pub serving_refused : (held : Option (List ℕ)) (fault : CallFault OpenFault) → IsRefused mode key disk a b fault
       → HasRunIn outset Lines start stream (ending_of (ended_by_opening fault)) b held held
   serving_refused = refused_in_opening law mode key disk now a b start told stream (Serves kind image) (sort_of_serving mode may kind image) tt leaves
 
@@ -218,7 +220,7 @@ module _ (law : OpensLaw) (mode : OpenMode) (may : MayWrite mode) (key : Option 
     serving_new made = opened_is_new (asked_mode mode) key disk.sectors image made readable
 
     begins : outset ≡ Serves kind image
-    begins = ap (outset_by (Serves kind image)) none
+    begins = ap (judged_outset (Serves kind image)) none
 
     -- ---- a session came so far
 

@@ -13,7 +13,7 @@ use Rattle.image_judging.specs.Faults.{ImageFault}
 use Rattle.device_model.specs.Cut.{all_writes}
 use Rattle.device_model.specs.History.{BlockWrite, Change, History}
 use Rattle.device_model.specs.Mode.{Mode, Direct, Journal}
-use Rattle.device_model.specs.ScriptRun.{changes_in}
+use Rattle.run_model.specs.ScriptRun.{changes_in}
 use Rattle.device_model.specs.Transcript.{BlockFormat}
 use Rattle.device_model.proofs.HistoryLemmas.{IsOfBlock, Any-append, Any-append_left, Any-append_right, Any-nil, cells_after-others, with_changes-base}
 use Rattle.place_model.specs.Changed.{changed_device, changes_mode}
@@ -27,8 +27,8 @@ use Rattle.device.specs.declared.opening.OpenMode.TheVariants as Modes
 use Rattle.device.specs.Opening.{asked_mode, fault_in_mode}
 use Rattle.device.specs.Tags.{AreOfOthers}
 use Rattle.device.proofs.TagsLemmas.{unwritten_behind}
-use Rattle.command_model.specs.CommandRun.{IsLeftAt, IsUntouched}
-use Rattle.integrity_tool.specs.Outset.{begun_on, geometry_on, outset_by}
+use Rattle.run_model.specs.CommandRun.{IsAtMoment, IsUntouched}
+use Rattle.integrity_tool.specs.Outset.{begun_on, geometry_on, judged_outset}
 use Rattle.integrity_tool.specs.Reopening.{history_on}
 use Rattle.integrity_tool.specs.StoredTags.{HasJournal, HasStoredTags, StoredTagsLaw, awaits_tag, stored_tag}
 
@@ -138,7 +138,7 @@ module _ (key : Option (List ℕ)) (sectors : ℕ) (start later : Content) (chan
 
   abbrev LeftIn : OpenMode → Option ImageFault → Type 0
   LeftIn mode fault =
-      IsLeftAt (outset_by (begun_on mode (kind_in (asked_mode mode) key sectors) (last_image start)) fault) start changes later
+      IsAtMoment (judged_outset (begun_on mode (kind_in (asked_mode mode) key sectors) (last_image start)) fault) start changes later
 
   -- By why the image is refused, if it is, and by what is left.
   kept_by : (mode : OpenMode) → HasJournal mode → (fault : Option ImageFault) → LeftIn mode fault → Keeps

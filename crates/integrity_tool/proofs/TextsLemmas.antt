@@ -1,11 +1,12 @@
 -- Texts that are printed one after the other, and how far that came.
 use Rattle.std.proofs.Common.{◌≡◌, ◌≢◌, ℕ, ◌+◌, ◌<◌, Bool, List, [], ◌∷◌, ◌++◌, length, take, map, flat_map, append_assoc, length-append, length-take, arith, refl, sym, ◌∙◌, ap, subst}
 use Rattle.std.proofs.lemmas.List.Concat.{flat_map-cons}
-use Rattle.device_model.specs.Ending.{Ending, SinkFailed}
-use Rattle.device_model.specs.ScriptRun.{ScriptStep, changes_in, texts_of}
-use Rattle.script_text.proofs.ScriptRunLemmas.{came_into, run_is_whole}
-use Rattle.command_model.specs.CommandRun.{IsEndedShort, IsFromOutside, only_prints, printing_step}
+use Rattle.run_model.specs.Ending.{Ending, Failed}
+use Rattle.run_model.specs.ScriptRun.{ScriptStep, changes_in, texts_of}
+use Rattle.run_laws.proofs.ScriptRunLemmas.{came_into, run_is_whole}
+use Rattle.run_model.specs.CommandRun.{IsEndedShort, IsFromOutside, only_prints, printing_step}
 use Rattle.integrity_tool.proofs.RunningLemmas.{short_further}
+use Rattle.run_model.specs.declared.outer.Outer.TheVariants as outers
 
 -- The first of them says something.
 abbrev pub BeginsText : List (List ℕ) → Type 0
@@ -14,7 +15,7 @@ BeginsText (text ∷ texts) = 0 < length text
 
 -- The first is printed so far, and not to its end.
 pub text_short : (text : List ℕ) (texts : List (List ℕ)) (found : Bool) (count : ℕ) (ending : Ending) → count < length text
-    → (ending ≢ SinkFailed → count ≡ 0) → IsFromOutside ending
+    → (ending ≢ Failed outers.Sink → count ≡ 0) → IsFromOutside ending
     → IsEndedShort (only_prints (text ∷ texts) found) (take count text) [] ending
 text_short text texts found count ending less only outside =
     let step = printing_step text in

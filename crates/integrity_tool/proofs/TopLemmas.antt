@@ -6,15 +6,16 @@ use Rattle.disk_model.specs.Causes.{HasCause, Rose}
 use Rattle.disk_model.specs.Disk.{Content}
 use Rattle.disk_model.specs.Identity.{NamedDisk}
 use Rattle.disk_model.specs.Moments.{content_now, EachMoment}
-use Rattle.device_model.specs.Ending.{Ending, Complete, DiskFailed, KeyFailed, NoMemory, RefusedImage, RefusedKey, RefusedLength, RefusedLine, RefusedWords, ScriptFailed, SinkFailed, fault_text, status_of}
+use Rattle.run_model.specs.Ending.{Ending, Refusal, Complete, Refused, Failed, NoMemory, ByWords, ByKey, ByImage, ByLine, ByLength, refused_status, status_of, fault_text}
 use Rattle.stream_io.specs.Stream.{with_bytes, AddsPrefix}
 use Rattle.script_session.specs.LineRun.{held_with}
-use Rattle.command_ending.specs.Ended.{ending_of}
+use Rattle.command_ending.specs.Ended.{refusal_of, ending_of}
 use Rattle.command_ending.specs.declared.ended.Ended.{Ended}
 use Rattle.command_ending.specs.declared.ended.Ended.TheVariants as Endings
-use Rattle.command_model.specs.CommandRun.{Faults, Outset, RefusedBy, RunsOn, Prints, Makes, Exercises, ReadsOn, Changes, Serves, HasCauseIn, IsLastLine}
+use Rattle.run_model.specs.CommandRun.{Faults, Outset, RefusedBy, RunsOn, Prints, Makes, Exercises, ReadsOn, Changes, Serves, HasCauseIn, IsLastLine}
 use Rattle.nbd_command.specs.ServedRun as ends
-use Rattle.nbd_command.specs.ServedRun.{HasSessionCause, SessionEnd, session_status}
+use Rattle.nbd_command.specs.ServedRun.{SessionEnd, session_status}
+use Rattle.run_model.specs.ServedRun.{HasSessionCause}
 use Rattle.integrity_tool.specs.Ends.{IsBeforeScript}
 use Rattle.integrity_tool.specs.KeyFile.{IsKeyRefused}
 use Rattle.integrity_tool.specs.declared.telling.Telling.{Telling}
@@ -27,6 +28,8 @@ use Rattle.integrity_tool.specs.Top.{Given, HasStatus, IsCountedBy, TellsIn, Tel
 use Rattle.integrity_tool.specs.World.{Counts, rises}
 use Rattle.integrity_tool.proofs.LoopLemmas.{same_ended}
 use Rattle.integrity_tool.proofs.RunningLemmas.{told_nothing}
+use Rattle.run_model.specs.declared.outer.Outer.TheVariants as outers
+use Rattle.command_ending.specs.declared.refusal.Refusal.TheVariants as refusals
 
 -- ---- the disk
 
@@ -51,19 +54,15 @@ rose_earlier a b c later rose = omega (arith, rose, later)
 pub cause_later : (first mid : Counts) (sink : ℕ) → mid.sink ≤ sink → (ending : Ending) → HasCauseIn (rises first mid) ending
     → HasCauseIn (rises first (record mid { sink = sink })) ending
 cause_later first mid sink later (Complete found_fault) cause = tt
-cause_later first mid sink later RefusedWords cause = tt
-cause_later first mid sink later (RefusedKey refusal) cause = tt
-cause_later first mid sink later (RefusedLine number fault) cause = tt
-cause_later first mid sink later RefusedLength cause = tt
-cause_later first mid sink later (RefusedImage fault) cause = tt
-cause_later first mid sink later DiskFailed cause = cause
-cause_later first mid sink later KeyFailed cause = cause
-cause_later first mid sink later ScriptFailed cause = cause
-cause_later first mid sink later SinkFailed cause = rose_later _ _ _ cause later
+cause_later first mid sink later (Refused refusal) cause = tt
+cause_later first mid sink later (Failed outers.Disk) cause = cause
+cause_later first mid sink later (Failed outers.Key) cause = cause
+cause_later first mid sink later (Failed outers.Script) cause = cause
+cause_later first mid sink later (Failed outers.Sink) cause = rose_later _ _ _ cause later
 cause_later first mid sink later NoMemory cause = tt
 
 -- Words, or want of memory, rest on no fault.
-pub cause_at_words : (faults : Faults) (ended : Ended) → (ended ≡ Endings.Words) ⊎ (ended ≡ Endings.Memory) → HasCauseIn faults (ending_of ended)
+pub cause_at_words : (faults : Faults) (ended : Ended) → (ended ≡ Endings.Refused refusals.Words) ⊎ (ended ≡ Endings.Memory) → HasCauseIn faults (ending_of ended)
 cause_at_words faults ended ends = elim ends [
   | inl words ↦ subst (λ (e : Ended). HasCauseIn faults (ending_of e)) (sym words) tt
   | inr memory ↦ subst (λ (e : Ended). HasCauseIn faults (ending_of e)) (sym memory) tt
@@ -72,28 +71,20 @@ cause_at_words faults ended ends = elim ends [
 -- Of what a key is refused by, its source alone does.
 pub cause_at_key : (faults : Faults) (file : Option (List ℕ)) (named : List ℕ → Option (List ℕ)) (before after : ℕ) → (Rose before after → faults.key)
     → (ended : Ended) → IsKeyRefused file named before after ended → HasCauseIn faults (ending_of ended)
-cause_at_key faults file named before after rose Endings.Words refused = tt
-cause_at_key faults file named before after rose (Endings.Key refusal) refused = tt
-cause_at_key faults file named before after rose (Endings.Line number refusal) refused = tt
-cause_at_key faults file named before after rose Endings.Length refused = tt
-cause_at_key faults file named before after rose (Endings.Image fault) refused = tt
-cause_at_key faults file named before after rose Endings.Disk refused = absurd refused
-cause_at_key faults file named before after rose Endings.KeySource refused = rose refused
-cause_at_key faults file named before after rose Endings.Script refused = absurd refused
-cause_at_key faults file named before after rose Endings.Sink refused = absurd refused
+cause_at_key faults file named before after rose (Endings.Refused refusal) refused = tt
+cause_at_key faults file named before after rose (Endings.Failed outers.Disk) refused = absurd refused
+cause_at_key faults file named before after rose (Endings.Failed outers.Key) refused = rose refused
+cause_at_key faults file named before after rose (Endings.Failed outers.Script) refused = absurd refused
+cause_at_key faults file named before after rose (Endings.Failed outers.Sink) refused = absurd refused
 cause_at_key faults file named before after rose Endings.Memory refused = tt
 
 -- What ends a run on an image is no source of keys.
 pub cause_on_image : (faults : Faults) (ended : Ended) → EndsImage ended → HasEndCause faults.disk faults.script faults.sink ended → HasCauseIn faults (ending_of ended)
-cause_on_image faults Endings.Words ends cause = tt
-cause_on_image faults (Endings.Key refusal) ends cause = tt
-cause_on_image faults (Endings.Line number refusal) ends cause = tt
-cause_on_image faults Endings.Length ends cause = tt
-cause_on_image faults (Endings.Image fault) ends cause = tt
-cause_on_image faults Endings.Disk ends cause = cause
-cause_on_image faults Endings.KeySource ends cause = absurd ends
-cause_on_image faults Endings.Script ends cause = cause
-cause_on_image faults Endings.Sink ends cause = cause
+cause_on_image faults (Endings.Refused refusal) ends cause = tt
+cause_on_image faults (Endings.Failed outers.Disk) ends cause = cause
+cause_on_image faults (Endings.Failed outers.Key) ends cause = absurd ends
+cause_on_image faults (Endings.Failed outers.Script) ends cause = cause
+cause_on_image faults (Endings.Failed outers.Sink) ends cause = cause
 cause_on_image faults Endings.Memory ends cause = tt
 
 pub causes_on_image : {T : Type 0} (faults : Faults) (r : Result T Ended) → IfErr r EndsImage → IfErr r (HasEndCause faults.disk faults.script faults.sink)
@@ -116,56 +107,37 @@ status_complete first last status low found result is counted = record {
   sink_passed = λ told. counted.sink.passed (λ ended. absurd (cc));
 }
 
+-- A refusal has status 2 or 3.
+refused_is_high : (refusal : Refusal) → 2 ≤ refused_status refusal
+refused_is_high ByWords = omega arith
+refused_is_high (ByKey refusal) = omega arith
+refused_is_high (ByImage fault) = omega arith
+refused_is_high (ByLine number fault) = omega arith
+refused_is_high ByLength = omega arith
+
+refused_is_low : (refusal : Refusal) → refused_status refusal ≤ 3
+refused_is_low ByWords = omega arith
+refused_is_low (ByKey refusal) = omega arith
+refused_is_low (ByImage fault) = omega arith
+refused_is_low (ByLine number fault) = omega arith
+refused_is_low ByLength = omega arith
+
 -- Where its last line is printed, the sink's count may have risen since.
 module _ {T : Type 0} (first mid : Counts) (sink : ℕ) where
   pub status_ended : (ended : Ended) → HasCauseIn (rises first (record mid { sink = sink })) (ending_of ended)
       → IsCountedBy {R = T} (Err ended) first mid → HasStatus first (record mid { sink = sink }) (status_of (ending_of ended))
-  status_ended Endings.Words cause counted = record {
-    low = omega arith;
-    of_disk = λ is. absurd (omega (arith, is));
-    of_sources = λ is. absurd (omega (arith, is));
-    of_sink = λ is. absurd (omega (arith, is));
-    disk_passed = λ other. counted.disk.passed (λ same. absurd (cc));
-    sources_passed = λ other. (counted.key.passed (λ same. absurd (cc)), counted.script.passed (λ same. absurd (cc)));
-    sink_passed = λ is. absurd (omega (arith, is));
-  }
-  status_ended (Endings.Key refusal) cause counted = record {
-    low = omega arith;
-    of_disk = λ is. absurd (omega (arith, is));
-    of_sources = λ is. absurd (omega (arith, is));
-    of_sink = λ is. absurd (omega (arith, is));
-    disk_passed = λ other. counted.disk.passed (λ same. absurd (cc));
-    sources_passed = λ other. (counted.key.passed (λ same. absurd (cc)), counted.script.passed (λ same. absurd (cc)));
-    sink_passed = λ is. absurd (omega (arith, is));
-  }
-  status_ended (Endings.Line number refusal) cause counted = record {
-    low = omega arith;
-    of_disk = λ is. absurd (omega (arith, is));
-    of_sources = λ is. absurd (omega (arith, is));
-    of_sink = λ is. absurd (omega (arith, is));
-    disk_passed = λ other. counted.disk.passed (λ same. absurd (cc));
-    sources_passed = λ other. (counted.key.passed (λ same. absurd (cc)), counted.script.passed (λ same. absurd (cc)));
-    sink_passed = λ is. absurd (omega (arith, is));
-  }
-  status_ended Endings.Length cause counted = record {
-    low = omega arith;
-    of_disk = λ is. absurd (omega (arith, is));
-    of_sources = λ is. absurd (omega (arith, is));
-    of_sink = λ is. absurd (omega (arith, is));
-    disk_passed = λ other. counted.disk.passed (λ same. absurd (cc));
-    sources_passed = λ other. (counted.key.passed (λ same. absurd (cc)), counted.script.passed (λ same. absurd (cc)));
-    sink_passed = λ is. absurd (omega (arith, is));
-  }
-  status_ended (Endings.Image fault) cause counted = record {
-    low = omega arith;
-    of_disk = λ is. absurd (omega (arith, is));
-    of_sources = λ is. absurd (omega (arith, is));
-    of_sink = λ is. absurd (omega (arith, is));
-    disk_passed = λ other. counted.disk.passed (λ same. absurd (cc));
-    sources_passed = λ other. (counted.key.passed (λ same. absurd (cc)), counted.script.passed (λ same. absurd (cc)));
-    sink_passed = λ is. absurd (omega (arith, is));
-  }
-  status_ended Endings.Disk cause counted = record {
+  status_ended (Endings.Refused refusal) cause counted =
+      let low : refused_status (refusal_of refusal) ≤ 3 = refused_is_low (refusal_of refusal) in
+      record {
+        low = omega (arith, low);
+        of_disk = λ is. absurd (omega (arith, low, is));
+        of_sources = λ is. absurd (omega (arith, low, is));
+        of_sink = λ is. absurd (omega (arith, low, is));
+        disk_passed = λ other. counted.disk.passed (λ same. absurd (cc));
+        sources_passed = λ other. (counted.key.passed (λ same. absurd (cc)), counted.script.passed (λ same. absurd (cc)));
+        sink_passed = λ is. absurd (omega (arith, refused_is_high (refusal_of refusal), is));
+      }
+  status_ended (Endings.Failed outers.Disk) cause counted = record {
     low = omega arith;
     of_disk = λ is. cause;
     of_sources = λ is. absurd (omega (arith, is));
@@ -174,7 +146,7 @@ module _ {T : Type 0} (first mid : Counts) (sink : ℕ) where
     sources_passed = λ other. (counted.key.passed (λ same. absurd (cc)), counted.script.passed (λ same. absurd (cc)));
     sink_passed = λ is. absurd (omega (arith, is));
   }
-  status_ended Endings.KeySource cause counted = record {
+  status_ended (Endings.Failed outers.Key) cause counted = record {
     low = omega arith;
     of_disk = λ is. absurd (omega (arith, is));
     of_sources = λ is. inl cause;
@@ -183,7 +155,7 @@ module _ {T : Type 0} (first mid : Counts) (sink : ℕ) where
     sources_passed = λ other. absurd (other refl);
     sink_passed = λ is. absurd (omega (arith, is));
   }
-  status_ended Endings.Script cause counted = record {
+  status_ended (Endings.Failed outers.Script) cause counted = record {
     low = omega arith;
     of_disk = λ is. absurd (omega (arith, is));
     of_sources = λ is. inr cause;
@@ -192,7 +164,7 @@ module _ {T : Type 0} (first mid : Counts) (sink : ℕ) where
     sources_passed = λ other. absurd (other refl);
     sink_passed = λ is. absurd (omega (arith, is));
   }
-  status_ended Endings.Sink cause counted = record {
+  status_ended (Endings.Failed outers.Sink) cause counted = record {
     low = omega arith;
     of_disk = λ is. absurd (omega (arith, is));
     of_sources = λ is. absurd (omega (arith, is));
@@ -212,8 +184,8 @@ module _ {T : Type 0} (first mid : Counts) (sink : ℕ) where
   }
 
 -- What ended a command by the sink has status 6.
-sink_status : {T : Type 0} (ended : Ended) (r : Result T Ended) → r ≡ Err ended → r ≡ Err Endings.Sink → status_of (ending_of ended) ≡ 6
-sink_status ended r is is_sink = ap (λ (e : Ended). status_of (ending_of e)) (same_ended ended Endings.Sink r is is_sink)
+sink_status : {T : Type 0} (ended : Ended) (r : Result T Ended) → r ≡ Err ended → r ≡ Err (Endings.Failed outers.Sink) → status_of (ending_of ended) ≡ 6
+sink_status ended r is is_sink = ap (λ (e : Ended). status_of (ending_of e)) (same_ended ended (Endings.Failed outers.Sink) r is is_sink)
 
 -- ---- the last line
 
@@ -394,15 +366,15 @@ told_there is told = sym (ap (λ (n : NamedDisk). content_now n.moments) is) ∙
 
 -- The status of an image that is refused comes of that alone,
 pub image_refused : (ended : Ended) → status_of (ending_of ended) ≡ 3 → IsBeforeScript ended
-image_refused Endings.Words is = tt
-image_refused (Endings.Key refusal) is = tt
-image_refused (Endings.Line number refusal) is = absurd (omega (arith, is))
-image_refused Endings.Length is = absurd (omega (arith, is))
-image_refused (Endings.Image fault) is = tt
-image_refused Endings.Disk is = absurd (omega (arith, is))
-image_refused Endings.KeySource is = tt
-image_refused Endings.Script is = absurd (omega (arith, is))
-image_refused Endings.Sink is = absurd (omega (arith, is))
+image_refused (Endings.Refused refusals.Words) is = tt
+image_refused (Endings.Refused (refusals.Key refusal)) is = tt
+image_refused (Endings.Refused (refusals.Line number refusal)) is = absurd (omega (arith, is))
+image_refused (Endings.Refused refusals.Length) is = absurd (omega (arith, is))
+image_refused (Endings.Refused (refusals.Image fault)) is = tt
+image_refused (Endings.Failed outers.Disk) is = absurd (omega (arith, is))
+image_refused (Endings.Failed outers.Key) is = tt
+image_refused (Endings.Failed outers.Script) is = absurd (omega (arith, is))
+image_refused (Endings.Failed outers.Sink) is = absurd (omega (arith, is))
 image_refused Endings.Memory is = absurd (omega (arith, is))
 
 -- and a run that came to its end has another one.
@@ -412,34 +384,26 @@ complete_is_low false = omega arith
 
 -- What ended a command has another one too.
 pub ended_is_high : (ended : Ended) → 2 ≤ status_of (ending_of ended)
-ended_is_high Endings.Words = omega arith
-ended_is_high (Endings.Key refusal) = omega arith
-ended_is_high (Endings.Line number refusal) = omega arith
-ended_is_high Endings.Length = omega arith
-ended_is_high (Endings.Image fault) = omega arith
-ended_is_high Endings.Disk = omega arith
-ended_is_high Endings.KeySource = omega arith
-ended_is_high Endings.Script = omega arith
-ended_is_high Endings.Sink = omega arith
+ended_is_high (Endings.Refused refusal) = refused_is_high (refusal_of refusal)
+ended_is_high (Endings.Failed outers.Disk) = omega arith
+ended_is_high (Endings.Failed outers.Key) = omega arith
+ended_is_high (Endings.Failed outers.Script) = omega arith
+ended_is_high (Endings.Failed outers.Sink) = omega arith
 ended_is_high Endings.Memory = omega arith
 
 -- That of want of memory does too.
 pub memory_ended : (ended : Ended) → status_of (ending_of ended) ≡ 7 → ended ≡ Endings.Memory
-memory_ended Endings.Words is = absurd (omega (arith, is))
-memory_ended (Endings.Key refusal) is = absurd (omega (arith, is))
-memory_ended (Endings.Line number refusal) is = absurd (omega (arith, is))
-memory_ended Endings.Length is = absurd (omega (arith, is))
-memory_ended (Endings.Image fault) is = absurd (omega (arith, is))
-memory_ended Endings.Disk is = absurd (omega (arith, is))
-memory_ended Endings.KeySource is = absurd (omega (arith, is))
-memory_ended Endings.Script is = absurd (omega (arith, is))
-memory_ended Endings.Sink is = absurd (omega (arith, is))
+memory_ended (Endings.Refused refusal) is = absurd (omega (arith, refused_is_low (refusal_of refusal), is))
+memory_ended (Endings.Failed outers.Disk) is = absurd (omega (arith, is))
+memory_ended (Endings.Failed outers.Key) is = absurd (omega (arith, is))
+memory_ended (Endings.Failed outers.Script) is = absurd (omega (arith, is))
+memory_ended (Endings.Failed outers.Sink) is = absurd (omega (arith, is))
 memory_ended Endings.Memory is = refl
 
 -- Where words, or want of memory, ended it, its status tells.
-pub words_status : {T : Type 0} (ended : Ended) (r : Result T Ended) → r ≡ Err ended → (r ≡ Err Endings.Words) ⊎ (r ≡ Err Endings.Memory)
+pub words_status : {T : Type 0} (ended : Ended) (r : Result T Ended) → r ≡ Err ended → (r ≡ Err (Endings.Refused refusals.Words)) ⊎ (r ≡ Err Endings.Memory)
     → (status_of (ending_of ended) ≡ 2) ⊎ (status_of (ending_of ended) ≡ 7)
 words_status ended r is ends = elim ends [
-  | inl words ↦ inl (ap (λ (e : Ended). status_of (ending_of e)) (same_ended ended Endings.Words r is words))
+  | inl words ↦ inl (ap (λ (e : Ended). status_of (ending_of e)) (same_ended ended (Endings.Refused refusals.Words) r is words))
   | inr memory ↦ inr (ap (λ (e : Ended). status_of (ending_of e)) (same_ended ended Endings.Memory r is memory))
 ]

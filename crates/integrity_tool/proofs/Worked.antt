@@ -1,10 +1,11 @@
 -- Values of the definitions, computed: what a run in bitmap mode starts on, and which geometry its device has, of an image
 -- with a journal and of one with a bitmap.
-use Rattle.std.proofs.Common.{◌≡◌, ◌==◌, true, false, if◌then◌else◌, refl, None, Some, [], ◌∷◌, replicate}
+use Rattle.std.proofs.Common.{◌≡◌, ℕ, ◌==◌, true, false, if◌then◌else◌, refl, None, Some, [], ◌∷◌, replicate}
 use Rattle.std.specs.Prelude.{codes}
 use Rattle.disk_model.specs.Disk.{Image}
-use Rattle.device_model.specs.Ending.{ByConsent, DiskFailed, RefusedImage, status_of}
-use Rattle.device_model.specs.Mode.{Bitmap, Direct, Journal}
+use Rattle.device_model.specs.Refusals.{ByConsent, BySuperblock}
+use Rattle.run_model.specs.Ending.{Refused, Failed, ByImage, status_of}
+use Rattle.device_model.specs.Mode.{Bitmap, Direct, Journal, Recovery}
 use Rattle.image_model.specs.Bitmap.{is_bit_set}
 use Rattle.image_model.specs.CommitId.{id_in, number_of}
 use Rattle.image_model.specs.Geometry.{bitmap_sectors_for, entries_per_sector, entry_size, fitting_log2_region, geometry_of, layout_of, regions_for, section_entries, section_sectors, sector_at, tag_run_of}
@@ -14,34 +15,37 @@ use Rattle.image_model.specs.Scan.{walk_of_grid}
 use Rattle.image_model.specs.Section.{entry_at, is_used}
 use Rattle.image_model.specs.Superblock.{Superblock, fields_in, superblock_of}
 use Rattle.image_model.specs.Walk.{plan_of}
+use Rattle.image_model.specs.declared.super_fields.SuperFault.TheVariants.{Magic}
 use Rattle.place_model.specs.Kind.{kind_in}
-use Rattle.place_model.proofs.WorkedDisk.{fresh_bitmap, fresh_journal, journal_format}
+use Rattle.place_model.proofs.WorkedDisk.{fresh_bitmap, fresh_journal, journal_format, zeros_journal}
 use Rattle.image_judging.specs.declared.consent.Consent.TheVariants.{Withheld}
 use Rattle.device.specs.declared.opening.OpenMode.TheVariants as Modes
-use Rattle.command_model.specs.CommandRun.{RefusedBy, RunsOn, Serves}
+use Rattle.run_model.specs.CommandRun.{ReadsOn, RefusedBy, RunsOn, Serves}
 use Rattle.nbd_command.specs.ServedRun as ends
 use Rattle.integrity_tool.specs.Opening.{geometry_of_device, changes_mode_of, opened_geometry}
 use Rattle.integrity_tool.specs.declared.asked.Task.TheVariants as Tasks
 use Rattle.integrity_tool.specs.declared.telling.Telling.TheVariants.{Lines, Replies}
-use Rattle.integrity_tool.specs.Outset.{outset_on, serving_on}
+use Rattle.integrity_tool.specs.Outset.{run_outset, nbd_outset}
+use Rattle.integrity_tool.specs.Salvaging.{salvage_outset}
 use Rattle.integrity_tool.specs.Serving.{most_taken_at, session_ending}
 use Rattle.integrity_tool.specs.Telling.{last_text}
+use Rattle.run_model.specs.declared.outer.Outer.TheVariants as outers
 
 -- ---- what a run starts on
 
 -- Of a fresh disk with a journal a run in bitmap mode starts on a device,
-outset_on-journal : outset_on (Modes.Bitmap Withheld) None 112 fresh_journal ≡ RunsOn (kind_in Bitmap None 112) fresh_journal
+run_outset-journal : run_outset (Modes.Bitmap Withheld) None 112 fresh_journal ≡ RunsOn (kind_in Bitmap None 112) fresh_journal
 unfolding superblock_of fields_in geometry_of sector_at tag_run_of walk_of_grid plan_of grid_with blank_bound bitmap_sectors_for regions_for fitting_log2_region is_used number_of id_in entry_at entry_size entries_per_sector section_entries section_sectors is_bit_set journal_fault_of
-outset_on-journal = refl
+run_outset-journal = refl
 
 -- and of one with a bitmap, too, and so does one in journal mode.
-outset_on-bitmap : outset_on (Modes.Bitmap Withheld) None 112 fresh_bitmap ≡ RunsOn (kind_in Bitmap None 112) fresh_bitmap
+run_outset-bitmap : run_outset (Modes.Bitmap Withheld) None 112 fresh_bitmap ≡ RunsOn (kind_in Bitmap None 112) fresh_bitmap
 unfolding superblock_of fields_in geometry_of sector_at tag_run_of bitmap_sectors_for regions_for fitting_log2_region entry_size entries_per_sector section_entries section_sectors is_bit_set
-outset_on-bitmap = refl
+run_outset-bitmap = refl
 
-outset_on-bitmap_in_journal : outset_on (Modes.Journal Withheld) None 112 fresh_bitmap ≡ RunsOn (kind_in Journal None 112) fresh_bitmap
+run_outset-bitmap_in_journal : run_outset (Modes.Journal Withheld) None 112 fresh_bitmap ≡ RunsOn (kind_in Journal None 112) fresh_bitmap
 unfolding superblock_of fields_in geometry_of sector_at tag_run_of bitmap_sectors_for regions_for fitting_log2_region entry_size entries_per_sector section_entries section_sectors is_bit_set
-outset_on-bitmap_in_journal = refl
+run_outset-bitmap_in_journal = refl
 
 -- Where tags are to be recalculated under a key, that of an image with a journal asks for consent. The image has 47 blocks of
 -- eight sectors on 1024 sectors.
@@ -53,25 +57,35 @@ to_recalculate sector =
     ∷ replicate 480 0
     else replicate 512 0
 
-outset_on-withheld : outset_on (Modes.Bitmap Withheld) (Some (0x4a ∷ [])) 1024 to_recalculate ≡ RefusedBy (RefusedImage (ByConsent 0xa))
+run_outset-withheld : run_outset (Modes.Bitmap Withheld) (Some (0x4a ∷ [])) 1024 to_recalculate ≡ RefusedBy (Refused (ByImage (ByConsent 0xa)))
 unfolding superblock_of fields_in geometry_of sector_at tag_run_of bitmap_sectors_for regions_for fitting_log2_region entry_size entries_per_sector section_entries section_sectors is_bit_set
-outset_on-withheld = refl
+run_outset-withheld = refl
 
 -- A session starts on a device where a run does, and is refused where that is, with the same fault.
-serving_on-journal : serving_on (Modes.Journal Withheld) None 112 fresh_journal ≡ Serves (kind_in Journal None 112) fresh_journal
+nbd_outset-journal : nbd_outset (Modes.Journal Withheld) None 112 fresh_journal ≡ Serves (kind_in Journal None 112) fresh_journal
 unfolding superblock_of fields_in geometry_of sector_at tag_run_of walk_of_grid plan_of grid_with blank_bound bitmap_sectors_for regions_for fitting_log2_region is_used number_of id_in entry_at entry_size entries_per_sector section_entries section_sectors is_bit_set journal_fault_of
-serving_on-journal = refl
+nbd_outset-journal = refl
 
-serving_on-withheld : serving_on (Modes.Bitmap Withheld) (Some (0x4a ∷ [])) 1024 to_recalculate ≡ RefusedBy (RefusedImage (ByConsent 0xa))
+nbd_outset-withheld : nbd_outset (Modes.Bitmap Withheld) (Some (0x4a ∷ [])) 1024 to_recalculate ≡ RefusedBy (Refused (ByImage (ByConsent 0xa)))
 unfolding superblock_of fields_in geometry_of sector_at tag_run_of bitmap_sectors_for regions_for fitting_log2_region entry_size entries_per_sector section_entries section_sectors is_bit_set
-serving_on-withheld = refl
+nbd_outset-withheld = refl
+
+-- In recovery mode it starts on a device, whatever the journal says.
+run_outset-recovery : run_outset Modes.Recovery None 112 zeros_journal ≡ ReadsOn (kind_in Recovery None 112) zeros_journal
+unfolding superblock_of fields_in geometry_of sector_at tag_run_of bitmap_sectors_for regions_for entry_size entries_per_sector section_entries section_sectors
+run_outset-recovery = refl
+
+-- A salvage of an image without a magic is refused.
+salvage_outset-none : salvage_outset None 112 (λ (n : ℕ). replicate 512 0) ≡ RefusedBy (Refused (ByImage (BySuperblock Magic)))
+unfolding superblock_of
+salvage_outset-none = refl
 
 -- ---- what is taken of a source, and what is written last
 
 most_taken_at-values : (most_taken_at (Tasks.Serve (Modes.Direct Withheld)) ≡ 1099511693312) × (most_taken_at (Tasks.Run (Modes.Direct Withheld)) ≡ 16777217)
 most_taken_at-values = (refl, refl)
 
-last_text-values : (last_text Lines DiskFailed ≡ codes "fault disk\n") × (last_text Replies DiskFailed ≡ [])
+last_text-values : (last_text Lines (Failed outers.Disk) ≡ codes "fault disk\n") × (last_text Replies (Failed outers.Disk) ≡ [])
 last_text-values = (refl, refl)
 
 -- A session that ends so has the status of a command that ends so.

@@ -14,6 +14,7 @@ use Rattle.integrity_tool.specs.Unopened.{IsUnopenedAt, IsUnopenedFor}
 use Rattle.integrity_tool.specs.Words.{asked_of, key_file_of, key_file_of_asked}
 use Rattle.integrity_tool.specs.World.{World}
 use Rattle.integrity_tool.proofs.KeyLemmas.{ok_no_err}
+use Rattle.command_ending.specs.declared.refusal.Refusal.TheVariants as refusals
 
 -- ---- the words
 
@@ -22,8 +23,8 @@ pub no_command : (command : List (List ℕ)) (asked : Asked) → asked_of comman
 no_command command asked none asks = absurd (cc)
 
 -- What ends a command with the words, or for want of memory for them.
-pub err_words : {T : Type 0} (r : Result T Ended) (ended : Ended) → r ≡ Err ended → (ended ≡ Endings.Words) ⊎ (ended ≡ Endings.Memory)
-    → (r ≡ Err Endings.Words) ⊎ (r ≡ Err Endings.Memory)
+pub err_words : {T : Type 0} (r : Result T Ended) (ended : Ended) → r ≡ Err ended → (ended ≡ Endings.Refused refusals.Words) ⊎ (ended ≡ Endings.Memory)
+    → (r ≡ Err (Endings.Refused refusals.Words)) ⊎ (r ≡ Err Endings.Memory)
 err_words r ended is ends = elim ends [
   | inl words ↦ inl (is ∙ ap (λ (e : Ended). Err e) words)
   | inr memory ↦ inr (is ∙ ap (λ (e : Ended). Err e) memory)

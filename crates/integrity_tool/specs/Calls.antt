@@ -5,8 +5,8 @@ use Rattle.disk_model.specs.Causes.{Rose}
 use Rattle.disk_model.specs.Disk.{Content, Image, last_image}
 use Rattle.disk_model.specs.Identity.{DiskIdentity}
 use Rattle.disk_model.specs.Moments.{EachMoment, HasNow}
-use Rattle.device_model.specs.Ending.{Ending}
-use Rattle.device_model.specs.ScriptRun.{ScriptRun, IsRunOf}
+use Rattle.run_model.specs.Ending.{Ending}
+use Rattle.run_model.specs.ScriptRun.{ScriptRun, IsRunOf}
 use Rattle.request_slots.specs.Flight.{Flight}
 use Rattle.device_parts.specs.declared.condition.Condition.TheVariants.{Working}
 use Rattle.device_parts.specs.Device.{Standing}
@@ -20,17 +20,18 @@ use Rattle.script_session.specs.declared.tags_found.TagsFound.{TagsFound}
 use Rattle.command_ending.specs.Ended.{ending_of}
 use Rattle.command_ending.specs.declared.ended.Ended.{Ended}
 use Rattle.command_ending.specs.declared.ended.Ended.TheVariants as Endings
-use Rattle.command_model.specs.CommandRun.{Outset}
+use Rattle.run_model.specs.CommandRun.{Outset}
 use Rattle.integrity_tool.specs.declared.asked.Task.{Task}
 use Rattle.integrity_tool.specs.Lines.{HasRunBytes, IsStoppedByBytes}
 use Rattle.integrity_tool.specs.declared.telling.Telling.{Telling}
 use Rattle.integrity_tool.specs.Opening.{HasReadIn, HasRunIn, HasRunOn, IsMomentOn}
 use Rattle.integrity_tool.specs.Order.{HasMomentsAt}
-use Rattle.integrity_tool.specs.Outset.{outset_at, outset_on}
+use Rattle.integrity_tool.specs.Outset.{task_outset, run_outset}
 use Rattle.integrity_tool.specs.Running.{HasEndCause, HasReadTo, HasTaken, IsAtClose, IsCounted, IsStopped, TakesSome, most_taken}
 use Rattle.integrity_tool.specs.Ends.{IsBeforeScript}
 use Rattle.integrity_tool.specs.Unopened.{IsUnopenedAt}
 use Rattle.integrity_tool.specs.Words.{IsScriptless}
+use Rattle.run_model.specs.declared.outer.Outer.TheVariants as outers
 
 -- ---- what is outside
 
@@ -51,16 +52,16 @@ HasCauseOfTask disk_faults sink_faults result first last sink out = IfErr result
 abbrev pub IsCountedInTask : {T D O : Type 0} → (D → ℕ) → (O → ℕ) → Result T Ended → (first last : D) → (sink out : O)
     → Type 0
 IsCountedInTask disk_faults sink_faults result first last sink out =
-    IsCounted Endings.Disk (disk_faults first) (disk_faults last) result
-    × IsCounted Endings.Sink (sink_faults sink) (sink_faults out) result
+    IsCounted outers.Disk (disk_faults first) (disk_faults last) result
+    × IsCounted outers.Sink (sink_faults sink) (sink_faults out) result
 
 -- and of the run of a script.
 abbrev pub IsCountedInRun : {T D S O : Type 0} → (D → ℕ) → (S → ℕ) → (O → ℕ) → Result T Ended → (first last : D)
     → (script read : S) → (sink out : O) → Type 0
 IsCountedInRun disk_faults script_faults sink_faults result first last script read sink out =
-    IsCounted Endings.Disk (disk_faults first) (disk_faults last) result
-    × IsCounted Endings.Script (script_faults script) (script_faults read) result
-    × IsCounted Endings.Sink (sink_faults sink) (sink_faults out) result
+    IsCounted outers.Disk (disk_faults first) (disk_faults last) result
+    × IsCounted outers.Script (script_faults script) (script_faults read) result
+    × IsCounted outers.Sink (sink_faults sink) (sink_faults out) result
 
 -- ---- what is done on an image, whatever its disk tells of its content
 
@@ -68,7 +69,7 @@ IsCountedInRun disk_faults script_faults sink_faults result first last script re
 abbrev pub RunsTask : {D O : Type 0} → (D → DiskIdentity) → (D → List Content) → (O → Option (List ℕ)) → Task
     → (key : Option (List ℕ)) → Ending → (first last : D) → (sink out : O) → Type 0
 RunsTask identity moments held task key ending first last sink out = (script : List ℕ) → HasNow (λ c.
-    HasRunOn (outset_at task key (identity first).sectors (last_image c)) c script ending (moments last) (held sink)
+    HasRunOn (task_outset task key (identity first).sectors (last_image c)) c script ending (moments last) (held sink)
     (held out)) (moments first)
 
 -- This stands at each moment of it, in its order.
@@ -83,7 +84,7 @@ abbrev pub RunsAsked : {D S O : Type 0} → (D → DiskIdentity) → (D → List
     → Type 0
 RunsAsked identity moments left held task key telling ending first last script sink out = (bytes : List ℕ)
     → left script ≡ Some bytes → HasNow (λ c.
-    HasRunIn (outset_at task key (identity first).sectors (last_image c)) telling c bytes ending (moments last)
+    HasRunIn (task_outset task key (identity first).sectors (last_image c)) telling c bytes ending (moments last)
     (held sink) (held out)
     × HasMomentsAt task key (identity first).sectors c bytes (moments first) (moments last)) (moments first)
 
@@ -93,7 +94,7 @@ abbrev pub RunsScript : {D S O : Type 0} → (D → DiskIdentity) → (D → Lis
     → Type 0
 RunsScript identity moments left held mode key ending first last script sink out = (bytes : List ℕ)
     → left script ≡ Some bytes → HasNow (λ c.
-    HasRunOn (outset_on mode key (identity first).sectors (last_image c)) c bytes ending (moments last) (held sink)
+    HasRunOn (run_outset mode key (identity first).sectors (last_image c)) c bytes ending (moments last) (held sink)
     (held out)
     × EachMoment (moments first) (moments last) (IsMomentOn mode key (identity first).sectors c bytes)
     × KeepsStill (asked_mode mode) (moments first) (moments last)) (moments first)

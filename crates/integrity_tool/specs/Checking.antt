@@ -6,12 +6,12 @@ use Rattle.hex.specs.Hex.{encode_lower}
 use Rattle.disk_model.specs.Disk.{Content, Image, last_image}
 use Rattle.disk_model.specs.Identity.{DiskIdentity}
 use Rattle.disk_model.specs.Moments.{HasNow}
-use Rattle.device_model.specs.Ending.{Ending}
+use Rattle.run_model.specs.Ending.{Ending}
 use Rattle.device_model.specs.Transcript.{with_newline}
 use Rattle.image_check.specs.Bad.{bad_blocks}
 use Rattle.image_check.specs.Checked.{Checked, bad_in, checked_format}
 use Rattle.image_check.specs.declared.bad.Bad.{Bad}
-use Rattle.image_check.specs.declared.bad.What.{What}
+use Rattle.image_model.specs.declared.judged.What.{What}
 use Rattle.image_check.specs.Faults.{fault_for}
 use Rattle.image_judging.specs.Faults.{ImageFault}
 use Rattle.image_check.specs.Report.{awaiting_in}
@@ -19,7 +19,7 @@ use Rattle.place_model.specs.Format.{DiskFormat, format_on}
 use Rattle.script_session.specs.LineRun.{held_with}
 use Rattle.command_ending.specs.Ended.{ending_of}
 use Rattle.command_ending.specs.declared.ended.Ended.{Ended}
-use Rattle.command_model.specs.CommandRun.{Outset, RefusedBy, Prints, IsEndedShort, only_prints}
+use Rattle.run_model.specs.CommandRun.{Outset, RefusedBy, Prints, IsEndedShort, only_prints}
 use Rattle.integrity_tool.specs.Refusing.{ending_by_refusal}
 
 -- ---- the lines

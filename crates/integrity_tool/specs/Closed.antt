@@ -8,7 +8,7 @@ use Rattle.image_formatting.specs.NewImage.{provided_of}
 use Rattle.image_model.specs.Bitmap.{is_dirty, region_awaits}
 use Rattle.image_model.specs.Geometry.{Geometry, regions}
 use Rattle.device_model.specs.Device.{DeviceKind}
-use Rattle.device_model.specs.Ending.{KeyRefusal}
+use Rattle.run_model.specs.declared.key_refusal.KeyRefusal.{KeyRefusal}
 use Rattle.device_model.specs.Grammar.{ReadLine, IsReadAs, Means, Refused}
 use Rattle.device_model.specs.History.{Tagger, cells_now}
 use Rattle.device_model.specs.Mode.{DeviceFormat, Mode, Bitmap, Direct, Journal, Recovery}
@@ -16,7 +16,7 @@ use Rattle.device_model.specs.Progress.{DeviceState}
 use Rattle.device_model.specs.Regions.{least_region}
 use Rattle.device_model.specs.Script.{after_script, line_outcome}
 use Rattle.device_model.specs.ScriptBytes.{lines_of}
-use Rattle.command_model.specs.Exercise.{exercise_lines}
+use Rattle.workload_model.specs.Exercise.{exercise_lines}
 use Rattle.nbd_model.specs.Session.{Deed, IsSessionOf, ending_in, opened_session, take_pieces}
 use Rattle.place_model.specs.Changed.{opened_format}
 use Rattle.place_model.specs.Format.{DiskFormat, OpensAs, format_on, placed_on}

@@ -1,7 +1,7 @@
 -- How a run ends at its close.
 use Rattle.std.specs.Prelude.{◌≢◌, ◌≡◌, ℕ, ◌≤◌, List, Option, Result, Ok, Err}
 use Rattle.disk_model.specs.Disk.{Content}
-use Rattle.device_model.specs.Ending.{Ending, Complete, DiskFailed, SinkFailed}
+use Rattle.run_model.specs.Ending.{Ending, Complete, Failed}
 use Rattle.device_parts.specs.declared.condition.Condition.TheVariants.{Working}
 use Rattle.device_parts.specs.Device.{Standing}
 use Rattle.device.specs.declared.mode.DeviceParts.{DeviceParts}
@@ -13,6 +13,7 @@ use Rattle.script_session.specs.Told.{finds_fault}
 use Rattle.integrity_tool.specs.declared.closing.CloseFault.{CloseFault}
 use Rattle.integrity_tool.specs.declared.closing.CloseFault.TheVariants.{Disk, Sink}
 use Rattle.integrity_tool.specs.Running.{IsStopped, only_close}
+use Rattle.run_model.specs.declared.outer.Outer.TheVariants as outers
 
 -- The counts of faults of disk and sink never fall, and each rises only where it is what failed.
 pub record HasCloseCounts (disk_before disk sink_before sink : ℕ) (result : Result TagsFound CloseFault) : Type 0 where
@@ -23,13 +24,13 @@ pub record HasCloseCounts (disk_before disk sink_before sink : ℕ) (result : Re
 
 -- The ending that each fault stands for.
 abbrev pub fault_ending : CloseFault → Ending
-fault_ending Disk = DiskFailed
-fault_ending Sink = SinkFailed
+fault_ending Disk = Failed outers.Disk
+fault_ending Sink = Failed outers.Sink
 
 -- What ended a run with such a close.
 abbrev pub fault_ended : CloseFault → Ended
-fault_ended Disk = Endings.Disk
-fault_ended Sink = Endings.Sink
+fault_ended Disk = Endings.Failed outers.Disk
+fault_ended Sink = Endings.Failed outers.Sink
 
 abbrev pub ended_close : Result TagsFound CloseFault → Result TagsFound Ended
 ended_close (Ok found) = Ok found

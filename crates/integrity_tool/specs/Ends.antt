@@ -3,6 +3,8 @@ use Rattle.std.specs.Prelude.{◌≡◌, ◌≢◌, ◌⊎◌, ℕ, ◌≤◌, R
 use Rattle.command_ending.specs.declared.ended.Ended.{Ended}
 use Rattle.command_ending.specs.declared.ended.Ended.TheVariants as Endings
 use Rattle.integrity_tool.specs.KeyFile.{HasKeyRead}
+use Rattle.run_model.specs.declared.outer.Outer.TheVariants as outers
+use Rattle.command_ending.specs.declared.refusal.Refusal.TheVariants as refusals
 
 -- It came to its end; it ended with the words, or for want of memory; it ended before its script; and where there is a
 -- key file, that was read.
@@ -14,16 +16,11 @@ pub record Ends : Type 1 where
 
 -- It ended a command before its script: nothing of that is read.
 abbrev pub IsBeforeScript : Ended → Type 0
-IsBeforeScript Endings.Words = Unit {0}
-IsBeforeScript (Endings.Key refusal) = Unit {0}
-IsBeforeScript (Endings.Line number refusal) = ⊥
-IsBeforeScript Endings.Length = ⊥
-IsBeforeScript (Endings.Image fault) = Unit {0}
-IsBeforeScript Endings.Disk = ⊥
-IsBeforeScript Endings.KeySource = Unit {0}
-IsBeforeScript Endings.Script = ⊥
-IsBeforeScript Endings.Sink = ⊥
-IsBeforeScript Endings.Memory = ⊥
+IsBeforeScript (Endings.Refused (refusals.Line number refusal)) = ⊥
+IsBeforeScript (Endings.Refused refusals.Length) = ⊥
+IsBeforeScript (Endings.Refused refusal) = Unit {0}
+IsBeforeScript (Endings.Failed outers.Key) = Unit {0}
+IsBeforeScript ended = ⊥
 
 -- What its status tells of that.
 abbrev pub ends_with : (status : ℕ) → Ends
@@ -38,7 +35,7 @@ ends_with status = record {
 abbrev pub ends_by : {T : Type 0} → Result T Ended → Ends
 ends_by result = record {
   complete = IsOk result;
-  by_words = (result ≡ Err Endings.Words) ⊎ (result ≡ Err Endings.Memory);
+  by_words = (result ≡ Err (Endings.Refused refusals.Words)) ⊎ (result ≡ Err Endings.Memory);
   before_script = IsErrAnd result IsBeforeScript;
   key_read = IfErr result HasKeyRead;
 }

@@ -7,7 +7,7 @@ use Rattle.device_model.specs.History.{Change, with_changes}
 use Rattle.device_model.specs.Mode.{Journal}
 use Rattle.device_model.specs.Progress.{DeviceState}
 use Rattle.device_model.specs.Script.{after_script}
-use Rattle.device_model.specs.ScriptRun.{ScriptRun}
+use Rattle.run_model.specs.ScriptRun.{ScriptRun}
 use Rattle.image_model.specs.declared.flags.TheConstants.{DIRTY_BITMAP}
 use Rattle.image_model.specs.Superblock.{has_flag}
 use Rattle.place_model.specs.Format.{format_on}
@@ -27,13 +27,16 @@ use Rattle.script_session.specs.LineRun.{held_with}
 use Rattle.script_session.specs.Told.{finds_fault}
 use Rattle.command_ending.specs.declared.ended.Ended.{Ended}
 use Rattle.command_ending.specs.declared.ended.Ended.TheVariants as Endings
-use Rattle.command_model.specs.CommandRun.{IsLeftOfRun}
-use Rattle.command_model.specs.Exercise.{Tally, exercise_lines, exercise_run, exercise_step, exercise_tally, exercise_text, finds_faults}
+use Rattle.run_model.specs.CommandRun.{IsOfScriptRun}
+use Rattle.workload_model.specs.Exercise.{Tally, exercise_lines, exercise_tally, exercise_text, finds_faults}
+use Rattle.run_model.specs.ExerciseRun.{exercise_run, exercise_step}
 use Rattle.device_exercise.specs.InOrder.{AreLinesBegun}
 use Rattle.integrity_tool.specs.Closed.{IsClosedIn, IsClosedNew, IsClosedOn}
 use Rattle.integrity_tool.specs.Exercising.{changes_by_step}
 use Rattle.integrity_tool.specs.Opening.{IsWrittenByRun}
 use Rattle.integrity_tool.specs.Outset.{geometry_on}
+use Rattle.run_model.specs.declared.outer.Outer.TheVariants as outers
+use Rattle.command_ending.specs.declared.refusal.Refusal.TheVariants as refusals
 
 -- ---- on a device
 
@@ -69,7 +72,7 @@ pub record IsExercised (w : Standing) (count seed : ℕ) (counted : Result Tally
 -- What was counted, or what ends a command whose exercise is stopped.
 abbrev pub ended_count : Result Tally Stop → Result Tally Ended
 ended_count (Ok tally) = Ok tally
-ended_count (Err Stops.Disk) = Err Endings.Disk
+ended_count (Err Stops.Disk) = Err (Endings.Failed outers.Disk)
 ended_count (Err Stops.Memory) = Err Endings.Memory
 
 -- ---- on a new image
@@ -87,7 +90,7 @@ new_run sectors count seed made =
 -- the run may write, and each image can be opened.
 pub record IsMomentOfNew (sectors count seed : ℕ) (made later : Content) : Type 0 where
   pub done : ℕ
-  pub left : IsLeftOfRun (kind_in Journal None sectors) (last_image made) made
+  pub left : IsOfScriptRun (kind_in Journal None sectors) (last_image made) made
       (take done (exercise_changes (new_standing sectors made) count seed)) later
   pub written : IsWrittenByRun (kind_in Journal None sectors) (last_image made) (geometry_on sectors (last_image made))
       (new_run sectors count seed made) made later
@@ -99,29 +102,23 @@ pub record IsExercisedOn (sectors count seed : ℕ) (made : Content) (counted : 
     (before after : List Content) : Type 0 where
   pub changes : List Change
   pub is_counted : HasCounted (new_standing sectors made) count seed counted changes
-  pub ends : IfErr counted (λ ended. (ended ≡ Endings.Disk) ⊎ (ended ≡ Endings.Memory))
+  pub ends : IfErr counted (λ ended. (ended ≡ Endings.Failed outers.Disk) ⊎ (ended ≡ Endings.Memory))
   pub each : EachMoment before after (IsMomentOfNew sectors count seed made)
   pub opened : List Content
-  pub opening : EachMoment before opened (IsLeftOfRun (kind_in Journal None sectors) (last_image made) made [])
+  pub opening : EachMoment before opened (IsOfScriptRun (kind_in Journal None sectors) (last_image made) made [])
   pub in_order : let w = new_standing sectors made in
       AreLinesBegun (kind_in Journal None sectors) (last_image made) w.state.history
       (changes_by_step w.format w.state count seed) opened after
-  pub now : HasNow (IsLeftOfRun (kind_in Journal None sectors) (last_image made) made changes) after
+  pub now : HasNow (IsOfScriptRun (kind_in Journal None sectors) (last_image made) made changes) after
   pub closed : OnOk counted (HasNow (IsClosedOn sectors count seed made) after)
 
 -- What ends it behind the making: the disk, or want of memory. Where the disk does not tell its content, it may be any
 -- end of an opening.
 abbrev pub EndsExercise : Ended → Type 0
-EndsExercise Endings.Words = ⊥
-EndsExercise (Endings.Key refusal) = ⊥
-EndsExercise (Endings.Line number refusal) = ⊥
-EndsExercise Endings.Length = ⊥
-EndsExercise (Endings.Image fault) = Unit {0}
-EndsExercise Endings.Disk = Unit {0}
-EndsExercise Endings.KeySource = ⊥
-EndsExercise Endings.Script = ⊥
-EndsExercise Endings.Sink = ⊥
+EndsExercise (Endings.Refused (refusals.Image fault)) = Unit {0}
+EndsExercise (Endings.Failed outers.Disk) = Unit {0}
 EndsExercise Endings.Memory = Unit {0}
+EndsExercise ended = ⊥
 
 -- ---- its line
 
@@ -131,7 +128,7 @@ IsTallyTold tally held_before held (Ok found) =
     (finds_fault found ≡ finds_faults tally) × (held ≡ held_with (exercise_text tally) held_before)
 IsTallyTold tally held_before held (Err ended) =
     ((ended ≡ Endings.Memory) × (held ≡ held_before))
-    ⊎ ((ended ≡ Endings.Sink) × AddsPrefix (exercise_text tally) held_before held)
+    ⊎ ((ended ≡ Endings.Failed outers.Sink) × AddsPrefix (exercise_text tally) held_before held)
 
 -- What was counted is told, or what ended it ends the command, and nothing is printed.
 abbrev pub IsCountTold : Result Tally Ended → (held_before held : Option (List ℕ)) → Result TagsFound Ended → Type 0

@@ -4,7 +4,8 @@
 use Rattle.std.specs.Prelude.{◌≡◌, ◌⊎◌, ℕ, List, [], ◌∷◌, ◌++◌, Some, None, Result, Ok, Err}
 use Rattle.disk_model.specs.Disk.{Content, EachImage, last_image}
 use Rattle.disk_model.specs.Moments.{content_now, EachMoment, HasNow}
-use Rattle.device_model.specs.Ending.{RefusedImage, ByGeometry}
+use Rattle.device_model.specs.Refusals.{ByGeometry}
+use Rattle.run_model.specs.Ending.{Refused, ByImage}
 use Rattle.device_model.specs.History.{Change}
 use Rattle.device_model.specs.Mode.{DeviceFormat, Journal}
 use Rattle.device_model.specs.Progress.{Close, DeviceState, event_result}
@@ -12,14 +13,14 @@ use Rattle.device_model.specs.Script.{after_script}
 use Rattle.image_model.specs.declared.geom_fault.GeomFault.{GeomFault}
 use Rattle.place_model.specs.Format.{format_on}
 use Rattle.place_model.specs.Kind.{CanOpenIn, kind_in}
-use Rattle.image_formatting.specs.declared.new_image.ImageMode.TheVariants as image_modes
+use Rattle.image_model.specs.declared.new_image.ImageMode.TheVariants as image_modes
 use Rattle.image_formatting.specs.declared.new_image.NewImage.{NewImage}
-use Rattle.image_formatting.specs.declared.new_image.Padding.TheVariants.{Fixed}
-use Rattle.image_formatting.specs.declared.new_image.Wipe.TheVariants.{Wiped}
+use Rattle.image_model.specs.declared.new_image.Padding.TheVariants.{Fixed}
+use Rattle.image_model.specs.declared.new_image.Wipe.TheVariants.{Wiped}
 use Rattle.image_formatting.specs.Formatted.{IsNewContent, format_with, rule_with}
 use Rattle.image_formatting.specs.NewImage.{provided_of}
-use Rattle.command_model.specs.CommandRun.{Exercising, Outset, RefusedBy, Exercises, IsLeftOfRun}
-use Rattle.command_model.specs.Exercise.{exercise_lines}
+use Rattle.run_model.specs.CommandRun.{Exercising, Outset, RefusedBy, Exercises, IsOfScriptRun}
+use Rattle.workload_model.specs.Exercise.{exercise_lines}
 use Rattle.device_exercise.specs.InOrder.{AreLinesBegun, changes_by_line}
 use Rattle.integrity_tool.specs.Making.{IsLeftByMaking, IsMadeInOrder}
 
@@ -51,7 +52,7 @@ exercising_of sectors provided count seed = record {
 -- By how many sectors the image is to provide: it is made and exercised, or there is no room for it.
 abbrev pub outset_by_exercise : (sectors count seed : ℕ) → Result ℕ GeomFault → Outset
 outset_by_exercise sectors count seed (Ok provided) = Exercises (exercising_of sectors provided count seed)
-outset_by_exercise sectors count seed (Err fault) = RefusedBy (RefusedImage (ByGeometry fault))
+outset_by_exercise sectors count seed (Err fault) = RefusedBy (Refused (ByImage (ByGeometry fault)))
 
 -- What an exercise starts on, whatever stands on the disk.
 abbrev pub exercise_outset : (sectors count seed : ℕ) → Outset
@@ -75,7 +76,7 @@ pub record IsExercisedByLine (sectors count seed : ℕ) (start : Content) (made 
   pub is_now : content_now made ≡ Some image
   pub is_made : (exercising_of sectors provided count seed).IsMade start image
   pub opened : List Content
-  pub opening : EachMoment made opened (IsLeftOfRun (kind_in Journal None sectors) (last_image image) image [])
+  pub opening : EachMoment made opened (IsOfScriptRun (kind_in Journal None sectors) (last_image image) image [])
   pub lines : let kind = kind_in Journal None sectors in
       AreLinesBegun kind (last_image image) (kind.opened (last_image image)).history
       (changes_by_step (kind.format (last_image image)) (kind.opened (last_image image)) count seed) opened after

@@ -2,14 +2,15 @@
 use Rattle.std.specs.Prelude.{◌≡◌, ℕ, List, drop, Option, Some, None, Result, Ok, Err}
 use Rattle.std.specs.Option.{ForSome}
 use Rattle.disk_model.specs.Causes.{Rose}
-use Rattle.device_model.specs.Ending.{KeyRefusal}
+use Rattle.run_model.specs.declared.key_refusal.KeyRefusal.{KeyRefusal}
 use Rattle.stream_io.specs.Stream.{TakesAtMost}
-use Rattle.command_ending.specs.Ended.{key_refusal_of}
 use Rattle.command_ending.specs.declared.ended.Ended.{Ended}
 use Rattle.command_ending.specs.declared.ended.Ended.TheVariants as Endings
 use Rattle.integrity_tool.specs.declared.top_call.Outside.{Outside}
 use Rattle.integrity_tool.specs.Outset.{key_by}
 use Rattle.integrity_tool.specs.World.{World}
+use Rattle.run_model.specs.declared.outer.Outer.TheVariants as outers
+use Rattle.command_ending.specs.declared.refusal.Refusal.TheVariants as refusals
 
 -- The key file has these bytes, where there is one.
 abbrev pub HasFile : Option (List ℕ) → (named : List ℕ → Option (List ℕ)) → List ℕ → Type 0
@@ -30,16 +31,9 @@ most_read = 4097
 
 -- Where this ended what followed, the key file was read: its source did not fail, and there was memory.
 abbrev pub HasKeyRead : Ended → Type 0
-HasKeyRead Endings.Words = Unit {0}
-HasKeyRead (Endings.Key refusal) = Unit {0}
-HasKeyRead (Endings.Line number refusal) = Unit {0}
-HasKeyRead Endings.Length = Unit {0}
-HasKeyRead (Endings.Image fault) = Unit {0}
-HasKeyRead Endings.Disk = Unit {0}
-HasKeyRead Endings.KeySource = ⊥
-HasKeyRead Endings.Script = Unit {0}
-HasKeyRead Endings.Sink = Unit {0}
+HasKeyRead (Endings.Failed outers.Key) = ⊥
 HasKeyRead Endings.Memory = ⊥
+HasKeyRead ended = Unit {0}
 
 -- What is read for a key: nothing where there is no key file, so that the source is the same; and of a file at most so
 -- many of its first bytes, whatever comes of it, and all of those where it is read.
@@ -60,14 +54,8 @@ ReadsKeyFile (Some file) world first last is_read = ForSome ((world first).keys 
 -- Why there is no key: its bytes are none, its source failed, or there is no memory.
 abbrev pub IsKeyRefused : Option (List ℕ) → (named : List ℕ → Option (List ℕ)) → (faults_before faults : ℕ)
     → Ended → Type 0
-IsKeyRefused file named faults_before faults Endings.Words = ⊥
-IsKeyRefused file named faults_before faults (Endings.Key refusal) =
-    IsKeyed file named (λ told. told ≡ Err (key_refusal_of refusal))
-IsKeyRefused file named faults_before faults (Endings.Line number refusal) = ⊥
-IsKeyRefused file named faults_before faults Endings.Length = ⊥
-IsKeyRefused file named faults_before faults (Endings.Image fault) = ⊥
-IsKeyRefused file named faults_before faults Endings.Disk = ⊥
-IsKeyRefused file named faults_before faults Endings.KeySource = Rose faults_before faults
-IsKeyRefused file named faults_before faults Endings.Script = ⊥
-IsKeyRefused file named faults_before faults Endings.Sink = ⊥
+IsKeyRefused file named faults_before faults (Endings.Refused (refusals.Key refusal)) =
+    IsKeyed file named (λ told. told ≡ Err refusal)
+IsKeyRefused file named faults_before faults (Endings.Failed outers.Key) = Rose faults_before faults
 IsKeyRefused file named faults_before faults Endings.Memory = Unit {0}
+IsKeyRefused file named faults_before faults ended = ⊥

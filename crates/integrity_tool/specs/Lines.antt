@@ -3,7 +3,7 @@ use Rattle.std.specs.Prelude.{◌≡◌, ℕ, Bool, true, false, List, ◌∷◌
 use Rattle.disk_model.specs.Disk.{Content}
 use Rattle.device_model.specs.Grammar.{ReadLine, Means, IsReadAs}
 use Rattle.device_model.specs.Script.{ScriptLine}
-use Rattle.device_model.specs.ScriptRun.{run_from}
+use Rattle.run_model.specs.ScriptRun.{run_from}
 use Rattle.device.specs.declared.mode.DeviceParts.{DeviceParts}
 use Rattle.device_parts.specs.Device.{Standing}
 use Rattle.script_reader.specs.Lines.{FindsEnd, FindsLongLine, FindsLongScript, FindsWholeLine}
@@ -18,12 +18,14 @@ use Rattle.command_ending.specs.declared.ended.Ended.TheVariants as Endings
 use Rattle.command_ending.specs.declared.form_fault.FormFault.TheVariants.{TooLong}
 use Rattle.command_ending.specs.declared.line_refusal.LineRefusal.TheVariants as Refusals
 use Rattle.integrity_tool.specs.Running.{IsStopped}
+use Rattle.run_model.specs.declared.outer.Outer.TheVariants as outers
+use Rattle.command_ending.specs.declared.refusal.Refusal.TheVariants as refusals
 
 -- What ended a run with the end of its line of this number.
 abbrev pub ended_by : ℕ → LineEnd → Ended
-ended_by number (Ends.Refused fault) = Endings.Line number (Refusals.Meaning fault)
-ended_by number Ends.Disk = Endings.Disk
-ended_by number Ends.Sink = Endings.Sink
+ended_by number (Ends.Refused fault) = Endings.Refused (refusals.Line number (Refusals.Meaning fault))
+ended_by number Ends.Disk = Endings.Failed outers.Disk
+ended_by number Ends.Sink = Endings.Failed outers.Sink
 ended_by number Ends.Memory = Endings.Memory
 
 -- What stands next in a script: a line; its end; a line that is too long; or bytes beyond its bound. Where the source
@@ -32,11 +34,11 @@ abbrev pub HasAdvanced : ℕ → (old new : Reading) → (left later : List ℕ)
 HasAdvanced number old new left later (Ok true) = FindsWholeLine old new (old.unread ++ left)
     (new.unread ++ later)
 HasAdvanced number old new left later (Ok false) = FindsEnd old new (old.unread ++ left) (new.unread ++ later)
-HasAdvanced number old new left later (Err (Endings.Line n refusal)) =
+HasAdvanced number old new left later (Err (Endings.Refused (refusals.Line n refusal))) =
     (n ≡ number) × (refusal ≡ Refusals.Form TooLong) × FindsLongLine old new (old.unread ++ left)
-HasAdvanced number old new left later (Err Endings.Length) = FindsLongScript old new (old.unread ++ left)
+HasAdvanced number old new left later (Err (Endings.Refused refusals.Length)) = FindsLongScript old new (old.unread ++ left)
 HasAdvanced number old new left later (Err ended) =
-    (ended ≡ Endings.Script) × BeginsLine old new (old.unread ++ left) later
+    (ended ≡ Endings.Failed outers.Script) × BeginsLine old new (old.unread ++ left) later
 
 -- The bytes are a line, which was run.
 pub record HasRunBytes (w : Standing) (bytes : List ℕ) (found : TagsFound) (parts : DeviceParts)

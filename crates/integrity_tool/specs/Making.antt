@@ -2,10 +2,11 @@
 use Rattle.std.specs.Prelude.{ℕ, List, ◌++◌, codes, Option, Result, Ok, Err}
 use Rattle.std.specs.Fmt.{decimal}
 use Rattle.disk_model.specs.Disk.{Content, OnlyAdds}
-use Rattle.device_model.specs.Ending.{RefusedImage, ByGeometry}
+use Rattle.device_model.specs.Refusals.{ByGeometry}
+use Rattle.run_model.specs.Ending as runs
 use Rattle.image_model.specs.declared.geom_fault.GeomFault.{GeomFault}
-use Rattle.image_formatting.specs.declared.format_fault.FormatFault.{FormatFault}
-use Rattle.image_formatting.specs.declared.format_fault.FormatFault.TheVariants.{Geom, Memory, Disk}
+use Rattle.image_refusal.specs.declared.call_fault.CallFault.{CallFault}
+use Rattle.image_refusal.specs.declared.call_fault.CallFault.TheVariants.{Memory, Disk, Refused}
 use Rattle.image_formatting.specs.declared.new_image.NewImage.{NewImage}
 use Rattle.image_formatting.specs.Formatted.{IsLeftByFormat, IsLeftInOrder, IsNewContent, format_with, rule_with}
 use Rattle.image_formatting.specs.NewImage.{provided_of}
@@ -13,13 +14,15 @@ use Rattle.image_formatting.specs.Written.{IsOfNewImage, OnlyWritesNew}
 use Rattle.command_ending.specs.declared.ended.Ended.{Ended}
 use Rattle.command_ending.specs.declared.ended.Ended.TheVariants as Endings
 use Rattle.command_ending.specs.declared.image_fault.ImageFault.TheVariants as Faults
-use Rattle.command_model.specs.CommandRun.{Making, Outset, RefusedBy, Makes}
+use Rattle.run_model.specs.CommandRun.{Making, Outset, RefusedBy, Makes}
+use Rattle.run_model.specs.declared.outer.Outer.TheVariants as outers
+use Rattle.command_ending.specs.declared.refusal.Refusal.TheVariants as refusals
 
 -- What ends the making of an image that is not made.
-abbrev pub ended_by_format : FormatFault → Ended
-ended_by_format (Geom fault) = Endings.Image (Faults.Geom fault)
+abbrev pub ended_by_format : CallFault GeomFault → Ended
 ended_by_format Memory = Endings.Memory
-ended_by_format Disk = Endings.Disk
+ended_by_format Disk = Endings.Failed outers.Disk
+ended_by_format (Refused fault) = Endings.Refused (refusals.Image (Faults.Geom fault))
 
 -- The line that tells of an image with so many provided sectors.
 abbrev pub formatted_text : (provided : ℕ) → List ℕ
@@ -48,7 +51,7 @@ making_of key sectors new provided = record {
 -- By how many sectors the image is to provide: it is made, or there is no room for it.
 abbrev pub outset_by_format : Option (List ℕ) → (sectors : ℕ) → NewImage → Result ℕ GeomFault → Outset
 outset_by_format key sectors new (Ok provided) = Makes (making_of key sectors new provided)
-outset_by_format key sectors new (Err fault) = RefusedBy (RefusedImage (ByGeometry fault))
+outset_by_format key sectors new (Err fault) = RefusedBy (runs.Refused (runs.ByImage (ByGeometry fault)))
 
 -- What the making of an image starts on, whatever stands on the disk.
 abbrev pub format_outset : Option (List ℕ) → (sectors : ℕ) → NewImage → Outset

@@ -2,12 +2,12 @@
 use Rattle.std.specs.Prelude.{◌≡◌, ◌⊎◌, ℕ, ◌<◌, Bool, true, false, if◌then◌else◌, List, Option}
 use Rattle.disk_model.specs.Disk.{Content, EachImage, Image, OnlyAdds, last_image}
 use Rattle.disk_model.specs.Moments.{HasNow}
-use Rattle.command_model.specs.CommandRun.{Exercising, Outset, RefusedBy, RunsOn, Prints, Makes, Exercises, ReadsOn, Changes, Serves, IsEndedBy, IsLeftAfter, IsRunAt, IsUntouched, MayBeLeftAt}
+use Rattle.run_model.specs.CommandRun.{Exercising, Outset, RefusedBy, RunsOn, Prints, Makes, Exercises, ReadsOn, Changes, Serves, IsEndedBy, IsAtExit, IsRunAt, IsUntouched, MayStandAt}
 use Rattle.device_model.specs.Device.{DeviceKind}
-use Rattle.device_model.specs.Ending.{Ending}
+use Rattle.run_model.specs.Ending.{Ending}
 use Rattle.device_model.specs.History.{Change}
 use Rattle.device_model.specs.Mode.{Mode, Bitmap, Direct, Recovery}
-use Rattle.device_model.specs.ScriptRun.{ScriptRun, changes_in}
+use Rattle.run_model.specs.ScriptRun.{ScriptRun, changes_in}
 use Rattle.image_model.specs.Cells.{Cell, placed_cells_of}
 use Rattle.image_model.specs.Geometry.{Geometry}
 use Rattle.image_model.specs.declared.flags.TheConstants.{RECALCULATING}
@@ -25,9 +25,11 @@ use Rattle.command_ending.specs.declared.ended.Ended.TheVariants as Endings
 use Rattle.integrity_tool.specs.declared.asked.Task.{Task}
 use Rattle.integrity_tool.specs.declared.telling.Telling.{Telling}
 use Rattle.integrity_tool.specs.declared.telling.Telling.TheVariants.{Lines, Replies}
-use Rattle.integrity_tool.specs.Outset.{geometry_on, outset_at, outset_on}
+use Rattle.integrity_tool.specs.Outset.{geometry_on, task_outset, run_outset}
 use Rattle.integrity_tool.specs.Running.{HasReadTo}
 use Rattle.integrity_tool.specs.Serving.{HasNotBegun, HasReadStream, HasServedOn}
+use Rattle.run_model.specs.declared.outer.Outer.TheVariants as outers
+use Rattle.command_ending.specs.declared.refusal.Refusal.TheVariants as refusals
 
 -- The run came so far, and ended so: the sink holds its text behind what it held, and this is left of the disk.
 pub record HasRunOn (outset : Outset) (start : Content) (script : List ℕ) (ending : Ending) (after : List Content)
@@ -38,7 +40,7 @@ pub record HasRunOn (outset : Outset) (start : Content) (script : List ℕ) (end
   pub changes : List Change
   pub ended : IsEndedBy run text changes ending
   pub told : held ≡ held_with text held_before
-  pub left : HasNow (IsLeftAfter outset start changes ending) after
+  pub left : HasNow (IsAtExit outset start changes ending) after
 
 -- A command came so far, and ended so, by what it starts on. Where a session has begun nothing but its replies is written.
 abbrev pub HasRunIn : Outset → Telling → (start : Content) → (script : List ℕ) → Ending → (after : List Content)
@@ -162,20 +164,20 @@ pub record IsOnlyWritten (outset : Outset) (g : Geometry) (start : Content) (scr
 -- the run does not write.
 pub record IsMomentOf (outset : Outset) (g : Geometry) (start : Content) (script : List ℕ) (later : Content)
     : Type 0 where
-  pub left : MayBeLeftAt outset start script later
+  pub left : MayStandAt outset start script later
   pub only : IsOnlyWritten outset g start script later
 
 -- The same, of the run of a script in this mode on a disk of so many sectors, with this key.
 abbrev pub IsMomentOn : OpenMode → Option (List ℕ) → (sectors : ℕ) → (start : Content) → List ℕ → (later : Content)
     → Type 0
 IsMomentOn mode key sectors start script later =
-    IsMomentOf (outset_on mode key sectors (last_image start)) (geometry_on sectors (last_image start)) start script
+    IsMomentOf (run_outset mode key sectors (last_image start)) (geometry_on sectors (last_image start)) start script
     later
 
 -- The same, of what is done on such a disk.
 abbrev pub IsMomentAt : Task → Option (List ℕ) → (sectors : ℕ) → (start : Content) → List ℕ → (later : Content) → Type 0
 IsMomentAt task key sectors start script later =
-    IsMomentOf (outset_at task key sectors (last_image start)) (geometry_on sectors (last_image start)) start script
+    IsMomentOf (task_outset task key sectors (last_image start)) (geometry_on sectors (last_image start)) start script
     later
 
 -- No more of the script is taken than its run has come to, nor is its source asked for more before that.
@@ -193,13 +195,7 @@ HasReadIn outset script left held_before held failed = HasReadOn outset script l
 
 -- What can end a run on an image: neither words, nor a key.
 abbrev pub EndsImage : Ended → Type 0
-EndsImage Endings.Words = ⊥
-EndsImage (Endings.Key refusal) = ⊥
-EndsImage (Endings.Line number refusal) = Unit {0}
-EndsImage Endings.Length = Unit {0}
-EndsImage (Endings.Image fault) = Unit {0}
-EndsImage Endings.Disk = Unit {0}
-EndsImage Endings.KeySource = ⊥
-EndsImage Endings.Script = Unit {0}
-EndsImage Endings.Sink = Unit {0}
-EndsImage Endings.Memory = Unit {0}
+EndsImage (Endings.Refused refusals.Words) = ⊥
+EndsImage (Endings.Refused (refusals.Key refusal)) = ⊥
+EndsImage (Endings.Failed outers.Key) = ⊥
+EndsImage ended = Unit {0}

@@ -2,7 +2,7 @@
 use Rattle.std.specs.Prelude.{ℕ, List, Option, Some, None, Result, Ok, Err}
 use Rattle.disk_model.specs.Disk.{Content}
 use Rattle.disk_model.specs.Moments.{EachMoment}
-use Rattle.device_model.specs.Ending.{KeyRefusal}
+use Rattle.run_model.specs.declared.key_refusal.KeyRefusal.{KeyRefusal}
 use Rattle.device.specs.Opening.{asked_mode}
 use Rattle.device.specs.Tags.{KeepsStill}
 use Rattle.recovery_laws.specs.MomentLaws.{KeepsMoments}

@@ -3,12 +3,14 @@
 use Rattle.std.specs.Prelude.{ℕ, ◌==◌, ltb, if◌then◌else◌, List, length, Option, Some, None, Result, Ok, Err}
 use Rattle.disk_model.specs.Disk.{Image}
 use Rattle.device_model.specs.Device.{DeviceKind}
-use Rattle.device_model.specs.Ending.{RefusedWords, RefusedKey, KeyRefusal, EmptyKey, LongKey}
+use Rattle.run_model.specs.Ending.{Refused, ByWords, ByKey}
+use Rattle.run_model.specs.declared.key_refusal.KeyRefusal.{KeyRefusal}
+use Rattle.run_model.specs.declared.key_refusal.KeyRefusal.TheVariants.{Empty, Long}
 use Rattle.image_model.specs.Geometry.{Geometry}
 use Rattle.place_model.specs.Format.{format_on}
 use Rattle.place_model.specs.Kind.{kind_in}
 use Rattle.image_judging.specs.Faults.{ImageFault}
-use Rattle.salvage_model.specs.Salvaging.{salvage_outset}
+use Rattle.integrity_tool.specs.Salvaging.{salvage_outset}
 use Rattle.device.specs.declared.opening.OpenMode.{OpenMode}
 use Rattle.device.specs.declared.opening.OpenMode.TheVariants.{Bitmap, Direct, Journal, Recovery}
 use Rattle.device.specs.Opening.{asked_mode, fault_in_mode}
@@ -22,7 +24,7 @@ use Rattle.integrity_tool.specs.Making.{format_outset}
 use Rattle.integrity_tool.specs.Refusing.{ending_by_refusal}
 use Rattle.integrity_tool.specs.Resizing.{resizing_outset}
 use Rattle.integrity_tool.specs.Words.{asked_of, key_file_of}
-use Rattle.command_model.specs.CommandRun.{Outset, ReadsOn, RefusedBy, RunsOn, Serves}
+use Rattle.run_model.specs.CommandRun.{Outset, ReadsOn, RefusedBy, RunsOn, Serves}
 
 -- A key has at most so many bytes.
 abbrev pub most_key : ℕ
@@ -30,7 +32,7 @@ most_key = 4096
 
 -- The key that these bytes are, or why they are none.
 abbrev pub key_in : List ℕ → Result (List ℕ) KeyRefusal
-key_in bytes = if length bytes == 0 then Err EmptyKey else if ltb most_key (length bytes) then Err LongKey else Ok bytes
+key_in bytes = if length bytes == 0 then Err Empty else if ltb most_key (length bytes) then Err Long else Ok bytes
 
 abbrev pub keyed : Result (List ℕ) KeyRefusal → Result (Option (List ℕ)) KeyRefusal
 keyed (Ok key) = Ok (Some key)
@@ -49,39 +51,39 @@ begun_on (Bitmap consent) kind image = RunsOn kind image
 begun_on Recovery kind image = ReadsOn kind image
 
 -- By why the image is refused, if it is: it is begun so on a device that opens it, or it is refused.
-abbrev pub outset_by : (begun : Outset) → Option ImageFault → Outset
-outset_by begun None = begun
-outset_by begun (Some refusal) = RefusedBy (ending_by_refusal refusal)
+abbrev pub judged_outset : (begun : Outset) → Option ImageFault → Outset
+judged_outset begun None = begun
+judged_outset begun (Some refusal) = RefusedBy (ending_by_refusal refusal)
 
 -- What a run in this mode starts on, on a disk of so many sectors with this image, under a key.
-abbrev pub outset_on : OpenMode → (key : Option (List ℕ)) → (sectors : ℕ) → Image → Outset
-outset_on mode key sectors image =
-    outset_by (begun_on mode (kind_in (asked_mode mode) key sectors) image) (fault_in_mode mode key sectors image)
+abbrev pub run_outset : OpenMode → (key : Option (List ℕ)) → (sectors : ℕ) → Image → Outset
+run_outset mode key sectors image =
+    judged_outset (begun_on mode (kind_in (asked_mode mode) key sectors) image) (fault_in_mode mode key sectors image)
 
 -- What a session in this mode starts on: an image is refused exactly where a run in this mode is.
-abbrev pub serving_on : OpenMode → (key : Option (List ℕ)) → (sectors : ℕ) → Image → Outset
-serving_on mode key sectors image =
-    outset_by (Serves (kind_in (asked_mode mode) key sectors) image) (fault_in_mode mode key sectors image)
+abbrev pub nbd_outset : OpenMode → (key : Option (List ℕ)) → (sectors : ℕ) → Image → Outset
+nbd_outset mode key sectors image =
+    judged_outset (Serves (kind_in (asked_mode mode) key sectors) image) (fault_in_mode mode key sectors image)
 
 -- What is done on such a disk starts on this, with this key.
-abbrev pub outset_at : Task → (key : Option (List ℕ)) → (sectors : ℕ) → Image → Outset
-outset_at (Tasks.Run mode) key sectors image = outset_on mode key sectors image
-outset_at (Tasks.Serve mode) key sectors image = serving_on mode key sectors image
-outset_at Tasks.Dump key sectors image = dump_outset sectors image
-outset_at (Tasks.Check what) key sectors image = check_outset what key sectors image
-outset_at Tasks.Salvage key sectors image = salvage_outset key sectors image
-outset_at Tasks.Resize key sectors image = resizing_outset key sectors image
-outset_at (Tasks.Format new) key sectors image = format_outset key sectors new
-outset_at (Tasks.Exercise seed count) key sectors image = exercise_outset sectors count seed
+abbrev pub task_outset : Task → (key : Option (List ℕ)) → (sectors : ℕ) → Image → Outset
+task_outset (Tasks.Run mode) key sectors image = run_outset mode key sectors image
+task_outset (Tasks.Serve mode) key sectors image = nbd_outset mode key sectors image
+task_outset Tasks.Dump key sectors image = dump_outset sectors image
+task_outset (Tasks.Check what) key sectors image = check_outset what key sectors image
+task_outset Tasks.Salvage key sectors image = salvage_outset key sectors image
+task_outset Tasks.Resize key sectors image = resizing_outset key sectors image
+task_outset (Tasks.Format new) key sectors image = format_outset key sectors new
+task_outset (Tasks.Exercise seed count) key sectors image = exercise_outset sectors count seed
 
-abbrev pub outset_under : Task → Result (Option (List ℕ)) KeyRefusal → (sectors : ℕ) → Image → Outset
-outset_under task (Ok key) sectors image = outset_at task key sectors image
-outset_under task (Err refusal) sectors image = RefusedBy (RefusedKey refusal)
+abbrev pub keyed_outset : Task → Result (Option (List ℕ)) KeyRefusal → (sectors : ℕ) → Image → Outset
+keyed_outset task (Ok key) sectors image = task_outset task key sectors image
+keyed_outset task (Err refusal) sectors image = RefusedBy (Refused (ByKey refusal))
 
-abbrev pub outset_for : Option Asked → (key_bytes : List ℕ) → (sectors : ℕ) → Image → Outset
-outset_for None key_bytes sectors image = RefusedBy RefusedWords
-outset_for (Some asked) key_bytes sectors image =
-    outset_under asked.task (key_by (key_file_of asked.hash) key_bytes) sectors image
+abbrev pub asked_outset : Option Asked → (key_bytes : List ℕ) → (sectors : ℕ) → Image → Outset
+asked_outset None key_bytes sectors image = RefusedBy (Refused ByWords)
+asked_outset (Some asked) key_bytes sectors image =
+    keyed_outset asked.task (key_by (key_file_of asked.hash) key_bytes) sectors image
 
 -- Where the blocks and tags of an image lie, by its superblock.
 abbrev pub geometry_on : (sectors : ℕ) → Image → Geometry
@@ -90,4 +92,4 @@ geometry_on sectors image = (format_on None sectors image).geometry
 -- What a command with these words starts on, where the key file has these bytes, on a disk of so many sectors with this
 -- image.
 abbrev pub outset_of : List (List ℕ) → (key_bytes : List ℕ) → (sectors : ℕ) → Image → Outset
-outset_of words key_bytes sectors image = outset_for (asked_of words) key_bytes sectors image
+outset_of words key_bytes sectors image = asked_outset (asked_of words) key_bytes sectors image

@@ -5,7 +5,7 @@ use Rattle.device_model.specs.Cut.{all_writes}
 use Rattle.device_model.specs.Device.{DeviceKind}
 use Rattle.device_model.specs.History.{Change, History, cells_after, with_changes}
 use Rattle.device_model.specs.Mode.{Journal}
-use Rattle.device_model.specs.ScriptRun.{ScriptRun, IsRunOf}
+use Rattle.run_model.specs.ScriptRun.{ScriptRun, IsRunOf}
 use Rattle.device_model.specs.Transcript.{BlockFormat}
 use Rattle.image_judging.specs.declared.consent.Consent.{Consent}
 use Rattle.image_judging.specs.FaultLaws.{some_await_on}
@@ -15,8 +15,8 @@ use Rattle.place_model.specs.Format.{cells_on, format_on}
 use Rattle.place_model.specs.Kind.{kind_in}
 use Rattle.place_model.specs.Opened.{blocks_of}
 use Rattle.device.specs.declared.opening.OpenMode.TheVariants as Modes
-use Rattle.command_model.specs.CommandRun.{IsLeftBy, IsRunAt}
-use Rattle.integrity_tool.specs.Outset.{outset_on}
+use Rattle.run_model.specs.CommandRun.{IsOfDevice, IsRunAt}
+use Rattle.integrity_tool.specs.Outset.{run_outset}
 
 -- So many of the first writes, the one under way being the last, with every flushed one among them.
 pub record HoldsFlushed (h : History) (kept : ℕ) : Type 0 where
@@ -46,7 +46,7 @@ pub record BeginsWithCut (key : Option (List ℕ)) (sectors : ℕ) (entry : Imag
   pub starts : (consent : Consent) (script : List ℕ) (run : ScriptRun) → let kind = kind_in Journal key sectors in
       lacks_consent key consent (some_await_on (format_on key sectors left) left) ≡ false
       → IsRunOf (kind.format left) (kind.opened left) script run
-      → IsRunAt (outset_on (Modes.Journal consent) key sectors left) script run
+      → IsRunAt (run_outset (Modes.Journal consent) key sectors left) script run
   pub blocks : blocks_of (format_on key sectors left) ≡ blocks_of (format_on key sectors entry)
   pub kept : ℕ
   pub flushed : HoldsFlushed (history_on (kind_in Journal key sectors) entry changes) kept
@@ -65,5 +65,5 @@ pub record BeginsWithCut (key : Option (List ℕ)) (sectors : ℕ) (entry : Imag
 abbrev pub ReopeningLaw : Type 0
 ReopeningLaw = (key : Option (List ℕ)) (sectors : ℕ) (entry : Image) (changes : List Change) (later : Content)
     (left : Image)
-    → IsLeftBy (kind_in Journal key sectors) entry changes later → IsImage later left
+    → IsOfDevice (kind_in Journal key sectors) entry changes later → IsImage later left
     → BeginsWithCut key sectors entry changes left

@@ -4,11 +4,11 @@ use Rattle.std.specs.List.{AllZip}
 use Rattle.std.specs.Option.{ForSome, IsSomeAnd}
 use Rattle.disk_model.specs.Disk.{Content}
 use Rattle.disk_model.specs.Moments.{EachMoment}
-use Rattle.device_model.specs.Ending.{Ending, Complete}
+use Rattle.run_model.specs.Ending.{Ending, Complete}
 use Rattle.device_model.specs.Grammar.{ReadLine, IsReadAs}
 use Rattle.device_model.specs.History.{Change, with_changes}
 use Rattle.device_model.specs.ScriptBytes.{most_script}
-use Rattle.device_model.specs.ScriptRun.{ScriptRun, ScriptStep, changes_in, close_step, only_ends, run_from, texts_of, with_step}
+use Rattle.run_model.specs.ScriptRun.{ScriptRun, ScriptStep, changes_in, close_step, only_ends, run_from, texts_of, with_step}
 use Rattle.direct_laws.specs.MomentLaws.{IsLeftNow}
 use Rattle.device_parts.specs.declared.condition.Condition.TheVariants as Conditions
 use Rattle.device.specs.declared.mode.DeviceParts.{DeviceParts}
@@ -25,7 +25,10 @@ use Rattle.script_session.specs.Told.{finds_fault}
 use Rattle.command_ending.specs.Ended.{ending_of}
 use Rattle.command_ending.specs.declared.ended.Ended.{Ended}
 use Rattle.command_ending.specs.declared.ended.Ended.TheVariants as Endings
-use Rattle.command_model.specs.CommandRun.{IsEndedBy}
+use Rattle.run_model.specs.declared.outer.Outer.{Outer}
+use Rattle.run_model.specs.CommandRun.{IsEndedBy}
+use Rattle.run_model.specs.declared.outer.Outer.TheVariants as outers
+use Rattle.command_ending.specs.declared.refusal.Refusal.TheVariants as refusals
 
 -- How a run ended.
 abbrev pub ending_by : Result TagsFound Ended → Ending
@@ -111,35 +114,24 @@ pub record IsAtClose (there : Standing) (run : ScriptRun) (script : List ℕ) (s
 
 -- What is outside ends a run only where its count rose.
 abbrev pub HasEndCause : (disk_rose script_rose sink_rose : Type 0) → Ended → Type 0
-HasEndCause disk_rose script_rose sink_rose Endings.Words = Unit {0}
-HasEndCause disk_rose script_rose sink_rose (Endings.Key refusal) = Unit {0}
-HasEndCause disk_rose script_rose sink_rose (Endings.Line number refusal) = Unit {0}
-HasEndCause disk_rose script_rose sink_rose Endings.Length = Unit {0}
-HasEndCause disk_rose script_rose sink_rose (Endings.Image fault) = Unit {0}
-HasEndCause disk_rose script_rose sink_rose Endings.Disk = disk_rose
-HasEndCause disk_rose script_rose sink_rose Endings.KeySource = Unit {0}
-HasEndCause disk_rose script_rose sink_rose Endings.Script = script_rose
-HasEndCause disk_rose script_rose sink_rose Endings.Sink = sink_rose
-HasEndCause disk_rose script_rose sink_rose Endings.Memory = Unit {0}
+HasEndCause disk_rose script_rose sink_rose (Endings.Failed outers.Disk) = disk_rose
+HasEndCause disk_rose script_rose sink_rose (Endings.Failed outers.Script) = script_rose
+HasEndCause disk_rose script_rose sink_rose (Endings.Failed outers.Sink) = sink_rose
+HasEndCause disk_rose script_rose sink_rose ended = Unit {0}
 
 -- A count of faults never falls, and it rises only where this is what ended the run: no call that failed is passed
 -- over.
-pub record IsCounted {T : Type 0} (ended : Ended) (before after : ℕ) (result : Result T Ended) : Type 0 where
+pub record IsCounted {T : Type 0} (outer : Outer) (before after : ℕ) (result : Result T Ended) : Type 0 where
   pub later : before ≤ after
-  pub passed : result ≢ Err ended → after ≡ before
+  pub passed : result ≢ Err (Endings.Failed outer) → after ≡ before
 
 -- What can end the run of a script: neither words, nor a key, nor an image.
 abbrev pub EndsScript : Ended → Type 0
-EndsScript Endings.Words = ⊥
-EndsScript (Endings.Key refusal) = ⊥
-EndsScript (Endings.Line number refusal) = Unit {0}
-EndsScript Endings.Length = Unit {0}
-EndsScript (Endings.Image fault) = ⊥
-EndsScript Endings.Disk = Unit {0}
-EndsScript Endings.KeySource = ⊥
-EndsScript Endings.Script = Unit {0}
-EndsScript Endings.Sink = Unit {0}
-EndsScript Endings.Memory = Unit {0}
+EndsScript (Endings.Refused (refusals.Line number refusal)) = Unit {0}
+EndsScript (Endings.Refused refusals.Length) = Unit {0}
+EndsScript (Endings.Refused refusal) = ⊥
+EndsScript (Endings.Failed outers.Key) = ⊥
+EndsScript ended = Unit {0}
 
 -- ---- what is taken of a source
 

@@ -1,19 +1,36 @@
--- What `salvage` prints of an image, as far as it has come: the line of each block in order, and the last line.
-use Rattle.std.specs.Prelude.{◌≡◌, ℕ, Bool, not, List, [], map, filter, flat_map, length, Option, Result, IfErr, IfOk}
+-- What `salvage` starts on, and what it prints of an image, as far as it has come: the line of each block in order, and
+-- the last line.
+use Rattle.std.specs.Prelude.{◌≡◌, ℕ, Bool, not, List, [], map, filter, flat_map, length, Option, Some, None, Result, IfErr, IfOk}
 use Rattle.std.specs.List.{range_with_len}
 use Rattle.disk_model.specs.Disk.{Content, Image, last_image}
 use Rattle.disk_model.specs.Identity.{DiskIdentity}
 use Rattle.disk_model.specs.Moments.{HasNow}
-use Rattle.device_model.specs.Ending.{Ending}
-use Rattle.place_model.specs.Format.{DiskFormat}
+use Rattle.device_model.specs.Refusals.{ImageFault}
+use Rattle.run_model.specs.Ending.{Ending, Refused, ByImage}
+use Rattle.place_model.specs.Format.{DiskFormat, format_on}
+use Rattle.recovery_laws.specs.Refusals.{read_fault_of}
 use Rattle.salvage_model.specs.Salvaging.{block_text, has_bad, salvage_texts}
 use Rattle.salvage_model.specs.Verdicts.{is_good, verdict_on}
 use Rattle.image_salvage.specs.Salvaged.{Salvaged, blocks_of, salvaged_format}
 use Rattle.script_session.specs.LineRun.{held_with}
 use Rattle.command_ending.specs.Ended.{ending_of}
 use Rattle.command_ending.specs.declared.ended.Ended.{Ended}
-use Rattle.command_model.specs.CommandRun.{IsEndedBy, only_prints}
+use Rattle.run_model.specs.CommandRun.{Outset, RefusedBy, Prints, IsEndedBy, only_prints}
 use Rattle.integrity_tool.specs.Checking.{IsPrintedShort}
+
+-- ---- what it starts on
+
+-- By why the image is refused, if it is: its lines are printed, or it is refused.
+abbrev pub outset_by_salvage : DiskFormat → Image → Option ImageFault → Outset
+outset_by_salvage d image None = Prints (salvage_texts d image) (has_bad d image)
+outset_by_salvage d image (Some fault) = RefusedBy (Refused (ByImage fault))
+
+-- What a salvage starts on, on a disk of so many sectors with this image, under a key.
+abbrev pub salvage_outset : (key : Option (List ℕ)) → (sectors : ℕ) → Image → Outset
+salvage_outset key sectors image =
+    outset_by_salvage (format_on key sectors image) image (read_fault_of sectors image)
+
+-- ---- what it prints
 
 -- How many of the first blocks are bad.
 abbrev pub bad_among : DiskFormat → Image → (told : ℕ) → ℕ

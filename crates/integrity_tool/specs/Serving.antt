@@ -3,14 +3,15 @@ use Rattle.std.specs.Prelude.{◌≡◌, ℕ, suc, ◌+◌, ◌≤◌, true, fal
 use Rattle.disk_model.specs.Disk.{Content, Image}
 use Rattle.disk_model.specs.Moments.{HasNow}
 use Rattle.device_model.specs.Device.{DeviceKind}
-use Rattle.device_model.specs.Ending as endings
-use Rattle.device_model.specs.Ending.{Ending}
+use Rattle.run_model.specs.Ending as endings
+use Rattle.run_model.specs.Ending.{Ending}
 use Rattle.device_model.specs.History.{Change}
 use Rattle.nbd_model.specs.Deeds.{text_in}
 use Rattle.nbd_model.specs.Session.{Deed, IsSessionOf, ending_in, most_piece, opened_session, take_pieces}
 use Rattle.nbd_model.specs.Stream as streams
 use Rattle.nbd_model.specs.Stream.{most_stream, requests_of}
-use Rattle.nbd_command.specs.ServedRun.{Complete, DiskFailed, EndsUnbegun, IsEndedBy, NoMemory, RefusedStream, SessionEnd, SinkFailed, SourceFailed}
+use Rattle.nbd_command.specs.ServedRun.{Complete, DiskFailed, IsEndedBy, NoMemory, RefusedStream, SessionEnd, SinkFailed, SourceFailed}
+use Rattle.run_model.specs.ServedRun.{EndsUnbegun}
 use Rattle.nbd_session.specs.declared.ended.Ended as sessions
 use Rattle.nbd_session.specs.declared.ended.Ended.TheVariants.{Closed, Wrong, Long}
 use Rattle.nbd_session.specs.declared.ended.SessionFault.{SessionFault}
@@ -20,40 +21,42 @@ use Rattle.script_session.specs.declared.tags_found.TagsFound.{TagsFound}
 use Rattle.script_session.specs.declared.tags_found.TagsFound.TheVariants.{Matching, Differing}
 use Rattle.command_ending.specs.declared.ended.Ended.{Ended}
 use Rattle.command_ending.specs.declared.ended.Ended.TheVariants as Endings
-use Rattle.command_model.specs.CommandRun.{IsLeftBy, IsLeftOfRun}
+use Rattle.run_model.specs.CommandRun.{IsOfDevice, IsOfScriptRun}
 use Rattle.integrity_tool.specs.declared.asked.Asked.{Asked}
 use Rattle.integrity_tool.specs.declared.asked.Task.{Task}
 use Rattle.integrity_tool.specs.declared.asked.Task.TheVariants as Tasks
 use Rattle.integrity_tool.specs.Running.{HoldsText, most_taken}
+use Rattle.run_model.specs.declared.outer.Outer.TheVariants as outers
+use Rattle.command_ending.specs.declared.refusal.Refusal.TheVariants as refusals
 
 -- ---- how far it came
 
 -- What ended a session, as an ending of a command. A stream that is refused is a script that is refused as a whole.
 abbrev pub session_ending : SessionEnd → Ending
 session_ending (Complete found_fault) = endings.Complete found_fault
-session_ending RefusedStream = endings.RefusedLength
-session_ending DiskFailed = endings.DiskFailed
-session_ending SourceFailed = endings.ScriptFailed
-session_ending SinkFailed = endings.SinkFailed
+session_ending RefusedStream = endings.Refused endings.ByLength
+session_ending DiskFailed = endings.Failed outers.Disk
+session_ending SourceFailed = endings.Failed outers.Script
+session_ending SinkFailed = endings.Failed outers.Sink
 session_ending NoMemory = endings.NoMemory
 
 -- How it ended, as the end of a command.
 abbrev pub ended_by_session : Result sessions.Ended SessionFault → Result TagsFound Ended
 ended_by_session (Ok (Closed false)) = Ok Matching
 ended_by_session (Ok (Closed true)) = Ok Differing
-ended_by_session (Ok (Wrong magic)) = Err Endings.Length
-ended_by_session (Ok Long) = Err Endings.Length
+ended_by_session (Ok (Wrong magic)) = Err (Endings.Refused refusals.Length)
+ended_by_session (Ok Long) = Err (Endings.Refused refusals.Length)
 ended_by_session (Err faults.Memory) = Err Endings.Memory
-ended_by_session (Err faults.Disk) = Err Endings.Disk
-ended_by_session (Err faults.Source) = Err Endings.Script
-ended_by_session (Err faults.Sink) = Err Endings.Sink
+ended_by_session (Err faults.Disk) = Err (Endings.Failed outers.Disk)
+ended_by_session (Err faults.Source) = Err (Endings.Failed outers.Script)
+ended_by_session (Err faults.Sink) = Err (Endings.Failed outers.Sink)
 
 -- Something ended the command before its session: nothing is written, and this is left of the disk.
 pub record HasNotBegun (kind : DeviceKind) (image : Image) (start : Content) (ending : Ending) (after : List Content)
     (held_before held : Option (List ℕ)) : Type 0 where
   pub outside : EndsUnbegun ending
   pub told : held ≡ held_before
-  pub left : HasNow (IsLeftOfRun kind image start []) after
+  pub left : HasNow (IsOfScriptRun kind image start []) after
 
 -- Its session came so far, and ended so: the sink holds its replies behind what it held, and this is left of the disk.
 pub record HasServedOn (kind : DeviceKind) (image : Image) (stream : List ℕ) (ending : Ending) (after : List Content)
@@ -67,7 +70,7 @@ pub record HasServedOn (kind : DeviceKind) (image : Image) (stream : List ℕ) (
   pub came : IsEndedBy (kind.format image) (kind.opened image) is_session.pieces (requests_of stream).ending deeds text
       changes ended
   pub told : held ≡ held_with text held_before
-  pub left : HasNow (IsLeftBy kind image changes) after
+  pub left : HasNow (IsOfDevice kind image changes) after
 
 -- ---- what is read
 

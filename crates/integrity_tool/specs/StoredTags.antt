@@ -2,16 +2,16 @@
 -- Own: of a block that awaits its tag no stored tag counts, so nothing is said of it.
 use Rattle.std.specs.Prelude.{◌≡◌, ◌⊎◌, ℕ, ◌<◌, Bool, false, List, take, Option, None, option_map, unwrap_or}
 use Rattle.disk_model.specs.Disk.{Content, EachImage, Image, last_image}
-use Rattle.device_model.specs.ScriptRun.{ScriptRun, changes_in}
+use Rattle.run_model.specs.ScriptRun.{ScriptRun, changes_in}
 use Rattle.image_model.specs.Bitmap.{awaits}
 use Rattle.image_model.specs.Cells.{counted_entries, last_entry, placed_cells_of}
 use Rattle.place_model.specs.Format.{DiskFormat, format_on}
 use Rattle.device.specs.declared.opening.OpenMode.{OpenMode}
 use Rattle.device.specs.declared.opening.OpenMode.TheVariants as Modes
 use Rattle.device.specs.Tags.{AreOfOthers}
-use Rattle.command_model.specs.CommandRun.{IsRunAt, IsUntouched}
+use Rattle.run_model.specs.CommandRun.{IsRunAt, IsUntouched}
 use Rattle.integrity_tool.specs.Opening.{IsMomentOn}
-use Rattle.integrity_tool.specs.Outset.{geometry_on, outset_on}
+use Rattle.integrity_tool.specs.Outset.{geometry_on, run_outset}
 
 -- The tag that is stored for block b: that of its last entry that counts, and else the one in its place.
 abbrev pub tag_stored : DiskFormat → Image → ℕ → List ℕ
@@ -39,7 +39,7 @@ pub record HasStoredTags (Concerns : ℕ → Type 0) (sectors : ℕ) (entry imag
 pub record KeepsStoredTags (mode : OpenMode) (key : Option (List ℕ)) (sectors : ℕ) (start : Content) (script : List ℕ)
     (later : Content) : Type 0 where
   pub run : ScriptRun
-  pub is_run : IsRunAt (outset_on mode key sectors (last_image start)) script run
+  pub is_run : IsRunAt (run_outset mode key sectors (last_image start)) script run
   pub made : ℕ
   pub kept : IsUntouched start later
       ⊎ EachImage (HasStoredTags (AreOfOthers (take made (changes_in run.steps))) sectors (last_image start)) later

@@ -1,11 +1,13 @@
 -- How what is done on an image ends, where it has no script.
 use Rattle.std.specs.Prelude.{false, Result, Ok, Err}
-use Rattle.device_model.specs.Ending.{Ending, Complete}
+use Rattle.run_model.specs.Ending.{Ending, Complete}
 use Rattle.script_session.specs.declared.tags_found.TagsFound.{TagsFound}
 use Rattle.script_session.specs.declared.tags_found.TagsFound.TheVariants.{Matching}
 use Rattle.command_ending.specs.Ended.{ending_of}
 use Rattle.command_ending.specs.declared.ended.Ended.{Ended}
 use Rattle.command_ending.specs.declared.ended.Ended.TheVariants as Endings
+use Rattle.run_model.specs.declared.outer.Outer.TheVariants as outers
+use Rattle.command_ending.specs.declared.refusal.Refusal.TheVariants as refusals
 
 -- It names no block where it came to its end.
 abbrev pub ending_done : Result (Unit {0}) Ended → Ending
@@ -19,13 +21,8 @@ found_by (Err ended) = Err ended
 
 -- What can end it: neither words, nor a key, nor a script.
 abbrev pub EndsTask : Ended → Type 0
-EndsTask Endings.Words = ⊥
-EndsTask (Endings.Key refusal) = ⊥
-EndsTask (Endings.Line number refusal) = ⊥
-EndsTask Endings.Length = ⊥
-EndsTask (Endings.Image fault) = Unit {0}
-EndsTask Endings.Disk = Unit {0}
-EndsTask Endings.KeySource = ⊥
-EndsTask Endings.Script = ⊥
-EndsTask Endings.Sink = Unit {0}
+EndsTask (Endings.Refused (refusals.Image fault)) = Unit {0}
+EndsTask (Endings.Failed outers.Disk) = Unit {0}
+EndsTask (Endings.Failed outers.Sink) = Unit {0}
 EndsTask Endings.Memory = Unit {0}
+EndsTask ended = ⊥

@@ -1,6 +1,6 @@
 -- What a command writes last.
 use Rattle.std.specs.Prelude.{ℕ, List, []}
-use Rattle.device_model.specs.Ending.{Ending, fault_text}
+use Rattle.run_model.specs.Ending.{Ending, fault_text}
 use Rattle.integrity_tool.specs.declared.telling.Telling.{Telling}
 use Rattle.integrity_tool.specs.declared.telling.Telling.TheVariants.{Lines, Replies}
 

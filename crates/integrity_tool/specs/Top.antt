@@ -8,9 +8,10 @@ use Rattle.disk_model.specs.Disk.{Content, Image, last_image}
 use Rattle.disk_model.specs.Identity.{IsBoundTo, NamedDisk}
 use Rattle.disk_model.specs.Moments.{content_now, EachMoment, HasNow}
 use Rattle.device_model.specs.Device.{DeviceKind}
-use Rattle.device_model.specs.Ending.{KeyRefusal, fault_text}
-use Rattle.command_model.specs.CommandRun.{Faults, HasCauseIn, Outset, Serves, Tells}
-use Rattle.nbd_command.specs.ServedRun.{TellsServed}
+use Rattle.run_model.specs.Ending.{fault_text}
+use Rattle.run_model.specs.declared.key_refusal.KeyRefusal.{KeyRefusal}
+use Rattle.run_model.specs.CommandRun.{Faults, HasCauseIn, Outset, Serves, Tells}
+use Rattle.run_model.specs.ServedRun.{TellsServed}
 use Rattle.script_session.specs.declared.tags_found.TagsFound.{TagsFound}
 use Rattle.command_ending.specs.Ended.{ending_of}
 use Rattle.command_ending.specs.declared.ended.Ended.{Ended}
@@ -28,6 +29,7 @@ use Rattle.integrity_tool.specs.Serving.{most_taken_for}
 use Rattle.integrity_tool.specs.Unopened.{IsUnopenedFor}
 use Rattle.integrity_tool.specs.Words.{HasNoScript, asked_of, image_name, key_file_of_asked}
 use Rattle.integrity_tool.specs.World.{Counts, World, rises}
+use Rattle.run_model.specs.declared.outer.Outer.TheVariants as outers
 
 -- ---- what a command is given
 
@@ -170,10 +172,10 @@ HasCauseOfCommand world result first last =
 
 -- and each count rises only where that is what ended it.
 pub record IsCountedBy {R : Type 0} (result : Result R Ended) (before after : Counts) : Type 0 where
-  pub disk : IsCounted Endings.Disk before.disk after.disk result
-  pub key : IsCounted Endings.KeySource before.key after.key result
-  pub script : IsCounted Endings.Script before.script after.script result
-  pub sink : IsCounted Endings.Sink before.sink after.sink result
+  pub disk : IsCounted outers.Disk before.disk after.disk result
+  pub key : IsCounted outers.Key before.key after.key result
+  pub script : IsCounted outers.Script before.script after.script result
+  pub sink : IsCounted outers.Sink before.sink after.sink result
 
 abbrev pub IsCountedInCommand : {T R : Type 0} → (T → World) → Result R Ended → (first last : T) → Type 0
 IsCountedInCommand world result first last = IsCountedBy result (world first).faults (world last).faults

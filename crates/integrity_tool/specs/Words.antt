@@ -15,31 +15,15 @@ use Rattle.command_words.specs.declared.command.Nbd.{Nbd}
 use Rattle.command_words.specs.declared.command.Run.{Run}
 use Rattle.command_words.specs.declared.command.Resize.{Resize}
 use Rattle.command_words.specs.declared.command.Salvage.{Salvage}
-use Rattle.command_words.specs.declared.values.Checked.{Checked}
-use Rattle.command_words.specs.declared.values.Checked.TheVariants as checks
 use Rattle.command_words.specs.declared.values.Consent as words_consent
 use Rattle.command_words.specs.declared.values.Consent.TheVariants as consents
 use Rattle.command_words.specs.declared.values.HashChoice.{HashChoice}
 use Rattle.command_words.specs.declared.values.HashChoice.TheVariants.{Sha256, HmacSha256}
-use Rattle.command_words.specs.declared.values.ImageMode as words_mode
-use Rattle.command_words.specs.declared.values.ImageMode.TheVariants as image_modes
 use Rattle.command_words.specs.declared.values.Mode.{Mode}
 use Rattle.command_words.specs.declared.values.Mode.TheVariants as modes
 use Rattle.command_words.specs.declared.values.NbdMode.{NbdMode}
 use Rattle.command_words.specs.declared.values.NbdMode.TheVariants as nbd_modes
-use Rattle.command_words.specs.declared.values.Padding as words
-use Rattle.command_words.specs.declared.values.Padding.TheVariants as paddings
-use Rattle.command_words.specs.declared.values.Wipe as words_wipe
-use Rattle.command_words.specs.declared.values.Wipe.TheVariants as wipes
-use Rattle.image_check.specs.declared.bad.What.{What}
-use Rattle.image_check.specs.declared.bad.What.TheVariants.{Cells, Placed}
-use Rattle.image_formatting.specs.declared.new_image.ImageMode.{ImageMode}
-use Rattle.image_formatting.specs.declared.new_image.ImageMode.TheVariants as new_modes
 use Rattle.image_formatting.specs.declared.new_image.NewImage.{NewImage}
-use Rattle.image_formatting.specs.declared.new_image.Padding.{Padding}
-use Rattle.image_formatting.specs.declared.new_image.Padding.TheVariants.{Fixed, Legacy}
-use Rattle.image_formatting.specs.declared.new_image.Wipe.{Wipe}
-use Rattle.image_formatting.specs.declared.new_image.Wipe.TheVariants.{Wiped, Kept, Recalculated}
 use Rattle.image_formatting.specs.NewImage.{IsNewImage}
 use Rattle.image_judging.specs.declared.consent.Consent.{Consent}
 use Rattle.image_judging.specs.declared.consent.Consent.TheVariants.{Given, Withheld}
@@ -51,19 +35,6 @@ use Rattle.integrity_tool.specs.declared.asked.Task.TheVariants as Tasks
 
 -- ---- the image that `format` is to make
 
-abbrev pub padding_as : words.Padding → Padding
-padding_as paddings.Fixed = Fixed
-padding_as paddings.Legacy = Legacy
-
-abbrev pub image_mode_as : words_mode.ImageMode → ImageMode
-image_mode_as image_modes.Journal = new_modes.Journal
-image_mode_as image_modes.Bitmap = new_modes.Bitmap
-
-abbrev pub wipe_as : words_wipe.Wipe → Wipe
-wipe_as wipes.Zeros = Wiped
-wipe_as wipes.Nothing = Kept
-wipe_as wipes.Recalculated = Recalculated
-
 abbrev pub new_image_of : Format → NewImage
 new_image_of format = record {
   tag_size = format.tag_size;
@@ -72,9 +43,9 @@ new_image_of format = record {
   sections = format.sections;
   log2_region = format.log2_blocks_per_bit;
   salt = format.salt;
-  padding = padding_as format.padding;
-  mode = image_mode_as format.mode;
-  wipe = wipe_as format.wipe;
+  padding = format.padding;
+  mode = format.mode;
+  wipe = format.wipe;
 }
 
 -- Its fields are in their ranges, an exercise has at most so many requests, and requests are served in a mode that takes
@@ -131,13 +102,8 @@ nbd_asked nbd = record { image = nbd.image; hash = nbd.hash; task = Tasks.Serve 
 abbrev pub dump_asked : Dump → Asked
 dump_asked dump = record { image = dump.image; hash = Sha256; task = Tasks.Dump }
 
--- What is judged of each block.
-abbrev pub what_as : Checked → What
-what_as checks.Cells = Cells
-what_as checks.Placed = Placed
-
 abbrev pub check_asked : Check → Asked
-check_asked check = record { image = check.image; hash = check.hash; task = Tasks.Check (what_as check.checked) }
+check_asked check = record { image = check.image; hash = check.hash; task = Tasks.Check check.checked }
 
 abbrev pub salvage_asked : Salvage → Asked
 salvage_asked salvage = record { image = salvage.image; hash = salvage.hash; task = Tasks.Salvage }

@@ -2,7 +2,7 @@
 use Rattle.std.specs.Prelude.{ℕ, List, Option}
 use Rattle.disk_model.specs.Causes.{Rose}
 use Rattle.disk_model.specs.Identity.{Binding, NamedDisk}
-use Rattle.command_model.specs.CommandRun.{Faults}
+use Rattle.run_model.specs.CommandRun.{Faults}
 
 -- How often the disk, the source of keys, that of the script and the sink have failed.
 pub record Counts : Type 0 where

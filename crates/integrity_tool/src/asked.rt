@@ -2,13 +2,14 @@
 ghost use Rattle.std.specs.Prelude.{◌≡◌, ◌⊎◌, Err, IfErr, IfOk, None, Some, map};
 ghost use Rattle.std.specs.String.{string_bytes};
 ghost use Rattle.command_ending.specs.declared.ended.Ended.TheVariants as Endings;
-ghost use Rattle.integrity_tool.specs.Words.{IsTask, MayWrite, asked_by, asked_of, check_asked, consent_as, dump_asked, exercise_asked, format_asked, image_mode_as, mode_as, nbd_asked, nbd_mode_as, new_image_of, padding_as, resize_asked, run_asked, salvage_asked, what_as, wipe_as};
+ghost use Rattle.integrity_tool.specs.Words.{IsTask, MayWrite, asked_by, asked_of, check_asked, consent_as, dump_asked, exercise_asked, format_asked, mode_as, nbd_asked, nbd_mode_as, new_image_of, resize_asked, run_asked, salvage_asked};
 ghost use Rattle.image_formatting.specs.NewImage.{IsNewImage};
+ghost use Rattle.command_ending.specs.declared.refusal.Refusal.TheVariants as refusals;
 
-use command_ending::Ended;
+use command_ending::{Ended, Refusal};
 use command_words::{
-    Check, Checked, Command, Consent, Dump, Exercise, FileName, Format, HashChoice, ImageMode,
-    Mode, Nbd, NbdMode, Padding, Resize, Run, Salvage, Wipe, WordsFault, parse,
+    Check, Command, Consent, Dump, Exercise, FileName, Format, HashChoice, Mode, Nbd, NbdMode,
+    Resize, Run, Salvage, WordsFault, parse,
 };
 use device::OpenMode;
 use image_check::What;
@@ -62,12 +63,12 @@ pub(crate) fn words_asked(alloc: Global, words: &[String]) -> Result<Asked, Ende
     ensures asked { IfOk result (λ asked. asked_of (map string_bytes words.now) ≡ Some asked) }
     ensures task { IfOk result (λ asked. IsTask asked.task) }
 
-    ensures words { result ≡ Err Endings.Words → asked_of (map string_bytes words.now) ≡ None }
-    ensures errors { IfErr result (λ ended. (ended ≡ Endings.Words) ⊎ (ended ≡ Endings.Memory)) }
+    ensures words { result ≡ Err (Endings.Refused refusals.Words) → asked_of (map string_bytes words.now) ≡ None }
+    ensures errors { IfErr result (λ ended. (ended ≡ Endings.Refused refusals.Words) ⊎ (ended ≡ Endings.Memory)) }
 {
     match parse(alloc, words) {
         Ok(command) => Ok(asked_by(command)),
-        Err(WordsFault::Refused) => Err(Ended::Words),
+        Err(WordsFault::Refused) => Err(Ended::Refused(Refusal::Words)),
         Err(WordsFault::Memory) => Err(Ended::Memory),
     }
 }
@@ -177,7 +178,7 @@ fn check_asked(check: Check) -> Asked
     Asked {
         image: check.image,
         hash: check.hash,
-        task: Task::Check(what(check.checked)),
+        task: Task::Check(check.checked),
     }
 }
 
@@ -218,16 +219,6 @@ fn exercise_asked(exercise: Exercise) -> Asked
     }
 }
 
-/// The same, as what is judged of each block.
-fn what(checked: Checked) -> What
-    ensures { result ≡ what_as checked }
-{
-    match checked {
-        Checked::Cells => What::Cells,
-        Checked::Placed => What::Placed,
-    }
-}
-
 /// The image that `format` is to make.
 fn new_image(format: &Format) -> NewImage
     ensures image { result ≡ new_image_of format.now }
@@ -240,39 +231,8 @@ fn new_image(format: &Format) -> NewImage
         sections: format.sections.number() as u32,
         log2_region: format.log2_blocks_per_bit.number() as u8,
         salt: format.salt,
-        padding: padding(format.padding),
-        mode: image_mode(format.mode),
-        wipe: wipe(format.wipe),
-    }
-}
-
-/// The same padding.
-fn padding(padding: Padding) -> image_formatting::Padding
-    ensures { result ≡ padding_as padding }
-{
-    match padding {
-        Padding::Fixed => image_formatting::Padding::Fixed,
-        Padding::Legacy => image_formatting::Padding::Legacy,
-    }
-}
-
-/// The same mode.
-fn image_mode(mode: ImageMode) -> image_formatting::ImageMode
-    ensures { result ≡ image_mode_as mode }
-{
-    match mode {
-        ImageMode::Journal => image_formatting::ImageMode::Journal,
-        ImageMode::Bitmap => image_formatting::ImageMode::Bitmap,
-    }
-}
-
-/// The same wipe.
-fn wipe(wipe: Wipe) -> image_formatting::Wipe
-    ensures { result ≡ wipe_as wipe }
-{
-    match wipe {
-        Wipe::Zeros => image_formatting::Wipe::Wiped,
-        Wipe::Nothing => image_formatting::Wipe::Kept,
-        Wipe::Recalculated => image_formatting::Wipe::Recalculated,
+        padding: format.padding,
+        mode: format.mode,
+        wipe: format.wipe,
     }
 }

@@ -5,7 +5,7 @@ ghost use Rattle.hmac_tag.specs.TagMaker.{key_of};
 ghost use Rattle.integrity_tool.specs.Calls.{HasCauseOfRun, IsCountedInRun, LeavesUnread, ReadsOnlyRun, RunsAsked};
 ghost use Rattle.integrity_tool.specs.Closed.{ClosesTask};
 ghost use Rattle.integrity_tool.specs.Opening.{EndsImage};
-ghost use Rattle.integrity_tool.specs.Outset.{outset_at};
+ghost use Rattle.integrity_tool.specs.Outset.{task_outset};
 ghost use Rattle.integrity_tool.specs.Running.{HasTaken, ending_by};
 ghost use Rattle.integrity_tool.specs.Serving.{most_taken_at};
 ghost use Rattle.integrity_tool.specs.Tasks.{found_by};
@@ -62,7 +62,7 @@ pub(crate) fn carry_out<D: Disk, S: Source, O: Sink>(
 
     ensures unread { LeavesUnread D.moments S.left task result disk.old disk.new script.old script.new }
     ensures taken { HasTaken (most_taken_at task) (S.left script.old) (S.left script.new) }
-    ensures ahead { ReadsOnlyRun D.identity D.moments S.left O.held S.faults (outset_at task (key_of hash))
+    ensures ahead { ReadsOnlyRun D.identity D.moments S.left O.held S.faults (task_outset task (key_of hash))
         disk.old script.old script.new out.old out.new }
     ensures identity { D.identity disk.new ≡ D.identity disk.old }
 {

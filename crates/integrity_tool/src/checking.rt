@@ -18,7 +18,7 @@ ghost use Rattle.integrity_tool.specs.Running.{ending_by};
 ghost use Rattle.integrity_tool.specs.Tasks.{EndsTask};
 
 use crate::refusing::ended_by_opening;
-use command_ending::{Ended, MOST_DIGITS, put_pieces, tag_digits};
+use command_ending::{Ended, MOST_DIGITS, Outer, put_pieces, tag_digits};
 use hmac_tag::Hash;
 use image_check::{Bad, CheckedImage, What};
 use itoa::Buffer;
@@ -61,7 +61,7 @@ pub(crate) fn print_check<D: Disk, O: Sink>(
     // They are counted before a line is printed, so that a failed disk leaves no list without its last line but where a
     // block was not read.
     let Ok(awaiting) = image.count_awaiting(disk) else {
-        return Err(Ended::Disk);
+        return Err(Ended::Failed(Outer::Disk));
     };
     let bad = match print_bad(disk, &mut image, out) {
         Ok(bad) => bad,
@@ -69,7 +69,7 @@ pub(crate) fn print_check<D: Disk, O: Sink>(
     };
     match put_counts(out, image.blocks(), bad, awaiting) {
         Ok(()) => Ok(tags_found(bad)),
-        Err(_) => Err(Ended::Sink),
+        Err(_) => Err(Ended::Failed(Outer::Sink)),
     }
 }
 
@@ -99,10 +99,10 @@ fn print_bad<D: Disk, O: Sink>(
     let mut bad = 0;
     for block in 0..image.blocks() {
         let Ok(found) = image.judge(disk, block) else {
-            return Err(Ended::Disk);
+            return Err(Ended::Failed(Outer::Disk));
         };
         let Ok(more) = put_found(out, &found) else {
-            return Err(Ended::Sink);
+            return Err(Ended::Failed(Outer::Sink));
         };
         bad += more;
     }

@@ -5,7 +5,7 @@ ghost use Rattle.device_parts.specs.declared.condition.Condition.TheVariants.{Wo
 ghost use Rattle.device.specs.Calls.{LeavesAtRest, Works};
 ghost use Rattle.integrity_tool.specs.Closing.{HasCloseCounts, StopsAtClose, fault_ended};
 
-use command_ending::Ended;
+use command_ending::{Ended, Outer};
 use device::Device;
 use script_session::TagsFound;
 use sector_disk::Disk;
@@ -26,8 +26,8 @@ impl CloseFault {
         ensures { result ≡ fault_ended self }
     {
         match self {
-            CloseFault::Disk => Ended::Disk,
-            CloseFault::Sink => Ended::Sink,
+            CloseFault::Disk => Ended::Failed(Outer::Disk),
+            CloseFault::Sink => Ended::Failed(Outer::Sink),
         }
     }
 }

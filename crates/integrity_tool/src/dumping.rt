@@ -6,9 +6,10 @@ ghost use Rattle.integrity_tool.specs.Calls.{HasCauseOfTask, IsCountedInTask, Ru
 ghost use Rattle.integrity_tool.specs.Dumping.{ended_by_dump};
 ghost use Rattle.integrity_tool.specs.Tasks.{EndsTask, ending_done};
 
-use command_ending::{Ended, ImageFault};
-use image_dump::{DumpFault, dump, dump_text};
-use journal_reading::JournalFault;
+use crate::refusing::head_fault;
+use command_ending::{Ended, ImageFault, Outer, Refusal};
+use image_dump::{dump, dump_text};
+use image_refusal::{CallFault, DumpFault, JournalFault};
 use sector_disk::Disk;
 use std::alloc::Global;
 use stream_io::{Sink, put_all};
@@ -46,19 +47,22 @@ pub(crate) fn print_image<D: Disk, O: Sink>(
     };
     match put_all(out, &text) {
         Ok(()) => Ok(()),
-        Err(_) => Err(Ended::Sink),
+        Err(_) => Err(Ended::Failed(Outer::Sink)),
     }
 }
 
 /// What ends a dump whose image is not shown.
-fn ended_by(fault: DumpFault) -> Ended
+fn ended_by(fault: CallFault<DumpFault>) -> Ended
     ensures { result ≡ ended_by_dump fault }
 {
     match fault {
-        DumpFault::Memory => Ended::Memory,
-        DumpFault::Disk => Ended::Disk,
-        DumpFault::Super(fault) => Ended::Image(ImageFault::Super(fault)),
-        DumpFault::Geom(fault) => Ended::Image(ImageFault::Geom(fault)),
-        DumpFault::Scan(fault) => Ended::Image(ImageFault::Journal(JournalFault::Scan(fault))),
+        CallFault::Memory => Ended::Memory,
+        CallFault::Disk => Ended::Failed(Outer::Disk),
+        CallFault::Refused(DumpFault::Head(fault)) => Ended::Refused(Refusal::Image(head_fault(
+            fault,
+        ))),
+        CallFault::Refused(DumpFault::Scan(fault)) => {
+            Ended::Refused(Refusal::Image(ImageFault::Journal(JournalFault::Scan(fault))))
+        }
     }
 }

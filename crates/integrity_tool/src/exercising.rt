@@ -5,7 +5,7 @@ ghost use Rattle.disk_model.specs.Identity.{IsBound};
 ghost use Rattle.device.specs.Calls.{Works};
 ghost use Rattle.script_session.specs.Stop.{HasStopCause};
 ghost use Rattle.script_session.specs.Told.{finds_fault};
-ghost use Rattle.command_model.specs.Exercise.{finds_faults};
+ghost use Rattle.workload_model.specs.Exercise.{finds_faults};
 ghost use Rattle.integrity_tool.specs.declared.asked.Task.TheVariants.{Exercise};
 ghost use Rattle.integrity_tool.specs.Calls.{HasCauseOfTask, IsCountedInTask, PassesMoments, RunsTask};
 ghost use Rattle.integrity_tool.specs.Exercised.{ClosesExercise, EndsExercise, ExercisesDevice, ExercisesNew, IsTallyTold, TellsExercise, ended_count};
@@ -17,7 +17,7 @@ ghost use Rattle.integrity_tool.specs.Words.{most_requests};
 use crate::making::ended_by_format;
 use crate::opening::handed_back;
 use crate::refusing::ended_by_opening;
-use command_ending::Ended;
+use command_ending::{Ended, Outer};
 use device::{Consent, Device, OpenMode};
 use device_exercise::exercise;
 use hmac_tag::Hash;
@@ -136,7 +136,7 @@ fn exercise_new<'d, D: Disk>(
 
     ensures ends { IfErr counted.new EndsExercise }
     ensures cause { IfErr counted.new (HasEndCause (Rose (D.faults disk.old) (D.faults result.now)) ⊥ ⊥) }
-    ensures counted { IsCounted Ended.Disk (D.faults disk.old) (D.faults result.now) counted.new }
+    ensures counted { IsCounted Outer.Disk (D.faults disk.old) (D.faults result.now) counted.new }
 
     ensures identity { D.identity result.now ≡ D.identity disk.old }
     ensures same_disk { result.ghost_name ≡ disk.entry.ghost_name }
@@ -199,7 +199,7 @@ fn ended_count(counted: Result<Tally, Stop>) -> Result<Tally, Ended>
 {
     match counted {
         Ok(tally) => Ok(tally),
-        Err(Stop::Disk) => Err(Ended::Disk),
+        Err(Stop::Disk) => Err(Ended::Failed(Outer::Disk)),
         Err(Stop::Memory) => Err(Ended::Memory),
     }
 }
@@ -213,14 +213,14 @@ fn ended_count(counted: Result<Tally, Stop>) -> Result<Tally, Ended>
 fn put_tally<O: Sink>(alloc: Global, tally: Tally, out: &mut O) -> Result<TagsFound, Ended>
     ensures told { IsTallyTold tally (O.held out.old) (O.held out.new) result }
     ensures cause { IfErr result (HasEndCause ⊥ ⊥ (Rose (O.faults out.old) (O.faults out.new))) }
-    ensures counted { IsCounted Ended.Sink (O.faults out.old) (O.faults out.new) result }
+    ensures counted { IsCounted Outer.Sink (O.faults out.old) (O.faults out.new) result }
 {
     let Ok(text) = tally.text(alloc) else {
         return Err(Ended::Memory);
     };
     match put_all(out, text.as_slice()) {
         Ok(()) => Ok(tags_found(&tally)),
-        Err(_) => Err(Ended::Sink),
+        Err(_) => Err(Ended::Failed(Outer::Sink)),
     }
 }
 

@@ -5,21 +5,21 @@ ghost use Rattle.integrity_tool.specs.Words.{key_file_of};
 ghost use Rattle.integrity_tool.specs.KeyFile.{HasHash, HasKeyRead, IsKeyRefused, IsKeyed, ReadsKey};
 ghost use Rattle.integrity_tool.specs.Running.{IsCounted};
 
-use command_ending::{Ended, KeyRefusal};
+use command_ending::{Ended, KeyRefusal, Outer, Refusal};
 use command_words::HashChoice;
-use hmac_tag::{Hash, Key, KeyFault};
+use hmac_tag::{Hash, Key, KeyFault, LONGEST_KEY};
 use std::alloc::Global;
 use stream_io::{NamedSource, ReadFault, read_named};
 
 /// How many bytes of a key file are read: one more than a key may have.
-const MOST_READ: usize = 4097;
+const MOST_READ: usize = LONGEST_KEY + 1;
 
 /// The hash that is chosen. A key file is bound and read, at most 4097 bytes of it, before anything else is.
 ///
 /// # Errors
 ///
 /// - `Key`: its bytes are no key.
-/// - `KeySource`: the source of the key failed.
+/// - `Failed`: the source of the key failed.
 /// - `Memory`: there is none for them.
 pub(crate) fn hash_of<K: NamedSource>(
     alloc: Global,
@@ -32,7 +32,7 @@ pub(crate) fn hash_of<K: NamedSource>(
     ensures refused { IfErr result (λ ended. IsKeyRefused (key_file_of choice.now) (K.named source.old)
         (K.faults source.old) (K.faults source.new) ended) }
 
-    ensures counted { IsCounted Ended.KeySource (K.faults source.old) (K.faults source.new) result }
+    ensures counted { IsCounted Outer.Key (K.faults source.old) (K.faults source.new) result }
     ensures read { ReadsKey (key_file_of choice.now) K.named K.left source.old source.new
         (IfErr result HasKeyRead) }
 {
@@ -41,13 +41,15 @@ pub(crate) fn hash_of<K: NamedSource>(
         HashChoice::HmacSha256 { key_file } => {
             let bytes = match read_named(alloc, source, key_file.as_str(), MOST_READ) {
                 Ok(bytes) => bytes,
-                Err(ReadFault::Failed) => return Err(Ended::KeySource),
+                Err(ReadFault::Failed) => return Err(Ended::Failed(Outer::Key)),
                 Err(ReadFault::Memory) => return Err(Ended::Memory),
             };
             match Key::from_bytes(alloc, &bytes) {
                 Ok(key) => Ok(Hash::Hmac(key)),
-                Err(KeyFault::Empty) => Err(Ended::Key(KeyRefusal::Empty)),
-                Err(KeyFault::TooLong { .. }) => Err(Ended::Key(KeyRefusal::Long)),
+                Err(KeyFault::Empty) => Err(Ended::Refused(Refusal::Key(KeyRefusal::Empty))),
+                Err(KeyFault::TooLong { .. }) => Err(Ended::Refused(Refusal::Key(
+                    KeyRefusal::Long,
+                ))),
                 Err(KeyFault::Memory) => Err(Ended::Memory),
             }
         }

@@ -11,7 +11,7 @@ ghost use Rattle.integrity_tool.specs.Calls.{HasCauseOfTask, IsCountedInTask, Ru
 ghost use Rattle.integrity_tool.specs.Lines.{HasAdvanced, ended_by};
 ghost use Rattle.integrity_tool.specs.Running.{EndsScript, HasEndCause, HasRead, IsCounted};
 
-use command_ending::{Ended, FormFault, LineRefusal};
+use command_ending::{Ended, FormFault, LineRefusal, Outer, Refusal};
 use device::Device;
 use script_reader::{LineReader, NextLine};
 use script_session::{LineEnd, TagsFound, Tickets, run_line};
@@ -41,17 +41,17 @@ pub(crate) fn advance<S: Source>(
 
     ensures ends { IfErr result EndsScript }
     ensures cause { IfErr result (HasEndCause ⊥ (Rose (S.faults script.old) (S.faults script.new)) ⊥) }
-    ensures counted { IsCounted Ended.Script (S.faults script.old) (S.faults script.new) result }
+    ensures counted { IsCounted Outer.Script (S.faults script.old) (S.faults script.new) result }
 {
     match reader.next_line(script) {
         Ok(NextLine::Line) => Ok(true),
         Ok(NextLine::End) => Ok(false),
-        Ok(NextLine::LongLine) => Err(Ended::Line {
+        Ok(NextLine::LongLine) => Err(Ended::Refused(Refusal::Line {
             number,
             refusal: LineRefusal::Form(FormFault::TooLong),
-        }),
-        Ok(NextLine::LongScript) => Err(Ended::Length),
-        Err(_) => Err(Ended::Script),
+        })),
+        Ok(NextLine::LongScript) => Err(Ended::Refused(Refusal::Length)),
+        Err(_) => Err(Ended::Failed(Outer::Script)),
     }
 }
 
@@ -96,10 +96,10 @@ pub(crate) fn run_bytes<'d, 'p, D: Disk, O: Sink>(
             Err(end) => Err(ended_by(end, number)),
         },
         Err(fault) => match FormFault::of(alloc, fault) {
-            Ok(fault) => Err(Ended::Line {
+            Ok(fault) => Err(Ended::Refused(Refusal::Line {
                 number,
                 refusal: LineRefusal::Form(fault),
-            }),
+            })),
             Err(_) => Err(Ended::Memory),
         },
     }
@@ -110,12 +110,12 @@ fn ended_by(end: LineEnd, number: u64) -> Ended
     ensures { result ≡ ended_by number end }
 {
     match end {
-        LineEnd::Refused(fault) => Ended::Line {
+        LineEnd::Refused(fault) => Ended::Refused(Refusal::Line {
             number,
             refusal: LineRefusal::Meaning(fault),
-        },
-        LineEnd::Disk => Ended::Disk,
-        LineEnd::Sink => Ended::Sink,
+        }),
+        LineEnd::Disk => Ended::Failed(Outer::Disk),
+        LineEnd::Sink => Ended::Failed(Outer::Sink),
         LineEnd::Memory => Ended::Memory,
     }
 }

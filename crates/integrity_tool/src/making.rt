@@ -10,9 +10,11 @@ ghost use Rattle.integrity_tool.specs.Calls.{HasCauseOfTask, IsCountedInTask, Pa
 ghost use Rattle.integrity_tool.specs.Making.{ended_by_format, formatted_text};
 ghost use Rattle.integrity_tool.specs.Tasks.{EndsTask, ending_done};
 
-use command_ending::{Ended, ImageFault, put_pieces};
+use command_ending::{Ended, ImageFault, Outer, Refusal, put_pieces};
 use hmac_tag::Hash;
-use image_formatting::{FormatFault, NewImage, format};
+use image_formatting::{NewImage, format};
+use image_model::GeomFault;
+use image_refusal::CallFault;
 use itoa::Buffer;
 use sector_disk::{Disk, Failed};
 use std::alloc::Global;
@@ -49,7 +51,7 @@ pub(crate) fn make_image<D: Disk, O: Sink>(
         Err(fault) => Err(ended_by_format(fault)),
         Ok(provided) => match put_provided(out, provided) {
             Ok(()) => Ok(()),
-            Err(_) => Err(Ended::Sink),
+            Err(_) => Err(Ended::Failed(Outer::Sink)),
         },
     }
 }
@@ -69,12 +71,12 @@ fn put_provided<O: Sink>(out: &mut O, provided: u64) -> Result<(), Failed>
 }
 
 /// What ends the making of an image that is not made.
-pub(crate) fn ended_by_format(fault: FormatFault) -> Ended
+pub(crate) fn ended_by_format(fault: CallFault<GeomFault>) -> Ended
     ensures { result ≡ ended_by_format fault }
 {
     match fault {
-        FormatFault::Geom(fault) => Ended::Image(ImageFault::Geom(fault)),
-        FormatFault::Memory => Ended::Memory,
-        FormatFault::Disk => Ended::Disk,
+        CallFault::Memory => Ended::Memory,
+        CallFault::Disk => Ended::Failed(Outer::Disk),
+        CallFault::Refused(fault) => Ended::Refused(Refusal::Image(ImageFault::Geom(fault))),
     }
 }

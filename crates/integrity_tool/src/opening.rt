@@ -7,7 +7,7 @@ ghost use Rattle.integrity_tool.specs.declared.asked.Task.TheVariants.{Run};
 ghost use Rattle.integrity_tool.specs.Closed.{ClosesTask};
 ghost use Rattle.integrity_tool.specs.Closing.{ended_close};
 ghost use Rattle.integrity_tool.specs.Opening.{EndsImage};
-ghost use Rattle.integrity_tool.specs.Outset.{outset_on};
+ghost use Rattle.integrity_tool.specs.Outset.{run_outset};
 ghost use Rattle.integrity_tool.specs.Running.{HasTaken, ending_by, most_taken};
 
 use crate::closing::{CloseFault, close};
@@ -16,7 +16,8 @@ use crate::running::run_lines;
 use command_ending::Ended;
 use device::{Device, OpenMode, Refused};
 use hmac_tag::Hash;
-use image_judging::{OpeningFault, images_that_open_have_no_fault};
+use image_judging::images_that_open_have_no_fault;
+use image_refusal::{CallFault, OpenFault};
 use script_reader::LineReader;
 use script_session::TagsFound;
 use sector_disk::Disk;
@@ -56,7 +57,7 @@ pub(crate) fn run_image<D: Disk, S: Source, O: Sink>(
 
     ensures unread { LeavesUnread D.moments S.left (Run mode) result disk.old disk.new script.old script.new }
     ensures taken { HasTaken most_taken (S.left script.old) (S.left script.new) }
-    ensures ahead { ReadsOnlyRun D.identity D.moments S.left O.held S.faults (outset_on mode (key_of hash))
+    ensures ahead { ReadsOnlyRun D.identity D.moments S.left O.held S.faults (run_outset mode (key_of hash))
         disk.old script.old script.new out.old out.new }
     ensures identity { D.identity disk.new ≡ D.identity disk.old }
 {
@@ -115,7 +116,7 @@ fn run_device<'d, D: Disk, S: Source, O: Sink>(
 
     ensures unread { LeavesUnread D.moments S.left (Run mode) ended.new disk.old result.now script.old script.new }
     ensures taken { HasTaken most_taken (S.left script.old) (S.left script.new) }
-    ensures ahead { ReadsOnlyRun D.identity D.moments S.left O.held S.faults (outset_on mode (key_of hash))
+    ensures ahead { ReadsOnlyRun D.identity D.moments S.left O.held S.faults (run_outset mode (key_of hash))
         disk.old script.old script.new out.old out.new }
     ensures identity { D.identity result.now ≡ D.identity disk.old }
     ensures same_disk { result.ghost_name ≡ disk.entry.ghost_name }
@@ -143,7 +144,7 @@ fn run_device<'d, D: Disk, S: Source, O: Sink>(
 }
 
 /// Why a device was not opened, and the disk that comes back.
-pub(crate) fn handed_back<'d, D: Disk>(refused: Refused<'d, D>) -> (OpeningFault, &'d mut D)
+pub(crate) fn handed_back<'d, D: Disk>(refused: Refused<'d, D>) -> (CallFault<OpenFault>, &'d mut D)
     ensures fault { result.0 ≡ refused.entry.fault }
     ensures disk { result.1.now ≡ refused.entry.disk.now }
     ensures same_disk { result.1.ghost_name ≡ refused.entry.disk.ghost_name }

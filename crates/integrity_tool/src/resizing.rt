@@ -10,9 +10,11 @@ ghost use Rattle.integrity_tool.specs.Calls.{HasCauseOfTask, IsCountedInTask, Pa
 ghost use Rattle.integrity_tool.specs.Resizing.{ended_by_resize};
 ghost use Rattle.integrity_tool.specs.Tasks.{EndsTask, ending_done};
 
-use command_ending::{Ended, ImageFault, put_pieces};
+use crate::refusing::head_fault;
+use command_ending::{Ended, ImageFault, Outer, Refusal, put_pieces};
 use hmac_tag::Hash;
-use image_resizing::{ResizeFault, resize};
+use image_refusal::{CallFault, ResizeFault};
+use image_resizing::resize;
 use itoa::Buffer;
 use sector_disk::{Disk, Failed};
 use std::alloc::Global;
@@ -49,7 +51,7 @@ pub(crate) fn resize_image<D: Disk, O: Sink>(
         Err(fault) => Err(ended_by_resize(fault)),
         Ok((provided, resized)) => match put_resized(out, provided, resized) {
             Ok(()) => Ok(()),
-            Err(_) => Err(Ended::Sink),
+            Err(_) => Err(Ended::Failed(Outer::Sink)),
         },
     }
 }
@@ -71,14 +73,20 @@ fn put_resized<O: Sink>(out: &mut O, provided: u64, resized: u64) -> Result<(), 
 }
 
 /// What ends the resize of an image that is not resized.
-fn ended_by_resize(fault: ResizeFault) -> Ended
+fn ended_by_resize(fault: CallFault<ResizeFault>) -> Ended
     ensures { result ≡ ended_by_resize fault }
 {
     match fault {
-        ResizeFault::Memory => Ended::Memory,
-        ResizeFault::Disk => Ended::Disk,
-        ResizeFault::Super(fault) => Ended::Image(ImageFault::Super(fault)),
-        ResizeFault::Geom(fault) => Ended::Image(ImageFault::Geom(fault)),
-        ResizeFault::Journal(fault) => Ended::Image(ImageFault::Journal(fault)),
+        CallFault::Memory => Ended::Memory,
+        CallFault::Disk => Ended::Failed(Outer::Disk),
+        CallFault::Refused(ResizeFault::Head(fault)) => Ended::Refused(Refusal::Image(head_fault(
+            fault,
+        ))),
+        CallFault::Refused(ResizeFault::Growth(fault)) => Ended::Refused(Refusal::Image(
+            ImageFault::Geom(fault),
+        )),
+        CallFault::Refused(ResizeFault::Journal(fault)) => Ended::Refused(Refusal::Image(
+            ImageFault::Journal(fault),
+        )),
     }
 }

@@ -19,10 +19,9 @@ ghost use Rattle.integrity_tool.specs.Tasks.{EndsTask};
 use crate::checking::tags_found;
 use crate::refusing::ended_by_opening;
 use crate::verdict_lines::write_verdict;
-use command_ending::{Ended, put_pieces};
+use command_ending::{Ended, Outer, put_pieces};
 use hmac_tag::Hash;
-use image_format::OpenFault;
-use image_judging::OpeningFault;
+use image_refusal::{CallFault, HeadFault};
 use image_salvage::{Refused, Salvage, Verdict};
 use itoa::Buffer;
 use script_session::TagsFound;
@@ -92,7 +91,7 @@ fn salvage_disk<'d, D: Disk, O: Sink>(
     match Salvage::open(alloc, disk, hash) {
         Err(refused) => {
             let (fault, disk) = handed_back(refused);
-            *ended = Err(ended_by_opening(OpeningFault::from(fault)));
+            *ended = Err(ended_by_opening(CallFault::from(fault)));
             disk
         }
         Ok(mut salvage) => {
@@ -103,7 +102,7 @@ fn salvage_disk<'d, D: Disk, O: Sink>(
 }
 
 /// Why an image is not salvaged, and the disk that comes back.
-fn handed_back<'d, D: Disk>(refused: Refused<'d, D>) -> (OpenFault, &'d mut D)
+fn handed_back<'d, D: Disk>(refused: Refused<'d, D>) -> (CallFault<HeadFault>, &'d mut D)
     ensures fault { result.0 ≡ refused.entry.fault }
     ensures disk { result.1.now ≡ refused.entry.disk.now }
     ensures same_disk { result.1.ghost_name ≡ refused.entry.disk.ghost_name }
@@ -148,7 +147,7 @@ fn print_image<D: Disk, O: Sink>(
     };
     match put_counts(out, salvage.blocks(), bad) {
         Ok(()) => Ok(tags_found(bad)),
-        Err(_) => Err(Ended::Sink),
+        Err(_) => Err(Ended::Failed(Outer::Sink)),
     }
 }
 
@@ -189,7 +188,7 @@ fn print_blocks<D: Disk, O: Sink>(
     let mut bad = 0;
     'lines: loop {
         let Ok(told) = salvage.next(bytes) else {
-            return Err(Ended::Disk);
+            return Err(Ended::Failed(Outer::Disk));
         };
         let Some(verdict) = told else {
             return Ok(bad);
@@ -198,7 +197,7 @@ fn print_blocks<D: Disk, O: Sink>(
             return Err(Ended::Memory);
         };
         let Ok(()) = put_all(out, &line) else {
-            return Err(Ended::Sink);
+            return Err(Ended::Failed(Outer::Sink));
         };
         bad = bad_with(bad, &verdict);
     }

@@ -6,7 +6,7 @@ ghost use Rattle.integrity_tool.specs.Calls.{HasCauseOfRun, IsCountedInRun, Leav
 ghost use Rattle.integrity_tool.specs.declared.asked.Task.TheVariants.{Serve};
 ghost use Rattle.integrity_tool.specs.Closed.{ClosesTask};
 ghost use Rattle.integrity_tool.specs.Opening.{EndsImage};
-ghost use Rattle.integrity_tool.specs.Outset.{outset_at};
+ghost use Rattle.integrity_tool.specs.Outset.{task_outset};
 ghost use Rattle.integrity_tool.specs.Running.{HasTaken, ending_by};
 ghost use Rattle.integrity_tool.specs.Serving.{ended_by_session, most_taken_at};
 ghost use Rattle.integrity_tool.specs.Words.{MayWrite};
@@ -14,7 +14,7 @@ ghost use Rattle.integrity_tool.specs.Words.{MayWrite};
 use crate::opening::handed_back;
 use crate::refusing::ended_by_opening;
 use crate::telling::Telling;
-use command_ending::Ended;
+use command_ending::{Ended, Outer, Refusal};
 use device::{Device, OpenMode};
 use hmac_tag::Hash;
 use image_judging::images_that_open_have_no_fault;
@@ -60,7 +60,7 @@ pub(crate) fn serve_image<D: Disk, S: Source, O: Sink>(
 
     ensures unread { LeavesUnread D.moments S.left (Serve mode) result disk.old disk.new script.old script.new }
     ensures taken { HasTaken (most_taken_at (Serve mode)) (S.left script.old) (S.left script.new) }
-    ensures ahead { ReadsOnlyRun D.identity D.moments S.left O.held S.faults (outset_at (Serve mode) (key_of hash))
+    ensures ahead { ReadsOnlyRun D.identity D.moments S.left O.held S.faults (task_outset (Serve mode) (key_of hash))
         disk.old script.old script.new out.old out.new }
     ensures identity { D.identity disk.new ≡ D.identity disk.old }
 {
@@ -113,7 +113,7 @@ fn serve_device<'d, D: Disk, S: Source, O: Sink>(
 
     ensures unread { LeavesUnread D.moments S.left (Serve mode) ended.new disk.old result.now script.old script.new }
     ensures taken { HasTaken (most_taken_at (Serve mode)) (S.left script.old) (S.left script.new) }
-    ensures ahead { ReadsOnlyRun D.identity D.moments S.left O.held S.faults (outset_at (Serve mode) (key_of hash))
+    ensures ahead { ReadsOnlyRun D.identity D.moments S.left O.held S.faults (task_outset (Serve mode) (key_of hash))
         disk.old script.old script.new out.old out.new }
     ensures identity { D.identity result.now ≡ D.identity disk.old }
     ensures same_disk { result.ghost_name ≡ disk.entry.ghost_name }
@@ -144,10 +144,10 @@ fn ended_by_session(served: Result<SessionEnded, SessionFault>) -> Result<TagsFo
     match served {
         Ok(SessionEnded::Closed { eio: false }) => Ok(TagsFound::Matching),
         Ok(SessionEnded::Closed { eio: true }) => Ok(TagsFound::Differing),
-        Ok(SessionEnded::Wrong { .. } | SessionEnded::Long) => Err(Ended::Length),
+        Ok(SessionEnded::Wrong { .. } | SessionEnded::Long) => Err(Ended::Refused(Refusal::Length)),
         Err(SessionFault::Memory) => Err(Ended::Memory),
-        Err(SessionFault::Disk) => Err(Ended::Disk),
-        Err(SessionFault::Source) => Err(Ended::Script),
-        Err(SessionFault::Sink) => Err(Ended::Sink),
+        Err(SessionFault::Disk) => Err(Ended::Failed(Outer::Disk)),
+        Err(SessionFault::Source) => Err(Ended::Failed(Outer::Script)),
+        Err(SessionFault::Sink) => Err(Ended::Failed(Outer::Sink)),
     }
 }

@@ -4,7 +4,7 @@ ghost use Rattle.std.specs.Option.{ForSome};
 ghost use Rattle.disk_model.specs.Causes.{HasCause, Rose};
 ghost use Rattle.disk_model.specs.Identity.{IsBoundTo, IsThere};
 ghost use Rattle.disk_model.specs.Moments.{content_now};
-ghost use Rattle.device_model.specs.Ending.{Complete, status_of};
+ghost use Rattle.run_model.specs.Ending.{Complete, status_of};
 ghost use Rattle.script_session.specs.Told.{finds_fault};
 ghost use Rattle.integrity_tool.specs.Ends.{ends_by, ends_with};
 ghost use Rattle.integrity_tool.specs.Running.{IsCounted};
@@ -15,7 +15,7 @@ use crate::asked::{Task, words_asked};
 use crate::carrying_out::carry_out;
 use crate::keyed::hash_of;
 use crate::telling::{Telling, put_end};
-use command_ending::Ended;
+use command_ending::{Ended, Outer};
 use device::OpenMode;
 use script_session::TagsFound;
 use sector_disk::{Counted, Disk, Failed};
@@ -159,16 +159,16 @@ fn bind_image<D: Disk>(disk: &mut D, image: &str, task: &Task) -> Result<(), End
     ensures found { OnOk result (IsThere (D.named disk.old image.now) (D.identity disk.new).sectors
         (D.moments disk.new)) }
 
-    ensures disk { IfErr result (λ ended. (ended ≡ Ended.Disk)
+    ensures disk { IfErr result (λ ended. (ended ≡ Ended.Failed Outer.Disk)
         × Rose (D.faults disk.old) (D.faults disk.new)) }
 
-    ensures counted { IsCounted Ended.Disk (D.faults disk.old) (D.faults disk.new) result }
+    ensures counted { IsCounted Outer.Disk (D.faults disk.old) (D.faults disk.new) result }
     ensures same { ForSome (content_now (D.named disk.old image.now).moments)
         (λ c. D.named disk.new image.now ≡ D.named disk.old image.now) }
 {
     match bind_for(disk, image, task) {
         Ok(()) => Ok(()),
-        Err(_) => Err(Ended::Disk),
+        Err(_) => Err(Ended::Failed(Outer::Disk)),
     }
 }
 

@@ -11,3 +11,4 @@ pub mod EndLemmas
 pub mod StepsLemmas
 pub mod IdleLemmas
 pub mod FieldsLemmas
+pub mod TellingLemmas

@@ -16,7 +16,7 @@ use Rattle.recalculation.specs.declared.recalculating.Recalculation.{Recalculati
 use Rattle.recalculation.specs.Awaiting.{AwaitingRegions, awaiting_of}
 use Rattle.recalculation.specs.Position.{HasMoved, fields_to_write}
 use Rattle.recalculation.specs.Recalculation.{fields_or, to_write}
-use Rattle.device_parts.specs.declared.answers.Actor.TheVariants as Actors
+use Rattle.device_model.specs.declared.actor.Actor.TheVariants as Actors
 use Rattle.device_parts.specs.declared.answers.Moved.TheVariants as Moves
 use Rattle.journal_mode.specs.Commits.{HasCommitted}
 use Rattle.journal_mode.specs.Journal.{PlacedRing}

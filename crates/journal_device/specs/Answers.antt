@@ -19,8 +19,8 @@ use Rattle.device_parts.specs.declared.answers.Moved.{Moved}
 use Rattle.device_parts.specs.declared.answers.Served.{Served}
 use Rattle.device_parts.specs.declared.condition.Condition.TheVariants.{Working}
 use Rattle.device_parts.specs.declared.parts.Parts.{Parts}
-use Rattle.device_parts.specs.declared.answers.Actor.{Actor}
-use Rattle.device_parts.specs.declared.answers.Actor.TheVariants as Actors
+use Rattle.device_model.specs.declared.actor.Actor.{Actor}
+use Rattle.device_model.specs.declared.actor.Actor.TheVariants as Actors
 use Rattle.device_parts.specs.declared.answers.Moved.TheVariants as Moves
 use Rattle.device_parts.specs.Answers.{ServesNext, StepsNext}
 use Rattle.device_parts.specs.Device.{Standing}

@@ -5,4 +5,5 @@ pub use Rattle.journal_mode.specs.Standing
 pub mod Answers
 pub mod Device
 pub mod Recalculating
+pub mod Telling
 pub mod Writing

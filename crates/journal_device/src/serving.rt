@@ -1,12 +1,14 @@
 //! Serving a request: one block is read, or put into the journal, or all is flushed.
-ghost use Rattle.std.specs.Prelude.{◌≡◌, ◌<◌, true};
+ghost use Rattle.std.specs.Prelude.{◌≡◌, ◌<◌, false, true};
 ghost use Rattle.disk_model.specs.Causes.{HasCause};
+ghost use Rattle.journal_model.specs.Ring.{has_room};
 ghost use Rattle.request_slots.specs.Flight.{FitsFlight, is_in_flight, turn_of};
 ghost use Rattle.request_slots.specs.declared.turn.Turn.TheVariants as Turns;
 ghost use Rattle.device_parts.specs.Answers.{condition_by};
 ghost use Rattle.device_parts.specs.declared.condition.Condition.TheVariants.{Working};
 ghost use Rattle.journal_device.specs.Answers.{Serves, WritesFor};
 ghost use Rattle.journal_device.specs.Device.{IsReady, kept};
+ghost use Rattle.journal_device.specs.Telling.{TellsOf};
 
 use crate::JournalState;
 use crate::taking::take_first;
@@ -38,6 +40,8 @@ pub fn serve<D: Disk>(
 
     ensures next { Serves ticket.now (kept parts.old state.old) (kept parts.new state.new)
         (D.moments disk.old) (D.moments disk.new) result }
+    ensures tells { TellsOf ticket.now parts.old.slots parts.new.slots
+        (has_room state.old.journal.ring ≡ false) result }
 
     ensures cause { HasCause (D.faults disk.old) (D.faults disk.new) result }
 
@@ -74,6 +78,8 @@ fn serve_read<D: Disk>(
 
     ensures next { Serves ticket.now (kept parts.old state.old) (kept parts.new state.new)
         (D.moments disk.old) (D.moments disk.new) result }
+    ensures tells { TellsOf ticket.now parts.old.slots parts.new.slots
+        (has_room state.old.journal.ring ≡ false) result }
 
     ensures cause { HasCause (D.faults disk.old) (D.faults disk.new) result }
 
@@ -106,6 +112,8 @@ fn serve_write<D: Disk>(
 
     ensures next { Serves ticket.now (kept parts.old state.old) (kept parts.new state.new)
         (D.moments disk.old) (D.moments disk.new) result }
+    ensures tells { TellsOf ticket.now parts.old.slots parts.new.slots
+        (has_room state.old.journal.ring ≡ false) result }
 
     ensures cause { HasCause (D.faults disk.old) (D.faults disk.new) result }
 
@@ -137,6 +145,8 @@ fn serve_flush<D: Disk>(
 
     ensures next { Serves ticket.now (kept parts.old state.old) (kept parts.new state.new)
         (D.moments disk.old) (D.moments disk.new) result }
+    ensures tells { TellsOf ticket.now parts.old.slots parts.new.slots
+        (has_room state.old.journal.ring ≡ false) result }
 
     ensures cause { HasCause (D.faults disk.old) (D.faults disk.new) result }
 

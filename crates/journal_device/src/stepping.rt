@@ -5,12 +5,14 @@ ghost use Rattle.disk_model.specs.Disk.{OnlyAdds};
 ghost use Rattle.disk_model.specs.Moments.{EachSince};
 ghost use Rattle.recalculation.specs.Recalculation.{IsOfTagsOrHead, StaysOnDisk, fields_next};
 ghost use Rattle.tag_store.specs.Store.{IsStore};
-ghost use Rattle.device_parts.specs.Answers.{actor_of, condition_by};
+ghost use Rattle.device_model.specs.Actors.{actor_of};
+ghost use Rattle.device_parts.specs.Answers.{condition_by};
 ghost use Rattle.device_parts.specs.declared.condition.Condition.TheVariants.{Working};
-ghost use Rattle.journal_device.specs.Answers.{AdvancesAs, HasNoWork, MovesFieldsTo, Steps, WritesAs};
+ghost use Rattle.journal_device.specs.Answers.{HasNoWork, MovesFieldsTo, Steps, WritesAs};
 ghost use Rattle.journal_device.specs.Answers.{moved_as, steps_left};
 ghost use Rattle.journal_device.specs.Device.{IsReady, kept};
 ghost use Rattle.journal_device.specs.Recalculating.{HasStepped, StepsRegionIn};
+ghost use Rattle.journal_device.specs.Telling.{MovesAs};
 
 use crate::JournalState;
 use device_parts::{Actor, Moved, Parts};
@@ -43,7 +45,7 @@ pub fn step<D: Disk>(
         → steps_left actor state.new < steps_left actor state.old) }
     ensures idle { IfOk result (λ moved. moved ≡ Moved.Idle
         → (kept parts.new state.new ≡ kept parts.old state.old) × (disk.new ≡ disk.old)) }
-    ensures advances { IfOk result (λ moved. AdvancesAs actor moved state.old.recalculation state.new.recalculation) }
+    ensures moves { IfOk result (λ moved. MovesAs actor moved state.old state.new) }
 
     ensures cause { HasCause (D.faults disk.old) (D.faults disk.new) result }
 

@@ -6,12 +6,8 @@ ghost use Rattle.journal_erasure.specs.Newest.{IsScanned};
 
 use crate::newest::NewestSectors;
 use commit_id::Grid;
+use image_model::COMMIT_NUMBERS;
 use layout::Geometry;
-
-/// How many commit numbers there are.
-///
-/// Source: Linux, `drivers/md/dm-integrity.c`, `N_COMMIT_IDS`.
-const NUMBERS: u8 = 4;
 
 /// A journal that is to be erased.
 #[derive(Clone, Copy, Debug)]
@@ -80,5 +76,5 @@ pub(crate) fn later(laps: u8, number: u8) -> u8
 
     ensures { result ≡ number_later laps number }
 {
-    (number + laps) % NUMBERS
+    (number + laps) % COMMIT_NUMBERS
 }

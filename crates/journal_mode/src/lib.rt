@@ -13,5 +13,5 @@ mod room;
 
 pub use journal::Journal;
 pub use laws::recovered_journal_stands;
-pub use replay::{JournalFault, Recovered, ReplayFault, recover};
+pub use replay::{Recovered, recover};
 pub use room::JournalRoom;

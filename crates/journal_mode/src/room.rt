@@ -40,9 +40,7 @@ impl JournalRoom {
         let _ = geometry.blocks();
         let entries = geometry.sections() * geometry.shape().entries;
         let ring = RingRoom::new(alloc, geometry)?;
-        let Ok(overlay) = Overlay::with_capacity(alloc, entries) else {
-            return Err(Memory);
-        };
+        let overlay = Overlay::with_capacity(alloc, entries)?;
         Ok(JournalRoom { ring, overlay })
     }
 }

@@ -10,5 +10,6 @@ mod place;
 mod place_log;
 mod table;
 
-pub use overlay::{Memory, Overlay};
+pub use disk_model::Memory;
+pub use overlay::Overlay;
 pub use place::Place;

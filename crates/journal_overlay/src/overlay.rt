@@ -7,14 +7,9 @@ ghost use Rattle.std.specs.Prelude.{◌≡◌, ◌-◌, ◌<◌, ◌++◌, [], �
 use crate::place::{Added, Place};
 use crate::place_log::{PlaceLog, append, drop_section, sweep};
 use crate::table::Table;
+use disk_model::Memory;
 use std::alloc::{AllocError, Global};
 use std::marker::Model;
-use thiserror::Error;
-
-/// There is no memory for so many places.
-#[derive(Clone, Copy, Debug, PartialEq, Eq, Error)]
-#[error("there is no memory for so many places")]
-pub struct Memory;
 
 /// How many places can be kept at most, so that a node is named by 32 bits.
 ///
@@ -58,12 +53,8 @@ impl Overlay {
             return Err(Memory);
         }
         let capacity = entries as usize;
-        let Ok(log) = PlaceLog::with_room(alloc, capacity + capacity / 2 + 1) else {
-            return Err(Memory);
-        };
-        let Ok(moved) = Vec::with_capacity(alloc, capacity) else {
-            return Err(Memory);
-        };
+        let log = PlaceLog::with_room(alloc, capacity + capacity / 2 + 1)?;
+        let moved = Vec::with_capacity(alloc, capacity)?;
         Ok(Overlay {
             capacity,
             log,

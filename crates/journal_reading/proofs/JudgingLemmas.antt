@@ -19,10 +19,12 @@ use Rattle.image_model.proofs.NumberLemmas.{cases_option}
 use Rattle.image_model.proofs.OpenableLemmas.{entry_fault_none}
 use Rattle.commit_id.specs.Grid.{as_grid}
 use Rattle.hmac_tag.specs.TagMaker.{TagRule}
-use Rattle.journal_reading.specs.declared.faults.ReplayFault.{ReplayFault}
-use Rattle.journal_reading.specs.declared.faults.ReplayFault.TheVariants.{Memory, Disk, Journal}
+use Rattle.image_refusal.specs.declared.call_fault.CallFault.{CallFault}
+use Rattle.image_refusal.specs.declared.call_fault.CallFault.TheVariants.{Memory, Disk, Refused}
+use Rattle.image_refusal.specs.declared.journal_fault.JournalFault as causes
+use Rattle.image_refusal.specs.Causes.{as_fault}
 use Rattle.journal_reading.specs.declared.reading.JudgedJournal.{JudgedJournal}
-use Rattle.journal_reading.specs.Faults.{as_fault, refusal_in}
+use Rattle.journal_reading.specs.Faults.{refusal_in}
 use Rattle.journal_reading.specs.Index.{AddsEntry}
 use Rattle.journal_reading.specs.Journal.{IsJudgedOn}
 use Rattle.journal_reading.specs.Judging.{IsJudgedAt, StaysInside, entry_on}
@@ -99,13 +101,13 @@ module _ (key salt : Option (List ℕ)) (g : Geometry) (place : ℕ × ℕ) (num
         ];
       }
 
-  pub stays_inside_ok : (o : Option Entry) (result : Result ℕ ReplayFault) → (result ≢ Err Memory → refusal_in result ≡ option_and_then (entry_fault key salt g place) o)
+  pub stays_inside_ok : (o : Option Entry) (result : Result ℕ (CallFault causes.JournalFault)) → (result ≢ Err Memory → refusal_in result ≡ option_and_then (entry_fault key salt g place) o)
       → IfOk result (AddsEntry g number o old new) → IfOk result (StaysInside g old new)
   stays_inside_ok o (Ok used) refused added = stays_inside used o (sym (refused (λ e. cc))) added
   stays_inside_ok o (Err fault) refused added = tt
 
 -- An entry that is judged by the bytes of its section is judged as that of the image.
-pub judged_at : (rule : TagRule) (g : Geometry) (image : Image) (walk : List (ℕ × ℕ)) (number : ℕ) (place : ℕ × ℕ) (section : List ℕ) (at sectors : ℕ) (old new : ℕ → Option ℕ) (result : Result ℕ ReplayFault)
+pub judged_at : (rule : TagRule) (g : Geometry) (image : Image) (walk : List (ℕ × ℕ)) (number : ℕ) (place : ℕ × ℕ) (section : List ℕ) (at sectors : ℕ) (old new : ℕ → Option ℕ) (result : Result ℕ (CallFault causes.JournalFault))
     → slice_get (places_of g walk) number ≡ Some place → at ≡ section_at g place.0 → sectors ≡ section_sectors g.shape → section ≡ bytes_at image at sectors
     → (result ≢ Err Memory → refusal_in result ≡ option_and_then (entry_fault rule.key rule.salt g place) (entry_at g.shape section place.1))
     → IfOk result (AddsEntry g number (entry_at g.shape section place.1) old new) → IsJudgedAt rule g image walk number old new result
@@ -138,7 +140,7 @@ module _ (rule : TagRule) (g : Geometry) (image : Image) (plan : Plan) where
   judged-none newest none = record { right = refl; index = index-none g (entry_of g image) (places_of g plan.walk) newest none }
 
   -- The next one is judged.
-  pub judged-next : (k : ℕ) (place : ℕ × ℕ) (old new : ℕ → Option ℕ) (count used : ℕ) (result : Result ℕ ReplayFault) → slice_get (places_of g plan.walk) k ≡ Some place → 1 ≤ g.shape.spb
+  pub judged-next : (k : ℕ) (place : ℕ × ℕ) (old new : ℕ → Option ℕ) (count used : ℕ) (result : Result ℕ (CallFault causes.JournalFault)) → slice_get (places_of g plan.walk) k ≡ Some place → 1 ≤ g.shape.spb
       → result ≡ Ok used → IsJudgedAt rule g image plan.walk k old new result → IsJudgedUpTo k old count → IsJudgedUpTo (k + 1) new (count + used)
   judged-next k place old new count used result there wide ok judged before =
       let is = subst (IsJudgedAt rule g image plan.walk k old new) ok judged in
@@ -157,12 +159,12 @@ module _ (rule : TagRule) (g : Geometry) (image : Image) (plan : Plan) where
     fault_of_plan first e = rw walk e
 
     -- Where it is refused the journal is,
-    pub judged-refused : (T : Type 0) (k : ℕ) (place : ℕ × ℕ) (old new : ℕ → Option ℕ) (count : ℕ) (result : Result ℕ ReplayFault) (fault : ReplayFault) → slice_get (places_of g plan.walk) k ≡ Some place
+    pub judged-refused : (T : Type 0) (k : ℕ) (place : ℕ × ℕ) (old new : ℕ → Option ℕ) (count : ℕ) (result : Result ℕ (CallFault causes.JournalFault)) (fault : CallFault causes.JournalFault) → slice_get (places_of g plan.walk) k ≡ Some place
         → result ≡ Err fault → fault ≢ Memory → fault ≢ Disk → IsJudgedAt rule g image plan.walk k old new result → IsJudgedUpTo k old count
         → refusal_in {T = T} (Err fault) ≡ journal_fault_of rule.key rule.salt g image
     judged-refused T k place old new count result Memory there err not_memory not_disk judged before = absurd (not_memory refl)
     judged-refused T k place old new count result Disk there err not_memory not_disk judged before = absurd (not_disk refl)
-    judged-refused T k place old new count result (Journal fault) there err not_memory not_disk judged before =
+    judged-refused T k place old new count result (Refused fault) there err not_memory not_disk judged before =
         let is = subst (IsJudgedAt rule g image plan.walk k old new) err judged in
         let refused : fault_at place ≡ Some (as_fault fault) = sym (is.refused (λ e. cc) (λ e. cc) ∙ ap (option_and_then fault_at) there) in
         sym (fault_of_plan (Some (as_fault fault)) (kept_first fault_at (places_of g plan.walk) k place (as_fault fault) there before.right refused))

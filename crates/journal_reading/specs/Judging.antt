@@ -8,8 +8,9 @@ use Rattle.image_model.specs.Openable as model
 use Rattle.image_model.specs.Openable.{entry_fault}
 use Rattle.image_model.specs.Section.{Entry, entry_at}
 use Rattle.hmac_tag.specs.TagMaker.{TagRule}
-use Rattle.journal_reading.specs.declared.faults.ReplayFault.{ReplayFault}
-use Rattle.journal_reading.specs.declared.faults.ReplayFault.TheVariants.{Memory, Disk}
+use Rattle.image_refusal.specs.declared.call_fault.CallFault.{CallFault}
+use Rattle.image_refusal.specs.declared.call_fault.CallFault.TheVariants.{Memory, Disk}
+use Rattle.image_refusal.specs.declared.journal_fault.JournalFault.{JournalFault}
 use Rattle.journal_reading.specs.Faults.{refusal_in}
 use Rattle.journal_reading.specs.Index.{AddsEntry}
 use Rattle.journal_reading.specs.Newest.{newest_in}
@@ -42,13 +43,13 @@ AddsInSection g number place section old new =
 
 -- The entry with this number was judged, and added where it is used and not refused.
 pub record IsJudgedAt (rule : TagRule) (g : Geometry) (image : Image) (walk : List (ℕ × ℕ)) (number : ℕ)
-    (old new : ℕ → Option ℕ) (result : Result ℕ ReplayFault) : Type 0 where
+    (old new : ℕ → Option ℕ) (result : Result ℕ (CallFault JournalFault)) : Type 0 where
   pub refused : result ≢ Err Memory → result ≢ Err Disk → refusal_in result ≡ fault_on rule g image walk number
   pub added : IfOk result (AddsEntry g number (entry_on g image walk number) old new)
 
 -- So it was on the image that reads give, where these are the newest entries before and then.
 abbrev pub JudgesAt : TagRule → Geometry → List Content → (walk : List (ℕ × ℕ)) → (number : ℕ)
-    → (old new : List (ℕ × ℕ)) → Result ℕ ReplayFault → Type 0
+    → (old new : List (ℕ × ℕ)) → Result ℕ (CallFault JournalFault) → Type 0
 JudgesAt rule g moments walk number old new result =
     HasNow (λ c. IsJudgedAt rule g (last_image c) walk number (newest_in old) (newest_in new) result) moments
 

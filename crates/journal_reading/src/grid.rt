@@ -15,15 +15,11 @@ ghost use Rattle.journal_reading.specs.Used.{is_used_outside_at};
 use crate::cells::cell_of;
 use crate::used::has_used_outside;
 use commit_id::{Cell, Grid};
+use image_model::SUPERBLOCK_SECTORS;
 use layout::Geometry;
 use sector_disk::{Disk, Failed, Memory};
 use sector_window::SectorWindow;
 use std::alloc::Global;
-
-/// The first sector of the journal on every disk. The superblock has those before it.
-///
-/// Source: Linux, `drivers/md/dm-integrity.c`, `SB_SECTORS`.
-pub const JOURNAL_AT: u64 = 8;
 
 /// How many sectors of a journal one call of the disk reads at most.
 ///
@@ -51,10 +47,8 @@ impl GridRoom {
 
         ensures { IfOk result (HasGridRoom geometry.now) }
     {
-        let sectors = geometry.initial() - JOURNAL_AT;
-        let Ok(cells) = Vec::with_capacity(alloc, sectors as usize) else {
-            return Err(Memory);
-        };
+        let sectors = geometry.initial() - SUPERBLOCK_SECTORS;
+        let cells = Vec::with_capacity(alloc, sectors as usize)?;
         let window = SectorWindow::new(alloc, sectors.min(MOST_AT_ONCE))?;
         Ok(GridRoom { cells, window })
     }
@@ -86,7 +80,7 @@ pub fn read_grid<D: Disk>(disk: &mut D, geometry: &Geometry, room: GridRoom) -> 
     } = room;
     let bitmap = geometry.blank_bound();
     let mut used_outside = false;
-    for _ in 0..geometry.initial() - JOURNAL_AT {
+    for _ in 0..geometry.initial() - SUPERBLOCK_SECTORS {
         let used = read_cell(disk, geometry, bitmap, &mut window, &mut cells)?;
         used_outside = used_outside || used;
     }
@@ -130,7 +124,7 @@ fn read_cell<D: Disk>(
     ensures leaves { LeavesDisk (D.identity disk.old) (D.identity disk.new) (D.moments disk.old) (D.moments disk.new) }
 {
     let k = cells.len() as u64;
-    let at = JOURNAL_AT + k;
+    let at = SUPERBLOCK_SECTORS + k;
     window.show(disk, at, 1)?;
     let shape = geometry.shape();
     let bytes = window.run(at, 1);

@@ -6,10 +6,11 @@ ghost use Rattle.disk_model.specs.Moments.{HasNow};
 ghost use Rattle.image_model.specs.Geometry.{IsGeometry, section_entries, section_sectors};
 ghost use Rattle.image_model.specs.Openable.{entry_fault, is_block_start};
 ghost use Rattle.image_model.specs.Scan.{walk_of_grid};
+ghost use Rattle.image_refusal.specs.Calls.{HasCallCause};
 ghost use Rattle.commit_id.specs.Grid.{as_grid};
 ghost use Rattle.sector_window.specs.Window.{HasRoom};
 ghost use Rattle.journal_reading.specs.Entries.{entry_with};
-ghost use Rattle.journal_reading.specs.Faults.{HasReplayCause, TellsFault, fault_in, refusal_in};
+ghost use Rattle.journal_reading.specs.Faults.{TellsFault, fault_in, refusal_in};
 ghost use Rattle.journal_reading.specs.Grids.{IsGridFor, IsGridOn};
 ghost use Rattle.journal_reading.specs.Journal.{FitsJournal, IsJudgedOn};
 ghost use Rattle.journal_reading.specs.Judging.{AddsInSection, JudgesAt, StaysInside, fault_in_section};
@@ -21,19 +22,16 @@ use crate::entries::read_in_section;
 use crate::newest::NewestEntries;
 use crate::places::{Walk, entry_count, entry_place};
 use crate::reading::JudgedJournal;
-use crate::{JournalFault, ReplayFault};
 use commit_id::{Grid, Plan};
 use hmac_tag::TagMaker;
-use image_model::SECTOR_SIZE;
+use image_model::{LARGEST_BLOCK, SECTOR_SIZE};
+use image_refusal::{CallFault, JournalFault};
 use journal_overlay::Place;
 use journal_section::EntryView;
 use layout::Geometry;
 use sector_disk::Disk;
 use sector_window::SectorWindow;
 use std::alloc::Global;
-
-/// The bytes of the largest block, of 8 sectors.
-const LARGEST_BLOCK: usize = 8 * SECTOR_SIZE;
 
 /// Judges the used entries of the sections that count, in the order in which they would be replayed, and keeps which is
 /// the newest of each block. Each of these sections is read once, by one call of the disk, and each entry is hashed
@@ -45,7 +43,7 @@ const LARGEST_BLOCK: usize = 8 * SECTOR_SIZE;
 ///
 /// - `Memory`: there is none for a section, or for what is kept.
 /// - `Disk`: the disk failed at a read.
-/// - `Journal`: the first entry that is refused, and why.
+/// - `Refused`: the first entry that is, and why.
 pub(crate) fn judge_planned<D: Disk>(
     alloc: Global,
     disk: &mut D,
@@ -53,7 +51,7 @@ pub(crate) fn judge_planned<D: Disk>(
     maker: &TagMaker,
     grid: Grid,
     plan: Plan,
-) -> Result<JudgedJournal, ReplayFault>
+) -> Result<JudgedJournal, CallFault<JournalFault>>
     requires bound { IsBound (D.identity disk.old).name }
     requires geometry { IsGeometry geometry.now (D.identity disk.old).sectors }
     requires maker { maker.now.size ≡ geometry.now.shape.tag_size }
@@ -66,7 +64,7 @@ pub(crate) fn judge_planned<D: Disk>(
         (D.moments disk.old)) }
 
     ensures refused { TellsFault maker.now geometry.now result (D.moments disk.old) }
-    ensures cause { HasReplayCause (D.faults disk.old) (D.faults disk.new) result }
+    ensures cause { HasCallCause (D.faults disk.old) (D.faults disk.new) result }
 
     ensures identity { D.identity disk.new ≡ D.identity disk.old }
     ensures kept { D.moments disk.new ≡ D.moments disk.old }
@@ -105,7 +103,7 @@ pub(crate) fn judge_planned<D: Disk>(
 ///
 /// - `Disk`: the disk failed at the read.
 /// - `Memory`: there is none for one block more.
-/// - `Journal`: it is refused.
+/// - `Refused`: it is.
 fn judge_at<D: Disk>(
     disk: &mut D,
     geometry: &Geometry,
@@ -115,7 +113,7 @@ fn judge_at<D: Disk>(
     window: &mut SectorWindow,
     block: &mut [u8],
     newest: &mut NewestEntries,
-) -> Result<u64, ReplayFault>
+) -> Result<u64, CallFault<JournalFault>>
     requires bound { IsBound (D.identity disk.old).name }
     requires geometry { IsGeometry geometry.now (D.identity disk.old).sectors }
     requires maker { maker.now.size ≡ geometry.now.shape.tag_size }
@@ -127,7 +125,7 @@ fn judge_at<D: Disk>(
     ensures judged { JudgesAt maker.now geometry.now (D.moments disk.old) walk.now number newest.old newest.new result }
     ensures inside { IfOk result (StaysInside geometry.now (newest_in newest.old) (newest_in newest.new)) }
 
-    ensures cause { HasReplayCause (D.faults disk.old) (D.faults disk.new) result }
+    ensures cause { HasCallCause (D.faults disk.old) (D.faults disk.new) result }
 
     ensures window { HasRoom (section_sectors geometry.now.shape) window.new (D.moments disk.new) }
     ensures leaves { LeavesDisk (D.identity disk.old) (D.identity disk.new) (D.moments disk.old) (D.moments disk.new) }
@@ -152,7 +150,7 @@ fn judge_at<D: Disk>(
 ///
 /// # Errors
 ///
-/// - `Journal`: it is refused.
+/// - `Refused`: it is.
 /// - `Memory`: there is none for one block more.
 fn judge_entry(
     geometry: &Geometry,
@@ -162,7 +160,7 @@ fn judge_entry(
     number: u64,
     block: &mut [u8],
     newest: &mut NewestEntries,
-) -> Result<u64, ReplayFault>
+) -> Result<u64, CallFault<JournalFault>>
     requires geometry { IsGeometry geometry.now (2 ^ 48) }
     requires maker { maker.now.size ≡ geometry.now.shape.tag_size }
     requires section { length section.now ≡ 512 * section_sectors geometry.now.shape }
@@ -172,9 +170,9 @@ fn judge_entry(
     ensures added { IfOk result (AddsInSection geometry.now number (place.section, place.entry) section.now
         newest.old newest.new) }
 
-    ensures refused { result ≢ Err ReplayFault.Memory → refusal_in result
+    ensures refused { result ≢ Err CallFault.Memory → refusal_in result
         ≡ fault_in_section maker.now geometry.now (place.section, place.entry) section.now }
-    ensures disk { result ≢ Err ReplayFault.Disk }
+    ensures disk { result ≢ Err CallFault.Disk }
 {
     let Some(view) = read_in_section(geometry, section, place.entry, block) else {
         return Ok(0);

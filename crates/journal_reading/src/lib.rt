@@ -8,7 +8,6 @@
 
 mod cells;
 mod entries;
-mod faults;
 mod grid;
 mod judging;
 mod newest;
@@ -17,8 +16,8 @@ mod reading;
 mod used;
 
 pub use entries::read_entry;
-pub use faults::{JournalFault, ReplayFault};
-pub use grid::{GridRoom, JOURNAL_AT, read_grid};
+pub use grid::{GridRoom, read_grid};
+pub use image_refusal::{CallFault, JournalFault};
 pub use newest::NewestEntries;
 pub use places::{entry_count, entry_place};
 pub use reading::{JudgedJournal, judge_journal, read_journal};

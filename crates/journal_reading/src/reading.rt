@@ -5,15 +5,17 @@ ghost use Rattle.disk_model.specs.Disk.{last_image};
 ghost use Rattle.disk_model.specs.Identity.{IsBound};
 ghost use Rattle.disk_model.specs.Moments.{HasNow};
 ghost use Rattle.image_model.specs.Geometry.{IsGeometry, journal_sectors};
-ghost use Rattle.journal_reading.specs.Faults.{HasReplayCause, TellsFault};
+ghost use Rattle.image_refusal.specs.Calls.{HasCallCause};
+ghost use Rattle.journal_reading.specs.Faults.{TellsFault};
 ghost use Rattle.journal_reading.specs.Journal.{FitsJournal, HasJournal, IsJudgedOn};
 
-use crate::grid::{GridRoom, JOURNAL_AT, read_grid};
+use crate::grid::{GridRoom, read_grid};
 use crate::judging::judge_planned;
 use crate::newest::NewestEntries;
-use crate::{JournalFault, ReplayFault};
 use commit_id::{Grid, Plan, scan};
 use hmac_tag::TagMaker;
+use image_model::SUPERBLOCK_SECTORS;
+use image_refusal::{CallFault, JournalFault};
 use layout::Geometry;
 use sector_disk::{Disk, Failed};
 use std::alloc::Global;
@@ -53,7 +55,7 @@ pub fn read_journal<D: Disk>(
     ensures identity { D.identity disk.new ≡ D.identity disk.old }
     ensures kept { D.moments disk.new ≡ D.moments disk.old }
 {
-    disk.read_run(JOURNAL_AT, bytes)
+    disk.read_run(SUPERBLOCK_SECTORS, bytes)
 }
 
 /// Judges the journal of an image with this geometry. Nothing is written.
@@ -70,13 +72,13 @@ pub fn read_journal<D: Disk>(
 ///
 /// - `Memory`: there is none for these.
 /// - `Disk`: the disk failed at a read.
-/// - `Journal`: it is refused, by its scan or for the first entry in the order of the replay.
+/// - `Refused`: it is, by its scan or for the first entry in the order of the replay.
 pub fn judge_journal<D: Disk>(
     alloc: Global,
     disk: &mut D,
     geometry: &Geometry,
     maker: &TagMaker,
-) -> Result<JudgedJournal, ReplayFault>
+) -> Result<JudgedJournal, CallFault<JournalFault>>
     requires bound { IsBound (D.identity disk.old).name }
     requires geometry { IsGeometry geometry.now (D.identity disk.old).sectors }
     requires maker { maker.now.size ≡ geometry.now.shape.tag_size }
@@ -86,7 +88,7 @@ pub fn judge_journal<D: Disk>(
         (D.moments disk.old)) }
 
     ensures refused { TellsFault maker.now geometry.now result (D.moments disk.old) }
-    ensures cause { HasReplayCause (D.faults disk.old) (D.faults disk.new) result }
+    ensures cause { HasCallCause (D.faults disk.old) (D.faults disk.new) result }
 
     ensures identity { D.identity disk.new ≡ D.identity disk.old }
     ensures kept { D.moments disk.new ≡ D.moments disk.old }
@@ -95,6 +97,6 @@ pub fn judge_journal<D: Disk>(
     let grid = read_grid(disk, geometry, room)?;
     match scan(&grid) {
         Ok(plan) => judge_planned(alloc, disk, geometry, maker, grid, plan),
-        Err(fault) => Err(ReplayFault::Journal(JournalFault::Scan(fault))),
+        Err(fault) => Err(CallFault::Refused(JournalFault::Scan(fault))),
     }
 }

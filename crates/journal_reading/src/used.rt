@@ -6,18 +6,8 @@ ghost use Rattle.journal_reading.specs.Used.{has_used, has_used_outside, is_used
 
 use byteorder::{ByteOrder, LittleEndian};
 use commit_id::Shape;
-use image_model::META_SECTORS;
+use image_model::{HIGH_HALF, META_SECTORS, UNUSED};
 use journal_section::is_zero;
-
-/// The byte of an entry where the higher half of its sector's number begins.
-///
-/// Source: Linux, `drivers/md/dm-integrity.c`, `struct journal_entry`.
-const HIGH_HALF: usize = 4;
-
-/// The higher half of the sector's number in an unused entry.
-///
-/// Source: Linux, `drivers/md/dm-integrity.c`, `journal_entry_set_unused`.
-const UNUSED: u32 = 0xffff_ffff;
 
 /// Whether a used entry stands in sector `k` of a journal, by its bytes. Of a zero sector among the first `bitmap` no
 /// entry counts.

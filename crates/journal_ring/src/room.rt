@@ -43,17 +43,11 @@ impl RingRoom {
         ensures { IfOk result (λ room. room ≡ geometry) }
     {
         let _ = geometry.blocks();
-        let Ok(counts) = Vec::from_elem(alloc, 0u64, geometry.sections() as usize) else {
-            return Err(Memory);
-        };
+        let counts = Vec::from_elem(alloc, 0u64, geometry.sections() as usize)?;
         let shape = geometry.shape();
         let runs = shape.entries as usize + 1;
-        let Ok(before) = Vec::with_capacity(alloc, 2) else {
-            return Err(Memory);
-        };
-        let Ok(behind) = Vec::with_capacity(alloc, runs) else {
-            return Err(Memory);
-        };
+        let before = Vec::with_capacity(alloc, 2)?;
+        let behind = Vec::with_capacity(alloc, runs)?;
         Ok(RingRoom {
             geometry,
             counts,

@@ -4,9 +4,10 @@ ghost use Rattle.commit_id.specs.Shape.{as_shape, IsShape};
 ghost use Rattle.image_model.specs.Section.{entry_from};
 ghost use Rattle.journal_section.specs.Entries.{BearsNumber, HoldsEntries, IsWithin};
 
-use crate::places::{HIGH_HALF, entry_from, put};
+use crate::places::{entry_from, put};
 use crate::sealing::seal;
 use commit_id::Shape;
+use image_model::HIGH_HALF;
 
 /// Makes section `i` empty of commit number `number`: each entry is unused, and each byte that nothing
 /// names is zero.

@@ -9,16 +9,11 @@ ghost use Rattle.journal_section.specs.View.{view_of};
 ghost use Rattle.journal_section.specs.Fields.{HasFields};
 
 use crate::blocks::put_fronts;
-use crate::places::{HIGH_HALF, WORD, entry_from, put, put_number};
+use crate::places::{WORD, entry_from, put, put_number};
 use byteorder::{ByteOrder, LittleEndian};
 use commit_id::Shape;
 use hmac_tag::Tag;
-use image_model::{ID_FROM, SECTOR_SIZE};
-
-/// The higher half of the sector's number in an unused entry.
-///
-/// Source: Linux, `drivers/md/dm-integrity.c`, `journal_entry_set_unused`.
-const UNUSED: u32 = 0xffff_ffff;
+use image_model::{HIGH_HALF, ID_FROM, SECTOR_SIZE, UNUSED};
 
 /// What an entry tells beside the bytes of its block.
 #[derive(Clone, Copy, Debug)]

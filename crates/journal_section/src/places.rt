@@ -15,11 +15,6 @@ use image_model::{META_SECTORS, SECTOR_SIZE};
 /// Source: Linux, `drivers/md/dm-integrity.c`, `struct journal_entry`.
 pub(crate) const WORD: usize = 8;
 
-/// The byte of an entry where the higher half of its sector's number begins.
-///
-/// Source: Linux, `drivers/md/dm-integrity.c`, `struct journal_entry`.
-pub(crate) const HIGH_HALF: usize = 4;
-
 /// The byte of the metadata where entry `n` begins.
 ///
 /// Source: Linux, `drivers/md/dm-integrity.c`, `access_journal_entry`.

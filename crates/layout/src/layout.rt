@@ -9,13 +9,9 @@ ghost use Rattle.layout.specs.Layout.{as_geometry, FitsADisk, IsLayout, IsWithin
 use crate::regions::bitmap_sectors_for;
 use commit_id::Shape;
 use image_model::{
-    DIRTY_BITMAP, FIXED_PADDING, GeomFault, MOST_JOURNAL_SECTORS, MOST_SECTORS, Super,
+    DIRTY_BITMAP, FIXED_PADDING, GeomFault, MOST_JOURNAL_SECTORS, MOST_SECTORS, SECTOR_SIZE,
+    SUPERBLOCK_SECTORS, Super,
 };
-
-/// How many sectors the superblock takes.
-///
-/// Source: Linux, `drivers/md/dm-integrity.c`, `SB_SECTORS`.
-const SUPERBLOCK_SECTORS: u64 = 8;
 
 /// What the tags of an area take a multiple of under `FIXED_PADDING`, in bytes.
 ///
@@ -198,7 +194,8 @@ impl Layout {
         let sector = block * self.shape.spb;
         let byte = sector % self.interleave / self.shape.spb * self.shape.tag;
         let area = self.area_at(sector / self.interleave);
-        (area + byte / 512, byte % 512)
+        let sector_size = SECTOR_SIZE as u64;
+        (area + byte / sector_size, byte % sector_size)
     }
 
     /// The most sectors, a multiple of 8, that have their data on a disk of so many: those of whole
@@ -224,7 +221,7 @@ fn tag_run(fields: Super) -> u64
     ensures { result ≡ tag_run_of fields }
 {
     let blocks = 1 << (fields.log2_interleave - fields.log2_spb);
-    (blocks * fields.tag_size as u64).next_multiple_of(padding(fields.flags)) / 512
+    (blocks * fields.tag_size as u64).next_multiple_of(padding(fields.flags)) / SECTOR_SIZE as u64
 }
 
 /// What the tags of an area take a multiple of under these flags, in bytes.

@@ -3,10 +3,7 @@ ghost use Rattle.std.specs.Prelude.{◌≡◌, ◌/◌, ◌^◌, ◌≤◌, ℕ}
 ghost use Rattle.std.specs.Int.{IsInRange};
 ghost use Rattle.image_model.specs.Geometry.{bitmap_sectors_for, regions_for};
 
-/// How many regions have their bits in a group of eight sectors.
-///
-/// Source: Linux, `drivers/md/dm-integrity.c`, `BITMAP_BLOCK_SIZE`.
-const BITS_OF_A_GROUP: u64 = 32768;
+use image_model::GROUP_BITS;
 
 /// The region of a block, where a region has 2^`log2_region` blocks.
 pub(crate) fn region_of(block: u64, log2_region: u8) -> u64
@@ -30,7 +27,7 @@ pub(crate) fn bitmap_sectors_for(blocks: u64, log2_region: u8) -> u64
 
     ensures { result ≡ bitmap_sectors_for blocks log2_region }
 {
-    8 * regions_for(blocks, log2_region).div_ceil(BITS_OF_A_GROUP)
+    8 * regions_for(blocks, log2_region).div_ceil(GROUP_BITS)
 }
 
 /// The least log2 of the blocks of a region, not below `log2_region`, with which the bitmap takes no

@@ -1,5 +1,5 @@
 -- A read whose first blocks stand at the front of the buffer.
-use Rattle.std.proofs.Common.{◌≡◌, ℕ, ◌+◌, ◌*◌, List, ◌++◌, take, drop, Result, Ok, Err, IfOk, refl, sym, ◌∙◌, ap}
+use Rattle.std.proofs.Common.{◌≡◌, ℕ, ◌+◌, ◌*◌, List, ◌++◌, take, drop, Result, Ok, Err, IfOk, OnOk, refl, sym, ◌∙◌, ap}
 use Rattle.std.proofs.lemmas.List.{take-append-drop}
 use Rattle.disk_model.specs.Disk.{Image}
 use Rattle.device_model.specs.History.{History, cells_now}
@@ -15,6 +15,10 @@ use Rattle.mirror_calls.specs.Leg.{HasBlocks, LegOn}
 use Rattle.mirror_calls.specs.State.{HasDone, format_of}
 use Rattle.mirror_calls.proofs.LoopLemmas.{LegsNow, Are}
 use Rattle.mirror_calls.proofs.PassLemmas.{KeepsLegs, HasDone-passed}
+
+pub on_ok_each : {T E P Q : Type 0} (result : Result T E) → (P → Q) → OnOk result P → OnOk result Q
+on_ok_each (Ok done) follows holds = follows holds
+on_ok_each (Err fault) follows holds = tt
 
 -- The front of a buffer and what was read behind it are the whole.
 joined-whole : (from : ℕ) (buffer : List ℕ) (reply : MirrorReply) → KeepsFront from buffer reply

@@ -1,5 +1,6 @@
 -- What the calls of a mirror tell of each mirror that its legs are, by what each leg is before and behind a call.
 use Rattle.std.specs.Prelude.{◌≡◌, ℕ, ◌+◌, ◌^◌, ◌<◌, ◌≤◌, Bool, false, true, List, length, Option, Result, Err, IfErr, IfOk, IfSome, OnOk}
+use base.Fml.{GName}
 use Rattle.disk_model.specs.Disk.{Content, Image}
 use Rattle.device_model.specs.History.{History}
 use Rattle.device_model.specs.Submission.{blocks_in}
@@ -27,11 +28,13 @@ pub record Works {A B : Type 0} (a_ready : A → Type 0) (a_blocks a_size : A �
   pub ready : IsReady a_ready a_blocks a_size b_ready b_blocks b_size broken a b
   pub whole : broken ≡ false
 
--- So they are, and the first leg has the blocks that it had.
-pub record StaysReady {A B : Type 0} (a_ready : A → Type 0) (a_blocks a_size : A → ℕ) (b_ready : B → Type 0)
-    (b_blocks b_size : B → ℕ) (a_old : A) (broken : Bool) (a : A) (b : B) : Type 0 where
+-- So they are, and each has the blocks that it had, on the same disk.
+pub record StaysReady {A B : Type 0} (a_ready : A → Type 0) (a_blocks a_size : A → ℕ) (a_name : A → GName)
+    (b_ready : B → Type 0) (b_blocks b_size : B → ℕ) (b_name : B → GName) (a_old : A) (b_old : B) (broken : Bool)
+    (a : A) (b : B) : Type 0 where
   pub ready : IsReady a_ready a_blocks a_size b_ready b_blocks b_size broken a b
-  pub same : KeepsBlocks a_blocks a_size a_old a
+  pub same : KeepsBlocks a_blocks a_size a_name a_old a
+  pub same_second : KeepsBlocks b_blocks b_size b_name b_old b
 
 -- Each leg may be asked so many requests more,
 pub record MayAsk {A B : Type 0} (a_asked : A → ℕ) (b_asked : B → ℕ) (more : ℕ) (a : A) (b : B) : Type 0 where
@@ -59,6 +62,11 @@ pub record TurnsBy {T : Type 0} (broken : Bool) (result : Result T MirrorFault) 
   pub whole : OnOk result (broken ≡ false)
   pub err : IfErr result IsOfDisk
   pub breaks : IfErr result (λ fault. broken ≡ true)
+
+-- It is whole behind a call that did its work, and broken behind one that a disk ended.
+pub record BreaksBy {T : Type 0} (broken : Bool) (result : Result T MirrorFault) : Type 0 where
+  pub whole : OnOk result (broken ≡ false)
+  pub breaks : IfErr result (λ fault. IsOfDisk fault → broken ≡ true)
 
 -- Neither a mirror that is broken nor the want of memory changes anything.
 pub record StaysUndone {T M : Type 0} (result : Result T MirrorFault) (old new : M) : Type 0 where

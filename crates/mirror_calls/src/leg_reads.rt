@@ -3,7 +3,7 @@ ghost use Rattle.std.specs.Prelude.{◌≡◌, ◌+◌, ◌-◌, ◌*◌, ◌^�
 ghost use Rattle.disk_model.specs.Causes.{HasCause};
 ghost use Rattle.device_model.specs.Request as Asks;
 ghost use Rattle.mirror_calls.specs.Given.{ReadsOne, block_buffer};
-ghost use Rattle.mirror_calls.specs.Leg.{KeepsBlocks, LeavesLeg, PassesLeg, RunsLeg};
+ghost use Rattle.mirror_calls.specs.Leg.{KeepsBlocks, LeavesLeg, PassesLeg, RunsLeg, TakesBlocks};
 
 use crate::{BlocksRead, Leg, TagPair};
 use request_slots::Bytes;
@@ -35,7 +35,7 @@ pub(crate) fn read_one<L: Leg>(leg: &mut L, block: u64, buffer: Bytes) -> Result
 
     ensures cause { HasCause (L.faults leg.old) (L.faults leg.new) result }
 
-    ensures same { KeepsBlocks L.blocks L.block_size leg.old leg.new }
+    ensures same { KeepsBlocks L.blocks L.block_size L.name leg.old leg.new }
 
     ensures moments { LeavesLeg L.stands_for L.may_be_left L.moments (Asks.Read block 1) leg.old leg.new }
 {
@@ -66,9 +66,7 @@ pub(crate) fn pass<L: Leg>(
 ) -> Result<Passed, Failed>
     requires ready { L.ready leg.old }
     requires few { L.submitted leg.old + 1 < 2 ^ 64 }
-    requires some { 1 ≤ count }
-    requires there { first + count ≤ L.blocks leg.old }
-    requires buffer { length buffer ≡ count * L.block_size leg.old }
+    requires blocks { TakesBlocks L.blocks L.block_size first count buffer leg.old }
 
     ensures read { IfOk result (λ pass. PassesLeg L.stands_for (L.block_size leg.old) first pass.passed pass.buffer
         leg.old) }
@@ -79,7 +77,7 @@ pub(crate) fn pass<L: Leg>(
 
     ensures cause { HasCause (L.faults leg.old) (L.faults leg.new) result }
 
-    ensures same { KeepsBlocks L.blocks L.block_size leg.old leg.new }
+    ensures same { KeepsBlocks L.blocks L.block_size L.name leg.old leg.new }
 
     ensures moments { LeavesLeg L.stands_for L.may_be_left L.moments (Asks.Read first count) leg.old leg.new }
 {

@@ -1,7 +1,6 @@
 -- A device as a leg: what it stands for behind a request that is run whole, and what is left meanwhile.
-use Rattle.std.proofs.Common.{◌≡◌, ℕ, suc, ◌^◌, ◌<◌, ◌≤◌, Bool, List, Option, take, sym, ◌∙◌, ap, subst, length}
+use Rattle.std.proofs.Common.{◌≡◌, ℕ, suc, Bool, List, Option, take, sym, ◌∙◌, ap, subst, length}
 use Rattle.disk_model.specs.Disk.{Content, Image}
-use Rattle.disk_model.specs.Identity.{DiskIdentity}
 use Rattle.disk_model.specs.Moments.{EachMoment}
 use Rattle.disk_model.proofs.MomentsLemmas.{EachMoment-weaker}
 use Rattle.device_model.specs.History.{Change, History, Tagger, with_changes}
@@ -14,20 +13,18 @@ use Rattle.place_model.specs.Kind.{MayBeLeftIn}
 use Rattle.place_model.specs.Opened.{blocks_of}
 use Rattle.mirror_model.specs.Mirror.{request_changes}
 use Rattle.request_slots.specs.declared.reply.Reply.{Reply}
-use Rattle.device_parts.specs.declared.condition.Condition.{Condition}
 use Rattle.device_parts.specs.Device.{Standing}
 use Rattle.device.specs.declared.mode.DeviceParts.{DeviceParts}
-use Rattle.device.specs.Calls.{Works}
-use Rattle.device.specs.Device.{kind_by, kind_of, mode_of}
+use Rattle.device.specs.Device.{kind_by, kind_of}
 use Rattle.device.specs.Run as Run
 use Rattle.device.specs.Run.{standing_behind}
 use Rattle.mirror_calls.specs.Leg.{IsLeftWithin, LegOn, write_of}
 use Rattle.mirror_core.specs.Since.{IsSince}
-use Rattle.mirror_core.specs.Stands.{IsLeg, MayBeLeftOf, StandsFor}
+use Rattle.mirror_core.specs.Stands.{MayBeLeftOf, StandsFor}
 use Rattle.mirror_core.specs.Untold.{AreLike}
 use Rattle.mirror_core.specs.Whole.{HasRunWhole, LeavesWhole, changes_on, request_on, whole_of}
 use Rattle.mirror_core.proofs.SinceLemmas.{IsSince-left, IsSince-more}
-use Rattle.mirror_core.proofs.StandsLemmas.{entry_blocks, flight, in_journal, none_in_flight}
+use Rattle.mirror_core.proofs.StandsLemmas.{entry_blocks, flight}
 use Rattle.mirror_core.proofs.UntoldLemmas.{AreLike-take, request_changes-like}
 
 -- What may be left by its history may be left by what the mirror was told.
@@ -133,26 +130,3 @@ module _ (parts : DeviceParts) (a : List Content) (on : LegOn) (told : History) 
   write_leaves b leaves =
       subst (λ (size : ℕ). EachMoment a b (IsLeftWithin (MayBeLeftOf on) told (request_changes n (write_of size first count bytes fua)))) size_is
       (stands_leaves parts a on told stands sub n b leaves)
-
--- A leg is one again.
-pub leg_behind : {D : Type 0} (identity : D → DiskIdentity) (moments : D → List Content) (before after : Condition) (old new : DeviceParts) (first last : D)
-    (sub : Submission) (reply : Reply) (leg : IsLeg identity moments before old first) → HasRunWhole leg.stands.w sub reply new (moments last)
-    → Works identity moments after new last → IsLeg identity moments after new last
-leg_behind identity moments before after old new first last sub reply leg run works =
-    let w = leg.stands.w in
-    let later = standing_behind w (whole_of sub w) in
-    let was = flight w old (moments first) leg.stands.rests in
-    let now = flight later new (moments last) run.rests in
-    let blocks : old.common.slots.blocks ≡ new.common.slots.blocks = was.blocks ∙ sym now.blocks in
-    let size : old.common.slots.block_size ≡ new.common.slots.block_size = was.block_size ∙ sym now.block_size in
-    record {
-      works = works;
-      mode = ap mode_of (in_journal later new (moments last) run.rests).is;
-      none = none_in_flight later.format later.state new.common.slots run.rests.rests now;
-      few = subst (λ (n : ℕ). n ≤ 2 ^ 48) blocks leg.few;
-      some = subst (λ (n : ℕ). 1 ≤ n) size leg.some;
-      small = subst (λ (n : ℕ). n < 2 ^ 16) size leg.small;
-      on = leg.on;
-      told = with_changes (request_changes 0 (request_on sub w)) leg.told;
-      stands = stands_more old (moments first) leg.on leg.told leg.stands sub 0 reply new (moments last) run;
-    }

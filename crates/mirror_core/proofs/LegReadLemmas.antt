@@ -27,26 +27,8 @@ use Rattle.mirror_core.proofs.ReadLemmas.{AreSized, HasBlocks-same, IsFaulty, al
 use Rattle.mirror_core.proofs.SinceLemmas.{IsSince-cells}
 use Rattle.mirror_core.proofs.StandsLemmas.{sized}
 
--- Some blocks have some bytes.
-some_product : (count size : ℕ) → 1 ≤ count → 1 ≤ size → 0 ≡ count * size → ⊥
-some_product zero size some bytes none = omega (arith, some)
-some_product (suc n) size some bytes none =
-    let more : suc n * size ≡ size + n * size = omega arith in
-    omega (arith, more, bytes, none)
-
-product : (k n size : ℕ) → k < n → k * size ≤ n * size
-product k zero size less = absurd (omega (arith, less))
-product zero (suc n) size less =
-    let none : 0 * size ≡ 0 = omega arith in
-    omega (arith, none)
-product (suc k) (suc n) size less =
-    let rest : k * size ≤ n * size = product k n size (omega (arith, less)) in
-    let one : suc k * size ≡ size + k * size = omega arith in
-    let more : suc n * size ≡ size + n * size = omega arith in
-    omega (arith, rest, one, more)
-
 module _ (parts : DeviceParts) (a : List Content) (on : LegOn) (told : History) (stands : StandsFor parts a on told) (first count : ℕ) (buffer : List ℕ)
-    (some : 1 ≤ count) (bytes : 1 ≤ parts.common.slots.block_size) (there : first + count ≤ parts.common.slots.blocks)
+    (there : first + count ≤ parts.common.slots.blocks)
     (long : length buffer ≡ count * parts.common.slots.block_size) where
   abbrev w : Standing
   w = stands.w
@@ -106,9 +88,6 @@ module _ (parts : DeviceParts) (a : List Content) (on : LegOn) (told : History) 
       fault = tt;
     }
 
-    all_as_long : (out : List ℕ) → reply ≡ Replies.Read out → length out ≡ length buffer
-    all_as_long out is = all_long tag cells size first count out sized_here (read_all out is) ∙ sym long
-
     -- or what stands before a fault.
     module _ (block : ℕ) (stored computed out : List ℕ) (is : reply ≡ Replies.TagFault block stored computed out) where
       fault : read_reply tag cells first count ≡ Model.TagFault block stored computed
@@ -137,35 +116,6 @@ module _ (parts : DeviceParts) (a : List Content) (on : LegOn) (told : History) 
             ∙ ap (λ (x : List ℕ). Model.TagFault block tags.stored x) (sym computed_is);
       }
 
-      fault_among : (first ≤ block) × (block < first + count)
-      fault_among = (at_fault.from, at_fault.below)
-
-      fault_as_long : length out ≡ length buffer
-      fault_as_long =
-          let front : length good ≡ (block - first) * size = at_fault.long in
-          let few : block - first < count = omega (arith, at_fault.from, at_fault.below) in
-          let fits : length good ≤ length buffer = omega (arith, front, long, product (block - first) count size few) in
-          ap (λ (l : List ℕ). length l) out_is ∙ length-append good (drop (length good) buffer)
-          ∙ ap (λ (n : ℕ). length good + n) (length-drop (length good) buffer) ∙ omega (arith, fits)
-
-    -- It is no reply of another request.
-    not_written : (out : List ℕ) → reply ≡ Replies.Written out → ⊥
-    not_written out is =
-        some_product count size some bytes (all_long tag cells size first count [] sized_here (sym reply_is ∙ ap as_reply is))
-
-    not_flushed : reply ≡ Replies.Flushed → ⊥
-    not_flushed is =
-        some_product count size some bytes (all_long tag cells size first count [] sized_here (sym reply_is ∙ ap as_reply is))
-
-    pub of_read : IsOfRead reply
-    of_read = by reply refl
-      where
-        by : (r : Reply) → reply ≡ r → IsOfRead r
-        by (Replies.Read out) is = tt
-        by (Replies.TagFault block stored computed out) is = tt
-        by (Replies.Written out) is = not_written out is
-        by Replies.Flushed is = not_flushed is
-
     pub read_gives : (read : BlocksRead) → IsReadAs reply read → GivesBlocks on.format.tag (cells_now on.format.tag told) size first count read
     read_gives read given = by reply refl given
       where
@@ -176,57 +126,3 @@ module _ (parts : DeviceParts) (a : List Content) (on : LegOn) (told : History) 
             (gives_fault block stored computed out is (record { stored = stored; computed = computed }) refl refl)
         by (Replies.Written out) is given = absurd given
         by Replies.Flushed is given = absurd given
-
-    pub read_among : (read : BlocksRead) → IsReadAs reply read → IsAmong first count read
-    read_among read given = by reply refl given
-      where
-        by : (r : Reply) → reply ≡ r → IsReadAs r read → IsAmong first count read
-        by (Replies.Read out) is given = subst (λ (x : BlocksRead). IsAmong first count x) (sym given) tt
-        by (Replies.TagFault block stored computed out) is given =
-            subst (λ (x : BlocksRead). IsAmong first count x) (sym given) (fault_among block stored computed out is)
-        by (Replies.Written out) is given = absurd given
-        by Replies.Flushed is given = absurd given
-
-    pub read_as_long : (read : BlocksRead) → IsReadAs reply read → length (buffer_in read) ≡ length buffer
-    read_as_long read given = by reply refl given
-      where
-        by : (r : Reply) → reply ≡ r → IsReadAs r read → length (buffer_in read) ≡ length buffer
-        by (Replies.Read out) is given = ap (λ (x : BlocksRead). length (buffer_in x)) given ∙ all_as_long out is
-        by (Replies.TagFault block stored computed out) is given =
-            ap (λ (x : BlocksRead). length (buffer_in x)) given ∙ fault_as_long block stored computed out is
-        by (Replies.Written out) is given = absurd given
-        by Replies.Flushed is given = absurd given
-
-  -- ---- a write
-
-  module _ (fua : Bool) (reply : Reply) (new : DeviceParts) (b : List Content) (run : HasRunWhole w (Submission.Write first count buffer fua) reply new b) where
-    -- It gives its bytes back.
-    pub bytes_back : (out : List ℕ) → reply ≡ Replies.Written out → out ≡ buffer
-    bytes_back out is = ap returned_in (sym is) ∙ run.returned
-
-    no_bytes : [] ≡ buffer → ⊥
-    no_bytes same = some_product count size some bytes (ap (λ (l : List ℕ). length l) same ∙ long)
-
-    not_read : (out : List ℕ) → reply ≡ Replies.Read out → ⊥
-    not_read out is =
-        let none : out ≡ [] = ap bytes_of (ap as_reply (sym is) ∙ run.reply_) in
-        let all : out ≡ buffer = ap returned_in (sym is) ∙ run.returned in
-        no_bytes (sym none ∙ all)
-
-    not_fault : (block : ℕ) (stored computed out : List ℕ) → reply ≡ Replies.TagFault block stored computed out → ⊥
-    not_fault block stored computed out is = other (ap as_reply (sym is) ∙ run.reply_)
-      where
-        other : Model.TagFault block stored computed ≡ Model.Bytes [] → ⊥
-        other same = cc
-
-    not_flush : reply ≡ Replies.Flushed → ⊥
-    not_flush is = no_bytes (ap returned_in (sym is) ∙ run.returned)
-
-    pub of_write : IsOfWrite reply
-    of_write = by reply refl
-      where
-        by : (r : Reply) → reply ≡ r → IsOfWrite r
-        by (Replies.Read out) is = not_read out is
-        by (Replies.TagFault block stored computed out) is = not_fault block stored computed out is
-        by (Replies.Written out) is = tt
-        by Replies.Flushed is = not_flush is

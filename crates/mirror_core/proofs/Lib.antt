@@ -7,6 +7,7 @@ pub mod StandsLemmas
 pub mod WholeLemmas
 pub mod LegLemmas
 pub mod TakenLemmas
+pub mod AnsweredLemmas
 pub mod LegReadLemmas
 pub mod CloseLemmas
 pub mod OpenedLemmas

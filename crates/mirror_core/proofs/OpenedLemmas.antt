@@ -1,11 +1,10 @@
--- A device that has just been opened, or has all flushed, as a leg.
+-- A device in journal mode is a leg, and what one stands for that has just been opened, or has all flushed.
 use Rattle.std.proofs.Common.{◌≡◌, ℕ, ◌*◌, ◌^◌, ◌<◌, ◌≤◌, Bool, true, false, if◌then◌else◌, List, length, refl, sym, ap, subst, arith}
 use Rattle.std.proofs.lemmas.Option.{none-some}
 use Rattle.disk_model.specs.Disk.{Content, Image, last_image}
 use Rattle.disk_model.specs.Identity.{DiskIdentity}
 use Rattle.image_model.specs.Cells.{Cell}
 use Rattle.image_model.proofs.Regions.{blocks-low}
-use Rattle.device_model.specs.History.{cells_now, opened}
 use Rattle.device_model.specs.Mode as Modes
 use Rattle.device_model.specs.Progress.{DeviceState, opened_device}
 use Rattle.device_model.specs.ScriptLaws.{IsAtRest}
@@ -14,18 +13,20 @@ use Rattle.place_model.specs.Format.{DiskFormat, cells_on, format_on}
 use Rattle.place_model.specs.Opened.{awaiting_on, base_on, next_on, opened_on, set_bits_on}
 use Rattle.device_parts.specs.declared.condition.Condition.{Condition}
 use Rattle.device_parts.specs.declared.condition.Condition.TheVariants.{Working}
+use Rattle.device_parts.specs.declared.parts.Parts.{Parts}
 use Rattle.device_parts.specs.Device as Devices
-use Rattle.device_parts.specs.Device.{Standing, opened_standing}
+use Rattle.device_parts.specs.Device.{opened_standing}
 use Rattle.device.specs.declared.mode.DeviceParts.{DeviceParts}
 use Rattle.device.specs.declared.mode.Mode.{Mode}
+use Rattle.device.specs.declared.mode.Mode.TheVariants.{Bitmap, Direct, Journal, Recovery}
+use Rattle.request_slots.specs.Flight.{Flight}
 use Rattle.device.specs.Device.{IsReady, IsReadyIn, mode_of}
-use Rattle.mirror_calls.specs.Leg.{LegOn}
-use Rattle.mirror_core.specs.LegLaws.{OpenedLegLaw, RestedLegLaw, ToldLaw}
-use Rattle.mirror_core.specs.Stands.{RestsAs}
+use Rattle.device.proofs.TellingLemmas.{no_bitmap, no_direct, no_recovery}
+use Rattle.mirror_core.specs.LegLaws.{OpenedLaw, OpenedLegLaw, RestedLaw, RestingLegLaw, ToldLaw}
 use Rattle.mirror_core.proofs.CloseLemmas.{told_now}
 use Rattle.mirror_core.proofs.LegLemmas.{leg_blocks}
 use Rattle.mirror_core.proofs.SinceLemmas.{IsSince-begin}
-use Rattle.mirror_core.proofs.StandsLemmas.{flight, idle, in_journal, none_in_flight}
+use Rattle.mirror_core.proofs.StandsLemmas.{flight, idle}
 
 pub told_law : ToldLaw
 told_law parts moments on told stands = record {
@@ -33,54 +34,64 @@ told_law parts moments on told stands = record {
   left = told_now parts moments on told stands;
 }
 
--- ---- a device at rest
+-- ---- a leg
 
--- What is kept of a device is of its disk.
-kept_ready : (w : Standing) (condition : Condition) (parts : DeviceParts) (disk : DiskIdentity) (a : List Content) → RestsAs w parts a → condition ≡ Working
-    → IsReady condition parts disk a → Devices.IsReady parts.common disk a
-kept_ready w condition parts disk a rests works ready =
-    let own = in_journal w parts a rests in
-    let named = subst (λ (m : Mode). IsReadyIn m condition parts.common disk a) own.is ready in
-    named.parts_ works
+-- What is kept of a device in journal mode is of its disk.
+kept_ready : (mode : Mode) (condition : Condition) (common : Parts) (disk : DiskIdentity) (a : List Content) → mode_of mode ≡ Modes.Journal
+    → condition ≡ Working → IsReadyIn mode condition common disk a → Devices.IsReady common disk a
+kept_ready (Journal state) condition common disk a named works ready = ready.parts_ works
+kept_ready (Direct recalculation) condition common disk a named works ready = absurd (no_direct named)
+kept_ready (Bitmap regions) condition common disk a named works ready = absurd (no_bitmap named)
+kept_ready Recovery condition common disk a named works ready = absurd (no_recovery named)
 
-pub rested_law : {D : Type 0} (identity : D → DiskIdentity) (moments : D → List Content) → RestedLegLaw identity moments
-rested_law {D} identity moments w condition parts disk works rests flushed =
-    let a = moments disk in
-    let ready = kept_ready w condition parts (identity disk) a rests works.is works.ready in
+at_least : (size spb : ℕ) → size ≡ 512 * spb → 1 ≤ spb → 1 ≤ size
+at_least size spb is least = omega (arith, is, least)
+
+at_most : (size spb : ℕ) → size ≡ 512 * spb → spb ≤ 8 → size < 2 ^ 16
+at_most size spb is most = omega (arith, is, most)
+
+pub resting_law : {D : Type 0} (identity : D → DiskIdentity) (moments : D → List Content) → RestingLegLaw identity moments
+resting_law {D} identity moments condition parts disk works named none =
+    let ready = kept_ready parts.mode condition parts.common (identity disk) (moments disk) named works.is works.ready in
     let g = ready.store.geometry in
-    let own = flight w parts a rests in
     let few : parts.common.tags.geometry.blocks ≤ 2 ^ 48 = blocks-low parts.common.tags.geometry (identity disk).sectors g in
     let size : parts.common.slots.block_size ≡ 512 * parts.common.tags.geometry.shape.spb = ready.block_size in
     let least : 1 ≤ parts.common.tags.geometry.shape.spb = g.spb.0 in
     let most : parts.common.tags.geometry.shape.spb ≤ 8 = g.spb.1 in
-    let on : LegOn = record { format = w.format.blocks; key = w.on.key; sectors = w.on.sectors; entry = w.entry } in
     record {
       works = works;
-      mode = ap mode_of (in_journal w parts a rests).is;
-      none = none_in_flight w.format w.state parts.common.slots rests.rests own;
+      mode = named;
+      none = none;
       few = subst (λ (n : ℕ). n ≤ 2 ^ 48) (sym ready.blocks) few;
       some = at_least parts.common.slots.block_size parts.common.tags.geometry.shape.spb size least;
       small = at_most parts.common.slots.block_size parts.common.tags.geometry.shape.spb size most;
-      on = on;
-      told = opened (cells_now w.format.blocks.tag w.state.history);
-      stands = record {
-        w = w;
-        rests = rests;
-        format = refl;
-        key = refl;
-        sectors = refl;
-        entry = refl;
-        since = IsSince-begin w.format.blocks.tag w.state.history flushed (idle w parts a rests);
-        blocks = sym own.blocks;
-        size = sym own.block_size;
-      };
     }
-  where
-    at_least : (size spb : ℕ) → size ≡ 512 * spb → 1 ≤ spb → 1 ≤ size
-    at_least size spb is least = omega (arith, is, least)
 
-    at_most : (size spb : ℕ) → size ≡ 512 * spb → spb ≤ 8 → size < 2 ^ 16
-    at_most size spb is most = omega (arith, is, most)
+pub opened_leg_law : {D : Type 0} (identity : D → DiskIdentity) (moments : D → List Content) → OpenedLegLaw identity moments
+opened_leg_law {D} identity moments consent key condition parts first last same works has =
+    resting_law identity moments condition parts last (record {
+      ready =
+          subst (λ (c : Condition). IsReady c parts (identity last) (moments last)) (sym works)
+          (subst (λ (i : DiskIdentity). IsReady Working parts i (moments last)) (sym same) has.ready);
+      is = works;
+    }) has.asked_ (ap (λ (f : Flight). f.slots) has.requests)
+
+-- ---- what it stands for
+
+pub rested_law : RestedLaw
+rested_law w parts a rests flushed =
+    let own = flight w parts a rests in
+    record {
+      w = w;
+      rests = rests;
+      format = refl;
+      key = refl;
+      sectors = refl;
+      entry = refl;
+      since = IsSince-begin w.format.blocks.tag w.state.history flushed (idle w parts a rests);
+      blocks = sym own.blocks;
+      size = sym own.block_size;
+    }
 
 -- ---- a device that has just been opened
 
@@ -105,13 +116,8 @@ fresh_in d image =
     (fresh_opened (cells_on d image) 0 (λ region. false) (λ region. false))
     (fresh_opened (base_on Modes.Journal d image) (next_on Modes.Journal d image) (set_bits_on Modes.Journal d image) (awaiting_on Modes.Journal d image))
 
-pub opened_law : {D : Type 0} (identity : D → DiskIdentity) (moments : D → List Content) → OpenedLegLaw identity moments
-opened_law {D} identity moments consent key condition parts first last start made before after same works has =
-    let w = opened_standing Modes.Journal key (identity first).sectors (last_image start) (last_image made) in
-    let fresh : IsFresh w.state = fresh_in (format_on key (identity first).sectors (last_image start)) (last_image start) in
-    let device = has.device start before made after in
-    let ready : IsReady condition parts (identity last) (moments last) =
-    subst (λ (c : Condition). IsReady c parts (identity last) (moments last)) (sym works)
-    (subst (λ (i : DiskIdentity). IsReady Working parts i (moments last)) (sym same) has.ready) in
-    rested_law identity moments w condition parts last (record { ready = ready; is = works })
-    (record { device = device; mode = refl; rests = fresh.rests }) fresh.flushed
+pub opened_law : OpenedLaw
+opened_law consent key disk parts before after start made was now has =
+    let w = opened_standing Modes.Journal key disk.sectors (last_image start) (last_image made) in
+    let fresh : IsFresh w.state = fresh_in (format_on key disk.sectors (last_image start)) (last_image start) in
+    rested_law w parts after (record { device = has.device start was made now; mode = refl; rests = fresh.rests }) fresh.flushed

@@ -38,8 +38,8 @@ pub record StandsFor (parts : DeviceParts) (moments : List Content) (on : LegOn)
 abbrev pub MayBeLeftOf : LegOn → History → Image → Type 0
 MayBeLeftOf on h image = MayBeLeftIn Modes.Journal on.key on.sectors on.entry h image
 
--- It works in journal mode, with no request in flight, and is such a device. Of its blocks are as few, and they are as
--- long, as those of any device.
+-- It works in journal mode, with no request in flight. Of its blocks are as few, and they are as long, as those of any
+-- device.
 pub record IsLeg {D : Type 0} (identity : D → DiskIdentity) (moments : D → List Content) (condition : Condition)
     (parts : DeviceParts) (disk : D) : Type 0 where
   pub works : Works identity moments condition parts disk
@@ -48,6 +48,3 @@ pub record IsLeg {D : Type 0} (identity : D → DiskIdentity) (moments : D → L
   pub few : parts.common.slots.blocks ≤ 2 ^ 48
   pub some : 1 ≤ parts.common.slots.block_size
   pub small : parts.common.slots.block_size < 2 ^ 16
-  pub on : LegOn
-  pub told : History
-  pub stands : StandsFor parts (moments disk) on told

@@ -28,6 +28,8 @@ impl<'d, 'p, D: Disk> Leg for DeviceLeg<'d, 'p, D> {
 
     ghost submitted = { λ leg. leg.device.parts.common.slots.submitted };
 
+    ghost name = { λ leg. leg.device.disk.ghost_name };
+
     ghost faults = { λ leg. D.faults leg.device.disk.now };
 
     ghost moments = { λ leg. D.moments leg.device.disk.now };

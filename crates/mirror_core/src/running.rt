@@ -3,6 +3,7 @@ ghost use Rattle.std.specs.Prelude.{◌≡◌, ◌+◌, ◌<◌, ◌^◌, IfOk, 
 ghost use Rattle.disk_model.specs.Causes.{HasCause};
 ghost use Rattle.device.specs.Calls.{refusal_to};
 ghost use Rattle.request_slots.specs.InFlight.{as_submission};
+ghost use Rattle.mirror_core.specs.Answered.{IsReplyTo};
 ghost use Rattle.mirror_core.specs.Stands.{IsLeg};
 ghost use Rattle.mirror_core.specs.Whole.{LeavesOn, RunsOn};
 
@@ -26,6 +27,7 @@ pub(crate) fn run_whole<'d, 'p, D: Disk>(
 
     ensures ran { IfOk result (λ reply. RunsOn (as_submission request) reply device.old.parts device.new.parts
         (D.moments device.old.disk.now) (D.moments device.new.disk.now)) }
+    ensures answered { IfOk result (IsReplyTo request) }
     ensures leg { OnOk result (IsLeg D.identity D.moments device.new.condition device.new.parts device.new.disk.now) }
     ensures submitted { OnOk result (device.new.parts.common.slots.submitted
         ≡ device.old.parts.common.slots.submitted + 1) }

@@ -5,13 +5,14 @@ use Rattle.std.specs.Fmt.{digits}
 use Rattle.disk_model.specs.Disk.{Content, Image}
 use Rattle.image_model.specs.declared.super_fields.SuperFault.TheVariants.{Magic, Version}
 use Rattle.device_model.specs.Device.{DeviceKind}
-use Rattle.device_model.specs.Ending.{BySuperblock, RefusedImage}
+use Rattle.device_model.specs.Refusals.{BySuperblock}
 use Rattle.device_model.specs.History.{Flushed}
 use Rattle.device_model.specs.Mode.{Journal}
 use Rattle.device_model.specs.Progress.{opened_device}
 use Rattle.mirror_model.specs.Calls.{LevelCall, call_changes}
-use Rattle.command_model.specs.CommandRun.{IsLeftBy, IsUntouched}
-use Rattle.mirror_model.specs.Command.{MirrorKind, RefusedBefore, RefusedOpen, RefusedLegs, Mirrors, mirror_outset, mirror_format, opened_mirror, unequal_in, AreLegsLeft, IsMirrorLeftAfter}
+use Rattle.run_model.specs.CommandRun.{IsOfDevice, IsUntouched}
+use Rattle.run_model.specs.Ending.{Refused, ByImage}
+use Rattle.mirror_model.specs.Command.{MirrorKind, RefusedBefore, RefusedOpen, RefusedLegs, Mirrors, mirror_outset, mirror_format, opened_mirror, unequal_in, AreLegsLeft, IsMirrorAtExit}
 use Rattle.mirror_model.specs.Mirror.{MirrorChange, changes_on_first, changes_on_second}
 use Rattle.mirror_model.specs.Ending.{MirrorEnding, Ends, RefusedSecond, mirror_status, mirror_fault_text}
 
@@ -55,7 +56,7 @@ mirror_outset-second = refl
 
 -- and the first image before the second.
 mirror_outset-first : mirror_outset unequal image image (Some (BySuperblock (Version 9))) (Some (BySuperblock Magic))
-    ≡ RefusedBefore (RefusedImage (BySuperblock (Version 9)))
+    ≡ RefusedBefore (Refused (ByImage (BySuperblock (Version 9))))
 mirror_outset-first = refl
 
 -- ---- what is told
@@ -67,11 +68,11 @@ unequal_in-text = refl
 second-text : mirror_fault_text (RefusedSecond (BySuperblock Magic)) ≡ codes "fault second magic\n"
 second-text = refl
 
-first-text : mirror_fault_text (Ends (RefusedImage (BySuperblock Magic))) ≡ codes "fault image magic\n"
+first-text : mirror_fault_text (Ends (Refused (ByImage (BySuperblock Magic)))) ≡ codes "fault image magic\n"
 first-text = refl
 
 statuses : (mirror_status (unequal_in unequal image image) ≡ 3) × (mirror_status (RefusedSecond (BySuperblock Magic)) ≡ 3)
-    × (mirror_status (Ends (RefusedImage (BySuperblock Magic))) ≡ 3)
+    × (mirror_status (Ends (Refused (ByImage (BySuperblock Magic)))) ≡ 3)
 statuses = (refl, refl, refl)
 
 -- ---- the changes of each leg
@@ -85,18 +86,18 @@ changes-level = (refl, refl)
 
 -- So no such run leaves a disk as it was at the start.
 left-once_levelled : (start second_start later second_later : Content) (ending : MirrorEnding) (changes : List MirrorChange) → changes ≢ []
-    → IsMirrorLeftAfter (Mirrors equal image image) start second_start changes ending later second_later → AreLegsLeft equal image image changes later second_later
+    → IsMirrorAtExit (Mirrors equal image image) start second_start changes ending later second_later → AreLegsLeft equal image image changes later second_later
 left-once_levelled start second_start later second_later ending changes some (inl opening) = absurd (some opening.0)
 left-once_levelled start second_start later second_later ending changes some (inr left) = left
 
 -- By the refusal of the second image the first is open and keeps its cells, and the second is not written.
 left-second_refused : (start second_start later second_later : Content)
-    → IsMirrorLeftAfter (RefusedOpen unequal image (BySuperblock Magic)) start second_start [] (RefusedSecond (BySuperblock Magic)) later second_later
-    → IsLeftBy unequal.first image [] later × IsUntouched second_start second_later
+    → IsMirrorAtExit (RefusedOpen unequal image (BySuperblock Magic)) start second_start [] (RefusedSecond (BySuperblock Magic)) later second_later
+    → IsOfDevice unequal.first image [] later × IsUntouched second_start second_later
 left-second_refused start second_start later second_later left = left
 
 -- By unequal legs both are, and keep theirs.
 left-unequal : (start second_start later second_later : Content)
-    → IsMirrorLeftAfter (RefusedLegs unequal image image) start second_start [] (unequal_in unequal image image) later second_later
-    → IsLeftBy unequal.first image [] later × IsLeftBy unequal.second image [] second_later
+    → IsMirrorAtExit (RefusedLegs unequal image image) start second_start [] (unequal_in unequal image image) later second_later
+    → IsOfDevice unequal.first image [] later × IsOfDevice unequal.second image [] second_later
 left-unequal start second_start later second_later left = (left.on_first, left.on_second)

@@ -22,13 +22,9 @@ impl Buffers {
     /// - `Memory`: there is none for them.
     pub fn new(alloc: Global, block_size: usize) -> Result<Buffers, Memory> {
         let most = block_size.saturating_mul(MOST_BLOCKS as usize);
-        let Ok(mut free) = Vec::with_capacity(alloc, MOST_SLOTS) else {
-            return Err(Memory);
-        };
+        let mut free = Vec::with_capacity(alloc, MOST_SLOTS)?;
         for _slot in 0..MOST_SLOTS {
-            let Ok(buffer) = Vec::with_capacity(alloc, most) else {
-                return Err(Memory);
-            };
+            let buffer = Vec::with_capacity(alloc, most)?;
             if free.push(buffer).is_err() {
                 return Err(Memory);
             }

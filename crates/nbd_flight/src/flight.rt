@@ -30,9 +30,7 @@ impl Flight {
         ensures waiting { IfOk result (λ flight. flight.waiting.items ≡ []) }
         ensures eio { IfOk result (λ flight. flight.eio ≡ false) }
     {
-        let Ok(waiting) = Vec::with_capacity(alloc, MOST_SLOTS) else {
-            return Err(Memory);
-        };
+        let waiting = Vec::with_capacity(alloc, MOST_SLOTS)?;
         Ok(Flight {
             waiting,
             eio: false,

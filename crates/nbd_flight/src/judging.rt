@@ -2,18 +2,7 @@
 ghost use Rattle.std.specs.Prelude.{◌≡◌, ◌<◌};
 ghost use Rattle.nbd_flight.specs.Judging.{OnBlocks, asked_in, range_in};
 
-use nbd_wire::NbdRequest;
-
-/// The kinds of requests.
-///
-/// Source: the NBD protocol, `doc/proto.md`, "Request types".
-const READ: u16 = 0;
-
-const WRITE: u16 = 1;
-
-const DISCONNECT: u16 = 2;
-
-const FLUSH: u16 = 3;
+use nbd_wire::{DISCONNECT, FLUSH, NbdRequest, READ, WRITE};
 
 /// The flag of a write that is to be flushed once it is done.
 ///

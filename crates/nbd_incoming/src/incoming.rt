@@ -7,13 +7,8 @@ ghost use Rattle.nbd_incoming.specs.Incoming.{BeginsSo, GoesOnSo, HasTaken, Keep
 
 use crate::Taken;
 use nbd_flight::{Asked, Buffers, Whole, judge};
-use nbd_wire::{Event, NbdRequest, Splitter};
+use nbd_wire::{Event, NbdRequest, Splitter, WRITE};
 use sector_disk::Memory;
-
-/// The kind of a request behind which bytes stand.
-///
-/// Source: the NBD protocol, `doc/proto.md`, "Request types", `NBD_CMD_WRITE`.
-const WRITE: u16 = 1;
 
 /// A write, `left` of whose bytes are to come.
 #[derive(Drop)]

@@ -254,9 +254,7 @@ impl Room {
     fn new(alloc: Global, block_size: usize) -> Result<Room, Memory>
         ensures { IfOk result (λ room. length room.piece.items ≡ most_piece) }
     {
-        let Ok(piece) = Vec::from_elem(alloc, 0, MOST_PIECE) else {
-            return Err(Memory);
-        };
+        let piece = Vec::from_elem(alloc, 0, MOST_PIECE)?;
         let buffers = Buffers::new(alloc, block_size)?;
         Ok(Room { piece, buffers })
     }

@@ -9,15 +9,12 @@ ghost use Rattle.place_writer.specs.Placement.{IsWholeEntry};
 ghost use Rattle.tag_store.specs.Store.{IsStore};
 
 use crate::writing::write_entry;
-use image_model::SECTOR_SIZE;
+use image_model::{LARGEST_BLOCK, SECTOR_SIZE};
 use journal_overlay::Place;
 use journal_ring::Ring;
 use journal_section::EntryView;
 use sector_disk::{Disk, Failed};
 use tag_store::Tags;
-
-/// The bytes of the largest block, of 8 sectors.
-const LARGEST_BLOCK: usize = 8 * SECTOR_SIZE;
 
 /// Writes the entry of the ring that stands here to its place.
 ///

@@ -2,11 +2,9 @@
 ghost use Rattle.std.specs.Prelude.{◌≡◌};
 ghost use Rattle.progress_line.specs.Order.{course_of};
 
+use image_model::MOST_SECTORS;
 use layout::Geometry;
 use superblock::read;
-
-/// More sectors than any disk has that an image is refused for.
-const MOST_SECTORS: u64 = 1 << 48;
 
 /// In which order a command goes over its image.
 #[derive(Clone, Copy, Debug, PartialEq, Eq)]

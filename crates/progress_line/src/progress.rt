@@ -5,6 +5,7 @@ use crate::Course;
 use crate::course::end_of_image;
 use crate::pace::{Pace, milliseconds};
 use crate::report::Report;
+use image_model::SECTOR_SIZE;
 use std::io::Eprint;
 use std::rt::Clock;
 use std::time::Instant;
@@ -63,7 +64,7 @@ impl<'r, R: Clock + Eprint> Progress<'r, R> {
     fn go_on(&mut self, at: u64, bytes: &[u8])
         ensures { self.old.at ≤ self.new.at }
     {
-        let sectors = bytes.len() as u64 / 512;
+        let sectors = (bytes.len() / SECTOR_SIZE) as u64;
         self.at = self.at.max(at.saturating_add(sectors));
         self.moved = self.moved.saturating_add(sectors);
         self.calls = self.calls.saturating_add(1);

@@ -9,4 +9,5 @@ mod ask;
 mod ranges;
 
 pub use ask::Asked;
-pub use ranges::{Memory, Ranges};
+pub use disk_model::Memory;
+pub use ranges::Ranges;

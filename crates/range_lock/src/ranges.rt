@@ -3,14 +3,9 @@ ghost use Rattle.std.specs.Prelude.{◌≡◌, ◌↔◌, ◌<◌, ◌++◌, [],
 ghost use Rattle.device_model.specs.Request.{Read};
 
 use crate::ask::{Ask, Asked, place_of};
+use disk_model::Memory;
 use std::alloc::Global;
 use std::marker::Model;
-use thiserror::Error;
-
-/// There is no memory for so many slots.
-#[derive(Clone, Copy, Debug, PartialEq, Eq, Error)]
-#[error("there is no memory for so many slots")]
-pub struct Memory;
 
 /// What was asked and is not released, in order of asking.
 #[derive(Drop)]
@@ -41,9 +36,7 @@ impl Ranges {
     pub fn new(alloc: Global, slots: u64) -> Result<Ranges, Memory>
         ensures { IfOk result (λ ranges. ranges ≡ record { count = slots; asks = [] }) }
     {
-        let Ok(asks) = Vec::with_capacity(alloc, slots as usize) else {
-            return Err(Memory);
-        };
+        let asks = Vec::with_capacity(alloc, slots as usize)?;
         Ok(Ranges { slots, asks })
     }
 

@@ -159,9 +159,7 @@ fn buffer(alloc: Global, size: usize) -> Result<Vec<u8>, Memory>
 
     ensures { IfOk result (λ bytes. length bytes.items ≡ size) }
 {
-    let Ok(bytes) = Vec::from_elem(alloc, 0, size) else {
-        return Err(Memory);
-    };
+    let bytes = Vec::from_elem(alloc, 0, size)?;
     Ok(bytes)
 }
 

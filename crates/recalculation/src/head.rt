@@ -5,7 +5,7 @@ ghost use Rattle.disk_model.specs.Identity.{IsBound};
 ghost use Rattle.image_model.specs.Superblock.{IsAccepted, superblock_of};
 ghost use Rattle.recalculation.specs.Position.{IsHeadOf};
 
-use image_model::Super;
+use image_model::{SECTOR_SIZE, Super};
 use sector_disk::{Disk, Failed};
 use superblock::write;
 
@@ -16,7 +16,7 @@ use superblock::write;
 /// # Errors
 ///
 /// - `Failed`: the disk failed.
-pub fn head_with<D: Disk>(disk: &mut D, fields: &Super) -> Result<[u8; 512], Failed>
+pub fn head_with<D: Disk>(disk: &mut D, fields: &Super) -> Result<[u8; SECTOR_SIZE], Failed>
     requires bound { IsBound (D.identity disk.old).name }
     requires sectors { 0 < (D.identity disk.old).sectors }
     requires fields { IsAccepted fields.now }
@@ -29,7 +29,7 @@ pub fn head_with<D: Disk>(disk: &mut D, fields: &Super) -> Result<[u8; 512], Fai
     ensures identity { D.identity disk.new ≡ D.identity disk.old }
     ensures kept { D.moments disk.new ≡ D.moments disk.old }
 {
-    let mut head = [0; 512];
+    let mut head = [0; SECTOR_SIZE];
     disk.read_run(0, &mut head)?;
     write(fields, &mut head);
     Ok(head)

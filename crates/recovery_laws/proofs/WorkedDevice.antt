@@ -1,28 +1,26 @@
 -- A device in recovery mode over a disk whose journal has no walk, with a read and a flush: no law speaks of nothing.
-use Rattle.std.proofs.Common.{◌≡◌, ℕ, ◌+◌, false, [], ◌∷◌, None, List, replicate, refl, subst, arith}
+use Rattle.std.proofs.Common.{◌≡◌, ℕ, ◌+◌, false, [], ◌∷◌, None, Some, List, replicate, refl, subst, arith}
 use Rattle.disk_model.specs.Disk.{Content, HasNothingPending, EachImage, Reads, last_image, sector_in}
 use Rattle.disk_model.specs.Moments.{EachSince}
 use Rattle.disk_model.proofs.DiskLemmas.{only_candidate}
 use Rattle.image_model.specs.Cells.{placed_cells_of}
 use Rattle.image_model.specs.Geometry.{bitmap_sectors_for, data_at, entries_per_sector, entry_size, geometry_of, regions_for, section_entries, section_sectors, sector_at, tag_run_of}
 use Rattle.image_model.specs.Superblock.{fields_in, superblock_of}
-use Rattle.command_model.specs.CommandRun.{ReadsOn}
+use Rattle.image_model.specs.declared.super_fields.SuperFault.TheVariants.{Magic}
+use Rattle.device_model.specs.Refusals.{BySuperblock}
 use Rattle.device_model.specs.Mode.{DeviceFormat, Recovery}
 use Rattle.device_model.specs.History.{opened}
 use Rattle.device_model.specs.Progress.{DeviceState, Submit, Serve, Close, IsClosed, Did, Done, ReadOnly, after_event, event_result, only_answers}
 use Rattle.device_model.specs.Request.{Request, Asked, newly_asked}
-use Rattle.device_model.specs.ScriptBytes.{is_too_long}
-use Rattle.device_model.specs.ScriptRun.{ScriptRun, IsRunOf, run_from}
 use Rattle.device_model.specs.Submission.{Submission as Asking}
 use Rattle.journal_laws.specs.EventLaws.{IsServed}
 use Rattle.place_model.specs.Kind.{kind_in}
 use Rattle.place_model.specs.Opened.{device_format, opened_on}
 use Rattle.place_model.proofs.WorkedDisk.{journal_format, zeros_journal, IsReadAs-zeros}
 use Rattle.recovery_laws.specs.Device.{IsRecoveryDevice}
-use Rattle.recovery_laws.specs.Refusals.{recovery_outset}
-use Rattle.recovery_laws.specs.MomentLaws.{ChangesNothing}
+use Rattle.recovery_laws.specs.Refusals.{read_fault_of}
 use Rattle.recovery_laws.proofs.EventLemmas.{close_law, opening_law, event_law, read_law, flush_law, placed_law, write_law}
-use Rattle.recovery_laws.proofs.MomentLemmas.{kept_law, left_law, run_law}
+use Rattle.recovery_laws.proofs.MomentLemmas.{kept_law, left_law}
 
 abbrev format : DeviceFormat
 format = device_format Recovery journal_format
@@ -76,20 +74,14 @@ MayBeLeft-content = (left_law journal_format content (opened (λ b. record { byt
 moments-kept : EachSince (λ start c. c ≡ start) (content ∷ []) (content ∷ [])
 moments-kept = (kept_law (content ∷ []) (content ∷ []) refl).0
 
--- An empty script runs, and tells no fault.
-abbrev run : ScriptRun
-run = run_from format (is_too_long []) 1 fresh false []
-
-IsRunOf-empty : IsRunOf format fresh [] run
-IsRunOf-empty = record { lines = []; read = tt; is = refl }
-
-changes-nothing : ChangesNothing fresh run
-changes-nothing = run_law format fresh journal_format zeros_journal [] run IsRecoveryDevice-fresh IsRunOf-empty
-
--- A run starts on that device, whatever the journal says.
-recovery_outset-zeros : let outset = recovery_outset None 112 zeros_journal in outset ≡ ReadsOn (kind_in Recovery None 112) zeros_journal
+-- It is read, whatever the journal says, and one without a magic is refused.
+read_fault_of-zeros : read_fault_of 112 zeros_journal ≡ None
 unfolding superblock_of fields_in geometry_of sector_at tag_run_of bitmap_sectors_for regions_for entry_size entries_per_sector section_entries section_sectors
-recovery_outset-zeros = refl
+read_fault_of-zeros = refl
+
+read_fault_of-none : read_fault_of 256 (λ (n : ℕ). replicate 512 0) ≡ Some (BySuperblock Magic)
+unfolding superblock_of
+read_fault_of-none = refl
 
 -- What is read of the disk in the place of block 0 is its bytes.
 abbrev zeros : List ℕ

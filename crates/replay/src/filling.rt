@@ -10,8 +10,8 @@ ghost use Rattle.replay.specs.Recovery.{GoesOnIn, IsReplayed};
 ghost use Rattle.replay.specs.Replaying.{IsReplaying};
 ghost use Rattle.replay.specs.Writes.{IsOfEmptyJournal, IsOfUnnumbered};
 
-use crate::finishing::NUMBERS;
 use crate::recovered::Recovered;
+use image_model::COMMIT_NUMBERS;
 use journal_erasure::fill;
 use journal_reading::JudgedJournal;
 use layout::Geometry;
@@ -59,7 +59,7 @@ pub(crate) fn fill_journal<D: Disk>(
     fill(disk, geometry, &journal.grid.cells, number, scratch)?;
     Ok(Recovered {
         next: 0,
-        number: (number + 1) % NUMBERS,
+        number: (number + 1) % COMMIT_NUMBERS,
         used: false,
     })
 }

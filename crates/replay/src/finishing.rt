@@ -17,16 +17,12 @@ ghost use Rattle.replay.specs.Writes.{IsOfEmptyJournal, IsOfUnnumbered};
 use crate::filling::fill_journal;
 use crate::recovered::Recovered;
 use commit_id::State;
+use image_model::COMMIT_NUMBERS;
 use journal_erasure::{Erasure, erase};
 use journal_reading::JudgedJournal;
 use layout::Geometry;
 use sector_disk::{Disk, Failed};
 use tag_store::Tags;
-
-/// How many commit numbers there are.
-///
-/// Source: Linux, `drivers/md/dm-integrity.c`, `N_COMMIT_IDS`.
-pub(crate) const NUMBERS: u8 = 4;
 
 /// Erases a journal whose entries are all in their places and synced, and tells where writing goes on. What stood in
 /// `scratch` is lost.
@@ -62,7 +58,7 @@ pub(crate) fn erase_journal<D: Disk>(
     erase(disk, geometry, erasure, scratch)?;
     Ok(Recovered {
         next: 0,
-        number: (erasure.number + 3) % NUMBERS,
+        number: (erasure.number + 3) % COMMIT_NUMBERS,
         used: false,
     })
 }

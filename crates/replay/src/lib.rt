@@ -18,7 +18,6 @@ mod recovery;
 mod writing;
 
 pub use emptying::empty;
-pub use journal_reading::{JournalFault, ReplayFault};
 pub use place_writer::Placer;
 pub use recovered::Recovered;
 pub use recovery::recover;

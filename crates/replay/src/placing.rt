@@ -10,14 +10,11 @@ ghost use Rattle.replay.specs.Writes.{AddsRead};
 
 use crate::place_run::PlaceRun;
 use crate::writing::place_view;
-use image_model::SECTOR_SIZE;
+use image_model::{LARGEST_BLOCK, SECTOR_SIZE};
 use journal_reading::{JudgedJournal, NewestEntries, entry_count, entry_place, read_entry};
 use layout::Geometry;
 use sector_disk::{Disk, Failed};
 use tag_store::Tags;
-
-/// The bytes of the largest block, of 8 sectors.
-const LARGEST_BLOCK: usize = 8 * SECTOR_SIZE;
 
 /// A journal that was judged, and the bytes that were read of it.
 #[derive(Clone, Copy)]

@@ -60,9 +60,7 @@ impl Slots {
         ensures { IfOk result (λ slots. slots ≡ no_requests blocks block_size) }
     {
         let locks = Ranges::new(alloc, MOST_SLOTS as u64)?;
-        let Ok(slots) = Vec::with_capacity(alloc, MOST_SLOTS) else {
-            return Err(Memory);
-        };
+        let slots = Vec::with_capacity(alloc, MOST_SLOTS)?;
         Ok(Slots {
             blocks,
             block_size,

@@ -11,7 +11,7 @@ use Rattle.image_model.specs.Geometry.{best_provided, best_provided_of, entries_
 use Rattle.image_model.specs.Superblock.{Superblock, has_flag}
 use Rattle.image_model.specs.declared.flags.TheConstants.{DIRTY_BITMAP}
 use Rattle.journal_model.proofs.OpeningLemmas.{state_law}
-use Rattle.command_model.specs.CommandRun.{IsUntouched}
+use Rattle.run_model.specs.CommandRun.{IsUntouched}
 use Rattle.place_model.specs.FirstSync.{IsOfOpening}
 use Rattle.place_model.specs.Format.{DiskFormat, HasCells, OpensAs, cells_on}
 use Rattle.place_model.proofs.FormatLemmas.{opens_tells, reads_from}

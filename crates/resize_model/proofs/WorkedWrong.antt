@@ -1,10 +1,11 @@
 -- What a resize of the worked disk does not do: each of these runs is refused by the words of `specs/Written.antt`.
 use Rattle.std.proofs.Common.{◌≡◌, inl, inr, false, [], ⊎_elim, ℕ, ◌+◌, List, ◌∷◌, slice_index, replicate, refl, sym, ap, ◌∙◌, arith}
 use Rattle.std.specs.Fmt.{digits}
-use Rattle.command_model.specs.CommandRun.{IsEndedBy, only_prints}
-use Rattle.device_model.specs.Ending.{Complete, DiskFailed}
 use Rattle.image_model.specs.Geometry.{data_at, entries_per_sector, entry_size, section_entries, section_sectors, sector_at, tag_at, tag_offset, tag_run_of}
 use Rattle.place_model.specs.Format.{tagger_of}
+use Rattle.run_model.specs.declared.outer.Outer.TheVariants.{Disk}
+use Rattle.run_model.specs.CommandRun.{IsEndedBy, only_prints}
+use Rattle.run_model.specs.Ending.{Complete, Failed}
 use Rattle.place_model.specs.Tags.{tag_byte_at}
 use Rattle.place_model.proofs.WorkedDisk.{fresh_journal}
 use Rattle.resize_model.specs.Growth.{IsOfGrowth, IsOfNewTags}
@@ -84,7 +85,7 @@ other-head x is = is.is
 -- ---- the text
 
 -- A disk that fails behind the text ends no resize: the text is told once all is done.
-told-first : IsEndedBy (only_prints (resized_text 80 208 ∷ []) false) (resized_text 80 208) [] DiskFailed → ⊥
+told-first : IsEndedBy (only_prints (resized_text 80 208 ∷ []) false) (resized_text 80 208) [] (Failed Disk) → ⊥
 unfolding digits
-told-first (inl whole) = let wrong : DiskFailed ≡ Complete false = whole.is in cc
+told-first (inl whole) = let wrong : Failed Disk ≡ Complete false = whole.is in cc
 told-first (inr ended) = let less = ended.short (false, refl) in omega (arith, less)

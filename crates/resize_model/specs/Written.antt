@@ -9,7 +9,7 @@ use Rattle.image_model.specs.Geometry.{data_at}
 use Rattle.image_model.specs.Sectors.{zero_bytes}
 use Rattle.image_model.specs.Superblock.{has_flag, superblock_of}
 use Rattle.image_model.specs.SuperblockLaws.{FitsBytes}
-use Rattle.command_model.specs.CommandRun.{IsUntouched}
+use Rattle.run_model.specs.CommandRun.{IsUntouched}
 use Rattle.place_model.specs.FirstSync.{IsOfOpening}
 use Rattle.place_model.specs.Format.{DiskFormat}
 use Rattle.place_model.specs.Journal.{IsOfJournal}

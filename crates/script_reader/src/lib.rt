@@ -9,5 +9,5 @@ mod line_reader;
 mod next_line;
 mod piece;
 
-pub use line_reader::{LineReader, MOST_LINE, MOST_SCRIPT};
+pub use line_reader::{LineReader, MOST_SCRIPT};
 pub use next_line::NextLine;

@@ -10,6 +10,7 @@ ghost use Rattle.script_reader.specs.Reading.{HasNoNewline};
 use crate::NextLine;
 use crate::piece::{PIECE, Piece};
 use memchr::memchr;
+use script_text::MOST_LINE;
 use sector_disk::{Failed, Memory};
 use std::alloc::Global;
 use std::marker::Model;
@@ -17,9 +18,6 @@ use stream_io::Source;
 
 /// The most bytes of a script that are run: `most_script` of `device_model`, `specs/ScriptBytes.antt`.
 pub const MOST_SCRIPT: u64 = 16_777_216;
-
-/// The most bytes of a line, without its newline: `most_line` of `device_model`, `specs/Grammar.antt`.
-pub const MOST_LINE: usize = 65_536;
 
 /// Takes lines out of a script. All its memory is taken when it is made.
 #[derive(Drop)]
@@ -58,9 +56,7 @@ impl LineReader {
         ensures { IfOk result (λ reader. reader ≡ record { unread = []; line = []; taken = 0 }) }
     {
         let piece = Piece::new(alloc)?;
-        let Ok(line) = Vec::with_capacity(alloc, MOST_LINE + 1) else {
-            return Err(Memory);
-        };
+        let line = Vec::with_capacity(alloc, MOST_LINE + 1)?;
         Ok(LineReader {
             piece,
             line,

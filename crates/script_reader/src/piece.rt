@@ -42,9 +42,7 @@ impl Piece {
     pub fn new(alloc: Global) -> Result<Piece, Memory>
         ensures { IfOk result (λ piece. piece ≡ []) }
     {
-        let Ok(bytes) = vec![in alloc; 0; PIECE] else {
-            return Err(Memory);
-        };
+        let bytes = vec![in alloc; 0; PIECE]?;
         Ok(Piece {
             bytes,
             begin: 0,

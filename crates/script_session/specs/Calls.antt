@@ -2,6 +2,7 @@
 use Rattle.std.specs.Prelude.{◌≡◌, ◌≢◌, ℕ, List, [], ◌∷◌, Option, false, Result, Err, IfErr, IfOk, OnErr}
 use Rattle.disk_model.specs.Disk.{Content}
 use Rattle.disk_model.specs.Identity.{DiskIdentity}
+use Rattle.device_model.specs.Actors.{actor_of}
 use Rattle.device_model.specs.Progress.{Event, Step, Submit, Take}
 use Rattle.device_model.specs.Script.{Ask, AskLine, ScriptLine, submission_of}
 use Rattle.device_model.specs.Script as Script
@@ -15,8 +16,7 @@ use Rattle.request_slots.specs.Flight.{Flight}
 use Rattle.request_slots.specs.InFlight.{as_submission}
 use Rattle.request_slots.specs.declared.reply.Reply.{Reply}
 use Rattle.request_slots.specs.declared.request.Request.{Request}
-use Rattle.script_text.specs.Line.{actor_of}
-use Rattle.script_text.specs.declared.line.Actor.{Actor}
+use Rattle.device_model.specs.declared.actor.Actor.{Actor}
 use Rattle.script_session.specs.declared.line_answer.LineAnswer.{LineAnswer}
 use Rattle.script_session.specs.declared.line_end.LineEnd.{LineEnd}
 use Rattle.script_session.specs.declared.line_end.LineEnd.TheVariants as Ends

@@ -63,9 +63,7 @@ fn filled(alloc: Global, count: u64, block_size: usize, byte: u8) -> Result<Byte
     let Some(length) = (count as usize).checked_mul(block_size) else {
         return Err(Memory);
     };
-    let Ok(bytes) = Vec::from_elem(alloc, byte, length) else {
-        return Err(Memory);
-    };
+    let bytes = Vec::from_elem(alloc, byte, length)?;
     Ok(Bytes::from_vec(bytes))
 }
 
@@ -76,9 +74,7 @@ fn bytes_of(alloc: Global, runs: &Runs<'_>) -> Result<Bytes, Memory>
     let Ok(length) = usize::try_from(runs.total()) else {
         return Err(Memory);
     };
-    let Ok(mut bytes) = Vec::from_elem(alloc, 0, length) else {
-        return Err(Memory);
-    };
+    let mut bytes = Vec::from_elem(alloc, 0, length)?;
     runs.fill(&mut bytes);
     Ok(Bytes::from_vec(bytes))
 }

@@ -2,7 +2,6 @@
 ghost use Rattle.std.specs.Prelude.{◌≡◌, ◌+◌, ◌<◌, ◌^◌, ℕ, true, vec_len, vec_capacity, OnErr, OnOk};
 ghost use Rattle.std.specs.List.{list_any};
 ghost use Rattle.disk_model.specs.Causes.{HasCause};
-ghost use Rattle.device_parts.specs.Answers as Core;
 ghost use Rattle.device_parts.specs.declared.condition.Condition.TheVariants.{Broken, Working};
 ghost use Rattle.device.specs.Answers.{HasNoWork};
 ghost use Rattle.device.specs.Calls.{Works};
@@ -11,7 +10,7 @@ ghost use Rattle.device_parts.specs.Device.{Standing};
 ghost use Rattle.device.specs.Run.{one_serve};
 ghost use Rattle.request_slots.specs.Flight.{count_in, first_in};
 ghost use Rattle.request_slots.specs.InFlight.{as_submission};
-ghost use Rattle.script_text.specs.Line.{actor_of};
+ghost use Rattle.device_model.specs.Actors.{actor_of};
 ghost use Rattle.script_session.specs.declared.line_answer.LineAnswer.TheVariants.{Ticket};
 ghost use Rattle.script_session.specs.Calls.{AnswersSo, AnswersWell, FailsSo, KeepsOn, StaysOn, one_step_of};
 ghost use Rattle.script_session.specs.Calls.{one_submission, one_take};
@@ -148,7 +147,7 @@ pub(crate) fn take<'d, 'p, D: Disk>(
 /// - `Failed`: the disk failed. The device is broken then.
 pub(crate) fn step<'d, 'p, D: Disk>(
     device: &mut Device<'d, 'p, D>,
-    actor: script_text::Actor,
+    actor: Actor,
 ) -> Result<LineAnswer, Failed>
     requires works { Works D.identity D.moments device.old.condition device.old.parts device.old.disk.now }
 
@@ -166,7 +165,7 @@ pub(crate) fn step<'d, 'p, D: Disk>(
         → device.new.disk.now ≡ device.old.disk.now }
     ensures same_disk { device.new.disk.ghost_name ≡ device.old.disk.ghost_name }
 {
-    let moved = device::step(device, core_actor(actor))?;
+    let moved = device::step(device, actor)?;
     Ok(moved_answer(moved))
 }
 
@@ -189,19 +188,6 @@ fn served_answer(served: Served) -> LineAnswer
         Served::Did => LineAnswer::Did,
         Served::Done => LineAnswer::Done,
         Served::NoRoom => LineAnswer::NoRoom,
-    }
-}
-
-/// The actor of the device.
-fn core_actor(actor: script_text::Actor) -> Actor
-    ensures { Core.actor_of result ≡ actor_of actor }
-{
-    match actor {
-        script_text::Actor::Commit => Actor::Commit,
-        script_text::Actor::Place => Actor::Place,
-        script_text::Actor::Settle => Actor::Settle,
-        script_text::Actor::Clean => Actor::Clean,
-        script_text::Actor::Recalc => Actor::Recalc,
     }
 }
 

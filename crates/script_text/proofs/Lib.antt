@@ -11,5 +11,4 @@ pub mod DecideLemmas
 pub mod FitLemmas
 pub mod TotalLemmas
 pub mod QuietLemmas
-pub mod ScriptRunLemmas
 mod Worked

@@ -26,7 +26,7 @@ use Rattle.device_model.proofs.AskLemmas.{ask_fault-none}
 use Rattle.device_model.proofs.LoopLemmas.{after-ask, answer-ask, answer-whole, line-condition}
 use Rattle.device_model.proofs.LoopLemmas.{with_all_finished}
 use Rattle.device_model.proofs.SubmissionLemmas.{form_refusal-fits, result-working}
-use Rattle.script_text.specs.RunLaws.{QuietLineLaw}
+use Rattle.script_text.specs.Laws.{QuietLineLaw}
 
 -- ---- what changes nothing
 

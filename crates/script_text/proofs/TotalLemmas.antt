@@ -1,11 +1,9 @@
 -- That any bytes are read: as a line, or with a fault.
-use Rattle.std.proofs.Common.{◌≡◌, ◌≢◌, ℕ, ◌<◌, ◌≤◌, false, List, [], ◌∷◌, length, arith, refl, inl, inr}
+use Rattle.std.proofs.Common.{◌≡◌, ◌≢◌, ℕ, ◌<◌, ◌≤◌, List, [], ◌∷◌, length, arith, refl, inl, inr}
 use Rattle.device_model.specs.Grammar.{ReadLine, Means, Refused, IsReadAs, IsText, most_line, words_in}
 use Rattle.device_model.specs.LineFault.{TooLong, NotText}
 use Rattle.device_model.specs.Script.{Skip}
-use Rattle.device_model.specs.ScriptBytes.{lines_of, is_too_long}
-use Rattle.device_model.specs.ScriptRun.{run_from}
-use Rattle.script_text.specs.Laws.{TotalLaw, ReadAllLaw, HasRunLaw}
+use Rattle.script_text.specs.Laws.{TotalLaw, ReadAllLaw}
 use Rattle.script_text.proofs.DecideLemmas.{Decided, less_or_not, all_or_not}
 use Rattle.script_text.proofs.FitLemmas.{line_or_fault}
 use Rattle.script_text.proofs.ReadLemmas.{line_by_words, refused_by_words}
@@ -67,8 +65,3 @@ has_readings (bytes ∷ lines) =
     let first = has_reading bytes in
     let rest = has_readings lines in
     (first.0 ∷ rest.0, (first.1, rest.1))
-
-pub has_run : HasRunLaw
-has_run f s script =
-    let lines = has_readings (lines_of script) in
-    (run_from f (is_too_long script) 1 s false lines.0, record { lines = lines.0; read = lines.1; is = refl })

@@ -1,10 +1,10 @@
--- Any bytes are read, so that every script has a run.
-use Rattle.std.specs.Prelude.{ℕ, List}
+-- Any bytes are read, and a line that prints nothing does nothing.
+use Rattle.std.specs.Prelude.{◌≡◌, ℕ, List, [], None}
 use Rattle.std.specs.List.{AllZip}
 use Rattle.device_model.specs.Grammar.{ReadLine, IsReadAs}
 use Rattle.device_model.specs.Mode.{DeviceFormat}
 use Rattle.device_model.specs.Progress.{DeviceState}
-use Rattle.device_model.specs.ScriptRun.{ScriptRun, IsRunOf}
+use Rattle.device_model.specs.Script.{ScriptLine, line_outcome, meaning_fault}
 
 -- Bytes are a line or have a fault, whichever they are and however many.
 abbrev pub TotalLaw : Type 0
@@ -14,6 +14,7 @@ TotalLaw = (bytes : List ℕ) → (read : ReadLine) × IsReadAs bytes read
 abbrev pub ReadAllLaw : Type 0
 ReadAllLaw = (lines : List (List ℕ)) → (reads : List ReadLine) × AllZip IsReadAs lines reads
 
--- Every script has a run on a device, whichever its bytes are.
-abbrev pub HasRunLaw : Type 0
-HasRunLaw = (f : DeviceFormat) (s : DeviceState) (script : List ℕ) → (run : ScriptRun) × IsRunOf f s script run
+-- A line that prints nothing does nothing to the history.
+abbrev pub QuietLineLaw : Type 0
+QuietLineLaw = (f : DeviceFormat) (s : DeviceState) (line : ScriptLine) → meaning_fault f s.progress line ≡ None
+    → (line_outcome f s line).text ≡ [] → (line_outcome f s line).changes ≡ []

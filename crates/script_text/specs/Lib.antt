@@ -5,4 +5,3 @@ pub mod Singles
 pub mod Told
 pub mod Plain
 pub mod Laws
-pub mod RunLaws

@@ -1,29 +1,20 @@
 -- The lines that are read, and why bytes are none, as in the grammar.
 use Rattle.std.specs.Prelude.{List, Result, Ok, Err}
+use Rattle.device_model.specs.Actors.{actor_of}
 use Rattle.device_model.specs.Grammar.{ReadLine, Means, Refused}
 use Rattle.device_model.specs.LineFault as faults
 use Rattle.device_model.specs.LineFault.{WordsFault}
-use Rattle.device_model.specs.Progress as progress
 use Rattle.device_model.specs.Script as script
 use Rattle.device_model.specs.Script.{ScriptLine}
 use Rattle.device_model.specs.Stretches.{Stretch}
 use Rattle.script_text.specs.Runs.{stretches_in}
 use Rattle.script_text.specs.declared.runs.Runs.{Runs}
-use Rattle.script_text.specs.declared.line.Actor.{Actor}
-use Rattle.script_text.specs.declared.line.Actor.TheVariants.{Commit, Place, Settle, Clean, Recalc}
 use Rattle.script_text.specs.declared.line.Ask.{Ask}
 use Rattle.script_text.specs.declared.line.Ask.TheVariants.{Fill, Write, Read, Flush}
 use Rattle.script_text.specs.declared.line.Line.{Line}
 use Rattle.script_text.specs.declared.line.Line.TheVariants as line
 use Rattle.script_text.specs.declared.line.LineFault.{LineFault}
 use Rattle.script_text.specs.declared.line.LineFault.TheVariants.{TooLong, NotText, WrongWord, WrongNumber, WrongByte, WrongRuns, MissingWord, ExtraWord}
-
-abbrev pub actor_of : Actor → progress.Actor
-actor_of Commit = progress.Commit
-actor_of Place = progress.Place
-actor_of Settle = progress.Settle
-actor_of Clean = progress.Clean
-actor_of Recalc = progress.Recalc
 
 -- The stretches of bytes that runs are.
 abbrev pub stretches_of : Runs → List Stretch

@@ -2,7 +2,7 @@
 //!
 //! A contract sees a line and a fault as those of the grammar (`specs/Line.antt`, the file to read first), and what
 //! is told as its text (`specs/Told.antt`). The grammar itself stands in `device_model`, `specs/Grammar.antt`. That
-//! any bytes are read by it, and that every script has a run, are laws (`specs/Laws.antt`, `specs/RunLaws.antt`).
+//! any bytes are read by it is a law (`specs/Laws.antt`).
 #![tactic(auto)]
 
 mod grammar;
@@ -11,7 +11,6 @@ mod pieces;
 mod places;
 mod reading_laws;
 mod reply;
-mod run_laws;
 mod runs;
 mod singles;
 mod stretches;
@@ -20,11 +19,11 @@ mod values;
 mod verb;
 mod words;
 
+pub use device_model::Actor;
 pub use grammar::{MOST_LINE, read_line};
-pub use line::{Actor, Ask, Line, LineFault};
-pub use reading_laws::{bytes_have_a_reading, scripts_have_a_run};
+pub use line::{Ask, Line, LineFault};
+pub use reading_laws::{bytes_have_a_reading, quiet_lines_do_nothing};
 pub use reply::reply_text;
-pub use run_laws::{runs_are_split, runs_come_into_their_lines, runs_come_step_by_step};
 pub use runs::{Run, Runs};
 pub use stretches::add_stretches;
 pub use told::Told;

@@ -1,21 +1,7 @@
 //! A line of a script, and why bytes are none.
 
 use crate::runs::Runs;
-
-/// What is done in the background.
-#[derive(Clone, Copy, Debug, PartialEq, Eq)]
-pub enum Actor {
-    /// To commit the sections that are not.
-    Commit,
-    /// To place the oldest entry that is not placed.
-    Place,
-    /// To free the sections whose entries are all placed.
-    Settle,
-    /// To clear a bit.
-    Clean,
-    /// To recalculate a region.
-    Recalc,
-}
+use device_model::Actor;
 
 /// A request that a line asks for.
 #[derive(Clone, Copy, Debug, PartialEq, Eq)]

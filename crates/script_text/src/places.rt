@@ -5,14 +5,16 @@
 ghost use Rattle.std.specs.Prelude.{◌≡◌, ◌≢◌, ◌^◌, ◌<◌, [], ◌∷◌, List, IfOk, IfErr, IfSome, IfNone};
 ghost use Rattle.std.specs.Fmt.{decimal};
 ghost use Rattle.hex.specs.Hex.{encode_lower};
+ghost use Rattle.device_model.specs.Actors.{actor_of};
 ghost use Rattle.device_model.specs.Grammar.{Fits, WordPlace, NumberPlace, BytePlace, StretchesPlace, ActorPlace, FuaPlace, IsFaultAt, words_in, fua_words, actor_word, stretches_word, AreStretches};
-ghost use Rattle.script_text.specs.Line.{actor_of, fault_of};
+ghost use Rattle.script_text.specs.Line.{fault_of};
 ghost use Rattle.script_text.specs.Runs.{stretches_in};
 
-use crate::line::{Actor, LineFault};
+use crate::line::LineFault;
 use crate::runs::Runs;
 use crate::values::{read_byte, read_number};
 use crate::words::Words;
+use device_model::Actor;
 
 /// The next word, as a number.
 pub fn take_number<'a>(words: &mut Words<'a>) -> Result<u64, LineFault<'a>>

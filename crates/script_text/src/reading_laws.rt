@@ -1,5 +1,5 @@
-//! That every script can be read: each law is the contract of a function that does nothing.
-ghost use Rattle.script_text.specs.Laws.{HasRunLaw, ReadAllLaw, TotalLaw};
+//! What holds of every line: each law is the contract of a function that does nothing.
+ghost use Rattle.script_text.specs.Laws.{QuietLineLaw, ReadAllLaw, TotalLaw};
 
 /// Bytes are a line or have a fault, and so are the bytes of each of some lines.
 ///
@@ -9,9 +9,7 @@ pub fn bytes_have_a_reading()
     ensures lines { ReadAllLaw }
 {}
 
-/// A script has a run on a device in any state.
-///
-/// That it has only one is the contract of `scripts_have_one_run` in `device_model`.
-pub fn scripts_have_a_run()
-    ensures { HasRunLaw }
+/// A line that prints nothing does nothing to the history.
+pub fn quiet_lines_do_nothing()
+    ensures { QuietLineLaw }
 {}

@@ -27,9 +27,7 @@ pub fn reply_text(alloc: Global, told: &Told) -> Result<Vec<u8>, Memory>
     let Some(room) = room_for(told) else {
         return Err(Memory);
     };
-    let Ok(mut text) = Vec::with_capacity(alloc, room) else {
-        return Err(Memory);
-    };
+    let mut text = Vec::with_capacity(alloc, room)?;
     put_told(&mut text, told);
     Ok(text)
 }

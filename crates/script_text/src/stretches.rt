@@ -133,9 +133,7 @@ pub fn add_stretches(text: &mut Vec<u8>, bytes: &[u8]) -> Result<(), Memory>
     let Some(room) = bytes.len().checked_mul(MOST_FOR_A_BYTE) else {
         return Err(Memory);
     };
-    let Ok(()) = text.reserve(room) else {
-        return Err(Memory);
-    };
+    text.reserve(room)?;
     put_stretches(text, bytes);
     Ok(())
 }

@@ -3,7 +3,8 @@ ghost use Rattle.std.specs.Prelude.{◌≡◌, ◌⊎◌, ◌+◌, ◌*◌, ◌^
 ghost use Rattle.disk_model.specs.Disk.{Content, sector_in};
 ghost use Rattle.sector_disk.specs.Record.{after_event, content_after, content_of_bytes, IsNoted};
 
-use crate::record::{Event, SECTOR_SIZE};
+use crate::record::Event;
+use disk_model::SECTOR_SIZE;
 
 /// What a walk over the record has found of a sector so far.
 #[derive(Drop)]
@@ -51,7 +52,7 @@ fn copy_candidate(base: &[u8], events: &[Event], at: u64, index: usize, out: &mu
 
     ensures { out.new ≡ slice_index_or (content_after (content_of_bytes base.now) events.now at) index [] }
 {
-    let from = 512 * at as usize;
+    let from = SECTOR_SIZE * at as usize;
     let mut first = [0; SECTOR_SIZE];
     first.copy_from_slice(&base[from..from + 512]);
     let mut found = Found {
@@ -108,7 +109,7 @@ pub fn copy_choice(base: &[u8], events: &[Event], choice: &[u32], out: &mut [u8]
             events,
             s as u64,
             *index as usize,
-            &mut out[512 * s..512 * s + 512],
+            &mut out[SECTOR_SIZE * s..SECTOR_SIZE * s + SECTOR_SIZE],
         );
     }
 }

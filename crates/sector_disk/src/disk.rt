@@ -15,11 +15,6 @@ use thiserror::Error;
 #[error("a disk, a source or a sink has failed")]
 pub struct Failed;
 
-/// There was no memory for what a call was to make.
-#[derive(Clone, Copy, Debug, PartialEq, Eq, Error)]
-#[error("there is no memory")]
-pub struct Memory;
-
 /// An object that counts the faults of what it stands for.
 pub trait Counted {
     /// How often it has failed. The count never falls, and stays at 2^64 - 1 once it is there.

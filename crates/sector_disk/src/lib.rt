@@ -12,6 +12,7 @@ mod mem_disk;
 mod record;
 mod stop;
 
-pub use disk::{Counted, Disk, Failed, Memory, Named};
+pub use disk::{Counted, Disk, Failed, Named};
+pub use disk_model::{Memory, SECTOR_SIZE};
 pub use fault_plan::{FaultPlan, MOST_FAILING};
 pub use mem_disk::MemDisk;

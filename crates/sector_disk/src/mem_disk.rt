@@ -14,6 +14,7 @@ use crate::latest::{read_latest, write_latest};
 use crate::record::{Event, append_writes};
 use crate::stop::{count_writes_left, is_at_stop, stop_after_writes};
 use crate::{Counted, Disk, Failed, FaultPlan, MOST_FAILING, Memory, Named};
+use disk_model::SECTOR_SIZE;
 use std::alloc::Global;
 
 /// A disk in memory, of sectors that are zeros at first.
@@ -48,19 +49,13 @@ impl MemDisk {
         ensures { IfOk result (λ disk.
             record_of disk ≡ fresh_disk sectors (replicate (512 * sectors) 0) writes) }
     {
-        let Some(size) = sectors.checked_mul(512) else {
+        let Some(size) = sectors.checked_mul(SECTOR_SIZE as u64) else {
             return Err(Memory);
         };
-        let Ok(base) = vec![in alloc; 0; size as usize] else {
-            return Err(Memory);
-        };
-        let Ok(latest) = vec![in alloc; 0; size as usize] else {
-            return Err(Memory);
-        };
+        let base = vec![in alloc; 0; size as usize]?;
+        let latest = vec![in alloc; 0; size as usize]?;
         let room = writes as usize;
-        let Ok(events) = Vec::with_capacity(alloc, room) else {
-            return Err(Memory);
-        };
+        let events = Vec::with_capacity(alloc, room)?;
         Ok(MemDisk {
             sectors,
             base,
@@ -90,16 +85,10 @@ impl MemDisk {
 
         ensures { IfOk result (λ disk. IsChosen (record_of self.now) choice.now (record_of disk)) }
     {
-        let Ok(mut base) = vec![in alloc; 0; self.base.len()] else {
-            return Err(Memory);
-        };
+        let mut base = vec![in alloc; 0; self.base.len()]?;
         copy_choice(&self.base, &self.events, choice, &mut base);
-        let Ok(latest) = base.clone() else {
-            return Err(Memory);
-        };
-        let Ok(events) = Vec::with_capacity(alloc, self.room) else {
-            return Err(Memory);
-        };
+        let latest = base.clone()?;
+        let events = Vec::with_capacity(alloc, self.room)?;
         Ok(MemDisk {
             sectors: self.sectors,
             base,
@@ -226,10 +215,10 @@ impl Disk for MemDisk {
     {
         begin(&mut self.plan, self.stop)?;
         let left = count_writes_left(self.room.saturating_sub(self.events.len()), self.stop);
-        let count = left.min(bytes.len() as u64 / 512);
+        let count = left.min((bytes.len() / SECTOR_SIZE) as u64);
         append_writes(&mut self.events, at, bytes, count as usize);
         self.stop = stop_after_writes(self.stop, count);
-        let size = 512 * count as usize;
+        let size = SECTOR_SIZE * count as usize;
         write_latest(&mut self.latest, at, &bytes[..size]);
         if size < bytes.len() {
             return Err(self.plan.fault());

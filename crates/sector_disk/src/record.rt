@@ -4,14 +4,13 @@
 ghost use Rattle.std.specs.Prelude.{◌≡◌, ◌+◌, ◌*◌, ◌^◌, ◌<◌, ◌≤◌, ◌++◌, length, vec_len, vec_capacity};
 ghost use Rattle.sector_disk.specs.Record.{sector_writes};
 
-/// The bytes of a sector.
-pub const SECTOR_SIZE: usize = 512;
+use disk_model::SECTOR_SIZE;
 
 /// What is recorded of a disk in memory.
 #[derive(Drop)]
 pub enum Event {
     /// A sector was written.
-    Write { at: u64, bytes: [u8; 512] },
+    Write { at: u64, bytes: [u8; SECTOR_SIZE] },
     /// A sync was made.
     Sync,
 }
@@ -27,7 +26,7 @@ pub fn append_writes(events: &mut Vec<Event>, at: u64, bytes: &[u8], count: usiz
 {
     for k in 0..count {
         let mut sector = [0; SECTOR_SIZE];
-        sector.copy_from_slice(&bytes[512 * k..512 * k + 512]);
+        sector.copy_from_slice(&bytes[SECTOR_SIZE * k..SECTOR_SIZE * k + SECTOR_SIZE]);
         events.push_reserved(Event::Write {
             at: at + k as u64,
             bytes: sector,

@@ -9,5 +9,6 @@ mod pieces;
 mod region;
 mod run;
 
-pub use region::{Memory, Region};
+pub use disk_model::Memory;
+pub use region::Region;
 pub use run::Run;

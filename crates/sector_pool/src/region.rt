@@ -1,15 +1,10 @@
 //! A region of memory.
 ghost use Rattle.std.specs.Prelude.{◌≡◌, ◌*◌, [], length, replicate, OnOk, OnErr};
 
-use crate::run::{Run, SECTOR_SIZE};
+use crate::run::Run;
+use disk_model::{Memory, SECTOR_SIZE};
 use std::alloc::Global;
 use std::marker::Model;
-use thiserror::Error;
-
-/// There is no memory for so many sectors.
-#[derive(Clone, Copy, Debug, PartialEq, Eq, Error)]
-#[error("there is no memory for so many sectors")]
-pub struct Memory;
 
 /// Memory for sectors, none at first. All of it is handed out as one run.
 #[derive(Drop)]
@@ -47,12 +42,10 @@ impl Region {
 
         ensures err { OnErr result (self.new ≡ self.old) }
     {
-        if sectors > u64::MAX / SECTOR_SIZE {
+        if sectors > u64::MAX / SECTOR_SIZE as u64 {
             return Err(Memory);
         }
-        let memory = Vec::from_elem(alloc, 0u8, (sectors * SECTOR_SIZE) as usize).map_err(
-            |_| Memory,
-        )?;
+        let memory = Vec::from_elem(alloc, 0u8, (sectors * SECTOR_SIZE as u64) as usize)?;
         self.memory = Some(memory);
         Ok(())
     }

@@ -4,12 +4,8 @@ ghost use Rattle.std.specs.Borrow.{sem};
 ghost use Rattle.sector_pool.specs.Run.{sectors_of, front_of, back_of, both_of, Touches};
 
 use crate::pieces::{cut, joined};
+use disk_model::SECTOR_SIZE;
 use std::marker::Model;
-
-/// The size of a sector in bytes.
-///
-/// Source: Linux, `include/linux/blk_types.h`, `SECTOR_SIZE`.
-pub(crate) const SECTOR_SIZE: u64 = 512;
 
 /// Sectors of a region that lie side by side. Nobody else reads or writes them.
 #[derive(Drop)]
@@ -56,7 +52,7 @@ impl<'p> Run<'p> {
         ensures whole { length self.now.bytes ≡ sectors_of self.now * 512 }
         ensures bound { self.now.place + sectors_of self.now < 2 ^ 55 }
     {
-        self.bytes.len() as u64 / SECTOR_SIZE
+        (self.bytes.len() / SECTOR_SIZE) as u64
     }
 
     /// The bytes of its sectors.
@@ -82,7 +78,7 @@ impl<'p> Run<'p> {
         ensures back { result.1 ≡ back_of k self.entry }
     {
         let Run { place, bytes } = self;
-        let (front, back) = cut(bytes, (k * SECTOR_SIZE) as usize);
+        let (front, back) = cut(bytes, k as usize * SECTOR_SIZE);
         (
             Run {
                 place,

@@ -49,9 +49,7 @@ impl SectorWindow {
 
         ensures { IfOk result (λ w. w ≡ record { room = sectors; first = 0; bytes = [] }) }
     {
-        let Ok(buffer) = Vec::from_elem(alloc, 0, SECTOR_SIZE * sectors as usize) else {
-            return Err(Memory);
-        };
+        let buffer = Vec::from_elem(alloc, 0, SECTOR_SIZE * sectors as usize)?;
         Ok(SectorWindow {
             room: sectors,
             first: 0,

@@ -38,9 +38,7 @@ impl MemSink {
         ensures room { IfOk result (λ sink. sink.room ≡ room) }
         ensures plan { IfOk result (λ sink. sink.plan ≡ unused_plan) }
     {
-        let Ok(held) = Vec::with_capacity(alloc, room) else {
-            return Err(Memory);
-        };
+        let held = Vec::with_capacity(alloc, room)?;
         Ok(MemSink {
             held,
             room,

@@ -6,7 +6,11 @@ ghost use Rattle.superblock.specs.Pads.{with_zero_pads};
 
 use crate::magic::MAGIC;
 use byteorder::{ByteOrder, LittleEndian};
-use image_model::{HAVE_JOURNAL_MAC, INLINE, KNOWN_FLAGS, MOST_SECTORS, Super, SuperFault};
+use image_model::{
+    HAVE_JOURNAL_MAC, INLINE, KNOWN_FLAGS, LEAST_LOG2_INTERLEAVE, LONGEST_TAG,
+    MOST_LOG2_INTERLEAVE, MOST_LOG2_SPB, MOST_SECTORS, NEWEST_VERSION, SECTOR_SIZE, Super,
+    SuperFault,
+};
 
 /// The fields that the first sector of an image tells.
 ///
@@ -26,7 +30,7 @@ use image_model::{HAVE_JOURNAL_MAC, INLINE, KNOWN_FLAGS, MOST_SECTORS, Super, Su
 /// - `Provided`: the provided sectors are none, no whole blocks, or more than 2^48.
 ///
 /// Source: Linux, `drivers/md/dm-integrity.c`, `dm_integrity_ctr`.
-pub fn read(bytes: &[u8; 512]) -> Result<Super, SuperFault>
+pub fn read(bytes: &[u8; SECTOR_SIZE]) -> Result<Super, SuperFault>
     ensures told { result ≡ superblock_of bytes.now }
     ensures accepted { IfOk result (λ fields. IsAccepted fields) }
 
@@ -55,7 +59,7 @@ pub fn judge(fields: &Super) -> Result<(), SuperFault>
 }
 
 /// The fields, whatever stands in them.
-fn fields_in(bytes: &[u8; 512]) -> Super
+fn fields_in(bytes: &[u8; SECTOR_SIZE]) -> Super
     ensures { result ≡ fields_in bytes.now }
 {
     let mut salt = [0; 16];
@@ -80,7 +84,7 @@ fn accepted(fields: Super) -> Result<Super, SuperFault>
         ≡ ok_unless (superblock_faults fields) fields }
 {
     let flags = fields.flags;
-    if !(1..=5).contains(&fields.version) {
+    if !(1..=NEWEST_VERSION).contains(&fields.version) {
         return Err(SuperFault::Version { v: fields.version });
     }
     if flags & HAVE_JOURNAL_MAC != 0 {
@@ -94,13 +98,13 @@ fn accepted(fields: Super) -> Result<Super, SuperFault>
         return Err(SuperFault::Flags { unknown });
     }
     let log2_interleave = fields.log2_interleave;
-    if !(3..=31).contains(&log2_interleave) {
+    if !(LEAST_LOG2_INTERLEAVE..=MOST_LOG2_INTERLEAVE).contains(&log2_interleave) {
         return Err(SuperFault::Interleave { v: log2_interleave });
     }
-    if fields.log2_spb > 3 {
+    if fields.log2_spb > MOST_LOG2_SPB {
         return Err(SuperFault::BlockSize { v: fields.log2_spb });
     }
-    if !(1..=32).contains(&fields.tag_size) {
+    if !(1..=LONGEST_TAG).contains(&fields.tag_size) {
         return Err(SuperFault::TagSize { v: fields.tag_size });
     }
     if fields.sections == 0 {

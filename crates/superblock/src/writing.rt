@@ -5,10 +5,10 @@ ghost use Rattle.image_model.specs.SuperblockLaws.{FitsBytes};
 
 use crate::magic::MAGIC;
 use byteorder::{ByteOrder, LittleEndian};
-use image_model::{DIRTY_BITMAP, FIXED_HMAC, FIXED_PADDING, RECALCULATING, Super};
+use image_model::{DIRTY_BITMAP, FIXED_HMAC, FIXED_PADDING, RECALCULATING, SECTOR_SIZE, Super};
 
 /// Writes the fields, with zeros in the pads. The bytes from 64 on stay.
-pub fn write(fields: &Super, bytes: &mut [u8; 512])
+pub fn write(fields: &Super, bytes: &mut [u8; SECTOR_SIZE])
     requires fields { IsAccepted fields.now }
 
     ensures written { bytes.new ≡ superblock_bytes fields.now ++ drop 64 bytes.old }

@@ -3,7 +3,7 @@ use Rattle.std.proofs.Common.{◌≡◌, ℕ, ◌+◌, ◌/◌, ◌%◌, ◌^◌
 use Rattle.std.proofs.lemmas.Bool.{le-ltb, ne_eqb}
 use Rattle.device_model.specs.Mode.{DeviceFormat}
 use Rattle.device_model.specs.Script.{Fill, Flush, Read, ask_fault, range_fault}
-use Rattle.command_model.specs.Workload.{workload_ask, workload_count, workload_first}
+use Rattle.workload_model.specs.Workload.{workload_ask, workload_count, workload_first}
 
 -- A few blocks, at least one, that are all there.
 range_fits : (blocks first count : ℕ) → 1 ≤ count → count ≤ 1024 → first + count ≤ blocks → range_fault blocks first count ≡ None

@@ -5,7 +5,7 @@ use Rattle.std.proofs.lemmas.List.Sums.{sum_by-append, sum_by-cons, count_by-le-
 use Rattle.device_model.specs.Progress.{Answer, Replied}
 use Rattle.device_model.specs.Reply.{Bytes, TagFault}
 use Rattle.device_model.specs.Script.{Ask, Fill, Flush, Read, Write, told_fault}
-use Rattle.command_model.specs.Exercise.{Tally, bytes_read, is_fill, is_flush, is_read, tally_of}
+use Rattle.workload_model.specs.Exercise.{Tally, bytes_read, is_fill, is_flush, is_read, tally_of}
 use Rattle.workload.specs.Laws.{BoundsLaw, MoreAsksLaw, MoreRepliesLaw, OtherAnswersLaw}
 
 -- ---- counts with one more

@@ -2,7 +2,7 @@
 use Rattle.std.proofs.Common.{◌≡◌, ℕ, suc, ◌+◌, ◌-◌, ◌<◌, ◌≤◌, [], ◌∷◌, map, ap, arith}
 use Rattle.std.specs.List.{range_with_len}
 use Rattle.device_model.specs.Script.{Read}
-use Rattle.command_model.specs.Workload.{next_number, workload_ask}
+use Rattle.workload_model.specs.Workload.{next_number, workload_ask}
 use Rattle.workload.specs.Workload.{WorkloadState, asks_ahead}
 
 -- ---- for callers

@@ -4,7 +4,7 @@ use Rattle.device_model.specs.Progress.{Answer, Replied}
 use Rattle.device_model.specs.Reply.{Reply}
 use Rattle.device_model.specs.Request.{Request}
 use Rattle.device_model.specs.Script.{Ask, told_fault}
-use Rattle.command_model.specs.Exercise.{bytes_read, tally_of}
+use Rattle.workload_model.specs.Exercise.{bytes_read, tally_of}
 use Rattle.workload.specs.Tally.{lines_in, no_tally, with_ask, with_reply}
 
 -- Of no request and no answer nothing is counted.

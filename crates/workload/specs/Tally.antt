@@ -2,7 +2,7 @@
 use Rattle.std.specs.Prelude.{ℕ, suc, ◌+◌, ◌%◌, ◌^◌, sum}
 use Rattle.device_model.specs.Reply.{Reply, Bytes, TagFault}
 use Rattle.device_model.specs.Script.{Ask, Fill, Flush, Read, Write}
-use Rattle.command_model.specs.Exercise.{Tally}
+use Rattle.workload_model.specs.Exercise.{Tally}
 
 abbrev pub no_tally : Tally
 no_tally = record { fills = 0; reads = 0; flushes = 0; faults = 0; sum_read = 0 }

@@ -1,7 +1,7 @@
 -- What a contract sees of a workload.
 use Rattle.std.specs.Prelude.{ℕ, List}
 use Rattle.device_model.specs.Script.{Ask}
-use Rattle.command_model.specs.Workload.{workload_asks}
+use Rattle.workload_model.specs.Workload.{workload_asks}
 
 -- The number that told its last request, or its seed where none is told; and how many blocks the device has.
 pub record WorkloadState : Type 0 where

@@ -3,7 +3,7 @@
 //! Each is told by the next number of a linear congruential generator, with the constants of Knuth's MMIX. No request
 //! is kept, so that a workload of any length takes no memory.
 ghost use Rattle.std.specs.Prelude.{◌≡◌, ◌≤◌};
-ghost use Rattle.command_model.specs.Workload.{next_number, workload_ask};
+ghost use Rattle.workload_model.specs.Workload.{next_number, workload_ask};
 ghost use Rattle.script_text.specs.Line.{ask_of};
 
 use script_text::Ask;

@@ -1,7 +1,7 @@
 //! What an exercise counts.
 ghost use Rattle.std.specs.Prelude.{◌≡◌, ◌+◌, ◌%◌, ◌<◌, ◌≤◌, ◌^◌, ◌++◌, IfOk, IsTrue, OnOk, sum, true};
 ghost use Rattle.std.specs.Fmt.{decimal};
-ghost use Rattle.command_model.specs.Exercise.{exercise_text, finds_faults};
+ghost use Rattle.workload_model.specs.Exercise.{exercise_text, finds_faults};
 ghost use Rattle.request_slots.specs.InFlight.{as_reply};
 ghost use Rattle.script_text.specs.Line.{ask_of};
 ghost use Rattle.workload.specs.Tally.{lines_in, no_tally, with_ask, with_reply};
@@ -25,7 +25,7 @@ pub struct Tally {
 }
 
 impl Model for Tally {
-    ghost use Rattle.command_model.specs.Exercise as exercise;
+    ghost use Rattle.workload_model.specs.Exercise as exercise;
 
     ghost Value = { exercise.Tally };
 

@@ -2,7 +2,7 @@ use Rattle.std.proofs.Common.{◌≡◌, ℕ, ◌++◌, codes, sym, ap, ◌∙�
 use Rattle.std.specs.Fmt.{decimal}
 use Rattle.image_model.specs.declared.super_fields.SuperFault.{SuperFault}
 use Rattle.image_model.specs.declared.super_fields.SuperFault.TheVariants.{Interleave}
-use Rattle.device_model.specs.Ending.{BySuperblock}
+use Rattle.device_model.specs.Refusals.{BySuperblock}
 use Rattle.command_ending.specs.Ended.{image_line, image_line_of}
 use Rattle.command_ending.proofs.TextLemmas.{same_put}
 use Rattle.command_ending.proofs.image_texts.put_super_fault.Goals as goal

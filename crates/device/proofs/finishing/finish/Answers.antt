@@ -1,12 +1,14 @@
-use Rattle.std.proofs.Common.{◌≡◌, Some, inl, inr, ap, subst, ◌∙◌, refl}
+use Rattle.std.proofs.Common.{rules, ◌≡◌, Some, inl, inr, ap, subst, ◌∙◌, refl}
 use Rattle.std.proofs.lemmas.Result.{err_from_is_err_and}
 use Rattle.device_model.specs.Progress.{answers}
 use Rattle.device_model.specs.Script.{last_answer, turn_events}
 use Rattle.device_parts.specs.declared.answers.Served.{Served}
 use Rattle.device_parts.specs.Answers.{served_answer}
+use Rattle.journal_device.specs.Telling.{IsToldOf}
 use Rattle.device.specs.Run.{standing_behind}
 use Rattle.device.proofs.CallLemmas.{keeps_none, kept_then, runs_failed, turn_broken, works_then}
 use Rattle.device.proofs.FinishLemmas.{more_by}
+use Rattle.device.proofs.TellingLemmas.{held_alone}
 use Rattle.device.proofs.TurnRunLemmas.{way_begins, way_cut, way_ends, way_goes_on}
 use Rattle.device.proofs.finishing.finish.Goals as goal
 
@@ -30,6 +32,7 @@ turns-preserved g c =
       keeps = kept_then _ _ _ _ _ _ _ _ _ _ c.turns.invariant.keeps runs.keeps;
       faults = c.in_ok-serve_with_room.ensures.cause.passed ∙ c.turns.invariant.faults;
       same_disk = c.serve_with_room.ensures.same_disk ∙ c.turns.invariant.same_disk;
+      request = λ mode asked is. (c.in_ok-serve_with_room.ensures.tells (c.turns.invariant.keeps.same_mode ∙ mode)).keeps asked (c.turns.invariant.request mode asked is);
       way = λ w is.
           let way = c.turns.invariant.way w is in
           let here = standing_behind w way.made in
@@ -64,6 +67,7 @@ turns-init g c = record {
   keeps = keeps_none g.D.Disk.identity g.D.Disk.moments _ _ _ c.requires.works;
   faults = refl;
   same_disk = refl;
+  request = λ mode asked is. is;
   way = λ w is. way_begins w c.args.ticket.now _ _ is;
 }
 
@@ -74,3 +78,30 @@ returns-in_err-serve_with_room-clause-turn g c =
 
 pub returns-in-Held-clause-turn : goal.returns-in-Held-clause-turn
 returns-in-Held-clause-turn g c = c.in_ok-serve_with_room.ensures.turn
+
+-- ---- what it tells of the request
+
+pub returns-in_err-serve_with_room-clause-finishes : goal.returns-in_err-serve_with_room-clause-finishes
+returns-in_err-serve_with_room-clause-finishes g c mode = record {
+  keeps = λ asked is. (c.in_err-serve_with_room.ensures.tells (c.turns.invariant.keeps.same_mode ∙ mode)).keeps asked (c.turns.invariant.request mode asked is);
+  done = search rules;
+}
+
+pub returns-in-Held-clause-finishes : goal.returns-in-Held-clause-finishes
+returns-in-Held-clause-finishes g c mode =
+    let t = c.args.ticket.now in
+    let first = c.args.device.now.parts.common.slots in
+    let old = c.turns.device.parts.common.slots in
+    let new = c.serve_with_room.new.device.parts.common.slots in
+    let tells = c.in_ok-serve_with_room.ensures.tells (c.turns.invariant.keeps.same_mode ∙ mode) in
+    record {
+      keeps = λ asked is. tells.keeps asked (c.turns.invariant.request mode asked is);
+      done = λ one.
+          elim c.in-Held.is [
+            | inl held ↦ absurd (held_alone t held.0 first old new c.turns.invariant.keeps.flight one (subst (IsToldOf t old new ⊥) held.1 tells.told))
+            | inr other ↦ elim other [
+              | inl done ↦ subst (IsToldOf t old new ⊥) done tells.told
+              | inr full ↦ absurd (subst (IsToldOf t old new ⊥) full tells.told)
+            ]
+          ];
+    }

@@ -4,7 +4,9 @@ use Rattle.device_parts.specs.Answers.{turns_left}
 use Rattle.request_slots.specs.Flight.{is_in_flight}
 use Rattle.device_parts.specs.Device.{KeepsParts}
 use Rattle.device.specs.Calls.{Works}
-use Rattle.device.specs.Device.{IsDevice, any_mode}
+use Rattle.device_model.specs.Mode as Modes
+use Rattle.journal_device.specs.Telling.{KeepsRequest}
+use Rattle.device.specs.Device.{IsDevice, any_mode, mode_of}
 use Rattle.device_parts.specs.Device.{Standing}
 use Rattle.device.proofs.TurnRunLemmas.{IsOnWay}
 use Rattle.device.proofs.finishing.finish.Given as goal
@@ -17,6 +19,8 @@ invariant-turns g l = record {
       (g.D.Disk.identity l.initial.device.disk.now) (g.D.Disk.identity l.device.disk.now) (g.D.Disk.moments l.device.disk.now);
   faults : g.D.Counted.faults l.device.disk.now ≡ g.D.Counted.faults l.initial.device.disk.now;
   same_disk : l.device.disk.ghost_name ≡ l.initial.device.disk.ghost_name;
+  request : mode_of l.initial.device.parts.mode ≡ Modes.Journal
+      → KeepsRequest l.ticket l.initial.device.parts.common.slots l.device.parts.common.slots;
   way : (w : Standing) → IsDevice w Working l.initial.device.parts (g.D.Disk.moments l.initial.device.disk.now)
       → IsOnWay w l.ticket l.device.parts (g.D.Disk.moments l.initial.device.disk.now)
       (g.D.Disk.moments l.device.disk.now);

@@ -28,3 +28,9 @@ returns-in-Err-clause-runs g c =
 
 pub returns-in-Err-clause-turn : goal.returns-in-Err-clause-turn
 returns-in-Err-clause-turn g c = c.in-Err.ensures.condition.after
+
+pub returns-in-Ok-clause-tells : goal.returns-in-Ok-clause-tells
+returns-in-Ok-clause-tells g c mode = let tells = c.in-Ok.ensures.tells mode in record { keeps = tells.keeps; told = tells.told }
+
+pub returns-in-Err-clause-tells : goal.returns-in-Err-clause-tells
+returns-in-Err-clause-tells g c mode = record { keeps = (c.in-Err.ensures.tells mode).keeps; told = tt }

@@ -1,13 +1,18 @@
-use Rattle.std.proofs.Common.{subst}
+use Rattle.std.proofs.Common.{rules, ap, sym, subst, ◌∙◌}
 use Rattle.std.proofs.lemmas.Result.{err_from_is_err_and}
 use Rattle.device_model.specs.Progress.{Serve}
 use Rattle.device_parts.specs.declared.answers.Served.{Served}
 use Rattle.device_parts.specs.Answers.{served_answer}
 use Rattle.device_parts.specs.Device.{Answers}
+use Rattle.request_slots.specs.Flight.{Flight}
+use Rattle.journal_device.specs.Telling.{IsTicketOf}
+use Rattle.device.specs.declared.mode.DeviceParts.{DeviceParts}
 use Rattle.device.specs.Run.{one_serve, one_turn}
+use Rattle.device.specs.Telling.{has_room_in}
 use Rattle.device.proofs.CallLemmas.{kept_then, runs_behind, runs_failed, turn_broken}
 use Rattle.device.proofs.ModeLemmas.{if_ok_each}
 use Rattle.device.proofs.FinishLemmas.{answer-alone, answer-with_room}
+use Rattle.device.proofs.TellingLemmas.{tells_with_room, told_alone}
 use Rattle.device.proofs.TurnRunLemmas.{roomy, turn_alone, turn_failed, turn_failed_again, turn_failed_in_room, turn_with_room}
 use Rattle.device.proofs.finishing.serve_with_room.Goals as goal
 
@@ -80,6 +85,33 @@ returns-in_default g c =
       turn = first.turn;
       answers = λ w is. answer-alone w.format w.state t served c.in_default.not-NoRoom (first.answers w is);
       goes_on = first.goes_on;
+      tells = λ mode.
+          let tells = first.tells mode in
+          record { keeps = tells.keeps; told = told_alone t c.args.device.now.parts.common.slots c.serve.new.device.parts.common.slots _ served c.in_default.not-NoRoom tells.told };
       cause = first.cause;
       same_disk = c.serve.ensures.same_disk;
     }
+
+-- ---- what it tells
+
+pub returns-in_err-served-clause-tells : goal.returns-in_err-served-clause-tells
+returns-in_err-served-clause-tells g c mode = record { keeps = (c.in_err-served.ensures.tells mode).keeps; told = search rules }
+
+pub returns-in_err-make_room-in-NoRoom-clause-tells : goal.returns-in_err-make_room-in-NoRoom-clause-tells
+returns-in_err-make_room-in-NoRoom-clause-tells g c mode = record {
+  keeps = λ request is.
+      subst (λ (x : Flight). IsTicketOf request c.args.ticket.now x) (sym c.make_room.ensures.slots)
+      ((c.in_ok-served.ensures.tells mode).keeps request is);
+  told = search rules;
+}
+
+pub returns-in_ok-make_room-in-NoRoom-clause-tells : goal.returns-in_ok-make_room-in-NoRoom-clause-tells
+returns-in_ok-make_room-in-NoRoom-clause-tells g c mode =
+    let parts = c.args.device.now.parts in
+    let mid = c.make_room.new.device.parts in
+    let new = c.serve-in-NoRoom.new.device.parts in
+    let none = ap (λ (p : DeviceParts). p.common.slots) (c.in_ok-served.ensures.no_room c.in-NoRoom.is) in
+    let later = c.in_ok-make_room-in-NoRoom.ensures.runs.keeps.same_mode ∙ c.in_ok-served.ensures.runs.keeps.same_mode ∙ mode in
+    tells_with_room c.args.ticket.now parts.common.slots mid.common.slots new.common.slots (has_room_in mid.mode)
+    c.in_ok-make_room-in-NoRoom.ensures.room (c.make_room.ensures.slots ∙ none) c.serve-in-NoRoom.result
+    (c.serve-in-NoRoom.ensures.tells later)

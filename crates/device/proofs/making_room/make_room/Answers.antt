@@ -1,5 +1,6 @@
 use Rattle.std.proofs.lemmas.Result.{err_from_is_err_and}
 use Rattle.device.proofs.CallLemmas.{kept_then, room_failed_at_commit, room_failed_at_place, room_failed_at_settle, room_made, runs_failed, turn_broken}
+use Rattle.device.proofs.TellingLemmas.{due_commit, due_place, due_settle, room_settled}
 use Rattle.device.proofs.making_room.make_room.Goals as goal
 
 pub returns-in_err-step_until_idle-clause-runs : goal.returns-in_err-step_until_idle-clause-runs
@@ -62,3 +63,10 @@ returns-in_err-step_until_idle-3-clause-turn g c =
 
 pub returns-clause-turn : goal.returns-clause-turn
 returns-clause-turn g c = c.in_ok-step_until_idle-3.ensures.turn
+
+pub returns-clause-room : goal.returns-clause-room
+returns-clause-room g c =
+    let one = c.in_ok-step_until_idle.ensures.due (due_commit c.args.device.now.parts.mode) in
+    let two = c.in_ok-step_until_idle-2.ensures.due (due_place c.step_until_idle.new.device.parts.mode one) in
+    room_settled c.step_until_idle-3.new.device.parts.mode
+    (c.in_ok-step_until_idle-3.ensures.due (due_settle c.step_until_idle-2.new.device.parts.mode two))

@@ -1,11 +1,14 @@
-use Rattle.std.proofs.Common.{subst, ◌∙◌, refl}
+use Rattle.std.proofs.Common.{subst, sym, ◌∙◌, refl}
 use Rattle.std.proofs.lemmas.Result.{err_from_is_err_and}
+use Rattle.device_model.specs.Actors.{actor_of}
 use Rattle.device_model.specs.Progress.{Step}
 use Rattle.device_parts.specs.declared.answers.Moved.{Moved}
-use Rattle.device_parts.specs.Answers.{actor_of, moved_answer}
+use Rattle.device_parts.specs.Answers.{moved_answer}
 use Rattle.device_parts.specs.Device.{Answers}
 use Rattle.device.proofs.CallLemmas.{keeps_none, kept_then, runs_failed, turn_broken, way_begins, way_cut, way_ends, way_goes_on, works_then}
+use Rattle.device.specs.declared.mode.DeviceParts.{DeviceParts}
 use Rattle.device.specs.Run.{standing_behind}
+use Rattle.device.specs.Telling.{IsDueIn}
 use Rattle.device.proofs.making_room.step_until_idle.Goals as goal
 
 pub returns-in_err-step-clause-runs : goal.returns-in_err-step-clause-runs
@@ -27,6 +30,7 @@ steps-preserved g c =
       keeps = kept_then _ _ _ _ _ _ _ _ _ _ c.steps.invariant.keeps runs.keeps;
       faults = c.in_ok-step.ensures.cause.passed ∙ c.steps.invariant.faults;
       same_disk = c.step.ensures.same_disk ∙ c.steps.invariant.same_disk;
+      due = λ due. (c.in_ok-step.ensures.goes_on c.in-Did.is).due (c.steps.invariant.due due);
       way = λ w is.
           let way = c.steps.invariant.way w is in
           way_goes_on w (actor_of c.args.actor) c.requires.actor _ _ _ _ _ way
@@ -54,6 +58,7 @@ steps-init g c = record {
   keeps = keeps_none g.D.Disk.identity g.D.Disk.moments _ _ _ c.requires.works;
   faults = refl;
   same_disk = refl;
+  due = λ due. due;
   way = λ w is. way_begins w (actor_of c.args.actor) _ _ is;
 }
 
@@ -64,3 +69,8 @@ returns-in_err-step-clause-turn g c =
 
 pub returns-in-Idle-clause-turn : goal.returns-in-Idle-clause-turn
 returns-in-Idle-clause-turn g c = c.in_ok-step.ensures.turn
+
+pub returns-in-Idle-clause-due : goal.returns-in-Idle-clause-due
+returns-in-Idle-clause-due g c due =
+    let idle = c.in_ok-step.ensures.idle c.in-Idle.is in
+    idle.done (subst (λ (p : DeviceParts). IsDueIn c.args.actor p.mode) (sym idle.parts) (c.steps.invariant.due due))

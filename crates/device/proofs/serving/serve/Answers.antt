@@ -57,3 +57,14 @@ returns-in-Err-clause-condition g c = turns_failed c.args.condition.now _ _ c.in
 
 pub returns-in-Broken-clause-tags : goal.returns-in-Broken-clause-tags
 returns-in-Broken-clause-tags g c = clear_tags_still c.args.parts.now.mode c.args.parts.now.common (FailedServe c.args.ticket.now) refl
+
+-- ---- what it tells
+
+pub returns-in-Broken-clause-tells : goal.returns-in-Broken-clause-tells
+returns-in-Broken-clause-tells g c mode = record { keeps = λ request is. is; told = tt }
+
+pub returns-in-Ok-clause-tells : goal.returns-in-Ok-clause-tells
+returns-in-Ok-clause-tells g c mode = let tells = c.in-Ok.ensures.tells mode in record { keeps = tells.keeps; told = tells.told }
+
+pub returns-in-Err-clause-tells : goal.returns-in-Err-clause-tells
+returns-in-Err-clause-tells g c mode = record { keeps = (c.in-Err.ensures.tells mode).keeps; told = tt }

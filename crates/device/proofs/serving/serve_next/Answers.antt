@@ -1,10 +1,12 @@
 use Rattle.device_model.specs.Progress.{FailedServe}
 use Rattle.device.specs.Answers.{KeepsClearTags}
-use Rattle.std.proofs.Common.{sym, subst}
+use Rattle.std.proofs.Common.{◌≡◌, false, ◌∙◌, ap, sym, subst}
 use Rattle.device_parts.specs.declared.condition.Condition.TheVariants.{Working}
 use Rattle.device.specs.declared.mode.Mode.{Mode}
 use Rattle.device.specs.Answers.{WritesInServe}
-use Rattle.device.specs.Device.{IsReadyIn, any_mode}
+use Rattle.device.specs.Device.{IsReadyIn, any_mode, mode_of}
+use Rattle.device.specs.Telling.{has_room_in}
+use Rattle.journal_device.specs.Telling.{TellsOf}
 use Rattle.device_parts.specs.Answers.{ServesNext}
 use Rattle.image_model.specs.Geometry.{Geometry}
 use Rattle.direct_mode.specs.Places.{IsOfPlaces}
@@ -19,6 +21,7 @@ use Rattle.device.proofs.AwaitingLemmas.{no_more_same}
 use Rattle.device.proofs.JournalWritesLemmas.{serve_fields}
 use Rattle.device.proofs.ModeLemmas.{in_bitmap_mode, in_direct_mode, in_journal_mode, in_recovery_mode, parts_in, plain_bitmap, plain_direct, plain_journal, plain_recovery, serves_plain}
 use Rattle.device.proofs.MovingLemmas.{direct_keeps, direct_stays, direct_tags, journal_keeps, journal_tags, places_fields, places_outside}
+use Rattle.device.proofs.TellingLemmas.{no_bitmap, no_direct, no_recovery}
 use Rattle.device.proofs.serving.serve_next.Goals as goal
 
 pub returns-in-Direct-clause-next : goal.returns-in-Direct-clause-next
@@ -109,3 +112,19 @@ returns-in-Journal-clause-tags g c =
 pub returns-in-Bitmap-clause-tags : goal.returns-in-Bitmap-clause-tags
 returns-in-Bitmap-clause-tags g c =
     subst (λ (m : Mode). KeepsClearTags m c.args.parts.now.common (FailedServe c.args.ticket.now) (g.D.Disk.moments c.args.disk.now) (g.D.Disk.moments c.serve-in-Bitmap.new.disk)) (sym c.in-Bitmap.is) c.serve-in-Bitmap.ensures.tags
+
+-- ---- what it tells
+
+pub returns-in-Direct-clause-tells : goal.returns-in-Direct-clause-tells
+returns-in-Direct-clause-tells g c mode = absurd (no_direct (sym (ap mode_of c.in-Direct.is) ∙ mode))
+
+pub returns-in-Journal-clause-tells : goal.returns-in-Journal-clause-tells
+returns-in-Journal-clause-tells g c mode =
+    subst (λ (m : Mode). TellsOf c.args.ticket.now c.args.parts.now.common.slots c.serve-in-Journal.new.parts.slots (has_room_in m ≡ false)
+    c.serve-in-Journal.result) (sym c.in-Journal.is) c.serve-in-Journal.ensures.tells
+
+pub returns-in-Bitmap-clause-tells : goal.returns-in-Bitmap-clause-tells
+returns-in-Bitmap-clause-tells g c mode = absurd (no_bitmap (sym (ap mode_of c.in-Bitmap.is) ∙ mode))
+
+pub returns-in-Recovery-clause-tells : goal.returns-in-Recovery-clause-tells
+returns-in-Recovery-clause-tells g c mode = absurd (no_recovery (sym (ap mode_of c.in-Recovery.is) ∙ mode))

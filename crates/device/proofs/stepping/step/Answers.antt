@@ -1,9 +1,10 @@
 use Rattle.device.proofs.ClearTagsLemmas.{clear_tags_still}
+use Rattle.device_model.specs.Actors.{actor_of}
 use Rattle.device_model.specs.Progress.{Step}
 use Rattle.std.proofs.Common.{refl, subst}
 use Rattle.device_model.specs.Progress.{FailedStep, Step}
 use Rattle.device_parts.specs.declared.condition.Condition.{Condition}
-use Rattle.device_parts.specs.Answers.{actor_of, moved_answer}
+use Rattle.device_parts.specs.Answers.{moved_answer}
 use Rattle.device_parts.proofs.ReadyLemmas.{same_flight}
 use Rattle.device.specs.Device.{IsDevice, IsReady}
 use Rattle.device.proofs.JudgedLemmas.{done_failed, done_working, not_both, turns_broken, turns_failed, turns_none}

@@ -3,7 +3,7 @@ use Rattle.std.proofs.lemmas.Result.{err_from_is_err_and}
 use Rattle.device_parts.specs.declared.condition.Condition.TheVariants.{Working}
 use Rattle.device.proofs.ModeLemmas.{flight_now}
 use Rattle.script_session.proofs.TicketLemmas.{none_in_flight}
-use Rattle.command_model.specs.Workload.{workload_asks}
+use Rattle.workload_model.specs.Workload.{workload_asks}
 use Rattle.device_exercise.proofs.ExercisingLemmas.{behind, cut_first, cut_second, has_exercised}
 use Rattle.device_exercise.proofs.exercising.exercise.Goals as goal
 

@@ -1,6 +1,6 @@
 use Rattle.std.proofs.Common.{◌≡◌, ◌+◌, ◌-◌, ◌≤◌, [], map}
 use Rattle.std.specs.List.{range_with_len}
-use Rattle.command_model.specs.Exercise.{read_all}
+use Rattle.workload_model.specs.Exercise.{read_all}
 use Rattle.device_parts.specs.declared.condition.Condition.TheVariants.{Working}
 use Rattle.device_model.specs.Script.{Read}
 use Rattle.device.specs.Device.{IsDevice}

@@ -1,5 +1,5 @@
 use Rattle.std.proofs.Common.{◌≡◌, ◌-◌, ◌≤◌}
-use Rattle.command_model.specs.Workload.{workload_asks}
+use Rattle.workload_model.specs.Workload.{workload_asks}
 use Rattle.device_parts.specs.declared.condition.Condition.TheVariants.{Working}
 use Rattle.device.specs.Device.{IsDevice}
 use Rattle.device_parts.specs.Device.{Standing}

@@ -1,18 +1,30 @@
-use Rattle.std.proofs.Common.{sym, ◌∙◌}
+use Rattle.std.proofs.Common.{sym, ap, ◌∙◌}
+use Rattle.std.proofs.lemmas.Result.{err_from_is_err_and}
 use Rattle.device_model.specs.Mode as Model
 use Rattle.hmac_tag.specs.TagMaker.{key_of}
+use Rattle.image_judging.specs.Faults.{fault_by_format, fault_of}
+use Rattle.bitmap_device.specs.declared.parts.BitmapParts.{BitmapParts}
 use Rattle.device_opening.specs.Judged.{HasBitmapFormat, HasJournalFormat}
 use Rattle.device_opening.specs.Opening.{LeavesOpenable, OnlySyncs}
 use Rattle.device_opening.proofs.JudgedLemmas.{shift}
 use Rattle.device_opening.proofs.OpenedMadeLemmas.{found_writes}
+use Rattle.device_opening.proofs.RefusedLemmas.{head_refuses}
 use Rattle.device_opening.proofs.bitmap.open_bitmap.Goals as goal
+
+pub returns-in_err-format-clause-refused : goal.returns-in_err-format-clause-refused
+returns-in_err-format-clause-refused g c =
+    let p = err_from_is_err_and c.from_residual.result c.from_residual.ensures.1 in
+    let key = key_of c.args.hash in
+    let sectors = (g.D.Disk.identity c.args.disk.now).sectors in
+    rw (p.1, p.2) (head_refuses (fault_of key c.args.consent sectors) (g.D.Disk.moments c.args.disk.now) (g.D.Disk.moments c.read_format.new.disk) BitmapParts sectors
+    c.in_err-format.field-0.0 (λ image cause told. ap (fault_by_format key c.args.consent image) told) c.in_err-format.ensures.refused c.read_format.ensures.kept)
 
 pub open_found-requires-clause-found : goal.open_found-requires-clause-found
 open_found-requires-clause-found g c =
     shift (λ i x. HasBitmapFormat i.sectors c.in_ok-format.format x) (sym c.read_format.ensures.identity) (sym c.read_format.ensures.kept) (record {
       format_ = record { accepted = c.in_ok-format.ensures.format; bitmap = sym c.has_bitmap.ensures ∙ c.if-has_bitmap.true };
       reads = c.in_ok-format.ensures.reads;
-      told = c.in_ok-format.ensures.told (λ e. cc);
+      told = c.in_ok-format.ensures.told;
     })
 
 pub open_made-requires-clause-found : goal.open_made-requires-clause-found
@@ -21,7 +33,7 @@ open_made-requires-clause-found g c =
     shift (λ i x. HasJournalFormat i.sectors c.in_ok-format.format x) (sym c.read_format.ensures.identity) (sym c.read_format.ensures.kept) (record {
       format_ = record { accepted = c.in_ok-format.ensures.format; no_bitmap = clear };
       reads = c.in_ok-format.ensures.reads;
-      told = c.in_ok-format.ensures.told (λ e. cc);
+      told = c.in_ok-format.ensures.told;
     })
 
 pub returns-then-has_bitmap-clause-left : goal.returns-then-has_bitmap-clause-left
@@ -39,6 +51,6 @@ returns-then-has_bitmap-clause-writes g c =
     (record {
       format_ = record { accepted = c.in_ok-format.ensures.format; bitmap = sym c.has_bitmap.ensures ∙ c.if-has_bitmap.true };
       reads = c.in_ok-format.ensures.reads;
-      told = c.in_ok-format.ensures.told (λ e. cc);
+      told = c.in_ok-format.ensures.told;
     })
     (shift (λ i x. OnlySyncs x b) c.read_format.ensures.identity c.read_format.ensures.kept c.open_found.ensures.synced)

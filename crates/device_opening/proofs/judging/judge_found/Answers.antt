@@ -6,7 +6,7 @@ use Rattle.place_model.specs.Format.{OpensAs}
 use Rattle.disk_model.specs.Disk.{last_image}
 use Rattle.journal_reading.specs.Faults.{refusal_in}
 use Rattle.journal_reading.specs.declared.reading.JudgedJournal.{JudgedJournal}
-use Rattle.image_judging.proofs.FaultsLemmas.{same_replay, told_journal}
+use Rattle.image_judging.proofs.FaultsLemmas.{same_journal, told_journal}
 use Rattle.device_opening.specs.declared.judging.JudgedImage.{JudgedImage}
 use Rattle.device_opening.specs.Judged.{rule_of}
 use Rattle.device_opening.proofs.JudgedLemmas.{fault_now, judged_opens}
@@ -19,7 +19,7 @@ returns-in_err-journal-clause-refused g c =
     told_journal JudgedJournal JudgedImage c.in_err-journal.field-0.0
     ∙ fault_now (key_of c.args.hash) c.args.consent (g.D.Disk.identity c.args.disk.now) c.args.format (g.D.Disk.moments c.args.disk.now) c.requires.found.told c.requires.found.format_.no_bitmap
     c.maker_of-maker.result c.maker_of-maker.ensures (c.in_ok-judge_consent.ensures.given.0 refl) (refusal_in {T = JudgedJournal} (Err c.in_err-journal.field-0.0))
-    (λ x at. c.in_err-journal.ensures.refused (λ e. not_memory (same_replay e)) (λ e. not_disk (same_replay e)) x at) content told)
+    (λ x at. c.in_err-journal.ensures.refused (λ e. not_memory (same_journal e)) (λ e. not_disk (same_journal e)) x at) content told)
 
 pub returns-clause-judged : goal.returns-clause-judged
 returns-clause-judged g c =

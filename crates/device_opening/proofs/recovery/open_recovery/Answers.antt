@@ -1,22 +1,16 @@
-use Rattle.std.proofs.Common.{◌≡◌, None, Err, Result, ◌∙◌, ap}
+use Rattle.std.proofs.Common.{None, ◌∙◌, ap}
 use Rattle.std.proofs.lemmas.Result.{err_from_is_err_and}
-use Rattle.disk_model.specs.Disk.{last_image}
 use Rattle.image_model.specs.Geometry.{Shape}
 use Rattle.hmac_tag.specs.TagMaker.{key_of}
-use Rattle.image_format.specs.declared.open_fault.OpenFault.{OpenFault}
-use Rattle.image_judging.specs.declared.opening_fault.OpeningFault.{OpeningFault}
-use Rattle.image_judging.specs.Faults.{fault_by, of_format}
+use Rattle.image_judging.specs.Faults.{fault_by}
 use Rattle.buffer_cache.specs.declared.held.HeldSectors.{HeldSectors}
 use Rattle.tag_store.specs.Store.{Store}
 use Rattle.device_parts.specs.declared.parts.Parts.{Parts}
 use Rattle.device_opening.specs.declared.room.TheConstants.{HELD_SECTORS}
 use Rattle.device_opening.specs.RecoveryOpening.{format_fault_of}
-use Rattle.device_opening.proofs.RecoveryLemmas.{format_told, opened}
-use Rattle.device_opening.proofs.RefusedLemmas.{judging_refuses, memory_refuses, open_refuses, same_told}
+use Rattle.device_opening.proofs.RecoveryLemmas.{opened}
+use Rattle.device_opening.proofs.RefusedLemmas.{head_refuses, memory_refuses, open_refuses}
 use Rattle.device_opening.proofs.recovery.open_recovery.Goals as goal
-
-as_told : {x y : OpenFault} → x ≡ y → ◌≡◌ {A = Result Parts OpeningFault} (Err (of_format x)) (Err (of_format y))
-as_told e = ap (λ (z : OpenFault). let r : Result Parts OpeningFault = Err (of_format z) in r) e
 
 pub returns-clause-opened : goal.returns-clause-opened
 returns-clause-opened g c =
@@ -38,7 +32,7 @@ pub returns-clause-refused : goal.returns-clause-refused
 returns-clause-refused g c =
     let sectors = (g.D.Disk.identity c.args.disk.now).sectors in
     open_refuses (format_fault_of sectors) (g.D.Disk.moments c.args.disk.now) (g.D.Disk.moments c.read_format.new.disk) Parts _
-    (λ content told. ap (fault_by (λ format. None)) (c.in_ok-format.ensures.told (λ e. cc) content told))
+    (λ content told. ap (fault_by (λ format. None)) (c.in_ok-format.ensures.told content told))
 
 pub returns-in_err-room-clause-refused : goal.returns-in_err-room-clause-refused
 returns-in_err-room-clause-refused g c =
@@ -51,10 +45,5 @@ pub returns-in_err-format-clause-refused : goal.returns-in_err-format-clause-ref
 returns-in_err-format-clause-refused g c =
     let p = err_from_is_err_and c.from_residual.result c.from_residual.ensures.1 in
     let sectors = (g.D.Disk.identity c.args.disk.now).sectors in
-    let fault = c.in_err-format.field-0.0 in
-    rw (p.1, p.2) (judging_refuses (format_fault_of sectors) (g.D.Disk.moments c.args.disk.now) (g.D.Disk.moments c.read_format.new.disk) Parts Parts
-    (of_format fault)
-    (λ not_memory not_disk content told.
-    format_told Parts sectors (last_image content) fault (λ e. not_memory (as_told e)) (λ e. not_disk (as_told e))
-    (c.in_err-format.ensures.told (λ e. not_disk (as_told (same_told e))) content told))
-    c.read_format.ensures.kept)
+    rw (p.1, p.2) (head_refuses (format_fault_of sectors) (g.D.Disk.moments c.args.disk.now) (g.D.Disk.moments c.read_format.new.disk) Parts sectors
+    c.in_err-format.field-0.0 (λ image cause told. ap (fault_by (λ format. None)) told) c.in_err-format.ensures.refused c.read_format.ensures.kept)

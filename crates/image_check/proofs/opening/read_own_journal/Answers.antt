@@ -2,8 +2,9 @@ use Rattle.std.proofs.Common.{◌≡◌, sym, ap, ◌∙◌, ℕ, Err, List, Opt
 use Rattle.std.specs.Option.{option_map}
 use Rattle.std.proofs.lemmas.Result.{err_from_is_err_and}
 use Rattle.disk_model.specs.Disk.{last_image}
-use Rattle.image_judging.specs.declared.opening_fault.OpeningFault.{OpeningFault}
-use Rattle.image_judging.specs.declared.opening_fault.OpeningFault.TheVariants.{Memory, Disk}
+use Rattle.image_refusal.specs.declared.call_fault.CallFault.{CallFault}
+use Rattle.image_refusal.specs.declared.call_fault.CallFault.TheVariants.{Memory, Disk}
+use Rattle.image_refusal.specs.declared.open_fault.OpenFault.{OpenFault}
 use Rattle.image_judging.specs.Faults.{ByJournal, fault_in}
 use Rattle.image_judging.proofs.FaultsLemmas.{fault_in-err}
 use Rattle.image_check.proofs.ReadingLemmas.{no_fault, own_fault}
@@ -20,10 +21,10 @@ pub returns-in_err-newest-clause-refused : goal.returns-in_err-newest-clause-ref
 returns-in_err-newest-clause-refused g c some well x told =
     let fault = c.in_err-newest.field-0.0 in
     let p = err_from_is_err_and c.from_residual.result c.from_residual.ensures.1 in
-    let e : c.from_residual.result ≡ Err fault = p.1 ∙ ap (λ (f : OpeningFault). Err f) p.2 in
+    let e : c.from_residual.result ≡ Err fault = p.1 ∙ ap (λ (f : CallFault OpenFault). Err f) p.2 in
     ap (λ r. fault_in r) e
     ∙ fault_in-err (Option (List (ℕ × ℕ))) (List (ℕ × ℕ)) fault
-    ∙ c.in_err-newest.ensures.refused (λ h. some (e ∙ ap (λ (f : OpeningFault). Err f) (let same : fault ≡ Memory = cc in same))) (λ h. well (e ∙ ap (λ (f : OpeningFault). Err f) (let same : fault ≡ Disk = cc in same))) x told
+    ∙ c.in_err-newest.ensures.refused (λ h. some (e ∙ ap (λ (f : CallFault OpenFault). Err f) (let same : fault ≡ Memory = cc in same))) (λ h. well (e ∙ ap (λ (f : CallFault OpenFault). Err f) (let same : fault ≡ Disk = cc in same))) x told
     ∙ sym (ap (option_map ByJournal) (own_fault c.args.maker.now.key c.args.maker.now.salt c.args.format.now (last_image x) c.requires.salt (sym c.has_bitmap.ensures ∙ c.if-has_bitmap.false)))
 
 pub returns-clause-journal : goal.returns-clause-journal

@@ -18,5 +18,5 @@ count_dirty-requires-clause-window g c =
     fresh_window 1 128 c.in_ok-window.window (g.D.Disk.moments c.args.disk.now) c.in_ok-window.ensures (omega arith)
 
 pub returns-clause-told : goal.returns-clause-told
-returns-clause-told g c some well x told =
+returns-clause-told g c x told =
     dump_in-bitmap c.args.format (last_image x) c.in_ok-set.set c.requires.bitmap (c.in_ok-set.ensures.count x told)

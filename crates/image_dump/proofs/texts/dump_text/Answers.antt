@@ -6,8 +6,8 @@ pub returns : goal.returns
 returns c = record {
   text =
       let dump = c.args.dump.now in
-      three_parts c.in-Ok.text.items c.put_superblock.new.text.items c.put_layout.new.text.items
+      three_parts c.in_ok-text.text.items c.put_superblock.new.text.items c.put_layout.new.text.items
       c.put_journal.new.text.items (superblock_lines dump.format.fields) (layout_lines dump.format.geometry)
-      (journal_lines dump.journal) c.in-Ok.ensures.items c.in_ok-put_superblock.ensures
+      (journal_lines dump.journal) c.in_ok-text.ensures.items c.in_ok-put_superblock.ensures
       c.in_ok-put_layout.ensures c.in_ok-put_journal.ensures;
 }

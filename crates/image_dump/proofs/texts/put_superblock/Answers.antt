@@ -2,7 +2,7 @@
 use Rattle.std.proofs.Common.{ℕ, List, [], ◌∷◌, ◌++◌, ◌*◌, ◌^◌, codes}
 use Rattle.std.specs.Fmt.{decimal}
 use Rattle.hex.specs.Hex.{encode_lower}
-use Rattle.device_model.specs.Ending.{hexadecimal}
+use Rattle.device_model.specs.Refusals.{hexadecimal}
 use Rattle.image_dump.proofs.LinesLemmas.{five_lines, two_parts, number_put}
 use Rattle.image_dump.proofs.texts.put_superblock.Goals as goal
 

@@ -6,7 +6,7 @@ use Rattle.disk_model.specs.Disk.{Content}
 use Rattle.disk_model.specs.Identity.{DiskIdentity}
 use Rattle.disk_model.specs.Moments.{content_now}
 use Rattle.disk_model.proofs.MomentsLemmas.{EachMoment-kept}
-use Rattle.device_model.specs.Ending.{ByJournal}
+use Rattle.device_model.specs.Refusals.{ByJournal}
 use Rattle.image_resizing.specs.Settled.{OpensPlanned, ResizesImage, ResizesInOrder, journal_fault}
 use Rattle.journal_reading.specs.declared.reading.JudgedJournal.{JudgedJournal}
 use Rattle.image_resizing.proofs.OrderLemmas.{as_resize, done_cause, failed_cause, fault_seen, judged_opens, kept_order, refusal_told, refused_cause}

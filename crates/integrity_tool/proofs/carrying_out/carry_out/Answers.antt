@@ -3,7 +3,7 @@ use Rattle.std.proofs.lemmas.Result.{on_ok_weaker}
 use Rattle.disk_model.specs.Causes.{Rose}
 use Rattle.disk_model.specs.Disk.{last_image}
 use Rattle.disk_model.proofs.MomentsLemmas.{EachMoment-kept}
-use Rattle.device_model.specs.Ending.{Ending}
+use Rattle.run_model.specs.Ending.{Ending}
 use Rattle.hmac_tag.specs.TagMaker.{key_of}
 use Rattle.script_session.specs.declared.tags_found.TagsFound.{TagsFound}
 use Rattle.command_ending.specs.declared.ended.Ended.{Ended}
@@ -12,14 +12,15 @@ use Rattle.integrity_tool.specs.declared.asked.Task.{Task}
 use Rattle.integrity_tool.specs.declared.asked.Task.TheVariants as Tasks
 use Rattle.integrity_tool.specs.Opening.{EndsImage, HasReadIn, HasRunOn, IsMomentAt}
 use Rattle.integrity_tool.specs.Order.{HasMomentsAt}
-use Rattle.integrity_tool.specs.Outset.{outset_at}
+use Rattle.integrity_tool.specs.Outset.{task_outset}
 use Rattle.integrity_tool.specs.Running.{HasEndCause, IsCounted, ending_by}
 use Rattle.integrity_tool.specs.Ends.{IsBeforeScript}
 use Rattle.integrity_tool.proofs.ClosedLemmas.{ok_holds}
-use Rattle.integrity_tool.proofs.StartLemmas.{IsFine, fine_check, fine_dump, fine_exercise, fine_format, fine_on, fine_resize, fine_salvage}
+use Rattle.integrity_tool.proofs.OutsetLemmas.{IsFine, fine_check, fine_dump, fine_exercise, fine_format, fine_on, fine_resize, fine_salvage}
 use Rattle.integrity_tool.proofs.TakenLemmas.{none_taken}
 use Rattle.integrity_tool.proofs.TaskLemmas.{cause_found, causes_wider, counted_found, ending_found, ends_found, ends_wider, read_no_script, runs_told, uncounted, whatever_ended}
 use Rattle.integrity_tool.proofs.carrying_out.carry_out.Goals as goal
+use Rattle.run_model.specs.declared.outer.Outer.TheVariants as outers
 
 pub returns-in-Run-clause-runs : goal.returns-in-Run-clause-runs
 returns-in-Run-clause-runs g c left told start told_start =
@@ -29,8 +30,8 @@ returns-in-Run-clause-runs g c left told start told_start =
     let after = g.D.Disk.moments c.run_image.new.disk in
     let runs = c.run_image.ensures.runs left told start told_start in
     runs_told c.args.task c.args.telling.now key sectors start left (ending_by c.run_image.result) before after (g.O.Sink.held c.args.out.now) (g.O.Sink.held c.run_image.new.out) c.requires.lines
-    (subst (λ (t : Task). IsFine (outset_at t key sectors (last_image start))) (sym c.in-Run.is) (fine_on c.in-Run.mode key sectors (last_image start)))
-    (subst (λ (t : Task). HasRunOn (outset_at t key sectors (last_image start)) start left (ending_by c.run_image.result) after (g.O.Sink.held c.args.out.now) (g.O.Sink.held c.run_image.new.out)
+    (subst (λ (t : Task). IsFine (task_outset t key sectors (last_image start))) (sym c.in-Run.is) (fine_on c.in-Run.mode key sectors (last_image start)))
+    (subst (λ (t : Task). HasRunOn (task_outset t key sectors (last_image start)) start left (ending_by c.run_image.result) after (g.O.Sink.held c.args.out.now) (g.O.Sink.held c.run_image.new.out)
     × HasMomentsAt t key sectors start left before after) (sym c.in-Run.is) (runs.0, record { each = runs.1; order = runs.2 }))
 
 pub returns-in-Run-clause-closed : goal.returns-in-Run-clause-closed
@@ -49,10 +50,10 @@ returns-in-Dump-clause-runs g c left told start told_start =
     let before = g.D.Disk.moments c.args.disk.now in
     let after = g.D.Disk.moments c.print_image.new.disk in
     runs_told c.args.task c.args.telling.now key sectors start left (ending_by c.done.result) before after (g.O.Sink.held c.args.out.now) (g.O.Sink.held c.print_image.new.out) c.requires.lines
-    (subst (λ (t : Task). IsFine (outset_at t key sectors (last_image start))) (sym c.in-Dump.is) (fine_dump sectors (last_image start)))
-    (subst (λ (t : Task). HasRunOn (outset_at t key sectors (last_image start)) start left (ending_by c.done.result) after (g.O.Sink.held c.args.out.now) (g.O.Sink.held c.print_image.new.out)
+    (subst (λ (t : Task). IsFine (task_outset t key sectors (last_image start))) (sym c.in-Dump.is) (fine_dump sectors (last_image start)))
+    (subst (λ (t : Task). HasRunOn (task_outset t key sectors (last_image start)) start left (ending_by c.done.result) after (g.O.Sink.held c.args.out.now) (g.O.Sink.held c.print_image.new.out)
     × HasMomentsAt t key sectors start left before after) (sym c.in-Dump.is) (
-      subst (λ (e : Ending). HasRunOn (outset_at Tasks.Dump key sectors (last_image start)) start left e after (g.O.Sink.held c.args.out.now) (g.O.Sink.held c.print_image.new.out))
+      subst (λ (e : Ending). HasRunOn (task_outset Tasks.Dump key sectors (last_image start)) start left e after (g.O.Sink.held c.args.out.now) (g.O.Sink.held c.print_image.new.out))
           (sym (ap ending_by c.done.ensures ∙ ending_found c.print_image.result)) (c.print_image.ensures.runs left start told_start),
       record { each = EachMoment-kept (IsMomentAt Tasks.Dump key sectors start left) c.print_image.ensures.kept; order = c.print_image.ensures.kept },
     ))
@@ -73,11 +74,11 @@ returns-in-Dump-clause-cause g c =
 
 pub returns-in-Dump-clause-counted : goal.returns-in-Dump-clause-counted
 returns-in-Dump-clause-counted g c = (
-  subst (λ (r : Result TagsFound Ended). IsCounted Endings.Disk (g.D.Counted.faults c.args.disk.now) (g.D.Counted.faults c.print_image.new.disk) r)
-      (sym c.done.ensures) (counted_found Endings.Disk _ _ c.print_image.result c.print_image.ensures.counted.0),
-  uncounted Endings.Script _ c.done.result,
-  subst (λ (r : Result TagsFound Ended). IsCounted Endings.Sink (g.O.Counted.faults c.args.out.now) (g.O.Counted.faults c.print_image.new.out) r)
-      (sym c.done.ensures) (counted_found Endings.Sink _ _ c.print_image.result c.print_image.ensures.counted.1),
+  subst (λ (r : Result TagsFound Ended). IsCounted outers.Disk (g.D.Counted.faults c.args.disk.now) (g.D.Counted.faults c.print_image.new.disk) r)
+      (sym c.done.ensures) (counted_found outers.Disk _ _ c.print_image.result c.print_image.ensures.counted.0),
+  uncounted outers.Script _ c.done.result,
+  subst (λ (r : Result TagsFound Ended). IsCounted outers.Sink (g.O.Counted.faults c.args.out.now) (g.O.Counted.faults c.print_image.new.out) r)
+      (sym c.done.ensures) (counted_found outers.Sink _ _ c.print_image.result c.print_image.ensures.counted.1),
 )
 
 pub returns-in-Dump-clause-unread : goal.returns-in-Dump-clause-unread
@@ -95,10 +96,10 @@ pub returns-in-Dump-clause-ahead : goal.returns-in-Dump-clause-ahead
 returns-in-Dump-clause-ahead g c left told start told_start =
     let key = key_of c.args.hash in
     let sectors = (g.D.Disk.identity c.args.disk.now).sectors in
-    subst (λ (t : Task). HasReadIn (outset_at t key sectors (last_image start)) left (g.S.Source.left c.args.script.now) (g.O.Sink.held c.args.out.now) (g.O.Sink.held c.print_image.new.out)
+    subst (λ (t : Task). HasReadIn (task_outset t key sectors (last_image start)) left (g.S.Source.left c.args.script.now) (g.O.Sink.held c.args.out.now) (g.O.Sink.held c.print_image.new.out)
     (g.S.Counted.faults c.args.script.now < g.S.Counted.faults c.args.script.now))
     (sym c.in-Dump.is)
-    (read_no_script (outset_at Tasks.Dump key sectors (last_image start)) start left _ _ _ _ _ _ told (c.print_image.ensures.runs left start told_start))
+    (read_no_script (task_outset Tasks.Dump key sectors (last_image start)) start left _ _ _ _ _ _ told (c.print_image.ensures.runs left start told_start))
 
 pub returns-in-Check-clause-runs : goal.returns-in-Check-clause-runs
 returns-in-Check-clause-runs g c left told start told_start =
@@ -108,8 +109,8 @@ returns-in-Check-clause-runs g c left told start told_start =
     let after = g.D.Disk.moments c.print_check.new.disk in
     let what = c.in-Check.what in
     runs_told c.args.task c.args.telling.now key sectors start left (ending_by c.print_check.result) before after (g.O.Sink.held c.args.out.now) (g.O.Sink.held c.print_check.new.out) c.requires.lines
-    (subst (λ (t : Task). IsFine (outset_at t key sectors (last_image start))) (sym c.in-Check.is) (fine_check c.in-Check.what key sectors (last_image start)))
-    (subst (λ (t : Task). HasRunOn (outset_at t key sectors (last_image start)) start left (ending_by c.print_check.result) after (g.O.Sink.held c.args.out.now) (g.O.Sink.held c.print_check.new.out)
+    (subst (λ (t : Task). IsFine (task_outset t key sectors (last_image start))) (sym c.in-Check.is) (fine_check c.in-Check.what key sectors (last_image start)))
+    (subst (λ (t : Task). HasRunOn (task_outset t key sectors (last_image start)) start left (ending_by c.print_check.result) after (g.O.Sink.held c.args.out.now) (g.O.Sink.held c.print_check.new.out)
     × HasMomentsAt t key sectors start left before after) (sym c.in-Check.is) (
       c.print_check.ensures.runs left start told_start,
       record { each = EachMoment-kept (IsMomentAt (Tasks.Check what) key sectors start left) c.print_check.ensures.kept; order = c.print_check.ensures.kept },
@@ -126,7 +127,7 @@ returns-in-Check-clause-cause g c = causes_wider _ _ _ c.print_check.result c.pr
 
 pub returns-in-Check-clause-counted : goal.returns-in-Check-clause-counted
 returns-in-Check-clause-counted g c =
-    (c.print_check.ensures.counted.0, uncounted Endings.Script _ c.print_check.result, c.print_check.ensures.counted.1)
+    (c.print_check.ensures.counted.0, uncounted outers.Script _ c.print_check.result, c.print_check.ensures.counted.1)
 
 pub returns-in-Check-clause-unread : goal.returns-in-Check-clause-unread
 returns-in-Check-clause-unread g c =
@@ -143,10 +144,10 @@ pub returns-in-Check-clause-ahead : goal.returns-in-Check-clause-ahead
 returns-in-Check-clause-ahead g c left told start told_start =
     let key = key_of c.args.hash in
     let sectors = (g.D.Disk.identity c.args.disk.now).sectors in
-    subst (λ (t : Task). HasReadIn (outset_at t key sectors (last_image start)) left (g.S.Source.left c.args.script.now) (g.O.Sink.held c.args.out.now) (g.O.Sink.held c.print_check.new.out)
+    subst (λ (t : Task). HasReadIn (task_outset t key sectors (last_image start)) left (g.S.Source.left c.args.script.now) (g.O.Sink.held c.args.out.now) (g.O.Sink.held c.print_check.new.out)
     (g.S.Counted.faults c.args.script.now < g.S.Counted.faults c.args.script.now))
     (sym c.in-Check.is)
-    (read_no_script (outset_at (Tasks.Check c.in-Check.what) key sectors (last_image start)) start left _ _ _ _ _ _ told (c.print_check.ensures.runs left start told_start))
+    (read_no_script (task_outset (Tasks.Check c.in-Check.what) key sectors (last_image start)) start left _ _ _ _ _ _ told (c.print_check.ensures.runs left start told_start))
 
 pub returns-in-Salvage-clause-runs : goal.returns-in-Salvage-clause-runs
 returns-in-Salvage-clause-runs g c left told start told_start =
@@ -155,8 +156,8 @@ returns-in-Salvage-clause-runs g c left told start told_start =
     let before = g.D.Disk.moments c.args.disk.now in
     let after = g.D.Disk.moments c.print_salvage.new.disk in
     runs_told c.args.task c.args.telling.now key sectors start left (ending_by c.print_salvage.result) before after (g.O.Sink.held c.args.out.now) (g.O.Sink.held c.print_salvage.new.out) c.requires.lines
-    (subst (λ (t : Task). IsFine (outset_at t key sectors (last_image start))) (sym c.in-Salvage.is) (fine_salvage key sectors (last_image start)))
-    (subst (λ (t : Task). HasRunOn (outset_at t key sectors (last_image start)) start left (ending_by c.print_salvage.result) after (g.O.Sink.held c.args.out.now) (g.O.Sink.held c.print_salvage.new.out)
+    (subst (λ (t : Task). IsFine (task_outset t key sectors (last_image start))) (sym c.in-Salvage.is) (fine_salvage key sectors (last_image start)))
+    (subst (λ (t : Task). HasRunOn (task_outset t key sectors (last_image start)) start left (ending_by c.print_salvage.result) after (g.O.Sink.held c.args.out.now) (g.O.Sink.held c.print_salvage.new.out)
     × HasMomentsAt t key sectors start left before after) (sym c.in-Salvage.is) (
       c.print_salvage.ensures.runs left start told_start,
       record { each = EachMoment-kept (IsMomentAt Tasks.Salvage key sectors start left) c.print_salvage.ensures.kept; order = c.print_salvage.ensures.kept },
@@ -173,7 +174,7 @@ returns-in-Salvage-clause-cause g c = causes_wider _ _ _ c.print_salvage.result 
 
 pub returns-in-Salvage-clause-counted : goal.returns-in-Salvage-clause-counted
 returns-in-Salvage-clause-counted g c =
-    (c.print_salvage.ensures.counted.0, uncounted Endings.Script _ c.print_salvage.result, c.print_salvage.ensures.counted.1)
+    (c.print_salvage.ensures.counted.0, uncounted outers.Script _ c.print_salvage.result, c.print_salvage.ensures.counted.1)
 
 pub returns-in-Salvage-clause-unread : goal.returns-in-Salvage-clause-unread
 returns-in-Salvage-clause-unread g c =
@@ -190,10 +191,10 @@ pub returns-in-Salvage-clause-ahead : goal.returns-in-Salvage-clause-ahead
 returns-in-Salvage-clause-ahead g c left told start told_start =
     let key = key_of c.args.hash in
     let sectors = (g.D.Disk.identity c.args.disk.now).sectors in
-    subst (λ (t : Task). HasReadIn (outset_at t key sectors (last_image start)) left (g.S.Source.left c.args.script.now) (g.O.Sink.held c.args.out.now) (g.O.Sink.held c.print_salvage.new.out)
+    subst (λ (t : Task). HasReadIn (task_outset t key sectors (last_image start)) left (g.S.Source.left c.args.script.now) (g.O.Sink.held c.args.out.now) (g.O.Sink.held c.print_salvage.new.out)
     (g.S.Counted.faults c.args.script.now < g.S.Counted.faults c.args.script.now))
     (sym c.in-Salvage.is)
-    (read_no_script (outset_at Tasks.Salvage key sectors (last_image start)) start left _ _ _ _ _ _ told (c.print_salvage.ensures.runs left start told_start))
+    (read_no_script (task_outset Tasks.Salvage key sectors (last_image start)) start left _ _ _ _ _ _ told (c.print_salvage.ensures.runs left start told_start))
 
 pub returns-in-Resize-clause-runs : goal.returns-in-Resize-clause-runs
 returns-in-Resize-clause-runs g c left told start told_start =
@@ -202,10 +203,10 @@ returns-in-Resize-clause-runs g c left told start told_start =
     let before = g.D.Disk.moments c.args.disk.now in
     let after = g.D.Disk.moments c.resize_image.new.disk in
     runs_told c.args.task c.args.telling.now key sectors start left (ending_by c.done-in-Resize.result) before after (g.O.Sink.held c.args.out.now) (g.O.Sink.held c.resize_image.new.out) c.requires.lines
-    (subst (λ (t : Task). IsFine (outset_at t key sectors (last_image start))) (sym c.in-Resize.is) (fine_resize key sectors (last_image start)))
-    (subst (λ (t : Task). HasRunOn (outset_at t key sectors (last_image start)) start left (ending_by c.done-in-Resize.result) after (g.O.Sink.held c.args.out.now) (g.O.Sink.held c.resize_image.new.out)
+    (subst (λ (t : Task). IsFine (task_outset t key sectors (last_image start))) (sym c.in-Resize.is) (fine_resize key sectors (last_image start)))
+    (subst (λ (t : Task). HasRunOn (task_outset t key sectors (last_image start)) start left (ending_by c.done-in-Resize.result) after (g.O.Sink.held c.args.out.now) (g.O.Sink.held c.resize_image.new.out)
     × HasMomentsAt t key sectors start left before after) (sym c.in-Resize.is) (
-      subst (λ (e : Ending). HasRunOn (outset_at Tasks.Resize key sectors (last_image start)) start left e after (g.O.Sink.held c.args.out.now) (g.O.Sink.held c.resize_image.new.out))
+      subst (λ (e : Ending). HasRunOn (task_outset Tasks.Resize key sectors (last_image start)) start left e after (g.O.Sink.held c.args.out.now) (g.O.Sink.held c.resize_image.new.out))
           (sym (ap ending_by c.done-in-Resize.ensures ∙ ending_found c.resize_image.result)) (c.resize_image.ensures.runs left start told_start),
       c.resize_image.ensures.moments left start told_start,
     ))
@@ -226,11 +227,11 @@ returns-in-Resize-clause-cause g c =
 
 pub returns-in-Resize-clause-counted : goal.returns-in-Resize-clause-counted
 returns-in-Resize-clause-counted g c = (
-  subst (λ (r : Result TagsFound Ended). IsCounted Endings.Disk (g.D.Counted.faults c.args.disk.now) (g.D.Counted.faults c.resize_image.new.disk) r)
-      (sym c.done-in-Resize.ensures) (counted_found Endings.Disk _ _ c.resize_image.result c.resize_image.ensures.counted.0),
-  uncounted Endings.Script _ c.done-in-Resize.result,
-  subst (λ (r : Result TagsFound Ended). IsCounted Endings.Sink (g.O.Counted.faults c.args.out.now) (g.O.Counted.faults c.resize_image.new.out) r)
-      (sym c.done-in-Resize.ensures) (counted_found Endings.Sink _ _ c.resize_image.result c.resize_image.ensures.counted.1),
+  subst (λ (r : Result TagsFound Ended). IsCounted outers.Disk (g.D.Counted.faults c.args.disk.now) (g.D.Counted.faults c.resize_image.new.disk) r)
+      (sym c.done-in-Resize.ensures) (counted_found outers.Disk _ _ c.resize_image.result c.resize_image.ensures.counted.0),
+  uncounted outers.Script _ c.done-in-Resize.result,
+  subst (λ (r : Result TagsFound Ended). IsCounted outers.Sink (g.O.Counted.faults c.args.out.now) (g.O.Counted.faults c.resize_image.new.out) r)
+      (sym c.done-in-Resize.ensures) (counted_found outers.Sink _ _ c.resize_image.result c.resize_image.ensures.counted.1),
 )
 
 pub returns-in-Resize-clause-unread : goal.returns-in-Resize-clause-unread
@@ -248,10 +249,10 @@ pub returns-in-Resize-clause-ahead : goal.returns-in-Resize-clause-ahead
 returns-in-Resize-clause-ahead g c left told start told_start =
     let key = key_of c.args.hash in
     let sectors = (g.D.Disk.identity c.args.disk.now).sectors in
-    subst (λ (t : Task). HasReadIn (outset_at t key sectors (last_image start)) left (g.S.Source.left c.args.script.now) (g.O.Sink.held c.args.out.now) (g.O.Sink.held c.resize_image.new.out)
+    subst (λ (t : Task). HasReadIn (task_outset t key sectors (last_image start)) left (g.S.Source.left c.args.script.now) (g.O.Sink.held c.args.out.now) (g.O.Sink.held c.resize_image.new.out)
     (g.S.Counted.faults c.args.script.now < g.S.Counted.faults c.args.script.now))
     (sym c.in-Resize.is)
-    (read_no_script (outset_at Tasks.Resize key sectors (last_image start)) start left _ _ _ _ _ _ told (c.resize_image.ensures.runs left start told_start))
+    (read_no_script (task_outset Tasks.Resize key sectors (last_image start)) start left _ _ _ _ _ _ told (c.resize_image.ensures.runs left start told_start))
 
 pub returns-in-Format-clause-runs : goal.returns-in-Format-clause-runs
 returns-in-Format-clause-runs g c left told start told_start =
@@ -261,10 +262,10 @@ returns-in-Format-clause-runs g c left told start told_start =
     let after = g.D.Disk.moments c.make_image.new.disk in
     let new = c.in-Format.new in
     runs_told c.args.task c.args.telling.now key sectors start left (ending_by c.done-in-Format.result) before after (g.O.Sink.held c.args.out.now) (g.O.Sink.held c.make_image.new.out) c.requires.lines
-    (subst (λ (t : Task). IsFine (outset_at t key sectors (last_image start))) (sym c.in-Format.is) (fine_format key sectors c.in-Format.new))
-    (subst (λ (t : Task). HasRunOn (outset_at t key sectors (last_image start)) start left (ending_by c.done-in-Format.result) after (g.O.Sink.held c.args.out.now) (g.O.Sink.held c.make_image.new.out)
+    (subst (λ (t : Task). IsFine (task_outset t key sectors (last_image start))) (sym c.in-Format.is) (fine_format key sectors c.in-Format.new))
+    (subst (λ (t : Task). HasRunOn (task_outset t key sectors (last_image start)) start left (ending_by c.done-in-Format.result) after (g.O.Sink.held c.args.out.now) (g.O.Sink.held c.make_image.new.out)
     × HasMomentsAt t key sectors start left before after) (sym c.in-Format.is) (
-      subst (λ (e : Ending). HasRunOn (outset_at (Tasks.Format new) key sectors (last_image start)) start left e after (g.O.Sink.held c.args.out.now) (g.O.Sink.held c.make_image.new.out))
+      subst (λ (e : Ending). HasRunOn (task_outset (Tasks.Format new) key sectors (last_image start)) start left e after (g.O.Sink.held c.args.out.now) (g.O.Sink.held c.make_image.new.out))
           (sym (ap ending_by c.done-in-Format.ensures ∙ ending_found c.make_image.result)) (c.make_image.ensures.runs left start told_start),
       c.make_image.ensures.moments left start told_start,
     ))
@@ -285,11 +286,11 @@ returns-in-Format-clause-cause g c =
 
 pub returns-in-Format-clause-counted : goal.returns-in-Format-clause-counted
 returns-in-Format-clause-counted g c = (
-  subst (λ (r : Result TagsFound Ended). IsCounted Endings.Disk (g.D.Counted.faults c.args.disk.now) (g.D.Counted.faults c.make_image.new.disk) r)
-      (sym c.done-in-Format.ensures) (counted_found Endings.Disk _ _ c.make_image.result c.make_image.ensures.counted.0),
-  uncounted Endings.Script _ c.done-in-Format.result,
-  subst (λ (r : Result TagsFound Ended). IsCounted Endings.Sink (g.O.Counted.faults c.args.out.now) (g.O.Counted.faults c.make_image.new.out) r)
-      (sym c.done-in-Format.ensures) (counted_found Endings.Sink _ _ c.make_image.result c.make_image.ensures.counted.1),
+  subst (λ (r : Result TagsFound Ended). IsCounted outers.Disk (g.D.Counted.faults c.args.disk.now) (g.D.Counted.faults c.make_image.new.disk) r)
+      (sym c.done-in-Format.ensures) (counted_found outers.Disk _ _ c.make_image.result c.make_image.ensures.counted.0),
+  uncounted outers.Script _ c.done-in-Format.result,
+  subst (λ (r : Result TagsFound Ended). IsCounted outers.Sink (g.O.Counted.faults c.args.out.now) (g.O.Counted.faults c.make_image.new.out) r)
+      (sym c.done-in-Format.ensures) (counted_found outers.Sink _ _ c.make_image.result c.make_image.ensures.counted.1),
 )
 
 pub returns-in-Format-clause-unread : goal.returns-in-Format-clause-unread
@@ -307,10 +308,10 @@ pub returns-in-Format-clause-ahead : goal.returns-in-Format-clause-ahead
 returns-in-Format-clause-ahead g c left told start told_start =
     let key = key_of c.args.hash in
     let sectors = (g.D.Disk.identity c.args.disk.now).sectors in
-    subst (λ (t : Task). HasReadIn (outset_at t key sectors (last_image start)) left (g.S.Source.left c.args.script.now) (g.O.Sink.held c.args.out.now) (g.O.Sink.held c.make_image.new.out)
+    subst (λ (t : Task). HasReadIn (task_outset t key sectors (last_image start)) left (g.S.Source.left c.args.script.now) (g.O.Sink.held c.args.out.now) (g.O.Sink.held c.make_image.new.out)
     (g.S.Counted.faults c.args.script.now < g.S.Counted.faults c.args.script.now))
     (sym c.in-Format.is)
-    (read_no_script (outset_at (Tasks.Format c.in-Format.new) key sectors (last_image start)) start left _ _ _ _ _ _ told (c.make_image.ensures.runs left start told_start))
+    (read_no_script (task_outset (Tasks.Format c.in-Format.new) key sectors (last_image start)) start left _ _ _ _ _ _ told (c.make_image.ensures.runs left start told_start))
 
 pub returns-in-Exercise-clause-runs : goal.returns-in-Exercise-clause-runs
 returns-in-Exercise-clause-runs g c left told start told_start =
@@ -320,8 +321,8 @@ returns-in-Exercise-clause-runs g c left told start told_start =
     let after = g.D.Disk.moments c.exercise_image.new.disk in
     let moments = c.exercise_image.ensures.moments left start told_start in
     runs_told c.args.task c.args.telling.now key sectors start left (ending_by c.exercise_image.result) before after (g.O.Sink.held c.args.out.now) (g.O.Sink.held c.exercise_image.new.out) c.requires.lines
-    (subst (λ (t : Task). IsFine (outset_at t key sectors (last_image start))) (sym c.in-Exercise.is) (fine_exercise sectors c.in-Exercise.count c.in-Exercise.seed))
-    (subst (λ (t : Task). HasRunOn (outset_at t key sectors (last_image start)) start left (ending_by c.exercise_image.result) after (g.O.Sink.held c.args.out.now) (g.O.Sink.held c.exercise_image.new.out)
+    (subst (λ (t : Task). IsFine (task_outset t key sectors (last_image start))) (sym c.in-Exercise.is) (fine_exercise sectors c.in-Exercise.count c.in-Exercise.seed))
+    (subst (λ (t : Task). HasRunOn (task_outset t key sectors (last_image start)) start left (ending_by c.exercise_image.result) after (g.O.Sink.held c.args.out.now) (g.O.Sink.held c.exercise_image.new.out)
     × HasMomentsAt t key sectors start left before after) (sym c.in-Exercise.is) (
       c.exercise_image.ensures.runs left start told_start,
       record { each = moments.each; order = moments.order },
@@ -338,7 +339,7 @@ returns-in-Exercise-clause-cause g c = causes_wider _ _ _ c.exercise_image.resul
 
 pub returns-in-Exercise-clause-counted : goal.returns-in-Exercise-clause-counted
 returns-in-Exercise-clause-counted g c =
-    (c.exercise_image.ensures.counted.0, uncounted Endings.Script _ c.exercise_image.result, c.exercise_image.ensures.counted.1)
+    (c.exercise_image.ensures.counted.0, uncounted outers.Script _ c.exercise_image.result, c.exercise_image.ensures.counted.1)
 
 pub returns-in-Exercise-clause-unread : goal.returns-in-Exercise-clause-unread
 returns-in-Exercise-clause-unread g c =
@@ -355,10 +356,10 @@ pub returns-in-Exercise-clause-ahead : goal.returns-in-Exercise-clause-ahead
 returns-in-Exercise-clause-ahead g c left told start told_start =
     let key = key_of c.args.hash in
     let sectors = (g.D.Disk.identity c.args.disk.now).sectors in
-    subst (λ (t : Task). HasReadIn (outset_at t key sectors (last_image start)) left (g.S.Source.left c.args.script.now) (g.O.Sink.held c.args.out.now) (g.O.Sink.held c.exercise_image.new.out)
+    subst (λ (t : Task). HasReadIn (task_outset t key sectors (last_image start)) left (g.S.Source.left c.args.script.now) (g.O.Sink.held c.args.out.now) (g.O.Sink.held c.exercise_image.new.out)
     (g.S.Counted.faults c.args.script.now < g.S.Counted.faults c.args.script.now))
     (sym c.in-Exercise.is)
-    (read_no_script (outset_at (Tasks.Exercise c.in-Exercise.seed c.in-Exercise.count) key sectors (last_image start)) start left _ _ _ _ _ _ told (c.exercise_image.ensures.runs left start told_start))
+    (read_no_script (task_outset (Tasks.Exercise c.in-Exercise.seed c.in-Exercise.count) key sectors (last_image start)) start left _ _ _ _ _ _ told (c.exercise_image.ensures.runs left start told_start))
 
 pub returns-in-Run-clause-taken : goal.returns-in-Run-clause-taken
 returns-in-Run-clause-taken g c = rw c.in-Run.is c.run_image.ensures.taken

@@ -2,11 +2,11 @@ use Rattle.std.proofs.Common.{◌≡◌, inr, refl, ap, sym, subst, ◌∙◌}
 use Rattle.disk_model.specs.Disk.{last_image}
 use Rattle.disk_model.specs.Identity.{DiskIdentity}
 use Rattle.disk_model.specs.Moments.{content_now}
-use Rattle.device_model.specs.Ending.{DiskFailed}
+use Rattle.run_model.specs.Ending.{Failed}
 use Rattle.hmac_tag.specs.TagMaker.{TagRule, key_of}
 use Rattle.image_check.specs.Checked.{Checked, IsCheckOf, awaiting_at, bad_in}
 use Rattle.image_check.proofs.CheckedLemmas.{awaiting_same}
-use Rattle.image_judging.specs.declared.opening_fault.OpeningFault.TheVariants.{Memory, Disk}
+use Rattle.image_refusal.specs.declared.call_fault.CallFault.TheVariants.{Memory, Disk}
 use Rattle.image_judging.proofs.FaultsLemmas.{fault_in-err}
 use Rattle.image_format.specs.declared.reading.ImageFormat.{ImageFormat}
 use Rattle.command_ending.specs.Ended.{ending_of}
@@ -15,6 +15,7 @@ use Rattle.integrity_tool.specs.Checking.{IsListed, IsPrintedShort, check_outset
 use Rattle.integrity_tool.specs.Opening.{HasRunOn}
 use Rattle.integrity_tool.proofs.CheckingLemmas.{check_cut, check_untold, check_whole, counts_told, not_checked, unchecked}
 use Rattle.integrity_tool.proofs.checking.print_check.Goals as goal
+use Rattle.run_model.specs.declared.outer.Outer.TheVariants as outers
 
 pub returns-in-Err-clause-runs : goal.returns-in-Err-clause-runs
 returns-in-Err-clause-runs g c script start told =
@@ -32,7 +33,7 @@ returns-in-Err-clause-runs g c script start told =
 pub returns-in_default-clause-runs : goal.returns-in_default-clause-runs
 returns-in_default-clause-runs g c script start told =
     unchecked c.args.what (key_of c.args.hash) (g.D.Disk.identity c.args.disk.now).sectors start script told (c.count_awaiting.ensures.kept ∙ c.open.ensures.kept)
-    DiskFailed (g.O.Sink.held c.args.out.now) (inr refl)
+    (Failed outers.Disk) (g.O.Sink.held c.args.out.now) (inr refl)
 
 pub returns-in-Err-print_bad-clause-runs : goal.returns-in-Err-print_bad-clause-runs
 returns-in-Err-print_bad-clause-runs g c script start told =

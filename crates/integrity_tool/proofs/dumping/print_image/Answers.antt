@@ -4,7 +4,7 @@ use Rattle.stream_io.specs.Stream.{with_bytes, AddsPrefix}
 use Rattle.command_ending.specs.Ended.{ending_of}
 use Rattle.command_ending.specs.declared.ended.Ended.{Ended}
 use Rattle.disk_model.specs.Disk.{last_image}
-use Rattle.device_model.specs.Ending.{NoMemory}
+use Rattle.run_model.specs.Ending.{NoMemory}
 use Rattle.integrity_tool.specs.Dumping.{dump_outset}
 use Rattle.integrity_tool.specs.Opening.{HasRunOn}
 use Rattle.integrity_tool.proofs.PrintingLemmas.{not_shown, printed, printed_part, unshown}
@@ -17,7 +17,7 @@ returns-in-Err-clause-runs g c script start told =
     subst (λ (e : Ended). HasRunOn (dump_outset sectors (last_image start)) start script (ending_of e) (g.D.Disk.moments c.dump.new.disk) held held)
     (sym c.ended_by.ensures)
     (not_shown sectors start script told c.dump.ensures.kept c.in-Err.fault held
-    (λ memory disk. sym (c.dump.ensures.told (λ is. memory (cc (c.in-Err.is, is))) (λ is. disk (cc (c.in-Err.is, is))) start told) ∙ c.in-Err.is))
+    (λ cause is. sym (c.in-Err.ensures.refused cause is start told)))
 
 pub returns-in_default-clause-runs : goal.returns-in_default-clause-runs
 returns-in_default-clause-runs g c script start told =
@@ -27,7 +27,7 @@ pub returns-in-Ok-put_all-clause-runs : goal.returns-in-Ok-put_all-clause-runs
 returns-in-Ok-put_all-clause-runs g c script start told =
     let before = g.O.Sink.held c.args.out.now in
     printed (g.D.Disk.identity c.args.disk.now).sectors start script told c.dump.ensures.kept c.in-Ok.shown before (g.O.Sink.held c.put_all.new.sink)
-    (sym (c.dump.ensures.told (λ is. absurd (cc (c.in-Ok.is, is))) (λ is. absurd (cc (c.in-Ok.is, is))) start told) ∙ c.in-Ok.is)
+    (sym (c.in-Ok.ensures.told start told))
     (subst (λ (t : List ℕ). g.O.Sink.held c.put_all.new.sink ≡ option_map (with_bytes t) before)
     (c.deref.ensures.value ∙ c.in-Ok-dump_text.ensures.text) c.in-Ok-put_all.ensures.written)
 
@@ -35,6 +35,6 @@ pub returns-clause-runs : goal.returns-clause-runs
 returns-clause-runs g c script start told =
     let before = g.O.Sink.held c.args.out.now in
     printed_part (g.D.Disk.identity c.args.disk.now).sectors start script told c.dump.ensures.kept c.in-Ok.shown before (g.O.Sink.held c.put_all.new.sink)
-    (sym (c.dump.ensures.told (λ is. absurd (cc (c.in-Ok.is, is))) (λ is. absurd (cc (c.in-Ok.is, is))) start told) ∙ c.in-Ok.is)
+    (sym (c.in-Ok.ensures.told start told))
     (subst (λ (t : List ℕ). AddsPrefix t before (g.O.Sink.held c.put_all.new.sink))
     (c.deref.ensures.value ∙ c.in-Ok-dump_text.ensures.text) c.in-Err-put_all.ensures.err)

@@ -2,7 +2,7 @@ use Rattle.std.proofs.Common.{[], ℕ, ◌≡◌, ◌↔◌, ◌<◌, None, Err,
 use Rattle.disk_model.specs.Disk.{last_image}
 use Rattle.disk_model.specs.Identity.{DiskIdentity}
 use Rattle.image_model.specs.declared.geom_fault.GeomFault.{GeomFault}
-use Rattle.image_formatting.specs.declared.format_fault.FormatFault.TheVariants as FormatFaults
+use Rattle.image_refusal.specs.declared.call_fault.CallFault.TheVariants as CallFaults
 use Rattle.image_formatting.specs.declared.new_image.NewImage.{NewImage}
 use Rattle.image_formatting.specs.Formatted.{HasMade}
 use Rattle.image_formatting.specs.NewImage.{provided_of}
@@ -20,7 +20,7 @@ pub returns-in-Err-clause-runs : goal.returns-in-Err-clause-runs
 returns-in-Err-clause-runs g c script start told =
     let sectors = (g.D.Disk.identity c.args.disk.now).sectors in
     let order = subst (λ (n : NewImage). IsMadeInOrder None sectors n (g.D.Disk.moments c.args.disk.now) (g.D.Disk.moments c.format.new.disk)) c.image.ensures (record { order = c.format.ensures.moments; writes = c.format.ensures.writes }) in
-    let geom = subst (λ (n : NewImage). (f : GeomFault) → (c.format.result ≡ Err (FormatFaults.Geom f)) ↔ (provided_of n sectors ≡ Err f)) c.image.ensures c.format.ensures.geom in
+    let geom = subst (λ (n : NewImage). (f : GeomFault) → (c.format.result ≡ Err (CallFaults.Refused f)) ↔ (provided_of n sectors ≡ Err f)) c.image.ensures c.format.ensures.geom in
     let held = g.O.Sink.held c.args.out.now in
     subst (λ (e : Ended). HasRunOn (exercise_outset sectors c.args.count c.args.seed) start script (ending_of e) (g.D.Disk.moments c.format.new.disk) held held)
     (sym c.ended_by_format.ensures)
@@ -32,7 +32,7 @@ pub returns-in-Err-clause-moments : goal.returns-in-Err-clause-moments
 returns-in-Err-clause-moments g c script start told =
     let sectors = (g.D.Disk.identity c.args.disk.now).sectors in
     let order = subst (λ (n : NewImage). IsMadeInOrder None sectors n (g.D.Disk.moments c.args.disk.now) (g.D.Disk.moments c.format.new.disk)) c.image.ensures (record { order = c.format.ensures.moments; writes = c.format.ensures.writes }) in
-    let geom = subst (λ (n : NewImage). (f : GeomFault) → (c.format.result ≡ Err (FormatFaults.Geom f)) ↔ (provided_of n sectors ≡ Err f)) c.image.ensures c.format.ensures.geom in
+    let geom = subst (λ (n : NewImage). (f : GeomFault) → (c.format.result ≡ Err (CallFaults.Refused f)) ↔ (provided_of n sectors ≡ Err f)) c.image.ensures c.format.ensures.geom in
     unmade_moments sectors c.args.count c.args.seed start script told order
     (not_made_for sectors c.args.count c.args.seed start script told order c.in-Err.fault (g.O.Sink.held c.args.out.now)
     (λ f. (λ is. (geom f).0 (cc (c.in-Err.is, is)), λ is. cc (c.in-Err.is, (geom f).1 is)))

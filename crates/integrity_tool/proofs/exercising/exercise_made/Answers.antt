@@ -1,6 +1,6 @@
 use Rattle.std.proofs.Common.{Result, refl, rules, sym, subst}
 use Rattle.command_ending.specs.declared.ended.Ended.{Ended}
-use Rattle.command_model.specs.Exercise.{Tally}
+use Rattle.workload_model.specs.Exercise.{Tally}
 use Rattle.integrity_tool.specs.Exercised.{IsCountTold}
 use Rattle.integrity_tool.proofs.ExercisingLemmas.{exercised_to}
 use Rattle.integrity_tool.proofs.exercising.exercise_made.Goals as goal

@@ -3,7 +3,7 @@ use Rattle.disk_model.specs.Disk.{Content, last_image}
 use Rattle.device_model.specs.Mode.{Journal}
 use Rattle.device_parts.specs.Device.{opened_standing}
 use Rattle.command_ending.specs.declared.ended.Ended.{Ended}
-use Rattle.command_model.specs.Exercise.{Tally}
+use Rattle.workload_model.specs.Exercise.{Tally}
 use Rattle.integrity_tool.specs.Exercised.{IsExercisedOn}
 use Rattle.integrity_tool.specs.Refusing.{ended_by_opening}
 use Rattle.integrity_tool.proofs.ExercisingLemmas.{exercised_on, not_opened, opened_new}

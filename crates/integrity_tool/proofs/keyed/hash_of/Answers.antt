@@ -1,6 +1,6 @@
 use Rattle.std.proofs.Common.{◌≢◌, ◌≤◌, refl, ap, ◌∙◌, length, Ok, Err}
 use Rattle.hmac_tag.specs.declared.key.KeyFault.{KeyFault}
-use Rattle.device_model.specs.Ending.{LongKey}
+use Rattle.run_model.specs.declared.key_refusal.KeyRefusal.TheVariants.{Long}
 use Rattle.integrity_tool.proofs.KeyLemmas.{at_most, file_bytes, is_long, key_is, key_told, ok_no_err, read_key}
 use Rattle.integrity_tool.proofs.keyed.hash_of.Goals as goal
 
@@ -18,7 +18,7 @@ returns-in-Err-TooLong-clause-refused g c bytes has =
     let told = file_bytes c.args.choice.now _ _ (g.K.NamedSource.named c.args.source.now) bytes c.in-HmacSha256.is c.as_str.ensures has in
     let read = c.deref.ensures.value ∙ c.in-Ok.ensures.read bytes told in
     let long = ((c.from_bytes.ensures.too_long c.in-Err-TooLong.field-0-0).0 (c.in-Err-TooLong.is ∙ ap (λ (x : KeyFault). Err x) c.in-Err-TooLong.field-0-is)).0 in
-    key_told c.args.choice.now _ bytes (Err LongKey) c.in-HmacSha256.is (is_long c.deref.result.now bytes read long)
+    key_told c.args.choice.now _ bytes (Err Long) c.in-HmacSha256.is (is_long c.deref.result.now bytes read long)
 
 pub returns-in-Ok-from_bytes-clause-read : goal.returns-in-Ok-from_bytes-clause-read
 returns-in-Ok-from_bytes-clause-read g c =

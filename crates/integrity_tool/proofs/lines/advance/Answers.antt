@@ -5,6 +5,7 @@ use Rattle.command_ending.specs.declared.ended.Ended.TheVariants as Endings
 use Rattle.integrity_tool.proofs.RunningLemmas.{and_weaker}
 use Rattle.integrity_tool.proofs.TakenLemmas.{taken_is_read}
 use Rattle.integrity_tool.proofs.lines.advance.Goals as goal
+use Rattle.run_model.specs.declared.outer.Outer.TheVariants as outers
 
 pub returns-in-Ok-Line-clause-advanced : goal.returns-in-Ok-Line-clause-advanced
 returns-in-Ok-Line-clause-advanced g c = rw c.in-Ok-Line.field-0-is at c.in-Ok-Line.ensures.found
@@ -30,7 +31,7 @@ returns-in-Err-clause-advanced g c left is =
     let new = c.next_line.new.self in
     let before = old.unread ++ left in
     and_weaker {X = List ℕ} (λ (later : List ℕ). BeginsLine old new before (new.unread ++ later))
-    (λ (later : List ℕ). (Endings.Script ≡ Endings.Script) × BeginsLine old new before later)
+    (λ (later : List ℕ). (Endings.Failed outers.Script ≡ Endings.Failed outers.Script) × BeginsLine old new before later)
     (g.S.Source.left c.next_line.new.script)
     (λ later begins.
     (refl, subst (λ (unread : List ℕ). BeginsLine old new before (unread ++ later)) c.in-Err.ensures.asked begins))

@@ -1,5 +1,5 @@
 use Rattle.std.proofs.Common.{◌∷◌, Err, ap}
-use Rattle.device_model.specs.Ending.{NoMemory}
+use Rattle.run_model.specs.Ending.{NoMemory}
 use Rattle.script_text.specs.Line.{line_of}
 use Rattle.integrity_tool.proofs.RunningLemmas.{stopped_at_lines, stopped_by_line, stopped_by_words}
 use Rattle.integrity_tool.proofs.lines.run_bytes.Goals as goal

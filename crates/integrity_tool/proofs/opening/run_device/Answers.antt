@@ -1,21 +1,21 @@
 use Rattle.std.proofs.Common.{Result, IfErr, sym, subst, refl, ap, ◌∙◌}
 use Rattle.disk_model.specs.Disk.{last_image}
-use Rattle.device_model.specs.Ending.{Ending}
+use Rattle.run_model.specs.Ending.{Ending}
 use Rattle.hmac_tag.specs.TagMaker.{key_of}
 use Rattle.device.specs.Opening.{asked_mode}
 use Rattle.place_model.specs.Changed.{opened_format}
 use Rattle.place_model.specs.Format.{format_on}
 use Rattle.place_model.specs.Kind.{kind_in}
 use Rattle.device_parts.specs.Device.{opened_standing}
-use Rattle.script_text.proofs.TotalLemmas.{has_run}
+use Rattle.run_laws.proofs.ReadingLemmas.{has_run}
 use Rattle.command_ending.specs.Ended.{ending_of}
 use Rattle.integrity_tool.specs.Closing.{close_ending}
 use Rattle.integrity_tool.specs.Opening.{EndsImage, HasRunOn}
-use Rattle.integrity_tool.specs.Outset.{outset_on}
+use Rattle.integrity_tool.specs.Outset.{run_outset}
 use Rattle.integrity_tool.specs.Refusing.{ended_by_opening}
 use Rattle.integrity_tool.specs.Running.{ending_by}
-use Rattle.integrity_tool.proofs.OpeningLemmas.{given_back, no_memory_at_close, opened_content, opening_moments, ran_on, read_at_close, read_at_lines, read_on_image, refused_by_memory, refused_by_opening, still_opened, taken_is_less}
-use Rattle.integrity_tool.proofs.StartLemmas.{read_further, read_none}
+use Rattle.integrity_tool.proofs.OpeningLemmas.{given_back, no_memory_at_close, opened_content, opening_moments, ran_on, read_at_close, read_at_lines, read_on_image, refused_by_memory, refused_by_opening, script_ends_image, still_opened, taken_is_less}
+use Rattle.integrity_tool.proofs.UnbegunLemmas.{read_further, read_none}
 use Rattle.integrity_tool.proofs.TakenLemmas.{none_taken}
 use Rattle.integrity_tool.proofs.ClosedLemmas.{closed_as, closed_behind}
 use Rattle.integrity_tool.proofs.ClosingLemmas.{counted_by_close, ending_at_close, ends_at_close}
@@ -37,7 +37,7 @@ returns-in-Err-clause-runs g c left told start told_start =
     let fault_is = c.handed_back-fault.ensures.fault in
     let ending = ending_of c.ended_by_opening.result in
     given_back mode key disk.sectors start left ending before held held (
-      subst (λ (e : Ended). HasRunOn (outset_on mode key disk.sectors (last_image start)) start left (ending_of e) refused held held)
+      subst (λ (e : Ended). HasRunOn (run_outset mode key disk.sectors (last_image start)) start left (ending_of e) refused held held)
           (sym (c.ended_by_opening.ensures ∙ ap ended_by_opening fault_is))
           (refused_by_opening law mode key disk _ before refused start told_start left leaves held c.in-Err.refused.fault
           c.in-Err.ensures.refused),
@@ -61,7 +61,7 @@ returns-in-Ok-run_lines-clause-runs g c left told start told_start =
     (g.met.D.Disk.reads_an_image c.in-Ok.device.disk.now made.0 made.1) c.in-Ok.device.parts opened.asked_ (opened.device start told_start made.0 made.1)
     (opened.blocks start told_start made.0 made.1)
     (at.leads _ _ _ (c.close-closed.ensures.stopped at.here at.device)) in (
-      subst (λ (e : Ending). HasRunOn (outset_on mode key disk.sectors (last_image start)) start left e after
+      subst (λ (e : Ending). HasRunOn (run_outset mode key disk.sectors (last_image start)) start left e after
           (g.O.Sink.held c.args.out.now) (g.O.Sink.held c.close-closed.new.out))
           (sym (ap ending_by c.ended_by_close.ensures ∙ ending_at_close c.close-closed.result.0)) all.0,
       all.1,
@@ -129,6 +129,9 @@ pub returns-in-Ok-run_lines-clause-ends : goal.returns-in-Ok-run_lines-clause-en
 returns-in-Ok-run_lines-clause-ends g c =
     subst (λ (r : Result TagsFound Ended). IfErr r EndsImage) (sym c.ended_by_close.ensures)
     (ends_at_close c.close-closed.result.0)
+
+pub returns-in-Err-run_lines-clause-ends : goal.returns-in-Err-run_lines-clause-ends
+returns-in-Err-run_lines-clause-ends g c = script_ends_image c.in-Err-run_lines.fault c.in-Err-run_lines.ensures.ends
 
 pub returns-in-Ok-run_lines-clause-counted : goal.returns-in-Ok-run_lines-clause-counted
 returns-in-Ok-run_lines-clause-counted g c =

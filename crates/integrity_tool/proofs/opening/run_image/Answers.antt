@@ -1,17 +1,18 @@
 use Rattle.std.proofs.Common.{refl, rules}
 use Rattle.disk_model.specs.Disk.{last_image}
 use Rattle.disk_model.proofs.MomentsLemmas.{no_moment}
-use Rattle.device_model.specs.Ending.{NoMemory}
+use Rattle.run_model.specs.Ending.{NoMemory}
 use Rattle.hmac_tag.specs.TagMaker.{key_of}
 use Rattle.device.specs.Opening.{asked_mode}
 use Rattle.device.proofs.TagsLemmas.{still_kept}
 use Rattle.integrity_tool.specs.declared.asked.Task.TheVariants as Tasks
 use Rattle.integrity_tool.specs.Opening.{IsMomentOn}
-use Rattle.integrity_tool.specs.Outset.{outset_on}
+use Rattle.integrity_tool.specs.Outset.{run_outset}
 use Rattle.integrity_tool.specs.Running.{ending_by}
 use Rattle.integrity_tool.proofs.ClosedLemmas.{closes_kept}
 use Rattle.integrity_tool.proofs.OpeningLemmas.{given_back, unread_kept}
-use Rattle.integrity_tool.proofs.StartLemmas.{before_kept, fine_on, nothing_run, read_none}
+use Rattle.integrity_tool.proofs.OutsetLemmas.{fine_on}
+use Rattle.integrity_tool.proofs.UnbegunLemmas.{before_kept, nothing_run, read_none}
 use Rattle.integrity_tool.proofs.TakenLemmas.{none_taken}
 use Rattle.integrity_tool.proofs.opening.run_image.Goals as goal
 
@@ -20,7 +21,7 @@ returns-in_default-clause-runs g c left told start told_start =
     let mode = c.args.mode in
     let key = key_of c.args.hash in
     let disk = g.D.Disk.identity c.args.disk.now in
-    let outset = outset_on mode key disk.sectors (last_image start) in
+    let outset = run_outset mode key disk.sectors (last_image start) in
     let before = g.D.Disk.moments c.args.disk.now in (
       nothing_run outset (fine_on mode key disk.sectors (last_image start)) start left NoMemory tt before
           (before_kept outset start told_start refl) _ _ refl,

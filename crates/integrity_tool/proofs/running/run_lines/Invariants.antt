@@ -1,6 +1,6 @@
 use Rattle.std.proofs.Common.{◌≡◌, ℕ, ◌+◌, ◌-◌, ◌≤◌, List, length, Some}
 use Rattle.std.specs.Option.{IsSomeAnd}
-use Rattle.device_model.specs.ScriptRun.{ScriptRun, IsRunOf}
+use Rattle.run_model.specs.ScriptRun.{ScriptRun, IsRunOf}
 use Rattle.device_parts.specs.declared.condition.Condition.TheVariants.{Working}
 use Rattle.device.specs.Device.{IsDevice, IsReady}
 use Rattle.device_parts.specs.Device.{Standing}

@@ -1,19 +1,20 @@
 use Rattle.std.proofs.Common.{◌≡◌, ◌∙◌, ◌+◌, inl, inr, refl, subst, arith, rules, List, ℕ}
 use Rattle.std.specs.Option.{option_map}
-use Rattle.device_model.specs.Ending.{DiskFailed, NoMemory}
+use Rattle.run_model.specs.Ending.{Failed, NoMemory}
 use Rattle.image_model.proofs.Regions.{blocks-low}
 use Rattle.stream_io.specs.Stream.{with_bytes, AddsPrefix}
 use Rattle.image_salvage.specs.Telling.{as_verdict}
 use Rattle.salvage_model.specs.Verdicts.{is_good}
 use Rattle.integrity_tool.proofs.SalvagingLemmas.{bad_few, cut_at_block, cut_in_block, same_then, told_all, told_low, told_more}
 use Rattle.integrity_tool.proofs.salvaging.print_blocks.Goals as goal
+use Rattle.run_model.specs.declared.outer.Outer.TheVariants as outers
 
 pub returns-in_default-clause-cut : goal.returns-in_default-clause-cut
 returns-in_default-clause-cut g c =
     let inv = c.lines.invariant in
     cut_at_block c.args.salvage.now.image c.lines.salvage.image (g.D.Disk.identity c.args.salvage.now.disk.now) (g.D.Disk.identity c.lines.salvage.disk.now)
     (g.D.Disk.moments c.args.salvage.now.disk.now) (g.D.Disk.moments c.lines.salvage.disk.now) inv.image inv.same inv.identity inv.moments
-    c.lines.bad (g.O.Sink.held c.args.out.now) (g.O.Sink.held c.lines.out) inv.told DiskFailed (inr refl)
+    c.lines.bad (g.O.Sink.held c.args.out.now) (g.O.Sink.held c.lines.out) inv.told (Failed outers.Disk) (inr refl)
 
 pub returns-in_default-told-clause-told : goal.returns-in_default-told-clause-told
 returns-in_default-told-clause-told g c =

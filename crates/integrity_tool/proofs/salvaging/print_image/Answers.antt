@@ -1,6 +1,6 @@
 use Rattle.std.proofs.Common.{◌≡◌, ◌∙◌, inl, refl, sym, ap, subst, arith, ℕ}
 use Rattle.disk_model.specs.Disk.{last_image}
-use Rattle.device_model.specs.Ending.{NoMemory}
+use Rattle.run_model.specs.Ending.{NoMemory}
 use Rattle.image_format.specs.declared.reading.ImageFormat.{ImageFormat}
 use Rattle.image_salvage.specs.Salvaged.{blocks_of, salvaged_format}
 use Rattle.image_salvage.proofs.SalvagedLemmas.{blocks_are}

@@ -1,7 +1,7 @@
 use Rattle.std.proofs.Common.{rules}
 use Rattle.disk_model.specs.Disk.{last_image}
 use Rattle.hmac_tag.specs.TagMaker.{key_of}
-use Rattle.salvage_model.specs.Salvaging.{salvage_outset}
+use Rattle.integrity_tool.specs.Salvaging.{salvage_outset}
 use Rattle.integrity_tool.specs.Running.{ending_by}
 use Rattle.integrity_tool.proofs.SalvagingLemmas.{ran_back}
 use Rattle.integrity_tool.proofs.salvaging.print_salvage.Goals as goal

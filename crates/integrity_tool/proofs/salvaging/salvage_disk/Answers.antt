@@ -3,8 +3,10 @@ use Rattle.disk_model.specs.Disk.{last_image}
 use Rattle.disk_model.specs.Identity.{DiskIdentity}
 use Rattle.disk_model.specs.Moments.{content_now}
 use Rattle.hmac_tag.specs.TagMaker.{key_of}
-use Rattle.image_judging.specs.Faults.{of_format}
-use Rattle.salvage_model.specs.Salvaging.{has_bad, salvage_outset, salvage_texts}
+use Rattle.image_refusal.specs.declared.open_fault.OpenFault.TheVariants.{Head}
+use Rattle.image_refusal.specs.Calls.{with_cause}
+use Rattle.salvage_model.specs.Salvaging.{has_bad, salvage_texts}
+use Rattle.integrity_tool.specs.Salvaging.{salvage_outset}
 use Rattle.image_salvage.specs.Salvaged.{salvaged_format}
 use Rattle.place_model.specs.Format.{DiskFormat, format_on}
 use Rattle.command_ending.specs.Ended.{ending_of}
@@ -24,7 +26,7 @@ returns-in-Err-clause-runs g c script start told =
     let fault = c.in-Err.refused.fault in
     let kept = ap g.D.Disk.moments c.handed_back-fault.ensures.disk ∙ c.in-Err.ensures.err.kept in
     subst (λ (e : Ended). HasRunOn (salvage_outset key disk.sectors (last_image start)) start script (ending_of e) (g.D.Disk.moments c.handed_back-fault.result.1.now) held held)
-    (sym (c.ended_by_opening.ensures ∙ ap ended_by_opening (c.from.ensures ∙ ap of_format c.handed_back-fault.ensures.fault)))
+    (sym (c.ended_by_opening.ensures ∙ ap ended_by_opening (c.from.ensures ∙ ap (with_cause Head) c.handed_back-fault.ensures.fault)))
     (not_salvaged key disk.sectors start script told kept fault held (λ memory failed. c.in-Err.ensures.refused memory failed start told))
 
 pub returns-in-Ok-clause-runs : goal.returns-in-Ok-clause-runs

@@ -2,7 +2,7 @@ use Rattle.std.proofs.Common.{◌≡◌, ℕ, List, Option, Some, Result, IfErr,
 use Rattle.disk_model.specs.Causes.{Rose}
 use Rattle.disk_model.specs.Disk.{Content, last_image}
 use Rattle.disk_model.specs.Moments.{HasNow}
-use Rattle.device_model.specs.Ending.{Ending}
+use Rattle.run_model.specs.Ending.{Ending}
 use Rattle.hmac_tag.specs.TagMaker.{key_of}
 use Rattle.device.specs.Opening.{asked_mode}
 use Rattle.device_parts.specs.Device.{opened_standing}
@@ -20,15 +20,16 @@ use Rattle.integrity_tool.specs.Closed.{IsClosedAt}
 use Rattle.integrity_tool.specs.Ends.{IsBeforeScript}
 use Rattle.integrity_tool.specs.Opening.{EndsImage, HasRunIn}
 use Rattle.integrity_tool.specs.Order.{HasMomentsAt}
-use Rattle.integrity_tool.specs.Outset.{outset_at}
+use Rattle.integrity_tool.specs.Outset.{task_outset}
 use Rattle.integrity_tool.specs.Refusing.{ended_by_opening}
 use Rattle.integrity_tool.specs.Running.{HasEndCause, IsCounted}
 use Rattle.integrity_tool.specs.Serving.{ended_by_session}
 use Rattle.integrity_tool.proofs.OpeningLemmas.{still_opened}
 use Rattle.integrity_tool.proofs.ServingLemmas.{cause_by_session, closed_by_session, counted_by_session, ends_by_session, read_by_session, serving_content, serving_moments, serving_new, serving_refused, session_closed, session_end, session_moments, session_ran, session_read}
-use Rattle.integrity_tool.proofs.StartLemmas.{read_none}
+use Rattle.integrity_tool.proofs.UnbegunLemmas.{read_none}
 use Rattle.integrity_tool.proofs.TakenLemmas.{none_taken, taken_at_most}
 use Rattle.integrity_tool.proofs.serving.serve_device.Goals as goal
+use Rattle.run_model.specs.declared.outer.Outer.TheVariants as outers
 
 pub returns-in-Err-clause-runs : goal.returns-in-Err-clause-runs
 returns-in-Err-clause-runs g c left told start told_start =
@@ -40,7 +41,7 @@ returns-in-Err-clause-runs g c left told start told_start =
     let held = g.O.Sink.held c.args.out.now in
     let leaves = c.in-Err.ensures.err in
     let law = c.images_that_open_have_no_fault.ensures in
-    let outset = outset_at (Tasks.Serve mode) key disk.sectors (last_image start) in
+    let outset = task_outset (Tasks.Serve mode) key disk.sectors (last_image start) in
     subst (λ (m : List Content). HasRunIn outset Lines start left (ending_of c.ended_by_opening.result) m held held
     × HasMomentsAt (Tasks.Serve mode) key disk.sectors start left before m) (sym (ap g.D.Disk.moments c.handed_back-fault.ensures.disk)) (
       subst (λ (e : Ended). HasRunIn outset Lines start left (ending_of e) refused held held)
@@ -75,7 +76,7 @@ returns-in-Ok-clause-runs g c left told start told_start =
     let new : Outside = outside_of g.D.Disk.moments g.O.Sink.held c.session-served.result.1.now c.session-served.new.sink in
     let end = end_of c.session-served.result.0 in
     let came = session_came w new_device source old new c.session-served.result.0 device c.session-served.ensures.served c.session-served.ensures.stopped in (
-      subst (λ (e : Ending). HasRunIn (outset_at (Tasks.Serve mode) key disk.sectors (last_image start)) Replies start left e after held_before held)
+      subst (λ (e : Ending). HasRunIn (task_outset (Tasks.Serve mode) key disk.sectors (last_image start)) Replies start left e after held_before held)
           (session_end c.session-served.result.0 _ c.ended_by_session.ensures)
           (session_ran law mode c.requires.writes key disk _ _ _ start told_start left leaves none made.0 made.1 reads c.in-Ok.device.parts opened.asked_ device blocks
           source told end after held_before held came),
@@ -137,9 +138,9 @@ returns-in-Ok-clause-cause g c =
 
 pub returns-in-Ok-clause-counted : goal.returns-in-Ok-clause-counted
 returns-in-Ok-clause-counted g c =
-    subst (λ (r : Result TagsFound Ended). IsCounted Endings.Disk (g.D.Counted.faults c.args.disk.now) (g.D.Counted.faults c.session-served.result.1.now) r
-    × IsCounted Endings.Script (g.S.Counted.faults c.args.script.now) (g.S.Counted.faults c.session-served.new.source) r
-    × IsCounted Endings.Sink (g.O.Counted.faults c.args.out.now) (g.O.Counted.faults c.session-served.new.sink) r) (sym c.ended_by_session.ensures)
+    subst (λ (r : Result TagsFound Ended). IsCounted outers.Disk (g.D.Counted.faults c.args.disk.now) (g.D.Counted.faults c.session-served.result.1.now) r
+    × IsCounted outers.Script (g.S.Counted.faults c.args.script.now) (g.S.Counted.faults c.session-served.new.source) r
+    × IsCounted outers.Sink (g.O.Counted.faults c.args.out.now) (g.O.Counted.faults c.session-served.new.sink) r) (sym c.ended_by_session.ensures)
     (counted_by_session _ _ _ _ _ _ _ c.in-Ok.ensures.passed c.session-served.result.0 c.session-served.ensures.cause)
 
 pub returns-in-Err-clause-unread : goal.returns-in-Err-clause-unread

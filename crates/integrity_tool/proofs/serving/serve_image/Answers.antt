@@ -4,7 +4,7 @@ use Rattle.hmac_tag.specs.TagMaker.{key_of}
 use Rattle.integrity_tool.specs.declared.asked.Task.TheVariants as Tasks
 use Rattle.integrity_tool.specs.Opening.{HasRunIn}
 use Rattle.integrity_tool.specs.Order.{HasMomentsAt}
-use Rattle.integrity_tool.specs.Outset.{outset_at}
+use Rattle.integrity_tool.specs.Outset.{task_outset}
 use Rattle.integrity_tool.specs.Running.{ending_by}
 use Rattle.integrity_tool.proofs.ClosedLemmas.{closes_kept}
 use Rattle.integrity_tool.proofs.serving.serve_image.Goals as goal
@@ -14,7 +14,7 @@ returns-clause-runs g c left told start told_start =
     let key = key_of c.args.hash in
     let sectors = (g.D.Disk.identity c.args.disk.now).sectors in
     let before = g.D.Disk.moments c.args.disk.now in
-    subst (λ (m : List Content). HasRunIn (outset_at (Tasks.Serve c.args.mode) key sectors (last_image start)) c.serve_device.new.telling start left
+    subst (λ (m : List Content). HasRunIn (task_outset (Tasks.Serve c.args.mode) key sectors (last_image start)) c.serve_device.new.telling start left
     (ending_by c.serve_device.new.ended) m (g.O.Sink.held c.args.out.now) (g.O.Sink.held c.serve_device.new.out)
     × HasMomentsAt (Tasks.Serve c.args.mode) key sectors start left before m) (search rules) (c.serve_device.ensures.runs left told start told_start)
 

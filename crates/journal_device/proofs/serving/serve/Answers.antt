@@ -48,3 +48,11 @@ returns-in-Held-clause-next g c =
       waiting = λ waits. (refl, refl);
       flight = same_flight parts.slots;
     }
+
+-- ---- what it tells
+
+pub returns-in-Finished-clause-tells : goal.returns-in-Finished-clause-tells
+returns-in-Finished-clause-tells g c = record { keeps = λ request is. is; told = sym c.turn.ensures.turn ∙ c.in-Finished.is }
+
+pub returns-in-Held-clause-tells : goal.returns-in-Held-clause-tells
+returns-in-Held-clause-tells g c = record { keeps = λ request is. is; told = sym c.turn.ensures.turn ∙ c.in-Held.is }

@@ -11,6 +11,7 @@ use Rattle.journal_device.specs.Device.{standing_of, standing_on}
 use Rattle.journal_device.proofs.DoneLemmas.{stands_now}
 use Rattle.journal_device.proofs.OverDisk.{done_on, is_done_on}
 use Rattle.journal_device.proofs.ServingLemmas.{serve_flush_done, serve_flush_failed}
+use Rattle.journal_device.proofs.TellingLemmas.{finished_told, keeps_finished}
 use Rattle.journal_device.proofs.serving.serve_flush.Goals as goal
 
 pub returns-in_err-flush-clause-next : goal.returns-in_err-flush-clause-next
@@ -58,3 +59,14 @@ returns-clause-next g c =
       waiting = λ waits. absurd cc;
       flight = rw c.finish.ensures (keeps_flight ticket with_finish (λ x. refl) parts.slots);
     }
+
+-- ---- what it tells
+
+pub returns-in_err-flush-clause-tells : goal.returns-in_err-flush-clause-tells
+returns-in_err-flush-clause-tells g c = record { keeps = λ request is. is; told = search rules }
+
+pub returns-clause-tells : goal.returns-clause-tells
+returns-clause-tells g c = rw c.finish.ensures (record {
+  keeps = keeps_finished c.args.ticket.now c.args.parts.now.slots c.requires.there;
+  told = finished_told c.args.ticket.now c.args.parts.now.slots c.requires.there;
+})

@@ -1,4 +1,4 @@
-use Rattle.std.proofs.Common.{rules, ◌≡◌, ℕ, ◌<◌, List, length, refl, sym, ◌∙◌, ap, subst}
+use Rattle.std.proofs.Common.{rules, ◌≡◌, ℕ, ◌<◌, false, List, length, refl, sym, ◌∙◌, ap, subst}
 use Rattle.std.specs.Vec.{with_items}
 use Rattle.std.proofs.lemmas.Bool.{true≢false}
 use Rattle.std.proofs.lemmas.List.{with_items_is}
@@ -17,16 +17,19 @@ use Rattle.device_parts.specs.Answers.{after_read, served_answer, waits}
 use Rattle.device_parts.specs.Device.{KeepsFlight}
 use Rattle.device_parts.proofs.ReadyLemmas.{block-low, keeps_read, ready_read, same_flight, sector-low}
 use Rattle.device_parts.proofs.TurnLemmas.{served-goes_on}
+use Rattle.journal_model.specs.Ring.{has_room}
 use Rattle.journal_mode.specs.Journal.{PlacedRing}
 use Rattle.journal_mode.specs.Calls.{GivesEach, KeepsEach}
 use Rattle.journal_mode.specs.Reads.{IsCellNow}
 use Rattle.journal_device.specs.Answers.{WritesFor, takes_first}
 use Rattle.journal_device.specs.Device.{IsReady, standing_of, standing_on}
+use Rattle.journal_device.specs.Telling.{IsToldOf, KeepsRequest}
 use Rattle.journal_device.proofs.ConditionLemmas.{works_no_more}
 use Rattle.journal_device.proofs.DoneLemmas.{idle_now}
 use Rattle.journal_device.proofs.OverDisk.{HasFailedIn, IsServedAs, done_on, is_done_on}
 use Rattle.journal_device.proofs.RecalcLemmas.{block_there, first_left, first_taken}
 use Rattle.journal_device.proofs.ServingLemmas.{rests, serve_read_done, serve_read_failed, taken_working, then_awaiting}
+use Rattle.journal_device.proofs.TellingLemmas.{keeps_read_of, served_told}
 use Rattle.journal_device.proofs.WriteLemmas.{writes_first, writes_read}
 use Rattle.journal_device.proofs.serving.serve_read.Goals as goal
 
@@ -235,3 +238,28 @@ returns-clause-writes g c =
     subst (λ (t : Turn). WritesFor t parts c.args.state.now a b) (sym c.requires.turn)
     (writes_read (takes_first journal recalculation c.args.block) _ _ c.args.block recalculation c.take_first.new.state.recalculation parts c.take_first.new.tags a m b c.take_first.ensures.stays.places
     c.in_ok-take_first.ensures.taken c.take_first.ensures.through c.read_block.ensures.moments)
+
+-- ---- what it tells
+
+pub returns-in_err-take_first-clause-tells : goal.returns-in_err-take_first-clause-tells
+returns-in_err-take_first-clause-tells g c = record { keeps = λ request is. is; told = search rules }
+
+pub returns-in_err-stored-clause-tells : goal.returns-in_err-stored-clause-tells
+returns-in_err-stored-clause-tells g c = record { keeps = λ request is. is; told = search rules }
+
+pub returns-clause-tells : goal.returns-clause-tells
+returns-clause-tells g c =
+    let parts = c.args.parts.now in
+    let ticket = c.args.ticket.now in
+    let mid : Parts = record parts { tags = c.read_block.new.tags; buffer = with_items parts.buffer c.read_block.new.out } in
+    let new = c.serve_read.new.self in
+    let whole : length mid.buffer.items ≡ parts.slots.block_size = search rules in
+    let full = has_room c.args.state.now.journal.ring ≡ false in
+    record {
+      keeps =
+          subst (λ (p : Parts). KeepsRequest ticket parts.slots p.slots) (sym c.serve_read.ensures.slots)
+          (keeps_read_of ticket c.args.block c.in_ok-stored.stored mid c.requires.there c.requires.fits c.requires.turn whole);
+      told =
+          subst (IsToldOf ticket parts.slots new.slots full) (sym c.serve_read.ensures.answer)
+          (served_told ticket parts.slots new.slots full);
+    }

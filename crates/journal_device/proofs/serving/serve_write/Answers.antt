@@ -1,4 +1,4 @@
-use Rattle.std.proofs.Common.{rules, ◌<◌, refl, sym, ◌∙◌, ap, subst, arith, List, ℕ}
+use Rattle.std.proofs.Common.{rules, ◌≡◌, ◌<◌, false, refl, sym, ◌∙◌, ap, subst, arith, List, ℕ}
 use Rattle.std.proofs.lemmas.Bool.{true≢false}
 use Rattle.device_model.specs.Progress.{FailedServe, Serve}
 use Rattle.direct_mode.specs.Cells.{IsTaggedBlock}
@@ -20,9 +20,11 @@ use Rattle.journal_model.specs.Ring.{has_room}
 use Rattle.journal_mode.specs.Journal.{PlacedRing}
 use Rattle.journal_device.specs.Answers.{WritesFor}
 use Rattle.journal_device.specs.Device.{standing_of, standing_on}
+use Rattle.journal_device.specs.Telling.{IsToldOf, KeepsRequest}
 use Rattle.journal_device.proofs.IdleLemmas.{same_kept}
 use Rattle.journal_device.proofs.OverDisk.{IsServedAs, done_on, is_done_on}
 use Rattle.journal_device.proofs.ServingLemmas.{begun_standing, serve_no_room, serve_write_done, serve_write_failed, takes_write}
+use Rattle.journal_device.proofs.TellingLemmas.{keeps_counted, served_told}
 use Rattle.journal_device.proofs.WriteLemmas.{full_if_refused, on_refusal, put_ok, writes_if, writes_none}
 use Rattle.journal_device.proofs.serving.serve_write.Goals as goal
 
@@ -201,3 +203,25 @@ returns-clause-writes g c =
     subst (λ (t : Turn). WritesFor t parts c.args.state.now a b) (sym c.requires.turn)
     (writes_if c.args.is_flushed c.args.block parts c.args.state.now c.put.new.self a b
     (record { bytes = c.next_bytes-bytes.result.now; tag = c.tag-tag.result; is = put_ok c.put.result good c.put.ensures.put }) c.flush_if.ensures.writes)
+
+-- ---- what it tells
+
+pub returns-then-is_err-clause-tells : goal.returns-then-is_err-clause-tells
+returns-then-is_err-clause-tells g c =
+    let bad = sym c.is_err.ensures.value ∙ c.if-is_err.true in
+    record {
+      keeps = λ request is. is;
+      told = full_if_refused c.put.result (has_room c.args.state.now.journal.ring) bad c.put.ensures.room;
+    }
+
+pub returns-in_err-flush_if-clause-tells : goal.returns-in_err-flush_if-clause-tells
+returns-in_err-flush_if-clause-tells g c = record { keeps = λ request is. is; told = search rules }
+
+pub returns-clause-tells : goal.returns-clause-tells
+returns-clause-tells g c =
+    let slots = c.args.parts.now.slots in
+    let full = has_room c.args.state.now.journal.ring ≡ false in
+    record {
+      keeps = subst (KeepsRequest c.args.ticket.now slots) (sym c.count_block.ensures) (keeps_counted c.args.ticket.now slots c.requires.there);
+      told = subst (IsToldOf c.args.ticket.now slots c.count_block.new.self full) (sym c.served.ensures) (served_told c.args.ticket.now slots c.count_block.new.self full);
+    }

@@ -1,11 +1,11 @@
 use Rattle.std.proofs.Common.{rules, inr, refl, ◌∙◌, sym, ap, subst}
 use Rattle.std.proofs.lemmas.Result.{err_from_is_err_and}
 use Rattle.image_model.specs.Geometry.{Geometry}
+use Rattle.device_model.specs.Actors.{actor_of}
 use Rattle.device_model.specs.Progress.{FailedStep, Step}
-use Rattle.device_parts.specs.declared.answers.Actor.{Actor}
+use Rattle.device_model.specs.declared.actor.Actor.{Actor}
 use Rattle.device_parts.specs.declared.condition.Condition.TheVariants.{Broken, Working}
 use Rattle.device_parts.specs.declared.parts.Parts.{Parts}
-use Rattle.device_parts.specs.Answers.{actor_of}
 use Rattle.direct_mode.proofs.ServingLemmas.{on_err_always}
 use Rattle.journal_mode.proofs.FlushLemmas.{one_is}
 use Rattle.journal_mode.proofs.ClosingLemmas.{batch_geometry}
@@ -20,6 +20,7 @@ use Rattle.journal_device.proofs.EventLemmas.{clean_step, commit_step, place_ste
 use Rattle.journal_device.proofs.StepsLemmas.{commit_fewer, not_did, place_fewer, recalc_advances, recalc_fewer, settle_fewer}
 use Rattle.journal_device.proofs.FieldsLemmas.{failed_still, journal_heads, region_heads, still_heads, stepped_heads, stepped_still}
 use Rattle.journal_device.proofs.IdleLemmas.{idle_commit, idle_place, idle_recalc, idle_settle}
+use Rattle.journal_device.proofs.TellingLemmas.{commit_due, place_due, recalc_due, settle_due}
 use Rattle.journal_device.proofs.WriteLemmas.{ready_tags}
 use Rattle.journal_device.proofs.stepping.step.Goals as goal
 use Rattle.journal_device.proofs.stepping.step.Goals.{in-Commit+in_ok-moved-in-Commit, in-Place+in_ok-moved-in-Place, in-Settle+in_ok-moved-in-Settle, in-Clean, in-Recalc+in_ok-moved-in-Recalc}
@@ -217,15 +218,27 @@ returns-in_err-moved-in-Recalc-clause-ready g c = record {
   regions_ = c.recalculate.ensures.stays.geometry ∙ c.requires.regions_ ∙ sym c.recalculate.ensures.stays.places;
 }
 
-pub returns-clause-advances : goal.returns-clause-advances
-returns-clause-advances g c =
+pub returns-clause-moves : goal.returns-clause-moves
+returns-clause-moves g c =
+    let journal = c.args.state.now.journal in
     elim c.match-actor.branch [
-      | in-Commit+in_ok-moved-in-Commit x ↦ rw (x.state-is, x.in-Commit.is) refl
-      | in-Place+in_ok-moved-in-Place x ↦ rw (x.state-is, x.in-Place.is) refl
-      | in-Settle+in_ok-moved-in-Settle x ↦ rw (x.state-is, x.in-Settle.is) refl
-      | in-Clean x ↦ rw (x.state-is, x.in-Clean.is) refl
-      | in-Recalc+in_ok-moved-in-Recalc x ↦ rw (c.moved_as.ensures, x.moved-is, x.state-is, x.in-Recalc.is)
-          (recalc_advances x.in_ok-moved-in-Recalc.moved _ c.args.state.now.recalculation x.recalculate.new.recalculation _ _ g.D.Disk.moments _ _ x.in_ok-moved-in-Recalc.ensures.stepped)
+      | in-Commit+in_ok-moved-in-Commit x ↦ rw (c.moved_as.ensures, x.moved-is, x.state-is, x.in-Commit.is) (record {
+        advances = refl;
+        due = commit_due x.in_ok-moved-in-Commit.moved journal x.commit.new.self _ _ _ _ x.commit.ensures.bounds x.in_ok-moved-in-Commit.ensures.moved;
+      })
+      | in-Place+in_ok-moved-in-Place x ↦ rw (c.moved_as.ensures, x.moved-is, x.state-is, x.in-Place.is) (record {
+        advances = refl;
+        due = place_due x.in_ok-moved-in-Place.moved journal x.place.new.self _ _ _ _ x.in_ok-moved-in-Place.ensures.moved x.place.ensures.ring;
+      })
+      | in-Settle+in_ok-moved-in-Settle x ↦ rw (c.moved_as.ensures, x.moved-is, x.state-is, x.in-Settle.is) (record {
+        advances = refl;
+        due = settle_due x.in_ok-moved-in-Settle.moved journal x.settle.new.self _ _ _ _ x.in_ok-moved-in-Settle.ensures.moved;
+      })
+      | in-Clean x ↦ rw (c.moved_as.ensures, x.moved-is, x.state-is, x.in-Clean.is) (record { advances = refl; due = λ due. tt })
+      | in-Recalc+in_ok-moved-in-Recalc x ↦ rw (c.moved_as.ensures, x.moved-is, x.state-is, x.in-Recalc.is) (record {
+        advances = recalc_advances x.in_ok-moved-in-Recalc.moved _ c.args.state.now.recalculation x.recalculate.new.recalculation _ _ g.D.Disk.moments _ _ x.in_ok-moved-in-Recalc.ensures.stepped;
+        due = recalc_due x.in_ok-moved-in-Recalc.moved journal;
+      })
     ]
 
 -- ---- the fields

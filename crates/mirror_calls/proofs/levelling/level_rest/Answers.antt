@@ -27,6 +27,10 @@ loop-k-init g c =
       second_faults = refl;
       same_blocks = refl;
       same_size = refl;
+      same_name = refl;
+      second_blocks = refl;
+      second_size = refl;
+      second_name = refl;
     }
 
 pub loop-k-preserved : goal.loop-k-preserved
@@ -63,6 +67,10 @@ loop-k-preserved g c =
       second_faults = e.cause.second_passed (λ same. cc) ∙ i.second_faults;
       same_blocks = e.stays.same.blocks_ ∙ i.same_blocks;
       same_size = e.stays.same.size_ ∙ i.same_size;
+      same_name = e.stays.same.name_ ∙ i.same_name;
+      second_blocks = e.stays.same_second.blocks_ ∙ i.second_blocks;
+      second_size = e.stays.same_second.size_ ∙ i.second_size;
+      second_name = e.stays.same_second.name_ ∙ i.second_name;
     }
 
 pub returns-clause-levelled : goal.returns-clause-levelled

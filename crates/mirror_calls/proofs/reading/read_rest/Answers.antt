@@ -43,6 +43,10 @@ loop-k-init g c =
       second_faults = refl;
       same_blocks = refl;
       same_size = refl;
+      same_name = refl;
+      second_blocks = refl;
+      second_size = refl;
+      second_name = refl;
     }
 
 pub loop-k-preserved : goal.loop-k-preserved
@@ -93,6 +97,25 @@ loop-k-preserved g c =
       second_faults = e.cause.second_passed (λ same. cc) ∙ i.second_faults;
       same_blocks = e.stays.same.blocks_ ∙ i.same_blocks;
       same_size = e.stays.same.size_ ∙ i.same_size;
+      same_name = e.stays.same.name_ ∙ i.same_name;
+      second_blocks = e.stays.same_second.blocks_ ∙ i.second_blocks;
+      second_size = e.stays.same_second.size_ ∙ i.second_size;
+      second_name = e.stays.same_second.name_ ∙ i.second_name;
+    }
+
+pub returns-in-Neither-clause-asked : goal.returns-in-Neither-clause-asked
+returns-in-Neither-clause-asked g c =
+    let i = c.loop-k.invariant in
+    let e = c.in-Ok.ensures in record {
+      first = omega (arith, i.first_asked, e.asked.first, c.loop-k-test.true);
+      second = omega (arith, i.second_asked, e.asked.second, c.loop-k-test.true);
+    }
+
+pub returns-clause-asked : goal.returns-clause-asked
+returns-clause-asked g c =
+    let i = c.loop-k.invariant in record {
+      first = omega (arith, i.first_asked, i.low);
+      second = omega (arith, i.second_asked, i.low);
     }
 
 pub returns-in-Neither-clause-read : goal.returns-in-Neither-clause-read

@@ -23,4 +23,8 @@ invariant-loop-k g l = record {
   second_faults : g.B.Leg.faults l.mirror.b ≡ g.B.Leg.faults l.initial.mirror.b;
   same_blocks : g.A.Leg.blocks l.mirror.a ≡ g.A.Leg.blocks l.initial.mirror.a;
   same_size : g.A.Leg.block_size l.mirror.a ≡ g.A.Leg.block_size l.initial.mirror.a;
+  same_name : g.A.Leg.name l.mirror.a ≡ g.A.Leg.name l.initial.mirror.a;
+  second_blocks : g.B.Leg.blocks l.mirror.b ≡ g.B.Leg.blocks l.initial.mirror.b;
+  second_size : g.B.Leg.block_size l.mirror.b ≡ g.B.Leg.block_size l.initial.mirror.b;
+  second_name : g.B.Leg.name l.mirror.b ≡ g.B.Leg.name l.initial.mirror.b;
 }

@@ -7,5 +7,5 @@ put_stretches-requires c =
     let few = c.in-Some.ensures in
     let small : length c.args.bytes.now < 2 ^ 64 = omega (arith, few.0) in
     let text = length-stretches_text-le c.args.bytes.now small in
-    let room = c.in-Ok.ensures.ok in
+    let room = c.in_ok-reserve.ensures.ok in
     record { room = omega (arith, text, few.1, room, c.reserve.ensures.len) }

@@ -4,8 +4,9 @@ use Rattle.std.proofs.lemmas.Result.{err_from_is_err_and}
 use Rattle.disk_model.specs.Disk.{last_image}
 use Rattle.hmac_tag.specs.TagMaker.{TagRule, key_of}
 use Rattle.image_check.specs.Checked.{Checked}
-use Rattle.image_judging.specs.declared.opening_fault.OpeningFault.{OpeningFault}
-use Rattle.image_judging.specs.declared.opening_fault.OpeningFault.TheVariants.{Memory, Disk}
+use Rattle.image_refusal.specs.declared.call_fault.CallFault.{CallFault}
+use Rattle.image_refusal.specs.declared.call_fault.CallFault.TheVariants.{Memory, Disk}
+use Rattle.image_refusal.specs.declared.open_fault.OpenFault.{OpenFault}
 use Rattle.image_judging.specs.Faults.{ByJournal, fault_in}
 use Rattle.image_judging.proofs.FaultsLemmas.{fault_in-err}
 use Rattle.image_check.specs.Faults.{journal_fault_for}
@@ -16,10 +17,10 @@ pub returns-in_err-journal-clause-refused : goal.returns-in_err-journal-clause-r
 returns-in_err-journal-clause-refused g c some well x told =
     let fault = c.in_err-journal.field-0.0 in
     let p = err_from_is_err_and c.from_residual.result c.from_residual.ensures.1 in
-    let e : c.from_residual.result ≡ Err fault = p.1 ∙ ap (λ (f : OpeningFault). Err f) p.2 in
+    let e : c.from_residual.result ≡ Err fault = p.1 ∙ ap (λ (f : CallFault OpenFault). Err f) p.2 in
     ap (λ r. fault_in r) e
     ∙ fault_in-err Checked (Option (List (ℕ × ℕ))) fault
-    ∙ c.in_err-journal.ensures.refused (λ h. some (e ∙ ap (λ (f : OpeningFault). Err f) (let same : fault ≡ Memory = cc in same))) (λ h. well (e ∙ ap (λ (f : OpeningFault). Err f) (let same : fault ≡ Disk = cc in same))) x told
+    ∙ c.in_err-journal.ensures.refused (λ h. some (e ∙ ap (λ (f : CallFault OpenFault). Err f) (let same : fault ≡ Memory = cc in same))) (λ h. well (e ∙ ap (λ (f : CallFault OpenFault). Err f) (let same : fault ≡ Disk = cc in same))) x told
     ∙ ap (λ (m : TagRule). option_map ByJournal (journal_fault_for c.args.what m.key c.args.format (last_image x))) c.tag_maker-maker.ensures
 
 pub returns-clause-image : goal.returns-clause-image

@@ -6,7 +6,7 @@ use Rattle.integrity_tool.specs.Words.{asked_of, key_file_of_asked}
 use Rattle.integrity_tool.specs.World.{Counts}
 use Rattle.integrity_tool.proofs.KeyLemmas.{ok_no_err, was_read}
 use Rattle.integrity_tool.proofs.LoopLemmas.{not_ended}
-use Rattle.integrity_tool.proofs.StartLemmas.{read_in_further}
+use Rattle.integrity_tool.proofs.UnbegunLemmas.{read_in_further}
 use Rattle.integrity_tool.proofs.TopLemmas.{cause_later, complete_is_low, ended_is_high, image_refused, last_line_holds, memory_ended, status_complete, status_ended, tells_complete, tells_early, told_at_end, words_status}
 use Rattle.integrity_tool.proofs.WorldLemmas.{key_file_kept}
 use Rattle.integrity_tool.proofs.top_call.Outside.integrity.Goals as goal

@@ -3,7 +3,7 @@ use Rattle.std.specs.Option.{ForSome}
 use Rattle.std.proofs.lemmas.Result.{err_from_is_err_and, on_ok_weaker}
 use Rattle.disk_model.specs.Identity.{DiskIdentity, IsBoundTo, IsThere, NamedDisk}
 use Rattle.disk_model.specs.Moments.{content_now}
-use Rattle.device_model.specs.Ending.{DiskFailed}
+use Rattle.run_model.specs.Ending.{Failed}
 use Rattle.hmac_tag.specs.TagMaker.{key_of}
 use Rattle.integrity_tool.specs.declared.asked.Asked.{Asked}
 use Rattle.integrity_tool.specs.Running.{HasTaken, ending_by}
@@ -11,11 +11,13 @@ use Rattle.integrity_tool.specs.Serving.{most_taken_for}
 use Rattle.integrity_tool.specs.Top.{outset_in, texts}
 use Rattle.integrity_tool.specs.Words.{HasNoScript, image_name, image_of, key_file_of, key_file_of_asked}
 use Rattle.integrity_tool.proofs.KeyLemmas.{ok_no_err, words_unread}
-use Rattle.integrity_tool.proofs.StartLemmas.{closed_given, outside_first, ran_given, read_given, read_none, stopped_at_key, stopped_at_words}
+use Rattle.integrity_tool.proofs.UnbegunLemmas.{read_none}
+use Rattle.integrity_tool.proofs.StartLemmas.{closed_given, outside_first, ran_given, read_given, stopped_at_key, stopped_at_words}
 use Rattle.integrity_tool.proofs.TakenLemmas.{none_taken}
 use Rattle.integrity_tool.proofs.TopLemmas.{told_there}
 use Rattle.integrity_tool.proofs.WorldLemmas.{err_words, key_file_read, no_command, of_error, right_key, unopened_given, unopened_same}
 use Rattle.integrity_tool.proofs.top_call.Outside.run.Goals as goal
+use Rattle.run_model.specs.declared.outer.Outer.TheVariants as outers
 
 -- ---- what it is given
 
@@ -54,7 +56,7 @@ returns-in_err-bind_image-clause-given g c given is =
     let same : new (image_name words) ≡ old (image_name words) =
     subst (λ (n : List ℕ). ForSome (content_now (old n).moments) (λ d. new n ≡ old n)) (sym name) c.bind_image.ensures.same given.content is.content in
     let p = err_from_is_err_and c.from_residual-in_err-bind_image.result c.from_residual-in_err-bind_image.ensures.1 in
-    let runs = outside_first given _ _ is (g.O.Sink.held c.args.self.now.out.now) DiskFailed tt (new (image_name words)) (ap (λ (n : NamedDisk). n.moments) same) in
+    let runs = outside_first given _ _ is (g.O.Sink.held c.args.self.now.out.now) (Failed outers.Disk) tt (new (image_name words)) (ap (λ (n : NamedDisk). n.moments) same) in
     rw (p.1, p.2, c.requires.lines, c.in_err-bind_image.ensures.disk.0) (record {
       runs = runs.0;
       moments = runs.1;

@@ -1,3 +1,0 @@
-pub mod CommandRun
-pub mod Workload
-pub mod Exercise

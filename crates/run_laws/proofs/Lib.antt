@@ -1,0 +1,4 @@
+pub mod ScriptRunLemmas
+pub mod ReadingLemmas
+pub mod RecoveryLemmas
+mod WorkedRecovery

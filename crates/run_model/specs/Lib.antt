@@ -1,0 +1,5 @@
+pub mod Ending
+pub mod ScriptRun
+pub mod ExerciseRun
+pub mod CommandRun
+pub mod ServedRun
