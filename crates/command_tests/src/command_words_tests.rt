@@ -97,7 +97,7 @@ static TAKEN: [(&str, &str); 44] = [
     ),
     (
         "format|I",
-        "number: 15 }, salt: None, padding: Fixed, mode: Journal, wipe: Zeros })",
+        "number: 15 }, salt: None, padding: Fixed, mode: Journal, wipe: Wiped })",
     ),
     (
         "format|I|--tag-size|1|--sections|1|--log2-blocks-per-bit|0",
@@ -126,10 +126,10 @@ static TAKEN: [(&str, &str); 44] = [
     ),
     (
         "format|I|--no-wipe|--integrity-legacy-padding",
-        "padding: Legacy, mode: Journal, wipe: Nothing }",
+        "padding: Legacy, mode: Journal, wipe: Kept }",
     ),
-    ("format|I|--mode=J", "mode: Journal, wipe: Zeros"),
-    ("format|--mode|B|I|--no-wipe", "mode: Bitmap, wipe: Nothing"),
+    ("format|I|--mode=J", "mode: Journal, wipe: Wiped"),
+    ("format|--mode|B|I|--no-wipe", "mode: Bitmap, wipe: Kept"),
     (
         "format|--recalculate|I",
         "mode: Journal, wipe: Recalculated",
